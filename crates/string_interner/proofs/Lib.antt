@@ -1,0 +1,6 @@
+pub mod Cuts
+pub mod Firsts
+pub mod Kept
+pub mod Interning
+pub mod Runs
+pub mod Laws

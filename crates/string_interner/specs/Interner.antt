@@ -1,0 +1,40 @@
+-- What is said of every interner: a list of distinct texts, each with its symbol, and interning a text.
+-- Cited by `StringInterner` and by all that stands on it.
+use Rattle.std.specs.Prelude.{◌≡◌, ℕ, ◌<◌, List, length, take, slice_get, Option, Some, MatchOption, IsOkAnd, Result, option_and_then}
+use Rattle.string_interner.specs.Text.{Text, IsDistinct, first}
+use Rattle.string_interner.specs.Backend.{Bucket, IsKept, Appends}
+use Rattle.string_interner.specs.declared.backend.InternError.{InternError}
+
+-- what contracts see of an interner
+pub record Interned : Type 0 where
+  pub texts : List Text
+  pub buckets : List Bucket
+  -- what the backend takes without asking for memory, as costs of texts
+  pub room : ℕ
+
+module _ {S : Type 0} (symbol_of : ℕ → Option S) (place : List Text → ℕ) where
+  -- the symbol of the entry `i`
+  abbrev pub entry_symbol : List Text → ℕ → Option S
+  entry_symbol texts i = symbol_of (place (take i texts))
+
+  -- the symbol of a known text
+  abbrev pub known_symbol : List Text → Text → Option S
+  known_symbol texts text = option_and_then (entry_symbol texts) (first texts text)
+
+  -- A text is interned in the old list, with this outcome and this new list: a known text answers the symbol of its
+  -- first entry and changes nothing, and a new one is put last.
+  abbrev pub Interns : List Text → Text → Result S InternError → List Text → Type 0
+  Interns old text outcome new = MatchOption (first old text)
+      (Appends symbol_of place old text outcome new)
+      (λ i. IsOkAnd outcome (λ symbol. entry_symbol old i ≡ Some symbol) × (new ≡ old))
+
+  -- these are the symbols of the entries, in order
+  pub record AreSymbols (texts : List Text) (symbols : List S) : Type 0 where
+    pub count : length symbols ≡ length texts
+    pub each : (i : ℕ) → i < length texts → slice_get symbols i ≡ entry_symbol texts i
+
+  -- what an interner keeps to: distinct texts that its backend keeps, and the symbol of each
+  pub record IsInterned (texts : List Text) (symbols : List S) : Type 0 where
+    pub distinct : IsDistinct texts
+    pub kept : IsKept symbol_of place texts
+    pub symbols_are : AreSymbols texts symbols

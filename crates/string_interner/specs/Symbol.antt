@@ -1,0 +1,13 @@
+-- Symbol types that have all numbers below a limit, each symbol seen as its number.
+-- Cited by the symbol types of the library.
+use Rattle.std.specs.Prelude.{◌≡◌, ℕ, ◌<◌, ◌≤◌, ◌^◌, Option, Some, None, nat_lt, if◌then◌else◌}
+use Rattle.std.proofs.Common.{arith}
+use Rattle.std.proofs.lemmas.Grind.{common_steps}
+
+-- the symbol with a number, where that is below the limit
+abbrev pub number_below : ℕ → ℕ → Option ℕ
+number_below limit i = if nat_lt i limit then Some i else None
+
+-- that symbol has that number, which fits a `usize`
+pub number_below-some : (limit : ℕ) → limit ≤ 2 ^ 64 → (i n : ℕ) → number_below limit i ≡ Some n → (n ≡ i) × (i < 2 ^ 64)
+number_below-some limit small i n h = grind (arith, common_steps)

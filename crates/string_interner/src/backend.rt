@@ -1,0 +1,99 @@
+//! Backends: what keeps the texts, and gives each a symbol.
+
+mod string;
+
+ghost use Rattle.std.specs.Prelude.{◌≡◌, ℕ, ◌<◌, List, [], ◌∷◌, ◌++◌, length, take, slice_get, Option, IsSome, OnErr};
+ghost use Rattle.std.specs.Option.{option_copied};
+ghost use Rattle.string_interner.specs.Text.{Text};
+
+use crate::symbol::Symbol;
+use std::alloc::{AllocError, Global};
+pub use string::StringBackend;
+use thiserror::Error;
+
+/// Why a text was not interned. The list of texts is then as it was.
+#[derive(Clone, Copy, Debug, PartialEq, Eq, Error)]
+pub enum InternError {
+    /// The symbol type has no symbol for the next place.
+    #[error("no symbol is left")]
+    NoSymbol,
+    /// Memory was refused, or the next place does not fit a `usize`.
+    #[error("out of memory")]
+    Memory(AllocError),
+}
+
+/// Keeps a list of texts, in the order in which they came, and gives each a symbol.
+///
+/// A backend looks for no repeats: a text that is interned twice stands in its list twice. The number of an entry's
+/// symbol is the *place* of the entry, which rests on the texts before it alone.
+pub trait Backend {
+    /// What stands for a text.
+    type Symbol: Symbol;
+
+    ghost use Rattle.string_interner.specs.Backend.{Bucket, IsKept, Appends, UsesRoom};
+
+    /// The texts, in the order in which they came.
+    ghost texts: { Self → List Text };
+
+    /// The place of the entry that comes after a list.
+    ghost place: { List Text → ℕ };
+
+    /// What resolving a number gives, by the list alone.
+    ghost read: { List Text → ℕ → Option Text };
+
+    /// How much more the backend takes without asking for memory, as costs of texts.
+    ghost room: { Self → ℕ };
+
+    /// What a text takes of the room.
+    ghost cost: { Text → ℕ };
+
+    /// The room that a capacity grants.
+    ghost grant: { ℕ → ℕ };
+
+    /// The buckets of bytes, where a backend has such.
+    ghost buckets: { Self → List Bucket } = { λ _. [] };
+
+    /// The empty list. Takes no memory.
+    fn new(alloc: Global) -> Self
+        ensures { texts result ≡ [] };
+
+    /// How many texts there are.
+    fn count(&self) -> usize
+        ensures value { result ≡ length (texts self.now) }
+        ensures kept { IsKept Self.Symbol.symbol_of place (texts self.now) };
+
+    /// The symbol of the next place, or `None` exactly where the symbol type has no such number.
+    fn next_symbol(&self) -> Option<Self::Symbol>
+        ensures { result ≡ Self.Symbol.symbol_of (place (texts self.now)) };
+
+    /// Puts a text last, without looking for it, and answers the symbol of its place.
+    ///
+    /// Refuses with `NoSymbol` exactly where `next_symbol` is `None`, before it asks for memory, and else only where
+    /// memory was refused or the place after the text does not fit a `usize`. A refused text changes no text and no
+    /// bucket.
+    fn intern(&mut self, text: &str) -> Result<Self::Symbol, InternError>
+        ensures appends { Appends Self.Symbol.symbol_of place (texts self.old) text.now result (texts self.new) }
+        ensures kept { IsKept Self.Symbol.symbol_of place (texts self.new) }
+        ensures buckets { OnErr result (buckets self.new ≡ buckets self.old) }
+
+        // Within the room, memory is not refused.
+        ensures room { UsesRoom (IsSome (Self.Symbol.symbol_of (place (texts self.old)))) (cost text.now)
+            (room self.old) (room self.new) result };
+
+    /// The text that is read at a symbol's number, if any: at the symbol of an entry, the text of that entry.
+    fn resolve(&self, symbol: Self::Symbol) -> Option<&str>
+        ensures { option_copied result ≡ read (texts self.now) (Self.Symbol.number symbol) };
+
+    /// The first entry is at place 0.
+    ghost starts: { place [] ≡ 0 };
+
+    /// A text takes up a place.
+    ghost grows: { (texts : List Text) (text : Text) → place texts < place (texts ++ text ∷ []) };
+
+    /// A text costs something.
+    ghost costs: { (text : Text) → 0 < cost text };
+
+    /// At the place of each entry its text is read.
+    ghost reads: { (texts : List Text) (i : ℕ) → IsKept Self.Symbol.symbol_of place texts → i < length texts
+        → read texts (place (take i texts)) ≡ slice_get texts i };
+}

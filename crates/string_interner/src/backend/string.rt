@@ -1,0 +1,122 @@
+//! All texts in one, cut at a list of ends.
+
+ghost use Rattle.std.specs.Prelude.{◌≡◌, ◌*◌, max, ◌<◌, ◌≤◌, length, slice_get, Some, refl};
+ghost use Rattle.std.proofs.Common.{rules};
+ghost use Rattle.string_interner.specs.StringBackend.{cut, start_at, IsCut, length_grows, reads_at_length};
+
+use crate::backend::{Backend, InternError};
+use crate::symbol::{DefaultSymbol, Symbol};
+use std::alloc::Global;
+use std::marker::{Model, PhantomData};
+
+/// Keeps the texts joined in one, with the end of each.
+///
+/// The entries are numbered 0, 1, 2, .. without gaps. A text takes its bytes and one `usize`. Interning is a copy to
+/// the end, and may move what stands; resolving reads two ends and makes the slice.
+#[derive(Drop)]
+pub struct StringBackend<S: Symbol = DefaultSymbol> {
+    joined: String,
+    ends: Vec<usize>,
+    symbols: PhantomData<S>,
+}
+
+/// Contracts see the texts, and as room the lesser of the free bytes and five times the free ends.
+impl<S: Symbol> Model for StringBackend<S> {
+    ghost use Rattle.std.specs.Prelude.{ℕ, ◌-◌, ◌*◌, min, List, vec_len, vec_capacity};
+    ghost use Rattle.std.specs.String.{string_bytes, string_len, string_capacity};
+    ghost use Rattle.string_interner.specs.Backend.{Contents};
+    ghost use Rattle.string_interner.specs.StringBackend.{cut, IsStored};
+
+    ghost Value = { Contents };
+
+    ghost view = { λ b. record {
+      texts = cut 0 (string_bytes b.joined) b.ends.items;
+      room = min (string_capacity b.joined - string_len b.joined) (5 * (vec_capacity b.ends - vec_len b.ends));
+    } };
+
+    ghost invariant = { λ b. IsStored S.symbol_of (string_bytes b.joined) b.ends.items (cut 0 (string_bytes b.joined) b.ends.items) };
+}
+
+/// Where the entry `index` begins: at the end of the one before it.
+#[inline]
+fn start_of(ends: &[usize], index: usize) -> usize
+    requires { index ≤ length ends.now }
+    ensures { result ≡ start_at ends.now index }
+{
+    if index == 0 { 0 } else { ends[index - 1] }
+}
+
+/// The text of the entry `index`.
+#[inline]
+fn entry<'a>(joined: &'a str, ends: &[usize], index: usize) -> &'a str
+    requires parts { IsCut joined.now ends.now (cut 0 joined.now ends.now) }
+    requires within { index < length ends.now }
+    ensures { slice_get (cut 0 joined.now ends.now) index ≡ Some result.now }
+{
+    &joined[start_of(ends, index)..ends[index]]
+}
+
+#[tactic(auto, using(crate::proofs::Cuts::cut_length))]
+impl<S: Symbol> Backend for StringBackend<S> {
+    type Symbol = S;
+
+    ghost texts = { λ b. b.texts };
+
+    ghost place = { length };
+
+    ghost read = { slice_get };
+
+    ghost room = { λ b. b.room };
+
+    ghost cost = { λ text. max 5 (length text) };
+
+    ghost grant = { λ capacity. 5 * capacity };
+
+    fn new(alloc: Global) -> Self {
+        StringBackend {
+            joined: String::new(alloc),
+            ends: Vec::new(alloc),
+            symbols: PhantomData,
+        }
+    }
+
+    fn count(&self) -> usize {
+        self.ends.len()
+    }
+
+    fn next_symbol(&self) -> Option<S> {
+        S::try_from_usize(self.ends.len())
+    }
+
+    fn intern(&mut self, text: &str) -> Result<S, InternError> {
+        let symbol = self.next_symbol().ok_or(InternError::NoSymbol)?;
+        // Both growths come before anything is stored, so that a refusal leaves all as it was.
+        self.joined
+            .reserve(text.len())
+            .map_err(InternError::Memory)?;
+        self.ends.reserve(1).map_err(InternError::Memory)?;
+        self.joined.push_str(text).unwrap();
+        self.ends.push_reserved(self.joined.len());
+        Ok(symbol)
+    }
+
+    fn resolve(&self, symbol: S) -> Option<&str> {
+        let index = symbol.to_usize();
+        if index < self.ends.len() {
+            Some(entry(self.joined.as_str(), &self.ends, index))
+        } else {
+            None
+        }
+    }
+
+    ghost starts = { refl };
+
+    ghost grows = { length_grows };
+
+    ghost costs = { λ text. Prim.search rules };
+
+    ghost reads = { λ texts i kept within. reads_at_length texts i within };
+}
+
+#[cfg(test)]
+mod tests;

@@ -1,0 +1,16 @@
+//! Texts that are kept once each, and stood for by small symbols that are copied freely.
+//!
+//! A [`StringInterner`] answers for each text the symbol of that text: the same symbol for an equal text, and another
+//! one for any other. Texts are then compared, hashed and stored as symbols. How the texts lie in memory is the choice
+//! of a [`backend`], and how symbols are numbered that of a [`Symbol`].
+#![tactic(auto)]
+
+pub mod backend;
+mod interner;
+pub mod run;
+pub mod symbol;
+#[cfg(test)]
+mod tests;
+
+pub use interner::StringInterner;
+pub use symbol::{DefaultSymbol, Symbol};

@@ -1,0 +1,83 @@
+//! Symbols: what stands for a text. A symbol is known by its number.
+
+ghost use Rattle.std.specs.Prelude.{◌≡◌, ℕ, ◌^◌, ◌<◌, ◌-◌, ◌↔◌, Option, Some, IsTrue};
+ghost use Rattle.std.proofs.Common.{rules, lit≤};
+ghost use Rattle.string_interner.specs.Symbol.{number_below, number_below-some};
+
+use std::marker::Model;
+
+/// The symbol type of a backend for which no other is named.
+pub type DefaultSymbol = SymbolU32;
+
+/// A symbol, known by its number. A type may have gaps in its numbers, and its last number ends what it can name.
+pub trait Symbol: Copy + Eq {
+    /// The number of a symbol.
+    ghost number: { Self → ℕ };
+
+    /// The symbol with a number, where the type has that number.
+    ghost symbol_of: { ℕ → Option Self };
+
+    /// The symbol with the number `index`, or `None` exactly where the type has no such number.
+    fn try_from_usize(index: usize) -> Option<Self>
+        ensures { result ≡ symbol_of index };
+
+    /// The number of this symbol. `try_from_usize` of it is this symbol again.
+    fn to_usize(self) -> usize
+        ensures value { result ≡ number self }
+        ensures found_again { symbol_of result ≡ Some self };
+
+    /// The symbol with a number has that number, and the number fits a `usize`.
+    ghost numbered: { (i : ℕ) (s : Self) → symbol_of i ≡ Some s → (number s ≡ i) × (i < 2 ^ 64) };
+
+    /// `==` compares numbers.
+    ghost equal_by_number: { (a b : Self) → IsTrue (Self.eq a b) ↔ (number a ≡ number b) };
+
+    /// Symbols with one number are one symbol.
+    ghost injective: { (a b : Self) → number a ≡ number b → a ≡ b };
+}
+
+/// A symbol in four bytes, with the numbers from 0 to 2^32 - 2.
+#[derive(Clone, Copy, PartialEq, Eq, PartialOrd, Ord, Hash, Debug)]
+pub struct SymbolU32 {
+    value: u32,
+}
+
+/// Contracts see the number.
+impl Model for SymbolU32 {
+    ghost Value = { ℕ };
+
+    ghost view = { λ symbol. symbol.value };
+
+    ghost invariant = { λ symbol. symbol.value < 2 ^ 32 - 1 };
+
+    ghost inverse = { λ n. record { value = n } };
+}
+
+impl Symbol for SymbolU32 {
+    ghost number = { λ symbol. symbol };
+
+    ghost symbol_of = { number_below (2 ^ 32 - 1) };
+
+    fn try_from_usize(index: usize) -> Option<Self> {
+        if index < u32::MAX as usize {
+            Some(SymbolU32 {
+                value: index as u32,
+            })
+        } else {
+            None
+        }
+    }
+
+    fn to_usize(self) -> usize {
+        self.value as usize
+    }
+
+    ghost numbered = { number_below-some (2 ^ 32 - 1) (lit≤ tt) };
+
+    ghost equal_by_number = { Prim.search rules };
+
+    ghost injective = { λ a b same. same };
+}
+
+#[cfg(test)]
+mod tests;

@@ -1,0 +1,120 @@
+//! What the tests share: a caller's own symbol type and backend, used through their bounds, and refused memory.
+
+ghost use Rattle.std.specs.Prelude.{◌≡◌, ◌*◌, ℕ, length, slice_get, max};
+ghost use Rattle.std.proofs.Common.{rules, refl};
+ghost use Rattle.string_interner.specs.StringBackend.{length_grows, reads_at_length};
+ghost use Rattle.string_interner.specs.Samples.{half_of, half_of-some, halves_equal, halves_same};
+
+use crate::backend::{Backend, InternError, StringBackend};
+use crate::symbol::{Symbol, SymbolU32};
+use std::alloc::Global;
+use std::cell::Cell;
+use std::io;
+use std::marker::Model;
+
+/// Says that a call was refused memory and left all as it should. The gate refuses the first request of a test for
+/// memory, then the second, and so on, and counts these lines: it stops where there is none.
+pub fn tell_refused(rt: &impl Print, call: &str) -> io::Result<()> {
+    println!(rt; "refused: {call}")
+}
+
+/// A symbol type with gaps: the even numbers below 2^17.
+#[derive(Clone, Copy, PartialEq, Eq, Debug)]
+pub struct Even {
+    half: u16,
+}
+
+impl Model for Even {
+    ghost Value = { ℕ };
+
+    ghost view = { λ symbol. symbol.half };
+
+    ghost inverse = { λ n. record { half = n } };
+}
+
+impl Symbol for Even {
+    ghost number = { λ symbol. 2 * symbol };
+
+    ghost symbol_of = { half_of };
+
+    fn try_from_usize(index: usize) -> Option<Self> {
+        if index % 2 == 0 && index / 2 < 65536 {
+            Some(Even {
+                half: (index / 2) as u16,
+            })
+        } else {
+            None
+        }
+    }
+
+    fn to_usize(self) -> usize {
+        2 * self.half as usize
+    }
+
+    ghost numbered = { half_of-some };
+
+    ghost equal_by_number = { halves_equal };
+
+    ghost injective = { halves_same };
+}
+
+/// A backend that counts the texts that it is asked for.
+#[derive(Drop)]
+pub struct Counting {
+    inner: StringBackend<SymbolU32>,
+    pub asked: Cell<usize>,
+}
+
+impl Counting {
+    fn count_one(&self) {
+        self.asked.set(self.asked.get().wrapping_add(1));
+    }
+}
+
+impl Backend for Counting {
+    type Symbol = SymbolU32;
+
+    ghost texts = { λ b. b.inner.texts };
+
+    ghost place = { length };
+
+    ghost read = { slice_get };
+
+    ghost room = { λ b. b.inner.room };
+
+    ghost cost = { λ text. max 5 (length text) };
+
+    ghost grant = { λ capacity. 5 * capacity };
+
+    fn new(alloc: Global) -> Self {
+        Counting {
+            inner: StringBackend::new(alloc),
+            asked: Cell::new(0),
+        }
+    }
+
+    fn count(&self) -> usize {
+        self.inner.count()
+    }
+
+    fn next_symbol(&self) -> Option<SymbolU32> {
+        self.inner.next_symbol()
+    }
+
+    fn intern(&mut self, text: &str) -> Result<SymbolU32, InternError> {
+        self.inner.intern(text)
+    }
+
+    fn resolve(&self, symbol: SymbolU32) -> Option<&str> {
+        self.count_one();
+        self.inner.resolve(symbol)
+    }
+
+    ghost starts = { refl };
+
+    ghost grows = { length_grows };
+
+    ghost costs = { λ text. Prim.search rules };
+
+    ghost reads = { λ texts i kept within. reads_at_length texts i within };
+}
