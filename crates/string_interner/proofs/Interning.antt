@@ -1,6 +1,6 @@
 -- What an interner keeps to, when a text is looked for and when one is put last.
 use Rattle.std.proofs.Common.{below_more, suc, zero, ◌≡◌, ℕ, ◌<◌, ◌≤◌, List, [], ◌∷◌, ◌++◌, length, take, get_or, refl, sym, ap, ◌∙◌, arith, Option, Some, None, Ok, IsSome}
-use Rattle.std.specs.Prelude.{slice_get, option_and_then, ◌≢◌, ◌^◌}
+use Rattle.std.specs.Prelude.{◌↔◌, slice_get, option_and_then, ◌≢◌, ◌^◌}
 use Rattle.std.proofs.lemmas.Grind.{common_steps}
 use Rattle.std.proofs.lemmas.List.{length_push, take-append-le, take_all}
 use Rattle.std.proofs.lemmas.List.Quantifiers.{all_pairs_push}
@@ -39,6 +39,14 @@ module _ {S : Type 0} (symbol_of : ℕ → Option S) (place : List Text → ℕ)
       none_of : (o : Option ℕ) → first texts t ≡ o → option_and_then (entry_symbol symbol_of place texts) o ≡ None → first texts t ≡ None
       none_of None e h = e
       none_of (Some i) e h = let s : IsSome (symbol_of (place (take i texts))) = kept.has_symbols i (first_within texts t i e) in absurd (grind (arith, common_steps))
+
+  -- a text has a symbol exactly if it is known
+  pub known-symbol : (texts : List Text) (t : Text) → IsKept symbol_of place texts → IsSome (known_symbol symbol_of place texts t) ↔ IsSome (first texts t)
+  known-symbol texts t kept = of (first texts t) refl
+    where
+      of : (o : Option ℕ) → first texts t ≡ o → IsSome (option_and_then (entry_symbol symbol_of place texts) o) ↔ IsSome o
+      of None e = (λ h. h, λ h. h)
+      of (Some i) e = (λ _. refl, λ _. kept.has_symbols i (first_within texts t i e))
 
   -- one more text and its symbol
   pub interned-push : (texts : List Text) (symbols : List S) (t : Text) (s : S) → IsInterned symbol_of place texts symbols → first texts t ≡ None → IsKept symbol_of place (texts ++ t ∷ []) → symbol_of (place texts) ≡ Some s → IsInterned symbol_of place (texts ++ t ∷ []) (symbols ++ s ∷ [])

@@ -1,20 +1,21 @@
 -- Laws of interning and of runs that a sceptic would ask for. They follow from the definitions of specs/ that every
 -- contract cites, so they speak of the code.
-use Rattle.std.proofs.Common.{◌≡◌, ℕ, ◌<◌, List, [], ◌∷◌, ◌++◌, length, take, get_or, refl, sym, ap, ◌∙◌, subst, arith, Option, Some, None, Result, Ok, Err}
-use Rattle.std.specs.Prelude.{MatchOption, IsOkAnd, ◌^◌, ⊤}
+use Rattle.std.proofs.Common.{zero, suc, ◌≡◌, ℕ, ◌<◌, List, [], ◌∷◌, ◌++◌, length, take, get_or, refl, sym, ap, ◌∙◌, subst, arith, Option, Some, None, Result, Ok, Err}
+use Rattle.std.specs.Prelude.{slice_get, MatchOption, IsOkAnd, ◌^◌, ⊤}
 use Rattle.std.specs.List.{AllByRecursion}
+use Rattle.std.specs.String.{string_bytes}
 use Rattle.std.proofs.Math.Seq.{get_or-append_seam}
 use Rattle.std.proofs.lemmas.List.{length_push, take-append-le, take_all}
 use Rattle.string_interner.specs.Text.{Text, first}
 use Rattle.string_interner.specs.Backend.{Appends, BeginsAt}
 use Rattle.string_interner.specs.Interner.{Interns, entry_symbol}
-use Rattle.string_interner.specs.Run.{intern_reply, Step, Run}
+use Rattle.string_interner.specs.Run.{intern_reply, number_told, IsCopy, number_read, NumberReply, Step, Run}
 use Rattle.string_interner.specs.declared.backend.InternError.{InternError}
 use Rattle.string_interner.specs.declared.backend.InternError.TheVariants.{NoSymbol as InternNoSymbol, Memory}
 use Rattle.string_interner.specs.declared.run.Command.{Command}
-use Rattle.string_interner.specs.declared.run.Command.TheVariants.{Intern}
+use Rattle.string_interner.specs.declared.run.Command.TheVariants.{Intern, Get, Resolve, Number, Len}
 use Rattle.string_interner.specs.declared.run.Reply.{Reply}
-use Rattle.string_interner.specs.declared.run.Reply.TheVariants.{NoMemory}
+use Rattle.string_interner.specs.declared.run.Reply.TheVariants.{Symbol, Nothing, Text as TextReply, Len as LenReply, NoReply, NoSymbol, NoMemory}
 use Rattle.string_interner.proofs.Firsts.{first_within, first_is}
 
 -- memory was not refused
@@ -25,6 +26,43 @@ HasMemory _ = ⊤
 abbrev pub ReplyHasMemory : Reply → Type 0
 ReplyHasMemory NoMemory = ⊥
 ReplyHasMemory _ = ⊤
+
+-- two replies say the same: a text by its bytes, wherever its copy lies
+abbrev pub SayTheSame : Reply → Reply → Type 0
+SayTheSame (TextReply a) (TextReply b) = string_bytes a ≡ string_bytes b
+SayTheSame a b = a ≡ b
+
+-- reply by reply
+abbrev pub AllSayTheSame : List Reply → List Reply → Type 0
+AllSayTheSame [] [] = ⊤
+AllSayTheSame (a ∷ rest') (b ∷ bs) = SayTheSame a b × AllSayTheSame rest' bs
+AllSayTheSame _ _ = ⊥
+
+equal-say : (a b : Reply) → a ≡ b → SayTheSame a b
+equal-say (TextReply a) b e = subst (SayTheSame (TextReply a)) e refl
+equal-say (Symbol n) b e = subst (SayTheSame (Symbol n)) e refl
+equal-say Nothing b e = subst (SayTheSame Nothing) e refl
+equal-say (LenReply n) b e = subst (SayTheSame (LenReply n)) e refl
+equal-say NoReply b e = subst (SayTheSame NoReply) e refl
+equal-say NoSymbol b e = subst (SayTheSame NoSymbol) e refl
+equal-say NoMemory b e = subst (SayTheSame NoMemory) e refl
+
+same-told : (a b : Reply) → SayTheSame a b → number_told (Some a) ≡ number_told (Some b)
+same-told (TextReply a) (TextReply b) e = refl
+same-told a b e = ap (λ r. number_told (Some r)) e
+
+numbers_told : (k : ℕ) (xs ys : List Reply) → AllSayTheSame xs ys → number_told (slice_get xs k) ≡ number_told (slice_get ys k)
+numbers_told k [] [] say = refl
+numbers_told zero (x ∷ xs) (y ∷ ys) say = same-told x y say.0
+numbers_told (suc k) (x ∷ xs) (y ∷ ys) say = numbers_told k xs ys say.1
+numbers_told k [] (y ∷ ys) say = absurd say
+numbers_told k (x ∷ xs) [] say = absurd say
+
+one-more : (xs ys : List Reply) (x y : Reply) → AllSayTheSame xs ys → SayTheSame x y → AllSayTheSame (xs ++ x ∷ []) (ys ++ y ∷ [])
+one-more [] [] x y say s = (s, tt)
+one-more (a ∷ xs) (b ∷ ys) x y say s = (say.0, one-more xs ys x y say.1 s)
+one-more [] (b ∷ ys) x y say s = absurd say
+one-more (a ∷ xs) [] x y say s = absurd say
 
 module _ {S : Type 0} (symbol_of : ℕ → Option S) (place : List Text → ℕ) where
   -- by what `first` answers
@@ -82,23 +120,46 @@ module _ {S : Type 0} (symbol_of : ℕ → Option S) (number : S → ℕ) (place
   told (Err InternNoSymbol) reply e m = tt
   told (Err (Memory x)) reply e m = let none : ReplyHasMemory NoMemory = subst ReplyHasMemory e m in absurd none
 
-  -- from equal lists, a command to which memory is not refused has one reply and leaves one list
-  pub step-determined : (old : List Text) (earlier : List Reply) (command : Command) (reply reply' : Reply) (new new' : List Text) → ReplyHasMemory reply → ReplyHasMemory reply'
-      → Step symbol_of number place read old earlier command reply new → Step symbol_of number place read old earlier command reply' new' → (reply ≡ reply') × (new ≡ new')
-  step-determined old earlier (Intern text) reply reply' new new' m m' (outcome, i, e) (outcome', i', e') =
-      let d = interning-determined symbol_of place old new new' text.now outcome outcome' (told outcome reply e m) (told outcome' reply' e' m') i i' in
-      (e ∙ (ap (intern_reply number) d.0 ∙ sym e'), d.1)
+  copies-say : (text : Text) (reply reply' : Reply) → ReplyHasMemory reply → ReplyHasMemory reply' → IsCopy text reply → IsCopy text reply' → SayTheSame reply reply'
+  copies-say text (TextReply a) (TextReply b) m m' c c' = c ∙ sym c'
+  copies-say text NoMemory reply' m m' c c' = absurd m
+  copies-say text (TextReply a) NoMemory m m' c c' = absurd m'
+  copies-say text (TextReply a) _ m m' c c' = absurd c'
+  copies-say text _ reply' m m' c c' = absurd c
 
-  -- from equal lists, commands to which memory is not refused have the same replies and leave one list
-  pub run-determined : (old : List Text) (earlier : List Reply) (commands : List Command) (replies replies' : List Reply) (new new' : List Text) → AllByRecursion ReplyHasMemory replies → AllByRecursion ReplyHasMemory replies'
-      → Run symbol_of number place read old earlier commands replies new → Run symbol_of number place read old earlier commands replies' new' → (replies ≡ replies') × (new ≡ new')
-  run-determined old earlier [] [] [] new new' m m' r r' = (refl, r ∙ sym r')
-  run-determined old earlier (c ∷ cs) (x ∷ xs) (y ∷ ys) new new' m m' (mid, s, r) (mid', s', r') =
-      let d = step-determined old earlier c x y mid mid' m.0 m'.0 s s' in
-      let r'' = subst (λ z. Run symbol_of number place read mid (earlier ++ z ∷ []) cs ys new') (sym d.0) (subst (λ l. Run symbol_of number place read l (earlier ++ y ∷ []) cs ys new') (sym d.1) r') in
-      let e = run-determined mid (earlier ++ x ∷ []) cs xs ys new new' m.1 m'.1 r r'' in
-      (rw (d.0, e.0) refl, e.1)
-  run-determined old earlier [] (x ∷ xs) _ new new' m m' r r' = absurd r
-  run-determined old earlier [] [] (y ∷ ys) new new' m m' r r' = absurd r'
-  run-determined old earlier (c ∷ cs) [] _ new new' m m' r r' = absurd r
-  run-determined old earlier (c ∷ cs) (x ∷ xs) [] new new' m m' r r' = absurd r'
+  numbers-say : (read_there : Option Text) (reply reply' : Reply) → ReplyHasMemory reply → ReplyHasMemory reply'
+      → MatchOption read_there (reply ≡ Nothing) (λ text. IsCopy text reply) → MatchOption read_there (reply' ≡ Nothing) (λ text. IsCopy text reply') → SayTheSame reply reply'
+  numbers-say None reply reply' m m' r r' = equal-say reply reply' (r ∙ sym r')
+  numbers-say (Some text) reply reply' m m' r r' = copies-say text reply reply' m m' r r'
+
+  resolved-say : (old : List Text) (o : Option ℕ) (reply reply' : Reply) → ReplyHasMemory reply → ReplyHasMemory reply'
+      → MatchOption o (reply ≡ NoReply) (λ n. NumberReply symbol_of number place read old n reply) → MatchOption o (reply' ≡ NoReply) (λ n. NumberReply symbol_of number place read old n reply') → SayTheSame reply reply'
+  resolved-say old None reply reply' m m' r r' = equal-say reply reply' (r ∙ sym r')
+  resolved-say old (Some n) reply reply' m m' r r' = numbers-say (number_read symbol_of number place read old n) reply reply' m m' r r'
+
+  -- from one list, a command to which memory is not refused is answered one way and leaves one list
+  pub step-determined : (old : List Text) (earlier earlier' : List Reply) (command : Command) (reply reply' : Reply) (new new' : List Text) → AllSayTheSame earlier earlier' → ReplyHasMemory reply → ReplyHasMemory reply'
+      → Step symbol_of number place read old earlier command reply new → Step symbol_of number place read old earlier' command reply' new' → SayTheSame reply reply' × (new ≡ new')
+  step-determined old earlier earlier' (Intern text) reply reply' new new' say m m' (outcome, i, e) (outcome', i', e') =
+      let d = interning-determined symbol_of place old new new' text.now outcome outcome' (told outcome reply e m) (told outcome' reply' e' m') i i' in
+      (equal-say reply reply' (e ∙ (ap (intern_reply number) d.0 ∙ sym e')), d.1)
+  step-determined old earlier earlier' (Get text) reply reply' new new' say m m' s s' = (equal-say reply reply' (s.0 ∙ sym s'.0), s.1 ∙ sym s'.1)
+  step-determined old earlier earlier' (Resolve k) reply reply' new new' say m m' s s' =
+      let r' = subst (λ o. MatchOption o (reply' ≡ NoReply) (λ n. NumberReply symbol_of number place read old n reply')) (sym (numbers_told k earlier earlier' say)) s'.0 in
+      (resolved-say old (number_told (slice_get earlier k)) reply reply' m m' s.0 r', s.1 ∙ sym s'.1)
+  step-determined old earlier earlier' (Number n) reply reply' new new' say m m' s s' = (numbers-say (number_read symbol_of number place read old n) reply reply' m m' s.0 s'.0, s.1 ∙ sym s'.1)
+  step-determined old earlier earlier' Len reply reply' new new' say m m' s s' = (equal-say reply reply' (s.0 ∙ sym s'.0), s.1 ∙ sym s'.1)
+
+  -- from one list, commands to which memory is not refused are answered one way and leave one list
+  pub run-determined : (old : List Text) (earlier earlier' : List Reply) (commands : List Command) (replies replies' : List Reply) (new new' : List Text) → AllSayTheSame earlier earlier' → AllByRecursion ReplyHasMemory replies → AllByRecursion ReplyHasMemory replies'
+      → Run symbol_of number place read old earlier commands replies new → Run symbol_of number place read old earlier' commands replies' new' → AllSayTheSame replies replies' × (new ≡ new')
+  run-determined old earlier earlier' [] [] [] new new' say m m' r r' = (tt, r ∙ sym r')
+  run-determined old earlier earlier' (c ∷ cs) (x ∷ xs) (y ∷ ys) new new' say m m' (mid, s, r) (mid', s', r') =
+      let d = step-determined old earlier earlier' c x y mid mid' say m.0 m'.0 s s' in
+      let r'' = subst (λ l. Run symbol_of number place read l (earlier' ++ y ∷ []) cs ys new') (sym d.1) r' in
+      let e = run-determined mid (earlier ++ x ∷ []) (earlier' ++ y ∷ []) cs xs ys new new' (one-more earlier earlier' x y say d.0) m.1 m'.1 r r'' in
+      ((d.0, e.0), e.1)
+  run-determined old earlier earlier' [] (x ∷ xs) _ new new' say m m' r r' = absurd r
+  run-determined old earlier earlier' [] [] (y ∷ ys) new new' say m m' r r' = absurd r'
+  run-determined old earlier earlier' (c ∷ cs) [] _ new new' say m m' r r' = absurd r
+  run-determined old earlier earlier' (c ∷ cs) (x ∷ xs) [] new new' say m m' r r' = absurd r'

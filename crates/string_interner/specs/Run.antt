@@ -1,14 +1,16 @@
 -- What a list of commands may be answered: a step for each command, and a run of steps.
 -- Cited by `run`.
-use Rattle.std.specs.Prelude.{◌≡◌, ℕ, List, [], ◌∷◌, ◌++◌, Option, Result, Ok, Err}
-use Rattle.string_interner.specs.Text.{Text}
+use Rattle.std.specs.Prelude.{◌≡◌, ℕ, List, [], ◌∷◌, ◌++◌, length, take, slice_get, Option, Some, None, MatchOption, option_and_then, Result, Ok, Err, ⊤}
+use Rattle.std.specs.Option.{option_map_or}
+use Rattle.std.specs.String.{string_bytes}
+use Rattle.string_interner.specs.Text.{Text, first}
 use Rattle.string_interner.specs.Interner.{Interns}
 use Rattle.string_interner.specs.declared.backend.InternError.{InternError}
 use Rattle.string_interner.specs.declared.backend.InternError.TheVariants.{NoSymbol as InternNoSymbol, Memory}
 use Rattle.string_interner.specs.declared.run.Command.{Command}
-use Rattle.string_interner.specs.declared.run.Command.TheVariants.{Intern}
+use Rattle.string_interner.specs.declared.run.Command.TheVariants.{Intern, Get, Resolve, Number, Len}
 use Rattle.string_interner.specs.declared.run.Reply.{Reply}
-use Rattle.string_interner.specs.declared.run.Reply.TheVariants.{Symbol, NoSymbol, NoMemory}
+use Rattle.string_interner.specs.declared.run.Reply.TheVariants.{Symbol, Nothing, Text as TextReply, Len as LenReply, NoReply, NoSymbol, NoMemory}
 
 -- the reply that tells how an interning ended
 abbrev pub intern_reply : {S : Type 0} → (S → ℕ) → Result S InternError → Reply
@@ -16,11 +18,36 @@ intern_reply number (Ok symbol) = Symbol (number symbol)
 intern_reply number (Err InternNoSymbol) = NoSymbol
 intern_reply number (Err (Memory _)) = NoMemory
 
+-- the number that a reply told, if there is such a reply and it told one
+abbrev pub number_told : Option Reply → Option ℕ
+number_told (Some (Symbol n)) = Some n
+number_told _ = None
+
+-- the reply is a copy of the text, or memory for the copy was refused
+abbrev pub IsCopy : Text → Reply → Type 0
+IsCopy text (TextReply copy) = string_bytes copy ≡ text
+IsCopy text NoMemory = ⊤
+IsCopy text _ = ⊥
+
 module _ {S : Type 0} (symbol_of : ℕ → Option S) (number : S → ℕ) (place : List Text → ℕ) (read : List Text → ℕ → Option Text) where
+  -- what is read at a number that has a symbol
+  abbrev pub number_read : List Text → ℕ → Option Text
+  number_read texts n = option_and_then (λ _. read texts n) (symbol_of n)
+
+  -- the reply to a number: a copy of what is read there, or nothing
+  abbrev pub NumberReply : List Text → ℕ → Reply → Type 0
+  NumberReply texts n reply = MatchOption (number_read texts n) (reply ≡ Nothing) (λ text. IsCopy text reply)
+
   -- From the old list, and after the earlier replies of the run, the command may have this reply and leave the new list.
   abbrev pub Step : List Text → List Reply → Command → Reply → List Text → Type 0
   -- the reply tells how the text was interned
   Step old earlier (Intern text) reply new = (outcome : Result S InternError) × Interns symbol_of place old text.now outcome new × (reply ≡ intern_reply number outcome)
+  -- the place of a known text
+  Step old earlier (Get text) reply new = (reply ≡ option_map_or (λ i. Symbol (place (take i old))) (first old text.now) Nothing) × (new ≡ old)
+  -- the reply to the number that an earlier reply told
+  Step old earlier (Resolve k) reply new = MatchOption (number_told (slice_get earlier k)) (reply ≡ NoReply) (λ n. NumberReply old n reply) × (new ≡ old)
+  Step old earlier (Number n) reply new = NumberReply old n reply × (new ≡ old)
+  Step old earlier Len reply new = (reply ≡ LenReply (length old)) × (new ≡ old)
 
   -- From the old list, and after the earlier replies, the commands may have these replies, one to each, and leave the
   -- new list.

@@ -2,11 +2,11 @@
 
 mod string;
 
-ghost use Rattle.std.specs.Prelude.{◌≡◌, ℕ, ◌<◌, List, [], ◌∷◌, ◌++◌, length, take, slice_get, Option, IsSome, OnErr};
+ghost use Rattle.std.specs.Prelude.{◌≡◌, ℕ, ◌<◌, List, [], ◌∷◌, ◌++◌, length, take, slice_get, Option, Some, IsSome, OnErr};
 ghost use Rattle.std.specs.Option.{option_copied};
 ghost use Rattle.string_interner.specs.Text.{Text};
 
-use crate::symbol::Symbol;
+use crate::symbol::{DefaultSymbol, Symbol};
 use std::alloc::{AllocError, Global};
 pub use string::StringBackend;
 use thiserror::Error;
@@ -22,6 +22,9 @@ pub enum InternError {
     Memory(AllocError),
 }
 
+/// The backend that serves most uses well.
+pub type DefaultBackend = StringBackend<DefaultSymbol>;
+
 /// Keeps a list of texts, in the order in which they came, and gives each a symbol.
 ///
 /// A backend looks for no repeats: a text that is interned twice stands in its list twice. The number of an entry's
@@ -30,7 +33,7 @@ pub trait Backend {
     /// What stands for a text.
     type Symbol: Symbol;
 
-    ghost use Rattle.string_interner.specs.Backend.{Bucket, IsKept, Appends, UsesRoom};
+    ghost use Rattle.string_interner.specs.Backend.{Bucket, BeginsAt, IsPlace, IsKept, Appends, UsesRoom};
 
     /// The texts, in the order in which they came.
     ghost texts: { Self → List Text };
@@ -83,6 +86,12 @@ pub trait Backend {
     /// The text that is read at a symbol's number, if any: at the symbol of an entry, the text of that entry.
     fn resolve(&self, symbol: Self::Symbol) -> Option<&str>
         ensures { option_copied result ≡ read (texts self.now) (Self.Symbol.number symbol) };
+
+    /// The text of an entry, by its symbol, with no test of the symbol.
+    fn resolve_unchecked(&self, symbol: Self::Symbol) -> &str
+        requires { IsPlace place (texts self.now) (Self.Symbol.number symbol) }
+        ensures { (i : ℕ) → BeginsAt place (texts self.now) (Self.Symbol.number symbol) i
+            → slice_get (texts self.now) i ≡ Some result.now };
 
     /// The first entry is at place 0.
     ghost starts: { place [] ≡ 0 };

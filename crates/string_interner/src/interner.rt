@@ -1,10 +1,10 @@
 //! An interner: each text once, with the symbol that stands for it.
 
-ghost use Rattle.std.specs.Prelude.{◌≡◌, ◌+◌, ◌≤◌, ◌↔◌, [], length, Option, IsTrue, IsSome, IsErrOf, OnOk, OnErr, false};
-ghost use Rattle.std.specs.Option.{option_map_or};
+ghost use Rattle.std.specs.Prelude.{◌≡◌, ℕ, ◌+◌, ◌≤◌, ◌↔◌, [], length, slice_get, Option, Some, IsTrue, IsSome, IsErrOf, OnOk, OnErr, false};
+ghost use Rattle.std.specs.Option.{option_copied, option_map_or};
 ghost use Rattle.std.specs.Str.{bytes_eq};
 ghost use Rattle.string_interner.specs.Text.{IsDistinct, first};
-ghost use Rattle.string_interner.specs.Backend.{IsKept};
+ghost use Rattle.string_interner.specs.Backend.{BeginsAt, IsPlace, IsKept};
 ghost use Rattle.string_interner.specs.Interner.{Interns, known_symbol, AreSymbols};
 
 use crate::backend::{Backend, InternError};
@@ -81,6 +81,14 @@ impl<B: Backend> StringInterner<B> {
         self.symbols.is_empty()
     }
 
+    /// The symbol of a text: some exactly where the text is known. Looks at the texts in order, and takes no memory.
+    pub fn get(&self, text: &str) -> Option<B::Symbol>
+        ensures symbol { result ≡ known_symbol B.Symbol.symbol_of B.place self.now.texts text.now }
+        ensures known { IsSome result ↔ IsSome (first self.now.texts text.now) }
+    {
+        find(&self.backend, &self.symbols, text)
+    }
+
     /// The symbol of a text. A new text is put last.
     ///
     /// A known text takes no memory and changes nothing. A new one is refused with `NoSymbol` exactly where the symbol
@@ -96,7 +104,7 @@ impl<B: Backend> StringInterner<B> {
         ensures spent { OnOk result (self.old.room ≤ self.new.room + B.cost text.now) }
         ensures unspent { OnErr result (self.old.room ≤ self.new.room) }
     {
-        if let Some(symbol) = find(&self.backend, &self.symbols, text) {
+        if let Some(symbol) = self.get(text) {
             return Ok(symbol);
         }
         if self.backend.next_symbol().is_none() {
@@ -106,6 +114,22 @@ impl<B: Backend> StringInterner<B> {
         let symbol = self.backend.intern(text)?;
         self.symbols.push_reserved(symbol);
         Ok(symbol)
+    }
+
+    /// What the backend reads at a symbol's number, for any symbol: at the symbol of an entry, its text.
+    pub fn resolve(&self, symbol: B::Symbol) -> Option<&str>
+        ensures { option_copied result ≡ B.read self.now.texts (B.Symbol.number symbol) }
+    {
+        self.backend.resolve(symbol)
+    }
+
+    /// The text of an entry, by its symbol, with no test of the symbol.
+    pub fn resolve_unchecked(&self, symbol: B::Symbol) -> &str
+        requires { IsPlace B.place self.now.texts (B.Symbol.number symbol) }
+        ensures { (i : ℕ) → BeginsAt B.place self.now.texts (B.Symbol.number symbol) i
+            → slice_get self.now.texts i ≡ Some result.now }
+    {
+        self.backend.resolve_unchecked(symbol)
     }
 }
 

@@ -12,5 +12,9 @@ pub mod symbol;
 #[cfg(test)]
 mod tests;
 
+pub use backend::DefaultBackend;
 pub use interner::StringInterner;
 pub use symbol::{DefaultSymbol, Symbol};
+
+/// An interner over the default backend.
+pub type DefaultStringInterner<B = DefaultBackend> = StringInterner<B>;

@@ -1,7 +1,8 @@
 //! Commands to an interner, run in order, with a reply to each.
 
-ghost use Rattle.std.specs.Prelude.{◌≡◌, [], IfOk, OnErr};
-ghost use Rattle.string_interner.specs.Run.{intern_reply, Step, Run};
+ghost use Rattle.std.specs.Prelude.{◌≡◌, ℕ, [], slice_get, Option, Some, None, IfOk, OnErr};
+ghost use Rattle.std.specs.Option.{option_copied};
+ghost use Rattle.string_interner.specs.Run.{intern_reply, number_told, IsCopy, number_read, NumberReply, Step, Run};
 
 use crate::backend::{Backend, InternError};
 use crate::interner::StringInterner;
@@ -13,6 +14,16 @@ use std::alloc::{AllocError, Global};
 pub enum Command<'c> {
     /// Intern the text: replied by its `Symbol`, or by `NoSymbol` or `NoMemory`.
     Intern(&'c str),
+    /// Look for the text: replied by its `Symbol`, or by `Nothing` where it is new.
+    Get(&'c str),
+    /// Resolve the symbol that the reply with this index told, counted from 0: replied as its `Number`, or by `NoReply`
+    /// where no such reply stands before this command or it told no symbol.
+    Resolve(usize),
+    /// Resolve the symbol with this number: replied by `Text`, or by `Nothing` where the symbol type has no such number
+    /// or nothing is read there, or by `NoMemory` for the copy.
+    Number(usize),
+    /// Count the texts: replied by `Len`.
+    Len,
 }
 
 /// What a command was answered.
@@ -20,6 +31,14 @@ pub enum Command<'c> {
 pub enum Reply {
     /// The number of the text's symbol.
     Symbol(usize),
+    /// There is no such text, or nothing is read at that number.
+    Nothing,
+    /// A copy of the text.
+    Text(String),
+    /// How many texts there are.
+    Len(usize),
+    /// No earlier reply told the symbol that was asked for.
+    NoReply,
     /// The text is new, and the symbol type has no symbol for it.
     NoSymbol,
     /// Memory was refused, for this command alone.
@@ -27,7 +46,7 @@ pub enum Reply {
 }
 
 /// The reply that tells how an interning ended.
-fn reply_of<S: Symbol>(outcome: Result<S, InternError>) -> Reply
+fn intern_reply<S: Symbol>(outcome: Result<S, InternError>) -> Reply
     ensures { result ≡ intern_reply S.number outcome }
 {
     match outcome {
@@ -37,8 +56,43 @@ fn reply_of<S: Symbol>(outcome: Result<S, InternError>) -> Reply
     }
 }
 
+/// A copy of the text. Asks for memory once.
+fn copy_of(alloc: Global, text: &str) -> Reply
+    ensures { IsCopy text.now result }
+{
+    String::from_str(alloc, text).map_or(Reply::NoMemory, Reply::Text)
+}
+
+/// The number that the reply `k` told, if it told one.
+fn number_at(earlier: &[Reply], k: usize) -> Option<usize>
+    ensures { result ≡ number_told (slice_get earlier.now k) }
+{
+    match earlier.get(k) {
+        Some(Reply::Symbol(n)) => Some(*n),
+        _ => None,
+    }
+}
+
+/// What is read at a number that has a symbol.
+fn read_at<B: Backend>(interner: &StringInterner<B>, n: usize) -> Option<&str>
+    ensures { option_copied result ≡ number_read B.Symbol.symbol_of B.Symbol.number B.place B.read interner.now.texts n }
+{
+    interner.resolve(B::Symbol::try_from_usize(n)?)
+}
+
+/// The reply to a number.
+fn number_reply<B: Backend>(alloc: Global, interner: &StringInterner<B>, n: usize) -> Reply
+    ensures { NumberReply B.Symbol.symbol_of B.Symbol.number B.place B.read interner.now.texts n result }
+{
+    match read_at(interner, n) {
+        Some(text) => copy_of(alloc, text),
+        None => Reply::Nothing,
+    }
+}
+
 /// Runs one command, after the earlier replies.
 fn step<B: Backend>(
+    alloc: Global,
     interner: &mut StringInterner<B>,
     earlier: &[Reply],
     command: &Command<'_>,
@@ -47,7 +101,17 @@ fn step<B: Backend>(
         interner.new.texts }
 {
     match command {
-        Command::Intern(text) => reply_of(interner.get_or_intern(text)),
+        Command::Intern(text) => intern_reply(interner.get_or_intern(text)),
+        Command::Get(text) => match interner.get(text) {
+            Some(symbol) => Reply::Symbol(symbol.to_usize()),
+            None => Reply::Nothing,
+        },
+        Command::Resolve(k) => match number_at(earlier, *k) {
+            Some(n) => number_reply(alloc, interner, n),
+            None => Reply::NoReply,
+        },
+        Command::Number(n) => number_reply(alloc, interner, *n),
+        Command::Len => Reply::Len(interner.len()),
     }
 }
 
@@ -69,7 +133,7 @@ pub fn run<B: Backend>(
 {
     let mut replies = Vec::with_capacity(alloc, commands.len())?;
     for command in commands {
-        let reply = step(interner, &replies, command);
+        let reply = step(alloc, interner, &replies, command);
         replies.push_reserved(reply);
     }
     Ok(replies)

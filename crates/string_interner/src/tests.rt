@@ -110,6 +110,11 @@ impl Backend for Counting {
         self.inner.resolve(symbol)
     }
 
+    fn resolve_unchecked(&self, symbol: SymbolU32) -> &str {
+        self.count_one();
+        self.inner.resolve_unchecked(symbol)
+    }
+
     ghost starts = { refl };
 
     ghost grows = { length_grows };

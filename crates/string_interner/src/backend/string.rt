@@ -109,6 +109,10 @@ impl<S: Symbol> Backend for StringBackend<S> {
         }
     }
 
+    fn resolve_unchecked(&self, symbol: S) -> &str {
+        entry(self.joined.as_str(), &self.ends, symbol.to_usize())
+    }
+
     ghost starts = { refl };
 
     ghost grows = { length_grows };

@@ -1,5 +1,7 @@
 use super::*;
+use crate::DefaultStringInterner;
 use crate::backend::StringBackend;
+use crate::symbol::DefaultSymbol;
 use crate::tests::{Counting, Even, tell_refused};
 use std::alloc::AllocError;
 use std::test::Fail;
@@ -33,11 +35,33 @@ fn equal_texts_have_one_symbol(rt: HostRuntime) -> Result<(), Fail> {
 
 #[test]
 fn the_empty_text_is_a_text(rt: HostRuntime) -> Result<(), Fail> {
-    let mut interner = StringInterner::<StringBackend>::new(rt.alloc());
+    let mut interner = <DefaultStringInterner>::new(rt.alloc());
     assert_eq!(rt;
         numbers(rt.alloc(), &mut interner, &["", "a", ""])?.as_slice(),
         [0, 1, 0].as_slice()
     );
+    for (number, text) in [(0, Some("")), (1, Some("a")), (2, None)] {
+        let symbol = DefaultSymbol::try_from_usize(number).ok_or("a small number")?;
+        assert_eq!(rt; interner.resolve(symbol), text);
+    }
+    Ok(())
+}
+
+/// The text of a symbol that was just answered, through the bound and with no test.
+fn read_back<'i, B: Backend>(
+    interner: &'i mut StringInterner<B>,
+    text: &str,
+) -> Result<&'i str, InternError> {
+    let symbol = interner.get_or_intern(text)?;
+    Ok(interner.resolve_unchecked(symbol))
+}
+
+#[test]
+fn an_answered_symbol_needs_no_test(rt: HostRuntime) -> Result<(), Fail> {
+    let mut interner = StringInterner::<Counting>::new(rt.alloc());
+    for text in ["Tiger", "", "Horse", "Tiger"] {
+        assert_eq!(rt; read_back(&mut interner, text)?, text);
+    }
     Ok(())
 }
 
@@ -64,6 +88,19 @@ fn a_backend_of_a_caller(rt: HostRuntime) -> Result<(), Fail> {
         numbers(rt.alloc(), &mut interner, &["a", "b", "c", "b"])?.as_slice(),
         [0, 1, 2, 1].as_slice()
     );
+    Ok(())
+}
+
+#[test]
+fn finds_known_texts_alone(rt: HostRuntime) -> Result<(), Fail> {
+    let mut interner = StringInterner::<Counting>::new(rt.alloc());
+    assert_eq!(rt; interner.get("a"), None);
+    let a = interner.get_or_intern("a")?;
+    let b = interner.get_or_intern("b")?;
+    assert_eq!(rt; interner.get("a"), Some(a));
+    assert_eq!(rt; interner.get("b"), Some(b));
+    assert_eq!(rt; interner.get("c"), None);
+    assert_eq!(rt; interner.resolve(b), Some("b"));
     Ok(())
 }
 
