@@ -4,3 +4,5 @@ pub mod Kept
 pub mod Interning
 pub mod Runs
 pub mod Laws
+pub mod Entries
+pub mod Equal

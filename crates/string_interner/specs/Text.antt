@@ -1,7 +1,10 @@
 -- Texts, lists of texts, and where a text first stands in one.
 -- Cited by every contract that speaks of what a backend or an interner keeps.
-use Rattle.std.specs.Prelude.{◌≢◌, ℕ, List, AllPairs, Option, position}
+use Rattle.std.specs.Prelude.{◌≢◌, ℕ, Bool, List, AllPairs, Option, position}
 use Rattle.std.specs.Str.{bytes_eq}
+use Rattle.std.specs.Cmp.Lexicographic.{pointwise}
+use Rattle.std.specs.Cmp.{IsEquivalence}
+use Rattle.std.proofs.lemmas.Cmp.{lists_equiv, nat_list_eq_equiv}
 
 -- a text is its bytes; that they are UTF-8 is said by `IsUtf8`
 abbrev pub Text : Type 0
@@ -14,3 +17,10 @@ first texts text = position (λ entry. bytes_eq entry text) texts
 -- no text stands there twice
 abbrev pub IsDistinct : List Text → Type 0
 IsDistinct texts = AllPairs (λ a b. a ≢ b) texts
+
+-- whether two lists are the same, text by text
+abbrev pub texts_eq : List Text → List Text → Bool
+texts_eq = pointwise bytes_eq
+
+pub texts_eq-IsEquivalence : IsEquivalence texts_eq
+texts_eq-IsEquivalence = lists_equiv nat_list_eq_equiv

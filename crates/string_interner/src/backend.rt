@@ -1,8 +1,9 @@
 //! Backends: what keeps the texts, and gives each a symbol.
 
 mod string;
+mod walk;
 
-ghost use Rattle.std.specs.Prelude.{◌≡◌, ℕ, ◌<◌, List, [], ◌∷◌, ◌++◌, length, take, slice_get, Option, Some, IsSome, OnErr};
+ghost use Rattle.std.specs.Prelude.{◌≡◌, ℕ, ◌+◌, ◌<◌, List, [], ◌∷◌, ◌++◌, length, take, slice_get, Option, Some, IsSome, OnErr};
 ghost use Rattle.std.specs.Option.{option_copied};
 ghost use Rattle.string_interner.specs.Text.{Text};
 
@@ -10,6 +11,7 @@ use crate::symbol::{DefaultSymbol, Symbol};
 use std::alloc::{AllocError, Global};
 pub use string::StringBackend;
 use thiserror::Error;
+pub use walk::Iter;
 
 /// Why a text was not interned. The list of texts is then as it was.
 #[derive(Clone, Copy, Debug, PartialEq, Eq, Error)]
@@ -92,6 +94,22 @@ pub trait Backend {
         requires { IsPlace place (texts self.now) (Self.Symbol.number symbol) }
         ensures { (i : ℕ) → BeginsAt place (texts self.now) (Self.Symbol.number symbol) i
             → slice_get (texts self.now) i ≡ Some result.now };
+
+    /// The entry that begins at a place: its symbol, its text, and the place after it.
+    fn entry_at(&self, at: usize) -> (Self::Symbol, &str, usize)
+        requires { IsPlace place (texts self.now) at }
+        ensures symbol { Self.Symbol.symbol_of at ≡ Some result.0 }
+        ensures text { (i : ℕ) → BeginsAt place (texts self.now) at i → slice_get (texts self.now) i ≡ Some result.1.now }
+        ensures next { (i : ℕ) → BeginsAt place (texts self.now) at i → result.2 ≡ place (take (i + 1) (texts self.now)) };
+
+    /// The entries in order, each with its symbol.
+    final fn iter(&self) -> Iter<'_, Self>
+    where
+        Self: Sized,
+        ensures { result ≡ record { behind = []; ahead = texts self.now } }
+    {
+        Iter::new(self)
+    }
 
     /// The first entry is at place 0.
     ghost starts: { place [] ≡ 0 };

@@ -1,13 +1,14 @@
 //! An interner: each text once, with the symbol that stands for it.
 
-ghost use Rattle.std.specs.Prelude.{◌≡◌, ℕ, ◌+◌, ◌≤◌, ◌↔◌, [], length, slice_get, Option, Some, IsTrue, IsSome, IsErrOf, OnOk, OnErr, false};
+ghost use Rattle.std.specs.Prelude.{◌≡◌, ℕ, ◌+◌, ◌≤◌, ◌&&◌, ◌↔◌, List, [], ◌∷◌, length, slice_get, Option, Some, IsTrue, IsSome, IsErrOf, OnOk, OnErr, false};
+ghost use Rattle.std.specs.Cmp.{partial_equiv_from_equiv, on_equiv};
 ghost use Rattle.std.specs.Option.{option_copied, option_map_or};
 ghost use Rattle.std.specs.Str.{bytes_eq};
-ghost use Rattle.string_interner.specs.Text.{IsDistinct, first};
+ghost use Rattle.string_interner.specs.Text.{Text, IsDistinct, first, texts_eq, texts_eq-IsEquivalence};
 ghost use Rattle.string_interner.specs.Backend.{BeginsAt, IsPlace, IsKept};
-ghost use Rattle.string_interner.specs.Interner.{Interns, known_symbol, AreSymbols};
+ghost use Rattle.string_interner.specs.Interner.{Interned, Interns, known_symbol, AreSymbols};
 
-use crate::backend::{Backend, InternError};
+use crate::backend::{Backend, InternError, Iter};
 use crate::symbol::Symbol;
 use std::alloc::Global;
 use std::marker::Model;
@@ -131,6 +132,59 @@ impl<B: Backend> StringInterner<B> {
     {
         self.backend.resolve_unchecked(symbol)
     }
+
+    /// The entries in order of first interning, each with its symbol.
+    pub fn iter(&self) -> Iter<'_, B>
+        ensures { result ≡ record { behind = []; ahead = self.now.texts } }
+    {
+        self.backend.iter()
+    }
+}
+
+impl<'a, B: Backend> IntoIterator for &'a StringInterner<B> {
+    type Item = (B::Symbol, &'a str);
+
+    type IntoIter = Iter<'a, B>;
+
+    ghost into_iter_gives = { λ interner iter. iter ≡ record { behind = []; ahead = interner.now.texts } };
+
+    fn into_iter(self) -> Iter<'a, B> {
+        self.iter()
+    }
+}
+
+/// Whether the next text of a walk is this one. Steps over it.
+fn next_is<B: Backend>(walk: &mut Iter<'_, B>, text: &str) -> bool
+    ensures { (texts : List Text) → texts_eq (text.now ∷ texts) walk.old.ahead ≡ (result && texts_eq texts walk.new.ahead) }
+{
+    match walk.next() {
+        Some((_, found)) => text == found,
+        None => false,
+    }
+}
+
+/// Equal exactly where the lists of texts are, whatever room there is.
+impl<B: Backend> PartialEq for StringInterner<B> {
+    ghost eq = { λ a b. texts_eq a.texts b.texts };
+
+    ghost laws = { partial_equiv_from_equiv (on_equiv (λ (i : Interned). i.texts) texts_eq-IsEquivalence) };
+
+    fn eq(&self, other: &Self) -> bool {
+        if self.len() != other.len() {
+            return false;
+        }
+        let mut theirs = other.iter();
+        for (_, text) in self.iter() {
+            if !next_is(&mut theirs, text) {
+                return false;
+            }
+        }
+        theirs.next().is_none()
+    }
+}
+
+impl<B: Backend> Eq for StringInterner<B> {
+    ghost laws = { on_equiv (λ (i : Interned). i.texts) texts_eq-IsEquivalence };
 }
 
 #[cfg(test)]

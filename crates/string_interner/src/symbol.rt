@@ -1,4 +1,6 @@
 //! Symbols: what stands for a text. A symbol is known by its number.
+//!
+//! The symbol types here have all numbers below a limit. Each tests the number before it casts it.
 
 ghost use Rattle.std.specs.Prelude.{◌≡◌, ℕ, ◌^◌, ◌<◌, ◌-◌, ◌↔◌, Option, Some, IsTrue};
 ghost use Rattle.std.proofs.Common.{rules, lit≤};
@@ -34,6 +36,49 @@ pub trait Symbol: Copy + Eq {
 
     /// Symbols with one number are one symbol.
     ghost injective: { (a b : Self) → number a ≡ number b → a ≡ b };
+}
+
+/// A symbol in two bytes, with the numbers from 0 to 65534.
+#[derive(Clone, Copy, PartialEq, Eq, PartialOrd, Ord, Hash, Debug)]
+pub struct SymbolU16 {
+    value: u16,
+}
+
+/// Contracts see the number.
+impl Model for SymbolU16 {
+    ghost Value = { ℕ };
+
+    ghost view = { λ symbol. symbol.value };
+
+    ghost invariant = { λ symbol. symbol.value < 2 ^ 16 - 1 };
+
+    ghost inverse = { λ n. record { value = n } };
+}
+
+impl Symbol for SymbolU16 {
+    ghost number = { λ symbol. symbol };
+
+    ghost symbol_of = { number_below (2 ^ 16 - 1) };
+
+    fn try_from_usize(index: usize) -> Option<Self> {
+        if index < u16::MAX as usize {
+            Some(SymbolU16 {
+                value: index as u16,
+            })
+        } else {
+            None
+        }
+    }
+
+    fn to_usize(self) -> usize {
+        usize::from(self.value)
+    }
+
+    ghost numbered = { number_below-some (2 ^ 16 - 1) (lit≤ tt) };
+
+    ghost equal_by_number = { Prim.search rules };
+
+    ghost injective = { λ a b same. same };
 }
 
 /// A symbol in four bytes, with the numbers from 0 to 2^32 - 2.
@@ -73,6 +118,68 @@ impl Symbol for SymbolU32 {
     }
 
     ghost numbered = { number_below-some (2 ^ 32 - 1) (lit≤ tt) };
+
+    ghost equal_by_number = { Prim.search rules };
+
+    ghost injective = { λ a b same. same };
+}
+
+/// A symbol in eight bytes, with the numbers from 0 to 2^64 - 2.
+#[derive(Clone, Copy, PartialEq, Eq, PartialOrd, Ord, Hash, Debug)]
+pub struct SymbolUsize {
+    value: usize,
+}
+
+/// Contracts see the number.
+impl Model for SymbolUsize {
+    ghost Value = { ℕ };
+
+    ghost view = { λ symbol. symbol.value };
+
+    ghost invariant = { λ symbol. symbol.value < 2 ^ 64 - 1 };
+
+    ghost inverse = { λ n. record { value = n } };
+}
+
+impl Symbol for SymbolUsize {
+    ghost number = { λ symbol. symbol };
+
+    ghost symbol_of = { number_below (2 ^ 64 - 1) };
+
+    fn try_from_usize(index: usize) -> Option<Self> {
+        if index < usize::MAX {
+            Some(SymbolUsize { value: index })
+        } else {
+            None
+        }
+    }
+
+    fn to_usize(self) -> usize {
+        self.value
+    }
+
+    ghost numbered = { number_below-some (2 ^ 64 - 1) (lit≤ tt) };
+
+    ghost equal_by_number = { Prim.search rules };
+
+    ghost injective = { λ a b same. same };
+}
+
+/// A `usize` is the symbol with its number.
+impl Symbol for usize {
+    ghost number = { λ symbol. symbol };
+
+    ghost symbol_of = { number_below (2 ^ 64) };
+
+    fn try_from_usize(index: usize) -> Option<Self> {
+        Some(index)
+    }
+
+    fn to_usize(self) -> usize {
+        self
+    }
+
+    ghost numbered = { number_below-some (2 ^ 64) (lit≤ tt) };
 
     ghost equal_by_number = { Prim.search rules };
 

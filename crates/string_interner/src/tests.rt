@@ -115,6 +115,11 @@ impl Backend for Counting {
         self.inner.resolve_unchecked(symbol)
     }
 
+    fn entry_at(&self, at: usize) -> (SymbolU32, &str, usize) {
+        self.count_one();
+        self.inner.entry_at(at)
+    }
+
     ghost starts = { refl };
 
     ghost grows = { length_grows };

@@ -1,10 +1,13 @@
 //! All texts in one, cut at a list of ends.
 
-ghost use Rattle.std.specs.Prelude.{◌≡◌, ◌*◌, max, ◌<◌, ◌≤◌, length, slice_get, Some, refl};
+ghost use Rattle.std.specs.Prelude.{◌≡◌, ◌*◌, max, ◌<◌, ◌≤◌, [], length, slice_get, Some, refl};
+ghost use Rattle.std.specs.Cmp.{partial_equiv_from_equiv, on_equiv};
 ghost use Rattle.std.proofs.Common.{rules};
+ghost use Rattle.string_interner.specs.Backend.{Contents};
+ghost use Rattle.string_interner.specs.Text.{texts_eq, texts_eq-IsEquivalence};
 ghost use Rattle.string_interner.specs.StringBackend.{cut, start_at, IsCut, length_grows, reads_at_length};
 
-use crate::backend::{Backend, InternError};
+use crate::backend::{Backend, InternError, Iter};
 use crate::symbol::{DefaultSymbol, Symbol};
 use std::alloc::Global;
 use std::marker::{Model, PhantomData};
@@ -113,6 +116,11 @@ impl<S: Symbol> Backend for StringBackend<S> {
         entry(self.joined.as_str(), &self.ends, symbol.to_usize())
     }
 
+    fn entry_at(&self, at: usize) -> (S, &str, usize) {
+        let text = entry(self.joined.as_str(), &self.ends, at);
+        (S::try_from_usize(at).unwrap(), text, at + 1)
+    }
+
     ghost starts = { refl };
 
     ghost grows = { length_grows };
@@ -120,6 +128,33 @@ impl<S: Symbol> Backend for StringBackend<S> {
     ghost costs = { λ text. Prim.search rules };
 
     ghost reads = { λ texts i kept within. reads_at_length texts i within };
+}
+
+impl<'a, S: Symbol> IntoIterator for &'a StringBackend<S> {
+    type Item = (S, &'a str);
+
+    type IntoIter = Iter<'a, StringBackend<S>>;
+
+    ghost into_iter_gives = { λ backend iter. iter ≡ record { behind = []; ahead = backend.now.texts } };
+
+    fn into_iter(self) -> Iter<'a, StringBackend<S>> {
+        Iter::new(self)
+    }
+}
+
+/// Equal exactly where the lists are, whatever room there is.
+impl<S: Symbol> PartialEq for StringBackend<S> {
+    ghost eq = { λ a b. texts_eq a.texts b.texts };
+
+    ghost laws = { partial_equiv_from_equiv (on_equiv (λ (b : Contents). b.texts) texts_eq-IsEquivalence) };
+
+    fn eq(&self, other: &Self) -> bool {
+        self.ends == other.ends && self.joined == other.joined
+    }
+}
+
+impl<S: Symbol> Eq for StringBackend<S> {
+    ghost laws = { on_equiv (λ (b : Contents). b.texts) texts_eq-IsEquivalence };
 }
 
 #[cfg(test)]

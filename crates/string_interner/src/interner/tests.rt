@@ -1,3 +1,5 @@
+ghost use Rattle.std.specs.Prelude.{◌≡◌, IfOk, map};
+
 use super::*;
 use crate::DefaultStringInterner;
 use crate::backend::StringBackend;
@@ -101,6 +103,69 @@ fn finds_known_texts_alone(rt: HostRuntime) -> Result<(), Fail> {
     assert_eq!(rt; interner.get("b"), Some(b));
     assert_eq!(rt; interner.get("c"), None);
     assert_eq!(rt; interner.resolve(b), Some("b"));
+    Ok(())
+}
+
+/// The texts of an interner, by a `for` loop: proved to be its list.
+fn texts_of<'i, B: Backend>(
+    alloc: Global,
+    interner: &'i StringInterner<B>,
+) -> Result<Vec<&'i str>, AllocError>
+    ensures { IfOk result (λ texts. map (λ text. text.now) texts.items ≡ interner.now.texts) }
+{
+    let mut texts = Vec::with_capacity(alloc, interner.len())?;
+    for (_, text) in interner {
+        texts.push(text)?;
+    }
+    Ok(texts)
+}
+
+#[test]
+fn walks_in_order_of_first_interning(rt: HostRuntime) -> Result<(), Fail> {
+    let mut interner = StringInterner::<StringBackend>::new(rt.alloc());
+    numbers(
+        rt.alloc(),
+        &mut interner,
+        &["Earth", "Water", "Earth", "Fire", "Air"],
+    )?;
+    let wanted = ["Earth", "Water", "Fire", "Air"];
+    assert_eq!(rt;
+        texts_of(rt.alloc(), &interner)?.as_slice(),
+        wanted.as_slice()
+    );
+    let mut entries = interner.iter();
+    for (number, text, left) in [
+        (0, "Earth", 3),
+        (1, "Water", 2),
+        (2, "Fire", 1),
+        (3, "Air", 0),
+    ] {
+        assert_eq!(rt; entries.len(), left + 1);
+        assert_eq!(rt;
+            entries
+                .next()
+                .map(|(symbol, text)| (symbol.to_usize(), text)),
+            Some((number, text))
+        );
+        assert_eq!(rt; entries.len(), left);
+    }
+    assert_eq!(rt; entries.next(), None);
+    assert_eq!(rt; entries.size_hint(), (0, Some(0)));
+    Ok(())
+}
+
+#[test]
+fn equal_exactly_for_equal_lists(rt: HostRuntime) -> Result<(), Fail> {
+    let lists = [["a", "b"], ["b", "a"], ["a", "a"], ["a", "ab"]];
+    for (i, one) in lists.iter().enumerate() {
+        for (k, other) in lists.iter().enumerate() {
+            let mut left = StringInterner::<Counting>::new(rt.alloc());
+            let mut right = StringInterner::<Counting>::new(rt.alloc());
+            numbers(rt.alloc(), &mut left, one)?;
+            numbers(rt.alloc(), &mut right, other)?;
+            assert_eq!(rt; left == right, i == k, "{one:?} and {other:?}");
+        }
+    }
     Ok(())
 }
 

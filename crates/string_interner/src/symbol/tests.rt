@@ -1,5 +1,6 @@
 use super::*;
 use crate::tests::Even;
+use std::hash::{DefaultHasher, Hash, Hasher};
 
 /// The number of the symbol with a number, through the bound.
 fn number_of<S: Symbol>(number: usize) -> Option<usize> {
@@ -7,13 +8,35 @@ fn number_of<S: Symbol>(number: usize) -> Option<usize> {
 }
 
 #[test]
+fn numbers_of_two_bytes(rt: HostRuntime) {
+    for number in [0, 1, 65534] {
+        assert_eq!(rt; number_of::<SymbolU16>(number), Some(number));
+    }
+    for number in [65535, 65536, 18446744073709551615] {
+        assert_eq!(rt; number_of::<SymbolU16>(number), None, "{number}");
+    }
+}
+
+#[test]
 fn numbers_of_four_bytes(rt: HostRuntime) {
     for number in [0, 1, 4294967294] {
         assert_eq!(rt; number_of::<SymbolU32>(number), Some(number));
     }
-    for number in [4294967295, 4294967296, usize::MAX] {
+    for number in [4294967295, 4294967296, 18446744073709551615] {
         assert_eq!(rt; number_of::<SymbolU32>(number), None, "{number}");
     }
+}
+
+#[test]
+fn numbers_of_eight_bytes(rt: HostRuntime) {
+    for number in [0, 1, 18446744073709551614] {
+        assert_eq!(rt; number_of::<SymbolUsize>(number), Some(number));
+    }
+    assert_eq!(rt; number_of::<SymbolUsize>(18446744073709551615), None);
+    assert_eq!(rt;
+        number_of::<usize>(18446744073709551615),
+        Some(18446744073709551615)
+    );
 }
 
 #[test]
@@ -26,11 +49,23 @@ fn numbers_with_gaps(rt: HostRuntime) {
     }
 }
 
+/// What `Hash` makes of a value.
+fn hash_of<T: Hash + Drop>(value: T) -> u64 {
+    let mut hasher = DefaultHasher::new();
+    value.hash(&mut hasher);
+    hasher.finish()
+}
+
 #[test]
-fn symbols_compare_by_number(rt: HostRuntime) {
-    let one = DefaultSymbol::try_from_usize(1);
-    let two = DefaultSymbol::try_from_usize(2);
-    assert!(rt; one < two);
-    assert!(rt; one != two);
-    assert!(rt; one == DefaultSymbol::try_from_usize(1));
+fn symbols_are_ordered_and_hashed_by_number(rt: HostRuntime) {
+    for (small, large) in [(0, 1), (7, 40000), (65533, 65534)] {
+        assert!(rt; SymbolU16::try_from_usize(small) < SymbolU16::try_from_usize(large));
+        assert!(rt; SymbolU32::try_from_usize(small) < SymbolU32::try_from_usize(large));
+        assert!(rt; SymbolUsize::try_from_usize(small) < SymbolUsize::try_from_usize(large));
+        assert!(rt; SymbolU16::try_from_usize(small) != SymbolU16::try_from_usize(large));
+        assert!(rt; SymbolU32::try_from_usize(small) == SymbolU32::try_from_usize(small));
+        assert!(rt;
+            hash_of(SymbolU16::try_from_usize(small)) == hash_of(SymbolU16::try_from_usize(small))
+        );
+    }
 }

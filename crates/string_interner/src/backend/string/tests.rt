@@ -1,4 +1,5 @@
 use super::*;
+use crate::symbol::SymbolU16;
 use crate::tests::{Even, tell_refused};
 use std::alloc::AllocError;
 use std::test::Fail;
@@ -43,6 +44,50 @@ fn no_symbol_leaves_all(rt: HostRuntime) -> Result<(), Fail> {
         assert_eq!(rt; backend.count(), 1);
         assert_eq!(rt; backend.joined.as_str(), "a");
     }
+    Ok(())
+}
+
+#[test]
+fn walks_over_repeats(rt: HostRuntime) -> Result<(), Fail> {
+    let mut twice = StringBackend::<DefaultSymbol>::new(rt.alloc());
+    twice.intern("a")?;
+    let mut once = StringBackend::<DefaultSymbol>::new(rt.alloc());
+    once.intern("a")?;
+    assert!(rt; twice == once);
+    twice.intern("a")?;
+    let mut number = 0;
+    for (symbol, text) in &twice {
+        assert_eq!(rt; symbol.to_usize(), number);
+        assert_eq!(rt; text, "a");
+        number = symbol.to_usize().saturating_add(1);
+    }
+    assert_eq!(rt; number, 2);
+    assert_eq!(rt; twice.iter().len(), 2);
+    assert!(rt; twice != once);
+    Ok(())
+}
+
+#[test]
+fn equal_bytes_cut_apart_are_unequal(rt: HostRuntime) -> Result<(), Fail> {
+    let mut left = StringBackend::<DefaultSymbol>::new(rt.alloc());
+    let mut right = StringBackend::<DefaultSymbol>::new(rt.alloc());
+    for (one, other) in [("ab", "a"), ("c", "bc")] {
+        left.intern(one)?;
+        right.intern(other)?;
+    }
+    assert!(rt; left != right);
+    Ok(())
+}
+
+#[test]
+fn the_last_symbol_of_two_bytes(rt: HostRuntime) -> Result<(), Fail> {
+    let mut backend = StringBackend::<SymbolU16>::new(rt.alloc());
+    for number in 0..65535 {
+        assert_eq!(rt; backend.intern("")?.to_usize(), number);
+    }
+    assert_eq!(rt; backend.intern(""), Err(InternError::NoSymbol));
+    assert_eq!(rt; backend.count(), 65535);
+    assert_eq!(rt; backend.next_symbol(), None);
     Ok(())
 }
 

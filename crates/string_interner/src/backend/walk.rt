@@ -1,0 +1,77 @@
+//! Walking over the entries of a backend.
+
+ghost use Rattle.std.specs.Prelude.{◌≡◌, [], Some};
+ghost use Rattle.std.specs.Iterator.{YieldsFirstBy, item_count};
+ghost use Rattle.string_interner.specs.Walk.{entries};
+
+use crate::backend::Backend;
+use std::iter::ExactSizeIterator;
+use std::marker::Model;
+
+/// The entries of a backend in order, each with its symbol. How many are still to come is known at each moment.
+///
+/// A step costs what `entry_at` of the backend costs.
+#[derive(Drop)]
+pub struct Iter<'a, B: Backend> {
+    backend: &'a B,
+    next: usize,
+    left: usize,
+}
+
+/// Contracts see the texts that were walked over, and those that are ahead.
+impl<'a, B: Backend> Model for Iter<'a, B> {
+    ghost use Rattle.std.specs.Prelude.{take, drop, length, ◌-◌, ◌≤◌, ◌≡◌};
+    ghost use Rattle.string_interner.specs.Walk.{Walk};
+
+    ghost Value = { Walk };
+
+    ghost view = { λ s. let done = length (B.texts s.backend.now) - s.left in record {
+      behind = take done (B.texts s.backend.now);
+      ahead = drop done (B.texts s.backend.now);
+    } };
+
+    ghost invariant = { λ s. (s.left ≤ length (B.texts s.backend.now))
+        × (B.place (take (length (B.texts s.backend.now) - s.left) (B.texts s.backend.now)) ≡ s.next) };
+}
+
+impl<'a, B: Backend> Iter<'a, B> {
+    /// Before the first entry.
+    pub fn new(backend: &'a B) -> Self
+        ensures { result ≡ record { behind = []; ahead = B.texts backend.now } }
+    {
+        Iter {
+            backend,
+            next: 0,
+            left: backend.count(),
+        }
+    }
+}
+
+impl<'a, B: Backend> Iterator for Iter<'a, B> {
+    type Item = (B::Symbol, &'a str);
+
+    ghost next_gives = { YieldsFirstBy (λ item. (Some item.0, item.1.now))
+        (λ walk. entries B.Symbol.symbol_of B.place walk.behind walk.ahead) };
+
+    ghost remaining = { item_count (λ walk. walk.ahead) };
+
+    fn next(&mut self) -> Option<(B::Symbol, &'a str)> {
+        if self.left == 0 {
+            return None;
+        }
+        let (symbol, text, next) = self.backend.entry_at(self.next);
+        self.next = next;
+        self.left -= 1;
+        Some((symbol, text))
+    }
+
+    fn size_hint(&self) -> (usize, Option<usize>) {
+        (self.left, Some(self.left))
+    }
+}
+
+impl<'a, B: Backend> ExactSizeIterator for Iter<'a, B> {
+    fn len(&self) -> usize {
+        self.left
+    }
+}
