@@ -1,35 +1,20 @@
 -- What an interner keeps to, when a text is looked for and when one is put last.
-use Rattle.std.proofs.Common.{below_more, suc, zero, ◌≡◌, ℕ, ◌<◌, ◌≤◌, List, [], ◌∷◌, ◌++◌, length, take, get_or, refl, sym, ap, ◌∙◌, arith, Option, Some, None, Ok, IsSome}
-use Rattle.std.specs.Prelude.{◌↔◌, slice_get, option_and_then, ◌≢◌, ◌^◌}
+use Rattle.std.proofs.Common.{◌≡◌, ℕ, ◌<◌, List, [], ◌∷◌, ◌++◌, length, refl, sym, ap, subst, ◌∙◌, arith, Option, Some, None, Ok, IsSome}
+use Rattle.std.specs.Prelude.{◌↔◌, option_and_then, ◌≢◌, ◌^◌, take}
 use Rattle.std.proofs.lemmas.Grind.{common_steps}
-use Rattle.std.proofs.lemmas.List.{length_push, take-append-le, take_all}
+use Rattle.std.proofs.lemmas.List.{length_push}
 use Rattle.std.proofs.lemmas.List.Quantifiers.{all_pairs_push}
-use Rattle.std.proofs.lemmas.Option.{slice_get-get_or, slice_get_read}
 use Rattle.string_interner.specs.Text.{Text, first}
 use Rattle.string_interner.specs.Backend.{IsKept, Appends}
-use Rattle.string_interner.specs.Interner.{AreSymbols, IsInterned, entry_symbol, known_symbol}
+use Rattle.string_interner.specs.Entry.{entry_text}
+use Rattle.string_interner.specs.Slots.{symbols}
+use Rattle.string_interner.specs.Index.{AddsPair, Fits, Indexed, Inserts, IsAbsent, SameMap, look_up, text_of}
+use Rattle.string_interner.specs.Probe.{IsVacant}
+use Rattle.string_interner.specs.Interner.{IsInterned, entry_symbol, known_symbol}
+use Rattle.string_interner.proofs.EntryTexts.{Adds, entry_text-adds}
 use Rattle.string_interner.proofs.Firsts.{first_within, first_none}
-
--- what is read at the symbol of the entry i
-pub entry_read : {S : Type 0} (symbol_of : ℕ → Option S) (place : List Text → ℕ) (number : S → ℕ) (read : List Text → ℕ → Option Text)
-    → ((i : ℕ) (s : S) → symbol_of i ≡ Some s → (number s ≡ i) × (i < 2 ^ 64))
-    → ((texts : List Text) (i : ℕ) → IsKept symbol_of place texts → i < length texts → read texts (place (take i texts)) ≡ slice_get texts i)
-    → (texts : List Text) (symbols : List S) → IsKept symbol_of place texts → AreSymbols symbol_of place texts symbols
-    → (i : ℕ) (s : S) → i < length symbols → s ≡ get_or symbols i s
-    → (i < length texts) × (entry_symbol symbol_of place texts i ≡ Some s) × (read texts (number s) ≡ Some (get_or texts i []))
-entry_read symbol_of place number read numbered reads texts symbols kept are i s h e =
-    let l : i < length texts = omega (arith, are.count) in
-    let es : entry_symbol symbol_of place texts i ≡ Some s = sym (are.each i l) ∙ slice_get_read symbols (length symbols) i s refl h e in
-    (l, es, ap (read texts) (numbered (place (take i texts)) s es).0 ∙ (reads texts i kept l ∙ slice_get-get_or texts i [] l))
-
-slice_get-append : {X : Type 0} (xs ys : List X) (i : ℕ) → i < length xs → slice_get (xs ++ ys) i ≡ slice_get xs i
-slice_get-append [] ys i h = absurd (omega arith)
-slice_get-append (x ∷ xs) ys zero h = refl
-slice_get-append (x ∷ xs) ys (suc i) h = slice_get-append xs ys i (omega arith)
-
-slice_get_at : {X : Type 0} (xs : List X) (x : X) → slice_get (xs ++ x ∷ []) (length xs) ≡ Some x
-slice_get_at [] x = refl
-slice_get_at (y ∷ xs) x = slice_get_at xs x
+use Rattle.string_interner.proofs.Wholes.{Fits-added, text_of-added, IsAbsent-added, IsWhole-added}
+use Rattle.string_interner.proofs.WholeTexts.{look_up-known}
 
 module _ {S : Type 0} (symbol_of : ℕ → Option S) (place : List Text → ℕ) where
   -- with no symbol the text is new
@@ -48,20 +33,68 @@ module _ {S : Type 0} (symbol_of : ℕ → Option S) (place : List Text → ℕ)
       of None e = (λ h. h, λ h. h)
       of (Some i) e = (λ _. refl, λ _. kept.has_symbols i (first_within texts t i e))
 
-  -- one more text and its symbol
-  pub interned-push : (texts : List Text) (symbols : List S) (t : Text) (s : S) → IsInterned symbol_of place texts symbols → first texts t ≡ None → IsKept symbol_of place (texts ++ t ∷ []) → symbol_of (place texts) ≡ Some s → IsInterned symbol_of place (texts ++ t ∷ []) (symbols ++ s ∷ [])
-  interned-push texts symbols t s is new kept e = record {
-    distinct = all_pairs_push (λ a b. a ≢ b) texts t is.distinct (first_none texts t new);
-    kept = kept;
-    symbols_are = record {
-      count = rw (length_push symbols s, length_push texts t, is.symbols_are.count) refl;
-      each = λ i h. below_more (λ i. slice_get (symbols ++ s ∷ []) i ≡ entry_symbol symbol_of place (texts ++ t ∷ []) i) (length texts)
-          (λ i h. let l : i ≤ length texts = omega arith in let ls : i < length symbols = omega (arith, is.symbols_are.count) in rw (take-append-le i texts (t ∷ []) l, slice_get-append symbols (s ∷ []) i ls) (is.symbols_are.each i h))
-          (rw (take-append-le (length texts) texts (t ∷ []) (omega arith), take_all (length texts) texts (omega arith), ← is.symbols_are.count) (slice_get_at symbols s ∙ sym e))
-          i (omega (arith, length_push texts t));
-    };
+module _ {S : Type 0} (symbol_of : ℕ → Option S) (number : S → ℕ) (place : List Text → ℕ)
+    (numbered : (i : ℕ) (s : S) → symbol_of i ≡ Some s → (number s ≡ i) × (i < 2 ^ 64))
+    (injective : (a b : S) → number a ≡ number b → a ≡ b)
+    (grows : (texts : List Text) (text : Text) → place texts < place (texts ++ text ∷ []))
+    (code : Text → ℕ) (texts : List Text) (slots : List (Option S)) (is : IsInterned symbol_of place number code texts slots) where
+  abbrev entries : List Text → S → Option Text
+  entries = entry_text number place
+
+  -- what is found under a text is its known symbol
+  pub finds : (t : Text) → look_up (entries texts) slots t ≡ known_symbol symbol_of place texts t
+  finds = look_up-known symbol_of number place numbered grows code texts slots is.kept is.whole
+
+  -- the same of a list that is known by an equation
+  pub sought : (lent : List Text) (found : Option S) (t : Text) → found ≡ look_up (entries lent) slots t → lent ≡ texts → known_symbol symbol_of place texts t ≡ found
+  sought lent found t e same = sym (finds t) ∙ ap (λ (xs : List Text). look_up (entries xs) slots t) (sym same) ∙ sym e
+
+  -- and something is found exactly if the text is known
+  pub sought_known : (lent : List Text) (found : Option S) (t : Text) → found ≡ look_up (entries lent) slots t → lent ≡ texts → IsSome found ↔ IsSome (first texts t)
+  sought_known lent found t e same = subst (λ o. IsSome o ↔ IsSome (first texts t)) (sought lent found t e same) (known-symbol symbol_of place texts t is.kept)
+
+  -- and where nothing is found, the text is new
+  pub sought_none : (lent : List Text) (found : Option S) (t : Text) → found ≡ look_up (entries lent) slots t → lent ≡ texts → found ≡ None → first texts t ≡ None
+  sought_none lent found t e same none = known_none symbol_of place texts t is.kept (sought lent found t e same ∙ none)
+
+  -- slots that hold the same map, of as many symbols
+  pub interned-same : (bigger : List (Option S)) → Fits (entries texts) code bigger → SameMap (entries texts) slots bigger
+      → length (symbols bigger) ≡ length (symbols slots) → IsInterned symbol_of place number code texts bigger
+  interned-same bigger fits same count = record {
+    distinct = is.distinct;
+    kept = is.kept;
+    whole = record { fits = fits; whole = λ s u e. same u ∙ is.whole.whole s u e };
+    count = count ∙ is.count;
   }
 
-  -- the same of lists that are known by equations
-  pub interned-more : (texts more_texts : List Text) (symbols more_symbols : List S) (t : Text) (s : S) → IsInterned symbol_of place texts symbols → first texts t ≡ None → IsKept symbol_of place more_texts → Appends symbol_of place texts t (Ok s) more_texts → more_symbols ≡ symbols ++ s ∷ [] → IsInterned symbol_of place more_texts more_symbols
-  interned-more texts more_texts symbols more_symbols t s is new kept a e = rw (a.1, e) (interned-push texts symbols t s is new (rw a.1 at kept) a.0)
+  -- a text that is put last
+  module _ (t : Text) (s : S) (more : List Text) (new_text : first texts t ≡ None) (put : Appends symbol_of place texts t (Ok s) more) where
+    adds : Adds (entries texts) (entries more) s t
+    adds = rw put.1 (entry_text-adds symbol_of number place numbered injective grows texts t s put.0)
+
+    absent : look_up (entries texts) slots t ≡ None
+    absent = finds t ∙ ap (option_and_then (entry_symbol symbol_of place texts)) new_text
+
+    -- the index still fits
+    pub fits-more : Fits (entries more) code slots
+    fits-more = Fits-added (entries texts) (entries more) code slots slots s t is.whole is.whole.fits (λ u. refl) adds
+
+    -- its symbol may be inserted
+    pub absent-more : IsAbsent (entries more) slots s
+    absent-more = IsAbsent-added (entries texts) (entries more) code slots slots s t is.whole is.whole.fits (λ u. refl) adds absent
+
+    -- and goes where the text does
+    pub vacant-more : (known_code : ℕ) (at : Option ℕ) → IsVacant code slots t known_code at → IsVacant code slots (text_of (entries more) s) known_code at
+    vacant-more known_code at v =
+        rw (text_of-added (entries texts) (entries more) code slots slots s t is.whole is.whole.fits (λ u. refl) adds) v
+
+    -- once it is inserted the index has each text again
+    pub interned-more : (old new : Indexed S) → IsKept symbol_of place more → old.slots ≡ slots → Inserts (entries more) code old new s
+        → IsInterned symbol_of place number code more new.slots
+    interned-more old new kept here i = record {
+      distinct = rw put.1 (all_pairs_push (λ a b. a ≢ b) texts t is.distinct (first_none texts t new_text));
+      kept = kept;
+      whole = IsWhole-added (entries texts) (entries more) code slots slots s t is.whole is.whole.fits (λ u. refl) adds absent new.slots i.fits
+          (subst (λ (xs : List (Option S)). AddsPair (entries more) xs new.slots s) here i.pair);
+      count = (let a = ap (λ xs. length (symbols xs)) here in let b = i.count in let d = is.count in let e = ap length put.1 ∙ length_push texts t in omega arith);
+    }

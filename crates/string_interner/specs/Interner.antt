@@ -1,8 +1,11 @@
 -- What is said of every interner: a list of distinct texts, each with its symbol, and interning a text.
 -- Cited by `StringInterner` and by all that stands on it.
-use Rattle.std.specs.Prelude.{◌≡◌, ℕ, ◌<◌, List, length, take, slice_get, Option, Some, MatchOption, IsOkAnd, Result, option_and_then}
+use Rattle.std.specs.Prelude.{◌≡◌, ℕ, List, length, take, Option, Some, MatchOption, IsOkAnd, Result, option_and_then}
 use Rattle.string_interner.specs.Text.{Text, IsDistinct, first}
 use Rattle.string_interner.specs.Backend.{Bucket, IsKept, Appends}
+use Rattle.string_interner.specs.Entry.{entry_text}
+use Rattle.string_interner.specs.Slots.{symbols}
+use Rattle.string_interner.specs.Index.{IsWhole}
 use Rattle.string_interner.specs.declared.backend.InternError.{InternError}
 
 -- what contracts see of an interner
@@ -11,6 +14,8 @@ pub record Interned : Type 0 where
   pub buckets : List Bucket
   -- what the backend takes without asking for memory, as costs of texts
   pub room : ℕ
+  -- how many slots the index has
+  pub slots : ℕ
 
 module _ {S : Type 0} (symbol_of : ℕ → Option S) (place : List Text → ℕ) where
   -- the symbol of the entry `i`
@@ -28,13 +33,9 @@ module _ {S : Type 0} (symbol_of : ℕ → Option S) (place : List Text → ℕ)
       (Appends symbol_of place old text outcome new)
       (λ i. IsOkAnd outcome (λ symbol. entry_symbol old i ≡ Some symbol) × (new ≡ old))
 
-  -- these are the symbols of the entries, in order
-  pub record AreSymbols (texts : List Text) (symbols : List S) : Type 0 where
-    pub count : length symbols ≡ length texts
-    pub each : (i : ℕ) → i < length texts → slice_get symbols i ≡ entry_symbol texts i
-
-  -- what an interner keeps to: distinct texts that its backend keeps, and the symbol of each
-  pub record IsInterned (texts : List Text) (symbols : List S) : Type 0 where
+  -- what an interner keeps to: distinct texts that its backend keeps, and an index that has each under its symbol
+  pub record IsInterned (number : S → ℕ) (code : Text → ℕ) (texts : List Text) (slots : List (Option S)) : Type 0 where
     pub distinct : IsDistinct texts
     pub kept : IsKept symbol_of place texts
-    pub symbols_are : AreSymbols texts symbols
+    pub whole : IsWhole (entry_text number place texts) code slots
+    pub count : length (symbols slots) ≡ length texts

@@ -3,6 +3,12 @@ pub mod Text
 pub mod Backend
 pub mod StringBackend
 pub mod Walk
+pub mod Entry
+pub mod Hasher
+pub mod Slots
+pub mod Index
+pub mod Probe
 pub mod Interner
+pub mod Sought
 pub mod Run
 pub mod Samples

@@ -3,7 +3,7 @@
 mod string;
 mod walk;
 
-ghost use Rattle.std.specs.Prelude.{◌≡◌, ℕ, ◌+◌, ◌<◌, List, [], ◌∷◌, ◌++◌, length, take, slice_get, Option, Some, IsSome, OnErr};
+ghost use Rattle.std.specs.Prelude.{◌≡◌, ℕ, ◌+◌, ◌<◌, ◌≤◌, List, [], ◌∷◌, ◌++◌, length, take, slice_get, Option, Some, IsSome, IfOk, OnErr};
 ghost use Rattle.std.specs.Option.{option_copied};
 ghost use Rattle.string_interner.specs.Text.{Text};
 
@@ -62,6 +62,13 @@ pub trait Backend {
     fn new(alloc: Global) -> Self
         ensures { texts result ≡ [] };
 
+    /// The empty list, with room for `capacity` texts of usual length, as each backend says.
+    ///
+    /// Refuses only where memory was refused or a size does not fit a `usize`.
+    fn with_capacity(alloc: Global, capacity: usize) -> Result<Self, AllocError>
+        ensures texts { IfOk result (λ backend. texts backend ≡ []) }
+        ensures room { IfOk result (λ backend. grant capacity ≤ room backend) };
+
     /// How many texts there are.
     fn count(&self) -> usize
         ensures value { result ≡ length (texts self.now) }
@@ -85,6 +92,19 @@ pub trait Backend {
         ensures room { UsesRoom (IsSome (Self.Symbol.symbol_of (place (texts self.old)))) (cost text.now)
             (room self.old) (room self.new) result };
 
+    /// Puts a text last as `intern` does, where a backend may keep the text itself in the place of a copy.
+    fn intern_static(&mut self, text: &'static str) -> Result<Self::Symbol, InternError>
+        ensures appends { Appends Self.Symbol.symbol_of place (texts self.old) text.now result (texts self.new) }
+        ensures kept { IsKept Self.Symbol.symbol_of place (texts self.new) }
+        ensures buckets { OnErr result (buckets self.new ≡ buckets self.old) }
+
+        // Within the room, memory is not refused.
+        ensures room { UsesRoom (IsSome (Self.Symbol.symbol_of (place (texts self.old)))) (cost text.now)
+            (room self.old) (room self.new) result }
+    {
+        self.intern(text)
+    }
+
     /// The text that is read at a symbol's number, if any: at the symbol of an entry, the text of that entry.
     fn resolve(&self, symbol: Self::Symbol) -> Option<&str>
         ensures { option_copied result ≡ read (texts self.now) (Self.Symbol.number symbol) };
@@ -101,6 +121,11 @@ pub trait Backend {
         ensures symbol { Self.Symbol.symbol_of at ≡ Some result.0 }
         ensures text { (i : ℕ) → BeginsAt place (texts self.now) at i → slice_get (texts self.now) i ≡ Some result.1.now }
         ensures next { (i : ℕ) → BeginsAt place (texts self.now) at i → result.2 ≡ place (take (i + 1) (texts self.now)) };
+
+    /// Gives back memory that no text needs, where that can be had. Texts, symbols and buckets stay.
+    fn shrink_to_fit(&mut self)
+        ensures texts { texts self.new ≡ texts self.old }
+        ensures buckets { buckets self.new ≡ buckets self.old };
 
     /// The entries in order, each with its symbol.
     final fn iter(&self) -> Iter<'_, Self>
@@ -123,4 +148,11 @@ pub trait Backend {
     /// At the place of each entry its text is read.
     ghost reads: { (texts : List Text) (i : ℕ) → IsKept Self.Symbol.symbol_of place texts → i < length texts
         → read texts (place (take i texts)) ≡ slice_get texts i };
+}
+
+/// A backend that can be copied.
+pub trait CopyBackend: Backend {
+    /// A backend with an equal list, and so with the same symbols. Refuses only where memory was refused.
+    fn try_copy(&self) -> Result<Self, AllocError>
+        ensures { IfOk result (λ copy. Self.texts copy ≡ Self.texts self.now) };
 }

@@ -1,68 +1,150 @@
 //! An interner: each text once, with the symbol that stands for it.
 
-ghost use Rattle.std.specs.Prelude.{◌≡◌, ℕ, ◌+◌, ◌≤◌, ◌&&◌, ◌↔◌, List, [], ◌∷◌, length, slice_get, Option, Some, IsTrue, IsSome, IsErrOf, OnOk, OnErr, false};
+ghost use Rattle.std.specs.Prelude.{◌≡◌, ℕ, ◌+◌, ◌*◌, ◌≤◌, ◌&&◌, ◌↔◌, List, [], ◌∷◌, length, slice_get, Option, Some, IsTrue, IsSome, IsOk, IfOk, IsErrOf, OnOk, OnErr};
+ghost use Rattle.std.specs.Option.{option_copied};
 ghost use Rattle.std.specs.Cmp.{partial_equiv_from_equiv, on_equiv};
-ghost use Rattle.std.specs.Option.{option_copied, option_map_or};
-ghost use Rattle.std.specs.Str.{bytes_eq};
 ghost use Rattle.string_interner.specs.Text.{Text, IsDistinct, first, texts_eq, texts_eq-IsEquivalence};
 ghost use Rattle.string_interner.specs.Backend.{BeginsAt, IsPlace, IsKept};
-ghost use Rattle.string_interner.specs.Interner.{Interned, Interns, known_symbol, AreSymbols};
+ghost use Rattle.string_interner.specs.Interner.{Interned, Interns, IsInterned, known_symbol};
+ghost use Rattle.string_interner.specs.Sought.{Seeks};
 
 use crate::backend::{Backend, InternError, Iter};
+use crate::dedup::{DefaultHashBuilder, Index, Looks, TextHasher, Vacancy};
 use crate::symbol::Symbol;
-use std::alloc::Global;
+use std::alloc::{AllocError, Global};
 use std::marker::Model;
 
 /// A list of distinct texts over a backend, each found by its text and by its symbol.
 ///
-/// A text is found by looking at one symbol's text after another.
+/// A text is found by an index of the entries by their texts, which is right under every hasher.
 #[derive(Drop)]
-pub struct StringInterner<B: Backend> {
+pub struct StringInterner<B: Backend, H: TextHasher = DefaultHashBuilder> {
     backend: B,
-    symbols: Vec<B::Symbol>,
+    hasher: H,
+    index: Index<B::Symbol>,
 }
 
-/// Contracts see the texts, and the buckets and the room of the backend.
-impl<B: Backend> Model for StringInterner<B> {
+/// Contracts see the texts, the buckets and the room of the backend, and the count of slots.
+impl<B: Backend, H: TextHasher> Model for StringInterner<B, H> {
+    ghost use Rattle.std.specs.Prelude.{length};
     ghost use Rattle.string_interner.specs.Interner.{Interned, IsInterned};
 
     ghost Value = { Interned };
 
-    ghost view = { λ i. record { texts = B.texts i.backend; buckets = B.buckets i.backend; room = B.room i.backend } };
+    ghost view = { λ i. record {
+      texts = B.texts i.backend;
+      buckets = B.buckets i.backend;
+      room = B.room i.backend;
+      slots = length i.index.slots;
+    } };
 
-    ghost invariant = { λ i. IsInterned B.Symbol.symbol_of B.place (B.texts i.backend) i.symbols.items };
+    ghost invariant = { λ i. IsInterned B.Symbol.symbol_of B.place B.Symbol.number (H.code i.hasher)
+        (B.texts i.backend) i.index.slots };
 }
 
-/// Whether the text that is read at a symbol is this one.
-fn is_text_of<B: Backend>(backend: &B, symbol: B::Symbol, text: &str) -> bool
-    ensures { result ≡ option_map_or (λ found. bytes_eq found text.now)
-        (B.read (B.texts backend.now) (B.Symbol.number symbol)) false }
-{
-    backend.resolve(symbol).is_some_and(|found| found == text)
+/// What is known of a text before it is stored.
+#[derive(Drop)]
+enum Sought<S> {
+    /// Its symbol.
+    Known(S),
+    /// It is new, and this is where its symbol goes in the index, which has room for it.
+    New(Vacancy),
 }
 
-/// The symbol of a text, if that is known: looks at the texts of the symbols in order.
-fn find<B: Backend>(backend: &B, symbols: &[B::Symbol], text: &str) -> Option<B::Symbol>
-    requires kept { IsKept B.Symbol.symbol_of B.place (B.texts backend.now) }
-    requires symbols_are { AreSymbols B.Symbol.symbol_of B.place (B.texts backend.now) symbols.now }
-    ensures { result ≡ known_symbol B.Symbol.symbol_of B.place (B.texts backend.now) text.now }
+/// Looks for a text, and makes room for it in the index where it is new.
+///
+/// A new text is refused for want of a symbol before memory is asked for.
+#[inline]
+fn seek<B: Backend, H: TextHasher>(
+    backend: &B,
+    hasher: &H,
+    index: &mut Index<B::Symbol>,
+    text: &str,
+) -> Result<Sought<B::Symbol>, InternError>
+    requires { IsInterned B.Symbol.symbol_of B.place B.Symbol.number (H.code hasher.now) (B.texts backend.now)
+        index.old.slots }
+    ensures interned { IsInterned B.Symbol.symbol_of B.place B.Symbol.number (H.code hasher.now) (B.texts backend.now)
+        index.new.slots }
+    ensures seeks { Seeks B.Symbol.symbol_of B.place (H.code hasher.now) (B.texts backend.now) text.now index.old result
+        index.new }
+    ensures slots { length index.old.slots ≤ length index.new.slots }
 {
-    for symbol in symbols {
-        if is_text_of(backend, *symbol, text) {
-            return Some(*symbol);
-        }
+    let code = hasher.hash_text(text);
+    let mut looks = Looks::new(backend);
+    let ended = index.seek(hasher, code, &mut looks, text);
+    if let Some(symbol) = ended.symbol {
+        return Ok(Sought::Known(symbol));
     }
-    None
+    if backend.next_symbol().is_none() {
+        return Err(InternError::NoSymbol);
+    }
+    match index.reserve(hasher, backend) {
+        // The slots grew, and the free one is another now.
+        Ok(true) => Ok(Sought::New(Vacancy { code, at: None })),
+        Ok(false) => Ok(Sought::New(Vacancy {
+            code,
+            at: Some(ended.at),
+        })),
+        Err(error) => Err(InternError::Memory(error)),
+    }
 }
 
-impl<B: Backend> StringInterner<B> {
-    /// No texts. Takes no memory.
+impl<B: Backend, H: TextHasher + Default> StringInterner<B, H> {
+    /// No texts, under the hasher's default. Takes no memory.
     pub fn new(alloc: Global) -> Self
-        ensures { result.texts ≡ [] }
+        ensures texts { result.texts ≡ [] }
+        ensures slots { result.slots ≡ 0 }
+    {
+        StringInterner::with_hasher(alloc, H::default())
+    }
+}
+
+impl<B: Backend, H: TextHasher + Default + Drop> StringInterner<B, H> {
+    /// No texts, under the hasher's default, with the room that the backend and the index have for `capacity` texts.
+    ///
+    /// Refuses only where memory was refused or a size does not fit a `usize`.
+    pub fn with_capacity(alloc: Global, capacity: usize) -> Result<Self, AllocError>
+        ensures texts { IfOk result (λ interner. interner.texts ≡ []) }
+        ensures room { IfOk result (λ interner. B.grant capacity ≤ interner.room) }
+        ensures slots { IfOk result (λ interner. 4 * capacity ≤ 3 * interner.slots) }
+    {
+        StringInterner::with_capacity_and_hasher(alloc, capacity, H::default())
+    }
+}
+
+impl<B: Backend, H: TextHasher + Drop> StringInterner<B, H> {
+    /// No texts, under this hasher, with the room that the backend and the index have for `capacity` texts.
+    ///
+    /// Refuses only where memory was refused or a size does not fit a `usize`.
+    pub fn with_capacity_and_hasher(
+        alloc: Global,
+        capacity: usize,
+        hasher: H,
+    ) -> Result<Self, AllocError>
+        ensures texts { IfOk result (λ interner. interner.texts ≡ []) }
+        ensures room { IfOk result (λ interner. B.grant capacity ≤ interner.room) }
+        ensures slots { IfOk result (λ interner. 4 * capacity ≤ 3 * interner.slots) }
+    {
+        let index = Index::with_capacity(alloc, capacity)?;
+        let backend = B::with_capacity(alloc, capacity)?;
+        Ok(StringInterner {
+            backend,
+            hasher,
+            index,
+        })
+    }
+}
+
+impl<B: Backend, H: TextHasher> StringInterner<B, H> {
+    /// No texts, under this hasher. Takes no memory.
+    pub fn with_hasher(alloc: Global, hasher: H) -> Self
+        ensures texts { result.texts ≡ [] }
+        ensures slots { result.slots ≡ 0 }
     {
         StringInterner {
             backend: B::new(alloc),
-            symbols: Vec::new(alloc),
+            hasher,
+            index: Index::new(alloc),
         }
     }
 
@@ -72,22 +154,23 @@ impl<B: Backend> StringInterner<B> {
         ensures distinct { IsDistinct self.now.texts }
         ensures kept { IsKept B.Symbol.symbol_of B.place self.now.texts }
     {
-        self.symbols.len()
+        self.backend.count()
     }
 
     /// Whether there is no text.
     pub fn is_empty(&self) -> bool
         ensures { IsTrue result ↔ (self.now.texts ≡ []) }
     {
-        self.symbols.is_empty()
+        self.len() == 0
     }
 
-    /// The symbol of a text: some exactly where the text is known. Looks at the texts in order, and takes no memory.
+    /// The symbol of a text: some exactly where the text is known. Takes no memory.
     pub fn get(&self, text: &str) -> Option<B::Symbol>
         ensures symbol { result ≡ known_symbol B.Symbol.symbol_of B.place self.now.texts text.now }
         ensures known { IsSome result ↔ IsSome (first self.now.texts text.now) }
     {
-        find(&self.backend, &self.symbols, text)
+        self.index
+            .find(&self.hasher, &mut Looks::new(&self.backend), text)
     }
 
     /// The symbol of a text. A new text is put last.
@@ -101,20 +184,61 @@ impl<B: Backend> StringInterner<B> {
         ensures no_symbol { IsErrOf result InternError.NoSymbol → self.new ≡ self.old }
         ensures buckets { OnErr result (self.new.buckets ≡ self.old.buckets) }
 
+        // Within the room of the backend and of the index, memory is not refused.
+        ensures granted { IsSome (B.Symbol.symbol_of (B.place self.old.texts)) → B.cost text.now ≤ self.old.room
+            → 4 * (length self.old.texts + 1) ≤ 3 * self.old.slots → IsOk result }
+
         // A text takes no more of the room than its cost, and a refused one takes nothing.
         ensures spent { OnOk result (self.old.room ≤ self.new.room + B.cost text.now) }
         ensures unspent { OnErr result (self.old.room ≤ self.new.room) }
+        ensures slots { self.old.slots ≤ self.new.slots }
     {
-        if let Some(symbol) = self.get(text) {
-            return Ok(symbol);
+        match seek(&self.backend, &self.hasher, &mut self.index, text)? {
+            Sought::Known(symbol) => Ok(symbol),
+            Sought::New(vacancy) => {
+                let symbol = self.backend.intern(text)?;
+                self.index
+                    .insert_into(&self.hasher, &self.backend, vacancy, symbol);
+                Ok(symbol)
+            }
         }
-        if self.backend.next_symbol().is_none() {
-            return Err(InternError::NoSymbol);
+    }
+
+    /// The symbol of a text, as `get_or_intern` answers it. A new text is put last by the backend's `intern_static`,
+    /// which may keep the text itself in the place of a copy.
+    pub fn get_or_intern_static(&mut self, text: &'static str) -> Result<B::Symbol, InternError>
+        ensures interns { Interns B.Symbol.symbol_of B.place self.old.texts text.now result self.new.texts }
+        ensures known { IsSome (first self.old.texts text.now) → self.new ≡ self.old }
+        ensures no_symbol { IsErrOf result InternError.NoSymbol → self.new ≡ self.old }
+        ensures buckets { OnErr result (self.new.buckets ≡ self.old.buckets) }
+
+        // Within the room of the backend and of the index, memory is not refused.
+        ensures granted { IsSome (B.Symbol.symbol_of (B.place self.old.texts)) → B.cost text.now ≤ self.old.room
+            → 4 * (length self.old.texts + 1) ≤ 3 * self.old.slots → IsOk result }
+
+        // A text takes no more of the room than its cost, and a refused one takes nothing.
+        ensures spent { OnOk result (self.old.room ≤ self.new.room + B.cost text.now) }
+        ensures unspent { OnErr result (self.old.room ≤ self.new.room) }
+        ensures slots { self.old.slots ≤ self.new.slots }
+    {
+        match seek(&self.backend, &self.hasher, &mut self.index, text)? {
+            Sought::Known(symbol) => Ok(symbol),
+            Sought::New(vacancy) => {
+                let symbol = self.backend.intern_static(text)?;
+                self.index
+                    .insert_into(&self.hasher, &self.backend, vacancy, symbol);
+                Ok(symbol)
+            }
         }
-        self.symbols.reserve(1).map_err(InternError::Memory)?;
-        let symbol = self.backend.intern(text)?;
-        self.symbols.push_reserved(symbol);
-        Ok(symbol)
+    }
+
+    /// Gives back memory of the backend that no text needs, where that can be had. The index stays as it is.
+    pub fn shrink_to_fit(&mut self)
+        ensures texts { self.new.texts ≡ self.old.texts }
+        ensures buckets { self.new.buckets ≡ self.old.buckets }
+        ensures slots { self.new.slots ≡ self.old.slots }
+    {
+        self.backend.shrink_to_fit();
     }
 
     /// What the backend reads at a symbol's number, for any symbol: at the symbol of an entry, its text.
@@ -141,7 +265,7 @@ impl<B: Backend> StringInterner<B> {
     }
 }
 
-impl<'a, B: Backend> IntoIterator for &'a StringInterner<B> {
+impl<'a, B: Backend, H: TextHasher> IntoIterator for &'a StringInterner<B, H> {
     type Item = (B::Symbol, &'a str);
 
     type IntoIter = Iter<'a, B>;
@@ -163,8 +287,8 @@ fn next_is<B: Backend>(walk: &mut Iter<'_, B>, text: &str) -> bool
     }
 }
 
-/// Equal exactly where the lists of texts are, whatever room there is.
-impl<B: Backend> PartialEq for StringInterner<B> {
+/// Equal exactly where the lists of texts are, whatever room and hashers there are.
+impl<B: Backend, H: TextHasher> PartialEq for StringInterner<B, H> {
     ghost eq = { λ a b. texts_eq a.texts b.texts };
 
     ghost laws = { partial_equiv_from_equiv (on_equiv (λ (i : Interned). i.texts) texts_eq-IsEquivalence) };
@@ -183,7 +307,7 @@ impl<B: Backend> PartialEq for StringInterner<B> {
     }
 }
 
-impl<B: Backend> Eq for StringInterner<B> {
+impl<B: Backend, H: TextHasher> Eq for StringInterner<B, H> {
     ghost laws = { on_equiv (λ (i : Interned). i.texts) texts_eq-IsEquivalence };
 }
 

@@ -6,6 +6,7 @@
 #![tactic(auto)]
 
 pub mod backend;
+pub mod dedup;
 mod interner;
 pub mod run;
 pub mod symbol;
@@ -13,8 +14,9 @@ pub mod symbol;
 mod tests;
 
 pub use backend::DefaultBackend;
+pub use dedup::DefaultHashBuilder;
 pub use interner::StringInterner;
 pub use symbol::{DefaultSymbol, Symbol};
 
-/// An interner over the default backend.
-pub type DefaultStringInterner<B = DefaultBackend> = StringInterner<B>;
+/// An interner over the default backend, under the default hasher.
+pub type DefaultStringInterner<B = DefaultBackend, H = DefaultHashBuilder> = StringInterner<B, H>;

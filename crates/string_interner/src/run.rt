@@ -5,6 +5,7 @@ ghost use Rattle.std.specs.Option.{option_copied};
 ghost use Rattle.string_interner.specs.Run.{intern_reply, number_told, IsCopy, number_read, NumberReply, Step, Run};
 
 use crate::backend::{Backend, InternError};
+use crate::dedup::TextHasher;
 use crate::interner::StringInterner;
 use crate::symbol::Symbol;
 use std::alloc::{AllocError, Global};
@@ -74,14 +75,18 @@ fn number_at(earlier: &[Reply], k: usize) -> Option<usize>
 }
 
 /// What is read at a number that has a symbol.
-fn read_at<B: Backend>(interner: &StringInterner<B>, n: usize) -> Option<&str>
+fn read_at<B: Backend, H: TextHasher>(interner: &StringInterner<B, H>, n: usize) -> Option<&str>
     ensures { option_copied result ≡ number_read B.Symbol.symbol_of B.Symbol.number B.place B.read interner.now.texts n }
 {
     interner.resolve(B::Symbol::try_from_usize(n)?)
 }
 
 /// The reply to a number.
-fn number_reply<B: Backend>(alloc: Global, interner: &StringInterner<B>, n: usize) -> Reply
+fn number_reply<B: Backend, H: TextHasher>(
+    alloc: Global,
+    interner: &StringInterner<B, H>,
+    n: usize,
+) -> Reply
     ensures { NumberReply B.Symbol.symbol_of B.Symbol.number B.place B.read interner.now.texts n result }
 {
     match read_at(interner, n) {
@@ -91,9 +96,9 @@ fn number_reply<B: Backend>(alloc: Global, interner: &StringInterner<B>, n: usiz
 }
 
 /// Runs one command, after the earlier replies.
-fn step<B: Backend>(
+fn step<B: Backend, H: TextHasher>(
     alloc: Global,
-    interner: &mut StringInterner<B>,
+    interner: &mut StringInterner<B, H>,
     earlier: &[Reply],
     command: &Command<'_>,
 ) -> Reply
@@ -122,9 +127,9 @@ fn step<B: Backend>(
 /// the symbol type has none for that place, and else only for want of memory; a refused text leaves the list alone.
 ///
 /// Room for all replies is taken first, in one growth. Where that is refused, nothing ran.
-pub fn run<B: Backend>(
+pub fn run<B: Backend, H: TextHasher>(
     alloc: Global,
-    interner: &mut StringInterner<B>,
+    interner: &mut StringInterner<B, H>,
     commands: &[Command<'_>],
 ) -> Result<Vec<Reply>, AllocError>
     ensures run { IfOk result (λ replies. Run B.Symbol.symbol_of B.Symbol.number B.place B.read interner.old.texts []

@@ -7,7 +7,7 @@ ghost use Rattle.string_interner.specs.Samples.{half_of, half_of-some, halves_eq
 
 use crate::backend::{Backend, InternError, StringBackend};
 use crate::symbol::{Symbol, SymbolU32};
-use std::alloc::Global;
+use std::alloc::{AllocError, Global};
 use std::cell::Cell;
 use std::io;
 use std::marker::Model;
@@ -93,6 +93,13 @@ impl Backend for Counting {
         }
     }
 
+    fn with_capacity(alloc: Global, capacity: usize) -> Result<Self, AllocError> {
+        Ok(Counting {
+            inner: StringBackend::with_capacity(alloc, capacity)?,
+            asked: Cell::new(0),
+        })
+    }
+
     fn count(&self) -> usize {
         self.inner.count()
     }
@@ -118,6 +125,10 @@ impl Backend for Counting {
     fn entry_at(&self, at: usize) -> (SymbolU32, &str, usize) {
         self.count_one();
         self.inner.entry_at(at)
+    }
+
+    fn shrink_to_fit(&mut self) {
+        self.inner.shrink_to_fit();
     }
 
     ghost starts = { refl };

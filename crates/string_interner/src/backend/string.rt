@@ -1,15 +1,15 @@
 //! All texts in one, cut at a list of ends.
 
-ghost use Rattle.std.specs.Prelude.{◌≡◌, ◌*◌, max, ◌<◌, ◌≤◌, [], length, slice_get, Some, refl};
+ghost use Rattle.std.specs.Prelude.{◌≡◌, ◌*◌, ◌^◌, max, ◌<◌, ◌≤◌, [], length, slice_get, Some, IfOk, OnOk, refl};
 ghost use Rattle.std.specs.Cmp.{partial_equiv_from_equiv, on_equiv};
 ghost use Rattle.std.proofs.Common.{rules};
 ghost use Rattle.string_interner.specs.Backend.{Contents};
 ghost use Rattle.string_interner.specs.Text.{texts_eq, texts_eq-IsEquivalence};
 ghost use Rattle.string_interner.specs.StringBackend.{cut, start_at, IsCut, length_grows, reads_at_length};
 
-use crate::backend::{Backend, InternError, Iter};
+use crate::backend::{Backend, CopyBackend, InternError, Iter};
 use crate::symbol::{DefaultSymbol, Symbol};
-use std::alloc::Global;
+use std::alloc::{AllocError, Global};
 use std::marker::{Model, PhantomData};
 
 /// Keeps the texts joined in one, with the end of each.
@@ -83,6 +83,20 @@ impl<S: Symbol> Backend for StringBackend<S> {
         }
     }
 
+    /// With room for `capacity` ends and five times as many bytes.
+    fn with_capacity(alloc: Global, capacity: usize) -> Result<Self, AllocError>
+        ensures texts { IfOk result (λ backend. backend.texts ≡ []) }
+        ensures room { IfOk result (λ backend. 5 * capacity ≤ backend.room) }
+        ensures fits { OnOk result (5 * capacity < 2 ^ 64) }
+    {
+        let bytes = capacity.checked_mul(5).ok_or(AllocError)?;
+        Ok(StringBackend {
+            joined: String::with_capacity(alloc, bytes)?,
+            ends: Vec::with_capacity(alloc, capacity)?,
+            symbols: PhantomData,
+        })
+    }
+
     fn count(&self) -> usize {
         self.ends.len()
     }
@@ -121,6 +135,11 @@ impl<S: Symbol> Backend for StringBackend<S> {
         (S::try_from_usize(at).unwrap(), text, at + 1)
     }
 
+    fn shrink_to_fit(&mut self) {
+        self.joined.shrink_to_fit();
+        self.ends.shrink_to_fit();
+    }
+
     ghost starts = { refl };
 
     ghost grows = { length_grows };
@@ -128,6 +147,25 @@ impl<S: Symbol> Backend for StringBackend<S> {
     ghost costs = { λ text. Prim.search rules };
 
     ghost reads = { λ texts i kept within. reads_at_length texts i within };
+}
+
+impl<S: Symbol> StringBackend<S> {
+    /// A backend with an equal list. Refuses only where memory was refused.
+    pub fn clone(&self) -> Result<Self, AllocError>
+        ensures { IfOk result (λ copy. copy.texts ≡ self.now.texts) }
+    {
+        Ok(StringBackend {
+            joined: self.joined.clone()?,
+            ends: self.ends.clone()?,
+            symbols: PhantomData,
+        })
+    }
+}
+
+impl<S: Symbol> CopyBackend for StringBackend<S> {
+    fn try_copy(&self) -> Result<Self, AllocError> {
+        self.clone()
+    }
 }
 
 impl<'a, S: Symbol> IntoIterator for &'a StringBackend<S> {

@@ -9,9 +9,9 @@ use std::alloc::AllocError;
 use std::test::Fail;
 
 /// The numbers that texts answer, one after another, in an interner over a backend that is known by its bound alone.
-fn numbers<B: Backend>(
+fn numbers<B: Backend, H: TextHasher>(
     alloc: Global,
-    interner: &mut StringInterner<B>,
+    interner: &mut StringInterner<B, H>,
     texts: &[&str],
 ) -> Result<Vec<usize>, Fail> {
     let mut numbers = Vec::with_capacity(alloc, texts.len())?;
@@ -50,8 +50,8 @@ fn the_empty_text_is_a_text(rt: HostRuntime) -> Result<(), Fail> {
 }
 
 /// The text of a symbol that was just answered, through the bound and with no test.
-fn read_back<'i, B: Backend>(
-    interner: &'i mut StringInterner<B>,
+fn read_back<'i, B: Backend, H: TextHasher>(
+    interner: &'i mut StringInterner<B, H>,
     text: &str,
 ) -> Result<&'i str, InternError> {
     let symbol = interner.get_or_intern(text)?;
@@ -107,9 +107,9 @@ fn finds_known_texts_alone(rt: HostRuntime) -> Result<(), Fail> {
 }
 
 /// The texts of an interner, by a `for` loop: proved to be its list.
-fn texts_of<'i, B: Backend>(
+fn texts_of<'i, B: Backend, H: TextHasher>(
     alloc: Global,
-    interner: &'i StringInterner<B>,
+    interner: &'i StringInterner<B, H>,
 ) -> Result<Vec<&'i str>, AllocError>
     ensures { IfOk result (λ texts. map (λ text. text.now) texts.items ≡ interner.now.texts) }
 {

@@ -1,17 +1,19 @@
-use Rattle.std.proofs.Common.{◌≡◌, rules, ap, None, refl}
-use Rattle.string_interner.specs.Text.{first}
-use Rattle.string_interner.specs.Interner.{Interned}
-use Rattle.string_interner.proofs.Interning.{known_none, interned-more}
+use Rattle.std.proofs.Common.{refl}
+use Rattle.string_interner.proofs.Interning.{fits-more, absent-more, vacant-more, interned-more}
 use Rattle.string_interner.proofs.interner.StringInterner.get_or_intern.Goals as goal
-use Rattle.string_interner.proofs.interner.StringInterner.get_or_intern.Goals.{In_default}
-use Rattle.string_interner.proofs.interner.StringInterner.get_or_intern.Given.{Over}
 
--- the text is new
-new : (g : Over) (c : In_default g) → first c.args.self.now.texts c.args.text.now ≡ None
-new g c = known_none g.B.Symbol.Symbol.symbol_of g.B.Backend.place _ _ (rw (ap (λ (b : Interned). b.texts) c.self.view_is) at c.self.invariant.kept) (search rules)
+pub insert_into-requires-clause-fits : goal.insert_into-requires-clause-fits
+insert_into-requires-clause-fits g c = fits-more g.B.Symbol.Symbol.symbol_of g.B.Symbol.Symbol.number g.B.Backend.place g.met.B.Symbol.Symbol.numbered g.met.B.Symbol.Symbol.injective g.met.B.Backend.grows _ _ _ c.seek.ensures.interned
+    c.args.text.now _ _ (rw c.in-New.is at c.in_ok-symbol.ensures.seeks).0 c.in_ok-symbol-in-New.ensures.appends
 
-pub returns-then-is_none-clause-interns : goal.returns-then-is_none-clause-interns
-returns-then-is_none-clause-interns g c = rw (new g (goal.at.returns-then-is_none-clause-interns g c).In_default) (rw (← ap (λ (b : Interned). b.texts) c.self.view_is) (search rules), refl)
+pub insert_into-requires-clause-absent : goal.insert_into-requires-clause-absent
+insert_into-requires-clause-absent g c = absent-more g.B.Symbol.Symbol.symbol_of g.B.Symbol.Symbol.number g.B.Backend.place g.met.B.Symbol.Symbol.numbered g.met.B.Symbol.Symbol.injective g.met.B.Backend.grows _ _ _ c.seek.ensures.interned
+    c.args.text.now _ _ (rw c.in-New.is at c.in_ok-symbol.ensures.seeks).0 c.in_ok-symbol-in-New.ensures.appends
 
-pub invariant_of-self-2 : goal.invariant_of-self-2
-invariant_of-self-2 g c = interned-more g.B.Symbol.Symbol.symbol_of g.B.Backend.place _ _ _ _ _ _ c.self.invariant (rw (← ap (λ (b : Interned). b.texts) c.self.view_is) at (new g (goal.at.invariant_of-self-2 g c).In_default)) c.in_ok-symbol.ensures.kept c.in_ok-symbol.ensures.appends (search rules)
+pub insert_into-requires-clause-vacant : goal.insert_into-requires-clause-vacant
+insert_into-requires-clause-vacant g c = vacant-more g.B.Symbol.Symbol.symbol_of g.B.Symbol.Symbol.number g.B.Backend.place g.met.B.Symbol.Symbol.numbered g.met.B.Symbol.Symbol.injective g.met.B.Backend.grows _ _ _ c.seek.ensures.interned
+    c.args.text.now _ _ (rw c.in-New.is at c.in_ok-symbol.ensures.seeks).0 c.in_ok-symbol-in-New.ensures.appends _ _ (rw c.in-New.is at c.in_ok-symbol.ensures.seeks).2.vacant
+
+pub invariant_of-self-in-New : goal.invariant_of-self-in-New
+invariant_of-self-in-New g c = interned-more g.B.Symbol.Symbol.symbol_of g.B.Symbol.Symbol.number g.B.Backend.place g.met.B.Symbol.Symbol.numbered g.met.B.Symbol.Symbol.injective g.met.B.Backend.grows _ _ _ c.seek.ensures.interned
+    c.args.text.now _ _ (rw c.in-New.is at c.in_ok-symbol.ensures.seeks).0 c.in_ok-symbol-in-New.ensures.appends _ _ c.in_ok-symbol-in-New.ensures.kept refl c.insert_into.ensures

@@ -1,0 +1,93 @@
+-- The arithmetic of growth.
+use Rattle.std.proofs.Common.{◌≡◌, ℕ, suc, ◌+◌, ◌-◌, ◌*◌, ◌/◌, ◌^◌, ◌<◌, ◌≤◌, ◌⊎◌, ◌%◌, bit_and, inl, inr, arith, subst, sym, length}
+use Rattle.std.proofs.Math.Nat.{pow-succ'}
+use Rattle.std.proofs.lemmas.Nat.{and_mask}
+use Rattle.std.proofs.Math.Pow.{pow_mono}
+use Rattle.std.proofs.lemmas.Bool.{cases_lt}
+use Rattle.string_interner.specs.Index.{Indexed, IsSlotCount, IsSound, HasRoom, entry_count}
+
+-- what the count of slots grows to
+abbrev pub GrowsTo : ℕ → ℕ → Type 0
+GrowsTo count more = ((count ≡ 0) × (more ≡ 8)) ⊎ ((0 < count) × (more ≡ 2 * count))
+
+pub IsSlotCount-grown : (count more : ℕ) → IsSlotCount count → GrowsTo count more → IsSlotCount more
+IsSlotCount-grown count more s (inl a) = inr (0, a.1)
+IsSlotCount-grown count more (inl z) (inr b) = let l = b.0 in absurd (omega arith)
+IsSlotCount-grown count more (inr p) (inr b) =
+    let d = b.1 in let e = p.1 in let h : 2 ^ suc p.0 ≡ 2 * 2 ^ p.0 = pow-succ' 2 p.0 in inr (suc p.0, omega arith)
+
+-- where there is no room, three quarters are filled
+pub full : (count len : ℕ) → IsSlotCount count → count - count / 4 ≤ len → 4 * len ≤ 3 * count → 4 * len ≡ 3 * count
+full count len (inl z) a b = omega arith
+full count len (inr p) a b = let e = p.1 in omega arith
+
+back_grown : (count more len put_back : ℕ) → GrowsTo count more → 4 * len ≡ 3 * count → 4 * put_back ≤ 3 * count
+    → (4 * len ≤ 3 * more) × (put_back + len ≤ 2 * len) × (4 * (put_back + len) ≤ 3 * more)
+back_grown count more len put_back (inl a) f b = let x = a.0 in let y = a.1 in (omega arith, omega arith, omega arith)
+back_grown count more len put_back (inr a) f b = let x = a.0 in let y = a.1 in (omega arith, omega arith, omega arith)
+
+-- an index keeps to its bounds when it grows
+pub IsSound-grown : {S : Type 0} (old new : Indexed S) (len : ℕ) → IsSound old len → length old.slots - length old.slots / 4 ≤ len
+    → GrowsTo (length old.slots) (length new.slots) → entry_count new ≡ entry_count old → new.put_back ≡ old.put_back + len → new.greatest ≡ old.greatest
+    → IsSound new len
+IsSound-grown old new len s no_room grows count back greatest =
+    let a = s.counted in let b = s.bounded.greatest in let load = s.bounded.load in
+    let f = full (length old.slots) len s.bounded.allowed no_room (omega arith) in
+    let all = back_grown (length old.slots) (length new.slots) len old.put_back grows f s.put_back in
+    record {
+      counted = omega arith;
+      bounded = record {
+        allowed = IsSlotCount-grown (length old.slots) (length new.slots) s.bounded.allowed grows;
+        load = (let x = all.0 in omega arith);
+        put_back = (let x = all.1 in omega arith);
+        greatest = omega arith;
+      };
+      put_back = (let x = all.2 in omega arith);
+    }
+
+-- and when it takes one more entry
+pub IsSound-more : {S : Type 0} (old new : Indexed S) (len : ℕ) → IsSound old len → HasRoom old → entry_count new ≡ entry_count old + 1
+    → length new.slots ≡ length old.slots → new.put_back ≡ old.put_back → new.greatest ≡ old.greatest + 1 → IsSound new (len + 1)
+IsSound-more old new len s room count slots back greatest =
+    let a = s.counted in let b = s.bounded.greatest in let p = s.put_back in let q = s.bounded.put_back in
+    record {
+      counted = omega arith;
+      bounded = record { allowed = subst IsSlotCount (sym slots) s.bounded.allowed; load = omega arith; put_back = omega arith; greatest = omega arith };
+      put_back = omega arith;
+    }
+
+-- an allowed count above another is at least twice it
+pub above_doubled : (k m : ℕ) → IsSlotCount m → 8 * 2 ^ k < m → 2 * (8 * 2 ^ k) ≤ m
+above_doubled k m (inl z) l = omega arith
+above_doubled k m (inr p) l =
+    let e = p.1 in
+    elim (cases_lt k p.0) as (λ _. 2 * (8 * 2 ^ k) ≤ m) [
+      | inl h ↦ (let a : 2 ^ suc k ≤ 2 ^ p.0 = pow_mono (omega arith) in let b : 2 ^ suc k ≡ 2 * 2 ^ k = pow-succ' 2 k in omega arith)
+      | inr h ↦ (let a : 2 ^ p.0 ≤ 2 ^ k = pow_mono h in omega arith)
+    ]
+
+-- the next count, where this one has no room
+pub least_more : (cap count next : ℕ) → (k : ℕ) × (count ≡ 8 * 2 ^ k) → next ≡ 2 * count → 3 * count < 4 * cap
+    → ((m : ℕ) → IsSlotCount m → 4 * cap ≤ 3 * m → count ≤ m)
+    → ((k : ℕ) × (next ≡ 8 * 2 ^ k)) × ((m : ℕ) → IsSlotCount m → 4 * cap ≤ 3 * m → next ≤ m)
+least_more cap count next p n l least =
+    let e = p.1 in let d : 2 ^ suc p.0 ≡ 2 * 2 ^ p.0 = pow-succ' 2 p.0 in
+    ((suc p.0, omega arith), λ m s r. let a = least m s r in let b = above_doubled p.0 m s (omega arith) in omega arith)
+
+pub masked : (n count : ℕ) → 0 < count → IsSlotCount count → bit_and n (count - 1) ≡ n % count
+masked n count h (inl e) = absurd (omega arith)
+masked n count h (inr e) =
+    let a : 2 ^ suc e.0 ≡ 2 * 2 ^ e.0 = pow-succ' 2 e.0 in let b : 2 ^ suc (suc e.0) ≡ 2 * 2 ^ suc e.0 = pow-succ' 2 (suc e.0) in
+    let d : 2 ^ suc (suc (suc e.0)) ≡ 2 * 2 ^ suc (suc e.0) = pow-succ' 2 (suc (suc e.0)) in
+    let f = e.1 in let p : count ≡ 2 ^ suc (suc (suc e.0)) = omega arith in
+    rw p (and_mask n (suc (suc (suc e.0))))
+
+-- a count of slots that fits a `usize` is at most 2 ^ 63
+pub count_small : (count : ℕ) → IsSlotCount count → count < 2 ^ 64 → count ≤ 2 ^ 63
+count_small count (inl z) l = omega arith
+count_small count (inr p) l =
+    let e = p.1 in
+    elim (cases_lt p.0 61) as (λ _. count ≤ 2 ^ 63) [
+      | inl h ↦ (let b : p.0 ≤ 60 = omega arith in let a : 2 ^ p.0 ≤ 2 ^ 60 = pow_mono {j = 60} b in omega arith)
+      | inr h ↦ (let a : 2 ^ 61 ≤ 2 ^ p.0 = pow_mono {i = 61} h in omega arith)
+    ]

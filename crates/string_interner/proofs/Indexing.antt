@@ -1,0 +1,41 @@
+-- What a put of an entry's symbol does to the map.
+use Rattle.std.proofs.Common.{◌≡◌, ℕ, ◌+◌, ◌%◌, true, List, [], Option, Some, None, length, refl, subst, ap, ◌∙◌}
+use Rattle.std.specs.Option.{IsSome, is_some, unwrap_or}
+use Rattle.string_interner.specs.Index.{HasRoom, IsSound, Indexed, Inserts, IsAbsent, Fits, text_of}
+use Rattle.string_interner.specs.Probe.{Puts}
+use Rattle.string_interner.specs.Text.{Text}
+use Rattle.string_interner.proofs.Growing.{IsSound-more}
+use Rattle.string_interner.proofs.LookUp.{Puts-fits, Puts-look_up, Puts-symbols, Puts-length}
+
+module _ {S : Type 0} (entry : S → Option Text) where
+  pub text_of_is : (s : S) → IsSome (entry s) → entry s ≡ Some (text_of entry s)
+  text_of_is s h =
+      let by : (o : Option Text) → is_some o ≡ true → o ≡ Some (unwrap_or o []) = elim [ None ↦ λ e. cc | Some t ↦ λ e. refl ] in
+      by (entry s) h
+
+  -- what a put into the slots inserts
+  pub inserted : (code : Text → ℕ) (old new : Indexed S) (slots : List (Option S)) (symbol : S) → slots ≡ old.slots → new.put_back ≡ old.put_back
+      → Fits entry code old.slots → IsAbsent entry old.slots symbol → Puts slots new.slots (code (text_of entry symbol) % length slots) symbol
+      → Inserts entry code old new symbol
+  inserted code old new slots symbol same back fits absent puts =
+      let t = text_of entry symbol in
+      let p : Puts old.slots new.slots (code t % length old.slots) symbol =
+      subst (λ (xs : List (Option S)). Puts xs new.slots (code t % length xs) symbol) same puts in
+      let is = text_of_is symbol absent.is_entry in
+      record {
+        fits = Puts-fits old.slots new.slots _ symbol p entry code fits t is absent.new_text refl;
+        pair = Puts-look_up old.slots new.slots _ symbol p entry code fits t is absent.new_text refl;
+        count = Puts-symbols old.slots new.slots _ symbol p;
+        slots = Puts-length old.slots new.slots _ symbol p;
+        put_back = back;
+      }
+
+  -- an index keeps to its bounds when a symbol is inserted
+  pub IsSound-inserted : (code : Text → ℕ) (inside old new : Indexed S) (len : ℕ) (symbol : S) → inside ≡ old → IsSound inside len → HasRoom old
+      → Inserts entry code old new symbol → new.greatest ≡ inside.greatest + 1 → IsSound new (len + 1)
+  IsSound-inserted code inside old new len symbol same sound room i greatest =
+      IsSound-more old new len (subst (λ x. IsSound x len) same sound) room i.count i.slots i.put_back (greatest ∙ ap (λ x. x.greatest + 1) same)
+
+-- what is put by a code is put by the code that this is
+pub puts_at : {S : Type 0} (old new : List (Option S)) (m n : ℕ) (symbol : S) → m ≡ n → Puts old new (m % length old) symbol → Puts old new (n % length old) symbol
+puts_at old new m n symbol e p = subst (λ k. Puts old new (k % length old) symbol) e p

@@ -1,0 +1,20 @@
+use Rattle.std.proofs.Common.{◌≡◌, None, ap, sym, subst, ◌∙◌, arith, length}
+use Rattle.std.proofs.lemmas.List.{length-replicate}
+use Rattle.string_interner.specs.Index.{IsSlotCount}
+use Rattle.string_interner.specs.Slots.{symbols}
+use Rattle.string_interner.proofs.Rebuilding.{no_symbols}
+use Rattle.string_interner.proofs.dedup.Index.with_capacity.Goals as goal
+
+pub returns-clause-count : goal.returns-clause-count
+returns-clause-count g c = ap (λ xs. length (symbols xs)) c.in_ok-empty.ensures ∙ no_symbols g.row.S.Denot c.in_ok-count.count
+
+pub invariant_of-result : goal.invariant_of-result
+invariant_of-result g c =
+    let e = ap (λ xs. length (symbols xs)) c.in_ok-empty.ensures ∙ no_symbols g.row.S.Denot c.in_ok-count.count in
+    let n : length c.in_ok-empty.field-0 ≡ c.in_ok-count.count = ap length c.in_ok-empty.ensures ∙ length-replicate c.in_ok-count.count None in
+    let least = rw c.in_ok-count.ensures.ok_part at c.least_count.ensures.least in
+    record {
+      counted = omega arith;
+      bounded = record { allowed = subst IsSlotCount (sym n) least.allowed; load = omega arith; put_back = omega arith; greatest = omega arith };
+      put_back = omega arith;
+    }

@@ -1,0 +1,43 @@
+use Rattle.string_interner.specs.Entry.{entry_text}
+use Rattle.std.proofs.Common.{◌≡◌, None, get_or, length, refl, sym, ap, ◌∙◌, arith}
+use Rattle.std.proofs.lemmas.List.{length-replicate}
+use Rattle.string_interner.proofs.Indexing.{puts_at}
+use Rattle.string_interner.proofs.LookUp.{Puts-length}
+use Rattle.string_interner.proofs.EntryTexts.{entry_text-IsPlace, text_of-resolved}
+use Rattle.string_interner.proofs.Rebuilding.{slot_entry, Rebuilt-start, skipped, placed_again, has_free}
+use Rattle.string_interner.proofs.dedup.probe.rebuilt.Goals as goal
+use Rattle.string_interner.proofs.dedup.probe.rebuilt.Goals.{in-Some, in_default}
+
+pub loop-at-init : goal.loop-at-init
+loop-at-init g c = record {
+  same = refl;
+  size = ap length c.in_ok-bigger.ensures ∙ length-replicate c.args.count None;
+  rebuilt = rw c.in_ok-bigger.ensures (Rebuilt-start _ _ c.args.count);
+}
+
+pub place-requires-clause-free : goal.place-requires-clause-free
+place-requires-clause-free g c =
+    let inv = c.loop-at.invariant in
+    has_free _ _ _ c.requires.fits _ (omega arith) _ inv.rebuilt (omega arith)
+
+pub loop-at-preserved : goal.loop-at-preserved
+loop-at-preserved g c =
+    let inv = c.loop-at.invariant in let slots = c.args.slots.now in
+    let slot : c.symbol_at.result ≡ get_or slots c.loop-at.at None =
+    c.symbol_at.ensures.symbol ∙ ap (λ xs. get_or xs c.loop-at.at None) inv.same in
+    let entry = entry_text g.S.Symbol.number g.B.Backend.place (g.B.Backend.texts c.args.backend.now) in let code = g.H.TextHasher.code c.args.hasher.now in
+    record {
+      same = c.symbol_at.ensures.same ∙ inv.same;
+      size = elim c.match-symbol_at.branch
+          [ in-Some w ↦ ap length w.bigger-is ∙ Puts-length _ _ _ _ w.place.ensures.puts ∙ inv.size | in_default w ↦ ap length w.bigger-is ∙ inv.size ];
+      rebuilt = elim c.match-symbol_at.branch [
+        | in-Some w ↦ rw w.bigger-is (placed_again entry code slots c.requires.fits c.loop-at.at (omega arith) c.loop-at.bigger inv.rebuilt w.in-Some.symbol
+            w.place.new.slots (sym slot ∙ w.in-Some.is) (puts_at _ _ _ _ _ (w.hash_text.ensures ∙ ap code (text_of-resolved g.S.Symbol.number _ _ w.in-Some.symbol _ (slot_entry entry code slots c.requires.fits c.loop-at.at (omega arith) w.in-Some.symbol (sym slot ∙ w.in-Some.is)) w.resolve_unchecked-text.ensures)) w.place.ensures.puts))
+        | in_default w ↦ let h = w.in_default in rw w.bigger-is (skipped entry code slots c.requires.fits c.loop-at.at (omega arith) c.loop-at.bigger inv.rebuilt (sym slot ∙ h.is))
+      ];
+    }
+
+pub resolve_unchecked-text-requires : goal.resolve_unchecked-text-requires
+resolve_unchecked-text-requires g c =
+    let slot = c.symbol_at.ensures.symbol ∙ ap (λ xs. get_or xs c.loop-at.at None) c.loop-at.invariant.same in
+    entry_text-IsPlace g.S.Symbol.number _ _ c.in-Some.symbol (slot_entry _ _ c.args.slots.now c.requires.fits c.loop-at.at (omega arith) c.in-Some.symbol (sym slot ∙ c.in-Some.is))

@@ -1,0 +1,118 @@
+-- What is said of every index: the map from text to symbol that its slots hold, when it fits a backend's entries and
+-- a hasher, and how its slots grow.
+-- Cited by `Index` and by all that stands on it. In what follows `entry` is the text of the entry that has a symbol,
+-- if one has, and `code` is that of a text under a hasher.
+use Rattle.std.specs.Prelude.{◌≡◌, ℕ, ◌+◌, ◌*◌, ◌^◌, ◌<◌, ◌≤◌, ◌%◌, ◌⊎◌, List, [], length, slice_index_or, Contains, Bool, false, if◌then◌else◌, Option, Some, None, IsSome, unwrap_or, option_and_then}
+use Rattle.std.specs.Option.{option_map_or}
+use Rattle.std.specs.Str.{bytes_eq}
+use Rattle.string_interner.specs.Text.{Text}
+use Rattle.string_interner.specs.Slots.{symbols, filled_run, probed, first_passing}
+
+-- what contracts see of an index
+pub record Indexed (S : Type 0) : Type 0 where
+  pub slots : List (Option S)
+  -- how many symbols doublings placed again, since it was made
+  pub put_back : ℕ
+  -- the greatest number of entries that it had, since it was made
+  pub greatest : ℕ
+
+-- how many entries an index has
+abbrev pub entry_count : {S : Type 0} → Indexed S → ℕ
+entry_count index = length (symbols index.slots)
+
+-- one more entry is allowed: at most three quarters of the slots are filled
+abbrev pub HasRoom : {S : Type 0} → Indexed S → Type 0
+HasRoom index = 4 * (entry_count index + 1) ≤ 3 * length index.slots
+
+-- an allowed count of slots: none, or a power of two from 8 on
+abbrev pub IsSlotCount : ℕ → Type 0
+IsSlotCount n = (n ≡ 0) ⊎ ((k : ℕ) × (n ≡ 8 * 2 ^ k))
+
+-- the least allowed count of slots that has room for this many entries
+pub record IsLeastFor (capacity n : ℕ) : Type 0 where
+  pub allowed : IsSlotCount n
+  pub room : 4 * capacity ≤ 3 * n
+  pub least : (m : ℕ) → IsSlotCount m → 4 * capacity ≤ 3 * m → n ≤ m
+
+-- what is so at all times
+pub record IsBounded {S : Type 0} (index : Indexed S) : Type 0 where
+  pub allowed : IsSlotCount (length index.slots)
+  pub load : 4 * entry_count index ≤ 3 * length index.slots
+  pub put_back : index.put_back ≤ 2 * index.greatest
+  pub greatest : index.greatest ≡ entry_count index
+
+-- what an index keeps to, beside its count of entries
+pub record IsSound {S : Type 0} (index : Indexed S) (len : ℕ) : Type 0 where
+  pub counted : len ≡ entry_count index
+  pub bounded : IsBounded index
+  -- so that the next doubling leaves what was put back within bounds
+  pub put_back : 4 * index.put_back ≤ 3 * length index.slots
+
+-- the symbols from a text's home on, up to the first empty slot
+abbrev pub run_of : {S : Type 0} → (Text → ℕ) → List (Option S) → Text → List S
+run_of code slots text = filled_run (probed slots (code text % length slots))
+
+module _ {S : Type 0} (entry : S → Option Text) where
+  -- whether the symbol's entry has this text
+  abbrev pub has_text : Text → S → Bool
+  has_text text symbol = option_map_or (λ found. bytes_eq found text) (entry symbol) false
+
+  -- the text of a symbol that is an entry's
+  abbrev pub text_of : S → Text
+  text_of symbol = unwrap_or (entry symbol) []
+
+  -- the text of the symbol in the slot `k`
+  abbrev pub text_in : List (Option S) → ℕ → Option Text
+  text_in slots k = option_and_then entry (slice_index_or slots k None)
+
+  -- the map from text to symbol: the symbol in the slots that has this text
+  abbrev pub look_up : List (Option S) → Text → Option S
+  look_up slots text = first_passing (has_text text) (symbols slots)
+
+  -- the two are one map
+  abbrev pub SameMap : List (Option S) → List (Option S) → Type 0
+  SameMap old new = (text : Text) → look_up new text ≡ look_up old text
+
+  -- the new map is the old one with the symbol under its text
+  abbrev pub AddsPair : List (Option S) → List (Option S) → S → Type 0
+  AddsPair old new symbol =
+      (text : Text) → look_up new text ≡ (if bytes_eq text (text_of symbol) then Some symbol else look_up old text)
+
+  -- the symbol is an entry's, and its text is not in the map
+  pub record IsAbsent (slots : List (Option S)) (symbol : S) : Type 0 where
+    pub is_entry : IsSome (entry symbol)
+    pub new_text : look_up slots (text_of symbol) ≡ None
+
+  module _ (code : Text → ℕ) where
+    -- the slots fit the entries and the hasher
+    pub record Fits (slots : List (Option S)) : Type 0 where
+      -- each symbol is an entry's
+      pub entries : (symbol : S) → Contains slots (Some symbol) → IsSome (entry symbol)
+      -- no two slots have one text
+      pub distinct : (j k : ℕ) (text : Text) → text_in slots j ≡ Some text → text_in slots k ≡ Some text → j ≡ k
+      -- each symbol is in the filled run of its text
+      pub placed : (symbol : S) (text : Text) → Contains slots (Some symbol) → entry symbol ≡ Some text → Contains (run_of code slots text) symbol
+
+    -- the symbol is added, and nothing else changes but the count of entries
+    pub record Inserts (old new : Indexed S) (symbol : S) : Type 0 where
+      pub fits : Fits new.slots
+      pub pair : AddsPair old.slots new.slots symbol
+      pub count : entry_count new ≡ entry_count old + 1
+      pub slots : length new.slots ≡ length old.slots
+      pub put_back : new.put_back ≡ old.put_back
+
+    -- the slots fit, and have the text of each entry under its symbol
+    pub record IsWhole (slots : List (Option S)) : Type 0 where
+      pub fits : Fits slots
+      pub whole : (symbol : S) (text : Text) → entry symbol ≡ Some text → look_up slots text ≡ Some symbol
+
+-- the slots fit all entries and hashers
+abbrev pub FitsAll : {S : Type 0} → List (Option S) → Type 0
+FitsAll {S} slots = (entry : S → Option Text) (code : Text → ℕ) → Fits entry code slots
+
+-- The slots grow from none to 8, or to twice as many, and all symbols are placed again.
+pub record Grows {S : Type 0} (old new : Indexed S) : Type 0 where
+  pub from_none : length old.slots ≡ 0 → length new.slots ≡ 8
+  pub doubled : 0 < length old.slots → length new.slots ≡ 2 * length old.slots
+  pub put_back : new.put_back ≡ old.put_back + entry_count old
+  pub greatest : new.greatest ≡ old.greatest

@@ -1,0 +1,36 @@
+-- A list of slots, each empty or with a symbol, as probing sees it, and looks at slots.
+-- Cited by `Looks`, by `Index` and by what the index is made of.
+use Rattle.std.specs.Prelude.{ℕ, ◌+◌, ◌%◌, ◌<◌, ◌≤◌, List, [], ◌∷◌, ◌++◌, take, drop, length, slice_index_or, Option, Some, None, IsSome, IsNone, Bool, if◌then◌else◌}
+
+-- what contracts see of `Looks`: the backend that is lent, and how many looks were taken
+pub record Looking (B : Type 0) : Type 0 where
+  pub backend : B
+  pub count : ℕ
+
+-- The filled run from a home on has `f` slots: it is the greatest count, at most that of all slots, such that the
+-- slots home, home + 1, .., round the end to the first, are filled.
+pub record IsFilledRun {S : Type 0} (slots : List (Option S)) (home f : ℕ) : Type 0 where
+  pub within : f ≤ length slots
+  pub filled : (i : ℕ) → i < f → IsSome (slice_index_or slots ((home + i) % length slots) None)
+  pub greatest : f < length slots → IsNone (slice_index_or slots ((home + f) % length slots) None)
+
+-- the symbols in the slots, in order
+abbrev pub symbols : {S : Type 0} → List (Option S) → List S
+symbols [] = []
+symbols (None ∷ rest) = symbols rest
+symbols (Some symbol ∷ rest) = symbol ∷ symbols rest
+
+-- the same, up to the first empty slot
+abbrev pub filled_run : {S : Type 0} → List (Option S) → List S
+filled_run [] = []
+filled_run (None ∷ rest) = []
+filled_run (Some symbol ∷ rest) = symbol ∷ filled_run rest
+
+-- the slots in the order in which they are probed from a home on: round the end to the first
+abbrev pub probed : {S : Type 0} → List (Option S) → ℕ → List (Option S)
+probed slots home = drop home slots ++ take home slots
+
+-- the first symbol that passes the test
+abbrev pub first_passing : {S : Type 0} → (S → Bool) → List S → Option S
+first_passing test [] = None
+first_passing test (symbol ∷ rest) = if test symbol then Some symbol else first_passing test rest

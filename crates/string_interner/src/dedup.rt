@@ -1,0 +1,261 @@
+//! Finding the symbol of a text: hashers, and the index of a backend's entries by their texts.
+
+mod count;
+mod hasher;
+mod probe;
+mod slots;
+#[cfg(test)]
+mod tests;
+
+ghost use Rattle.std.specs.Prelude.{◌≡◌, ℕ, ◌+◌, ◌*◌, ◌<◌, ◌≤◌, ◌%◌, ◌^◌, length, [], IsNone, IsOk, IfOk, OnOk, OnErr, Ok, false, ◌↔◌};
+ghost use Rattle.string_interner.specs.Entry.{entry_text};
+ghost use Rattle.string_interner.specs.Slots.{IsFilledRun};
+ghost use Rattle.string_interner.specs.Index.{entry_count, Fits, FitsAll, Grows, HasRoom, Inserts, IsAbsent, IsBounded, IsLeastFor, SameMap, look_up, text_of};
+ghost use Rattle.string_interner.specs.Probe.{IsFree, IsVacant};
+
+use crate::backend::Backend;
+use crate::symbol::Symbol;
+pub use hasher::{DefaultHashBuilder, FixedState, TextHasher};
+pub(crate) use probe::Vacancy;
+use probe::{Ended, home_of, least_count, probe, rebuilt, settle};
+pub use slots::Looks;
+use slots::Slots;
+use std::alloc::{AllocError, Global};
+use std::marker::Model;
+
+/// A hash index of the entries of a backend: it finds the symbol of a text.
+///
+/// It holds symbols and no texts, and asks the backend for the text of each symbol that it looks at, so it is right
+/// under every hasher. A text is looked for from its home on, slot by slot, as far as the first empty slot: at most
+/// one look more than there are filled slots in that run. At most three quarters of the slots are filled.
+///
+/// Its calls take a backend and a hasher that it *fits*: its symbols are of that backend's entries, with distinct
+/// texts, and were placed under that hasher. Without entries it fits every backend and hasher.
+#[derive(Drop)]
+pub struct Index<S: Symbol> {
+    slots: Slots<S>,
+    len: usize,
+    put_back: usize,
+    alloc: Global,
+}
+
+/// Contracts see the slots, and how many symbols doublings placed again.
+impl<S: Symbol> Model for Index<S> {
+    ghost use Rattle.string_interner.specs.Index.{Indexed, IsSound};
+
+    ghost Value = { Indexed S };
+
+    ghost view = { λ i. record { slots = i.slots; put_back = i.put_back; greatest = i.len } };
+
+    ghost invariant = { λ i. IsSound (record { slots = i.slots; put_back = i.put_back; greatest = i.len }) i.len };
+}
+
+impl<S: Symbol> Index<S> {
+    /// No slots. Takes no memory.
+    pub fn new(alloc: Global) -> Self
+        ensures slots { result.slots ≡ [] }
+        ensures put_back { result.put_back ≡ 0 }
+        ensures greatest { result.greatest ≡ 0 }
+        ensures fits { FitsAll result.slots }
+    {
+        Index {
+            slots: Slots::new(alloc),
+            len: 0,
+            put_back: 0,
+            alloc,
+        }
+    }
+
+    /// No entries, and the least allowed count of slots that has room for `capacity` of them: none for 0, and else a
+    /// power of two from 8 on, of which `capacity` is at most three quarters.
+    ///
+    /// Refuses only where memory was refused or that count does not fit a `usize`.
+    pub fn with_capacity(alloc: Global, capacity: usize) -> Result<Self, AllocError>
+        ensures slots { IfOk result (λ index. IsLeastFor capacity (length index.slots)) }
+        ensures count { IfOk result (λ index. entry_count index ≡ 0) }
+        ensures put_back { IfOk result (λ index. index.put_back ≡ 0) }
+        ensures greatest { IfOk result (λ index. index.greatest ≡ 0) }
+        ensures fits { IfOk result (λ index. FitsAll index.slots) }
+        ensures fits_usize { OnOk result (4 * capacity ≤ 3 * 2 ^ 63) }
+    {
+        let count = least_count(capacity).ok_or(AllocError)?;
+        Ok(Index {
+            slots: Slots::empty(alloc, count)?,
+            len: 0,
+            put_back: 0,
+            alloc,
+        })
+    }
+
+    /// How many slots there are.
+    pub fn slots(&self) -> usize
+        ensures value { result ≡ length self.now.slots }
+        ensures bounded { IsBounded self.now }
+    {
+        let _ = &self.len;
+        self.slots.len()
+    }
+
+    /// How many symbols doublings placed again, since the index was made.
+    pub fn put_back(&self) -> usize
+        ensures value { result ≡ self.now.put_back }
+        ensures bounded { IsBounded self.now }
+    {
+        self.put_back
+    }
+
+    /// The symbol whose text this is, if any.
+    ///
+    /// It takes at most one look more than there are slots in the filled run from the text's home on, and so at most
+    /// one more than there are entries; and none where there are no slots.
+    pub fn find<H: TextHasher, B: Backend<Symbol = S>>(
+        &self,
+        hasher: &H,
+        looks: &mut Looks<'_, B>,
+        text: &str,
+    ) -> Option<S>
+        requires { Fits (entry_text S.number B.place (B.texts looks.old.backend)) (H.code hasher.now) self.now.slots }
+        ensures found { result
+            ≡ look_up (entry_text S.number B.place (B.texts looks.old.backend)) self.now.slots text.now }
+        ensures backend { looks.new.backend ≡ looks.old.backend }
+        ensures counts { looks.old.count ≤ looks.new.count }
+        ensures run { (f : ℕ) → IsFilledRun self.now.slots (H.code hasher.now text.now % length self.now.slots) f
+            → looks.new.count ≤ looks.old.count + f + 1 }
+        ensures at_most { looks.new.count ≤ looks.old.count + entry_count self.now + 1 }
+        ensures no_slots { length self.now.slots ≡ 0 → looks.new.count ≡ looks.old.count }
+    {
+        self.seek(hasher, hasher.hash_text(text), looks, text)
+            .symbol
+    }
+
+    /// Finds the symbol as `find` does, for a text whose code is known, and tells the slot where the probe ended: a
+    /// free one for the text, where no symbol was found and one more entry is allowed.
+    #[inline(always)]
+    pub(crate) fn seek<H: TextHasher, B: Backend<Symbol = S>>(
+        &self,
+        hasher: &H,
+        code: u64,
+        looks: &mut Looks<'_, B>,
+        text: &str,
+    ) -> Ended<S>
+        requires fits { Fits (entry_text S.number B.place (B.texts looks.old.backend)) (H.code hasher.now)
+            self.now.slots }
+        requires code { code ≡ H.code hasher.now text.now }
+        ensures found { result.symbol
+            ≡ look_up (entry_text S.number B.place (B.texts looks.old.backend)) self.now.slots text.now }
+        ensures free { IsNone result.symbol → HasRoom self.now
+            → IsFree self.now.slots (H.code hasher.now text.now % length self.now.slots) result.at }
+        ensures backend { looks.new.backend ≡ looks.old.backend }
+        ensures counts { looks.old.count ≤ looks.new.count }
+        ensures run { (f : ℕ) → IsFilledRun self.now.slots (H.code hasher.now text.now % length self.now.slots) f
+            → looks.new.count ≤ looks.old.count + f + 1 }
+        ensures at_most { looks.new.count ≤ looks.old.count + entry_count self.now + 1 }
+        ensures no_slots { length self.now.slots ≡ 0 → looks.new.count ≡ looks.old.count }
+    {
+        let count = self.slots.len();
+        if count == 0 {
+            return Ended {
+                symbol: None,
+                at: 0,
+            };
+        }
+        probe(&self.slots, home_of(code, count), looks, text)
+    }
+
+    /// Makes room for one more entry: does nothing where one more is allowed, and else grows from no slots to 8, or
+    /// to twice as many, placing the symbols again by the codes of their texts.
+    ///
+    /// Refuses only where memory was refused or the count of slots does not fit a `usize`. All is then as it was.
+    pub fn reserve_one<H: TextHasher, B: Backend<Symbol = S>>(
+        &mut self,
+        hasher: &H,
+        backend: &B,
+    ) -> Result<(), AllocError>
+        requires { Fits (entry_text S.number B.place (B.texts backend.now)) (H.code hasher.now) self.old.slots }
+        ensures fits { Fits (entry_text S.number B.place (B.texts backend.now)) (H.code hasher.now) self.new.slots }
+        ensures same { SameMap (entry_text S.number B.place (B.texts backend.now)) self.old.slots self.new.slots }
+        ensures count { entry_count self.new ≡ entry_count self.old }
+        ensures room { OnOk result (HasRoom self.new) }
+        ensures had_room { HasRoom self.old → IsOk result × (self.new ≡ self.old) }
+        ensures grown { ¬ HasRoom self.old → OnOk result (Grows self.old self.new) }
+        ensures err { OnErr result (self.new ≡ self.old) }
+    {
+        self.reserve(hasher, backend)?;
+        Ok(())
+    }
+
+    /// Makes room as `reserve_one` does, and tells whether the slots grew.
+    pub(crate) fn reserve<H: TextHasher, B: Backend<Symbol = S>>(
+        &mut self,
+        hasher: &H,
+        backend: &B,
+    ) -> Result<bool, AllocError>
+        requires { Fits (entry_text S.number B.place (B.texts backend.now)) (H.code hasher.now) self.old.slots }
+        ensures fits { Fits (entry_text S.number B.place (B.texts backend.now)) (H.code hasher.now) self.new.slots }
+        ensures same { SameMap (entry_text S.number B.place (B.texts backend.now)) self.old.slots self.new.slots }
+        ensures count { entry_count self.new ≡ entry_count self.old }
+        ensures room { OnOk result (HasRoom self.new) }
+        ensures had_room { HasRoom self.old → (result ≡ Ok false) × (self.new ≡ self.old) }
+        ensures grown { ¬ HasRoom self.old → OnOk result (Grows self.old self.new) }
+        ensures unchanged { result ≡ Ok false → self.new ≡ self.old }
+        ensures err { OnErr result (self.new ≡ self.old) }
+    {
+        let count = self.slots.len();
+        // Three quarters, since a count of slots is a multiple of 4.
+        if self.len < count - count / 4 {
+            return Ok(false);
+        }
+        let more = if count == 0 {
+            8
+        } else {
+            count.checked_mul(2).ok_or(AllocError)?
+        };
+        // The bigger slots are built first, so that a refusal leaves all as it was.
+        let bigger = rebuilt(&mut self.slots, more, hasher, backend, self.alloc)?;
+        self.slots = bigger;
+        self.put_back += self.len;
+        Ok(true)
+    }
+
+    /// Adds the symbol of an entry whose text is not in the index, where one more entry is allowed. Takes no memory.
+    pub fn insert<H: TextHasher, B: Backend<Symbol = S>>(
+        &mut self,
+        hasher: &H,
+        backend: &B,
+        symbol: S,
+    )
+        requires fits { Fits (entry_text S.number B.place (B.texts backend.now)) (H.code hasher.now) self.old.slots }
+        requires room { HasRoom self.old }
+        requires absent { IsAbsent (entry_text S.number B.place (B.texts backend.now)) self.old.slots symbol }
+        ensures { Inserts (entry_text S.number B.place (B.texts backend.now)) (H.code hasher.now) self.old self.new
+            symbol }
+    {
+        let text = backend.resolve_unchecked(symbol);
+        let vacancy = Vacancy {
+            code: hasher.hash_text(text),
+            at: None,
+        };
+        self.insert_into(hasher, backend, vacancy, symbol);
+    }
+
+    /// Adds the symbol as `insert` does, where it is known where that goes.
+    #[inline]
+    pub(crate) fn insert_into<H: TextHasher, B: Backend<Symbol = S>>(
+        &mut self,
+        hasher: &H,
+        backend: &B,
+        vacancy: Vacancy,
+        symbol: S,
+    )
+        requires fits { Fits (entry_text S.number B.place (B.texts backend.now)) (H.code hasher.now) self.old.slots }
+        requires room { HasRoom self.old }
+        requires absent { IsAbsent (entry_text S.number B.place (B.texts backend.now)) self.old.slots symbol }
+        requires vacant { IsVacant (H.code hasher.now) self.old.slots
+            (text_of (entry_text S.number B.place (B.texts backend.now)) symbol) vacancy.code vacancy.at }
+        ensures { Inserts (entry_text S.number B.place (B.texts backend.now)) (H.code hasher.now) self.old self.new
+            symbol }
+    {
+        settle(&mut self.slots, vacancy, symbol);
+        self.len += 1;
+    }
+}
