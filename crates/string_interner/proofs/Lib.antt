@@ -1,3 +1,7 @@
+pub mod Buckets
+pub mod BufferReads
+pub mod Buffers
+pub mod Compared
 pub mod Cuts
 pub mod Entries
 pub mod EntryTexts
@@ -16,6 +20,7 @@ pub mod Putting
 pub mod Rebuilding
 pub mod Runs
 pub mod SameEntries
+pub mod Spelling
 pub mod Steps
 pub mod WholeTexts
 pub mod Wholes

@@ -12,8 +12,9 @@ pub record Contents : Type 0 where
   pub room : ℕ
 
 -- a bucket of bytes: the capacity that was asked for it, and the bytes that stand in it
-abbrev pub Bucket : Type 0
-Bucket = ℕ × List ℕ
+pub record Bucket : Type 0 where
+  pub capacity : ℕ
+  pub bytes : List ℕ
 
 -- the entry `i` begins at the place `at`
 pub record BeginsAt (place : List Text → ℕ) (texts : List Text) (at i : ℕ) : Type 0 where

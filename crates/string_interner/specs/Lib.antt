@@ -2,6 +2,10 @@ pub mod Symbol
 pub mod Text
 pub mod Backend
 pub mod StringBackend
+pub mod BucketBackend
+pub mod Spelling
+pub mod BufferBackend
+pub mod BufferLaws
 pub mod Walk
 pub mod Entry
 pub mod Hasher

@@ -1,5 +1,7 @@
 //! Backends: what keeps the texts, and gives each a symbol.
 
+mod bucket;
+mod buffer;
 mod string;
 mod walk;
 
@@ -8,6 +10,8 @@ ghost use Rattle.std.specs.Option.{option_copied};
 ghost use Rattle.string_interner.specs.Text.{Text};
 
 use crate::symbol::{DefaultSymbol, Symbol};
+pub use bucket::BucketBackend;
+pub use buffer::BufferBackend;
 use std::alloc::{AllocError, Global};
 pub use string::StringBackend;
 use thiserror::Error;

@@ -1,0 +1,34 @@
+-- Lists of texts that are compared index by index.
+use Rattle.std.proofs.Common.{◌≡◌, ℕ, ◌+◌, ◌<◌, List, [], length, take, get_or, Bool, true, false, Option, Some, refl, sym, ap, ◌∙◌, arith}
+use Rattle.std.specs.Prelude.{slice_get, not}
+use Rattle.std.specs.Str.{bytes_eq}
+use Rattle.std.proofs.lemmas.Bool.{not-true, not-false}
+use Rattle.std.proofs.lemmas.List.{take_all, take_more_same}
+use Rattle.std.proofs.lemmas.Option.{get_or_from_slice_get, slice_get_within}
+use Rattle.std.proofs.lemmas.Slice.Eq.{bytes_eq-Decides}
+use Rattle.string_interner.specs.Text.{Text, texts_eq}
+use Rattle.string_interner.proofs.Equal.{texts_eq-Decides}
+
+false_unless : (b : Bool) → (b ≡ true → false ≡ true) → false ≡ b
+false_unless true h = h refl
+false_unless false h = refl
+
+some_same : (x y : Text) → Some x ≡ Some y → x ≡ y
+some_same x y e = cc
+
+-- lists that differ at an index are not the same
+pub texts_eq-differ : (xs ys : List Text) (i : ℕ) (x y : Text) → slice_get xs i ≡ Some x → slice_get ys i ≡ Some y → not (bytes_eq x y) ≡ true → false ≡ texts_eq xs ys
+texts_eq-differ xs ys i x y ex ey differ = false_unless (texts_eq xs ys) (λ same.
+    let e : Some x ≡ Some y = sym ex ∙ (ap (λ (zs : List Text). slice_get zs i) ((texts_eq-Decides xs ys).0 same) ∙ ey) in
+    sym (not-true (bytes_eq x y) differ) ∙ (bytes_eq-Decides x y).1 (some_same x y e))
+
+-- lists that are the same up to an index, and at it
+pub take-same_more : (xs ys : List Text) (i : ℕ) (x y : Text) → slice_get xs i ≡ Some x → slice_get ys i ≡ Some y → not (bytes_eq x y) ≡ false → i < length xs → i < length ys → take i xs ≡ take i ys → take (i + 1) xs ≡ take (i + 1) ys
+take-same_more xs ys i x y ex ey same hx hy before =
+    take_more_same xs ys i [] hx hy before (get_or_from_slice_get xs i x [] ex ∙ ((bytes_eq-Decides x y).0 (not-false (bytes_eq x y) same) ∙ sym (get_or_from_slice_get ys i y [] ey)))
+
+-- lists that are the same up to their length
+pub texts_eq-same : (xs ys : List Text) (n : ℕ) → length xs ≡ n → length ys ≡ n → take n xs ≡ take n ys → true ≡ texts_eq xs ys
+texts_eq-same xs ys n hx hy same =
+    let e : xs ≡ ys = sym (take_all n xs (omega arith)) ∙ (same ∙ take_all n ys (omega arith)) in
+    sym ((texts_eq-Decides xs ys).1 e)

@@ -1,0 +1,131 @@
+-- How texts lie in buckets: where the text of an entry stands, how a text is put in, and what bounds the capacities.
+-- Cited by the model and the contracts of `BucketBackend`.
+use Rattle.std.specs.Prelude.{◌≡◌, ℕ, ◌+◌, ◌-◌, ◌*◌, ◌<◌, ◌≤◌, max, List, [], ◌∷◌, ◌++◌, length, map, sum_by, slice_index_or, slice_range, All, Bool, true, false, Option}
+use Rattle.std.specs.Str.{IsCharBoundary}
+use Rattle.std.specs.Int.{IsNextPowerOfTwo}
+use Rattle.string_interner.specs.Text.{Text}
+use Rattle.string_interner.specs.Backend.{Bucket, IsKept}
+use Rattle.string_interner.specs.declared.backend.bucket.interned_str.InternedStr.{InternedStr}
+use Rattle.string_interner.specs.declared.backend.bucket.interned_str.InternedStr.TheVariants.{InBucket, Static}
+
+-- what contracts see of a `BucketBackend`
+pub record BucketContents : Type 0 where
+  pub texts : List Text
+  -- of each text, whether it is a static one, which stands in no bucket
+  pub statics : List Bool
+  -- the older buckets, in the order in which they were filled
+  pub full : List Bucket
+  -- the bucket that takes texts
+  pub head : Bucket
+  pub room : ℕ
+
+-- a backend without texts, with one bucket of this capacity
+abbrev pub empty_contents : ℕ → ℕ → BucketContents
+empty_contents capacity room = record { texts = []; statics = []; full = []; head = record { capacity = capacity; bytes = [] }; room = room }
+
+-- all buckets: the older ones, then the head
+abbrev pub buckets_of : List Bucket → Bucket → List Bucket
+buckets_of full head = full ++ head ∷ []
+
+-- the bucket of this number
+abbrev pub bucket_at : List Bucket → ℕ → Bucket
+bucket_at buckets number = slice_index_or buckets number (record { capacity = 0; bytes = [] })
+
+-- the capacities that were asked for, added up
+abbrev pub total_capacity : List Bucket → ℕ
+total_capacity buckets = sum_by (λ bucket. bucket.capacity) buckets
+
+-- how many bytes stand in the buckets
+abbrev pub byte_count : List Bucket → ℕ
+byte_count buckets = sum_by (λ bucket. length bucket.bytes) buckets
+
+-- the capacities that were asked for are together at most that of the first bucket, or four times the bytes that stand
+abbrev pub IsBounded : List Bucket → Type 0
+IsBounded buckets = total_capacity buckets ≤ max (bucket_at buckets 0).capacity (4 * byte_count buckets)
+
+-- A text is put into the buckets: at the end of the head where the capacity of the head allows it. Else the head joins
+-- the older buckets, and the text begins a new head, whose capacity is a power of two.
+pub record Puts (text : Text) (full : List Bucket) (head : Bucket) (new_full : List Bucket) (new_head : Bucket) : Type 0 where
+  pub fits : length head.bytes + length text ≤ head.capacity → (new_full ≡ full) × (new_head ≡ record head { bytes = head.bytes ++ text })
+  pub too_long : head.capacity < length head.bytes + length text
+      → (new_full ≡ full ++ head ∷ []) × (new_head.bytes ≡ text) × IsNextPowerOfTwo (max head.capacity (length text) + 1) new_head.capacity
+
+-- a bucket has its capacity and its bytes still, and maybe more bytes after them
+pub record StaysIn (old new : Bucket) : Type 0 where
+  pub capacity : new.capacity ≡ old.capacity
+  pub more : List ℕ
+  pub bytes : new.bytes ≡ old.bytes ++ more
+
+-- no byte that stood in a bucket was changed or moved
+pub record Stays (old new : List Bucket) : Type 0 where
+  pub count : length old ≤ length new
+  pub each : (k : ℕ) → k < length old → StaysIn (bucket_at old k) (bucket_at new k)
+
+-- the texts that stand in buckets, one after another
+abbrev pub copied_bytes : List Text → List Bool → List ℕ
+copied_bytes (text ∷ texts) (false ∷ statics) = text ++ copied_bytes texts statics
+copied_bytes (text ∷ texts) (true ∷ statics) = copied_bytes texts statics
+copied_bytes _ _ = []
+
+-- whether an entry is a static text
+abbrev pub is_static : InternedStr → Bool
+is_static (InBucket bucket span) = false
+is_static (Static text) = true
+
+-- the text of an entry
+abbrev pub text_of : List Bucket → InternedStr → Text
+text_of buckets (InBucket bucket span) = slice_range (bucket_at buckets bucket).bytes span.from span.to
+text_of buckets (Static text) = text.now
+
+-- a part of a bucket, from one character to another
+pub record IsPart (buckets : List Bucket) (bucket from to : ℕ) : Type 0 where
+  pub there : bucket < length buckets
+  pub ordered : from ≤ to
+  pub begins : IsCharBoundary (bucket_at buckets bucket).bytes from
+  pub ends : IsCharBoundary (bucket_at buckets bucket).bytes to
+
+-- an entry has a text in the buckets, or is a static one
+abbrev pub IsEntry : List Bucket → InternedStr → Type 0
+IsEntry buckets (InBucket bucket span) = IsPart buckets bucket span.from span.to
+IsEntry buckets (Static text) = Unit {0}
+
+-- how many bytes of the buckets are those of an entry
+abbrev pub entry_len : InternedStr → ℕ
+entry_len (InBucket bucket span) = span.to - span.from
+entry_len (Static text) = 0
+
+-- the entry names the text at the end of the head
+pub record IsLast (text : Text) (full : List Bucket) (head : Bucket) (entry : InternedStr) : Type 0 where
+  pub before : List ℕ
+  pub bytes_are : head.bytes ≡ before ++ text
+  pub entry_is : entry ≡ InBucket (length full) (record { from = length before; to = length before + length text })
+
+-- What keeps the capacities low: a new head is made only where the one before was nearly full.
+pub record IsTight (full : List Bucket) (head : Bucket) : Type 0 where
+  pub within : length head.bytes ≤ head.capacity
+  pub older : 0 < length full → total_capacity full + 1 ≤ 2 * byte_count full + length head.bytes
+  pub newest : 0 < length full → head.capacity ≤ 2 * (byte_count full + length head.bytes) + 1
+
+-- What a `BucketBackend` keeps to. Bytes of the buckets may be those of no entry.
+pub record IsStored {S : Type 0} (symbol_of : ℕ → Option S) (full : List Bucket) (head : Bucket) (entries : List InternedStr) : Type 0 where
+  pub standing : All (IsEntry (buckets_of full head)) entries
+  pub shared : sum_by entry_len entries ≤ byte_count (buckets_of full head)
+  pub tight : IsTight full head
+  pub kept : IsKept symbol_of length (map (text_of (buckets_of full head)) entries)
+
+-- An entry is copied: a text that stands in a bucket is put at the end of this bucket, which was old and is now new,
+-- and a static text stays where it is.
+abbrev pub IsCopy : List Bucket → InternedStr → Bucket → Bucket → InternedStr → Type 0
+IsCopy buckets (InBucket bucket span) old new copy =
+    let text = text_of buckets (InBucket bucket span) in
+    (new ≡ record old { bytes = old.bytes ++ text }) × IsLast text [] new copy
+IsCopy buckets (Static text) old new copy = (new ≡ old) × (copy ≡ Static text)
+
+-- the copies are the entries again, with the texts that stood in buckets put into this one in order
+pub record AreCopies (buckets : List Bucket) (entries copies : List InternedStr) (bucket : Bucket) : Type 0 where
+  pub standing : All (IsEntry (bucket ∷ [])) copies
+  pub texts : map (text_of (bucket ∷ [])) copies ≡ map (text_of buckets) entries
+  pub statics : map is_static copies ≡ map is_static entries
+  pub bytes : bucket.bytes ≡ copied_bytes (map (text_of buckets) entries) (map is_static entries)
+  pub filled : length bucket.bytes ≡ sum_by entry_len entries
+  pub len : sum_by entry_len copies ≡ sum_by entry_len entries

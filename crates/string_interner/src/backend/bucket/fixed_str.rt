@@ -1,0 +1,110 @@
+//! A text that never outgrows the capacity that was asked for it.
+
+ghost use Rattle.std.specs.Prelude.{◌≡◌, ◌+◌, ◌<◌, ◌≤◌, [], ◌++◌, length, IfOk, None, Ok};
+ghost use Rattle.std.specs.String.{string_bytes};
+
+use std::alloc::{AllocError, Global};
+use std::marker::Model;
+
+/// A part of a text, from one of its bytes up to another, in bytes.
+#[derive(Clone, Copy)]
+pub struct Span {
+    pub from: usize,
+    pub to: usize,
+}
+
+/// A bucket that takes texts at its end. What stands in it is never changed or moved.
+#[derive(Drop)]
+pub struct FixedString {
+    contents: String,
+    capacity: usize,
+}
+
+/// Contracts see the capacity that was asked for, and the bytes. The `String` may have more room than was asked for.
+impl Model for FixedString {
+    ghost use Rattle.std.specs.Prelude.{◌≤◌};
+    ghost use Rattle.std.specs.String.{string_bytes, string_len, string_capacity};
+    ghost use Rattle.string_interner.specs.Backend.{Bucket};
+
+    ghost Value = { Bucket };
+
+    ghost view = { λ s. record { capacity = s.capacity; bytes = string_bytes s.contents } };
+
+    ghost invariant = { λ s. record {
+      within : string_len s.contents ≤ s.capacity;
+      reserved : s.capacity ≤ string_capacity s.contents;
+    } };
+}
+
+impl FixedString {
+    /// An empty bucket of capacity 0. Takes no memory.
+    pub fn new(alloc: Global) -> Self
+        ensures { result ≡ record { capacity = 0; bytes = [] } }
+    {
+        FixedString {
+            contents: String::new(alloc),
+            capacity: 0,
+        }
+    }
+
+    /// An empty bucket for `capacity` bytes. Refuses only where memory was refused.
+    pub fn with_capacity(alloc: Global, capacity: usize) -> Result<Self, AllocError>
+        ensures { IfOk result (λ bucket. bucket ≡ record { capacity = capacity; bytes = [] }) }
+    {
+        let contents = String::with_capacity(alloc, capacity)?;
+        Ok(FixedString { contents, capacity })
+    }
+
+    /// The capacity in bytes that was asked for.
+    pub fn capacity(&self) -> usize
+        ensures value { result ≡ self.now.capacity }
+        ensures within { length self.now.bytes ≤ result }
+    {
+        let _ = &self.contents;
+        self.capacity
+    }
+
+    /// How many bytes stand in the bucket.
+    pub fn len(&self) -> usize
+        ensures value { result ≡ length self.now.bytes }
+        ensures within { result ≤ self.now.capacity }
+    {
+        self.contents.len()
+    }
+
+    /// What stands in the bucket.
+    #[inline]
+    pub fn as_str(&self) -> &str
+        ensures { result.now ≡ self.now.bytes }
+    {
+        self.contents.as_str()
+    }
+
+    /// What stands in the bucket, when it takes no more texts.
+    pub fn finish(self) -> String
+        ensures { string_bytes result ≡ self.bytes }
+    {
+        self.contents
+    }
+
+    /// Puts a text at the end, and answers where it stands; `None` exactly where the capacity does not allow it, and
+    /// then nothing changes.
+    ///
+    /// Never refuses, since the bytes of the capacity were reserved when the bucket was made.
+    #[inline]
+    pub fn push_str(&mut self, text: &str) -> Result<Option<Span>, AllocError>
+        ensures too_long { self.old.capacity < length self.old.bytes + length text.now
+            → (result ≡ Ok None) × (self.new ≡ self.old) }
+        ensures fits { length self.old.bytes + length text.now ≤ self.old.capacity
+            → (result ≡ Ok (Some (record { from = length self.old.bytes; to = length self.old.bytes + length text.now })))
+            × (self.new ≡ record self.old { bytes = self.old.bytes ++ text.now }) }
+    {
+        let from = self.contents.len();
+        if self.capacity - from < text.len() {
+            return Ok(None);
+        }
+        self.contents.push_str(text)?;
+        let to = from + text.len();
+        Ok(Some(Span { from, to }))
+    }
+}
