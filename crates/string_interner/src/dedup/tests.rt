@@ -7,6 +7,7 @@ use super::probe::home_of;
 use super::{FixedState, Index, Looks, TextHasher};
 use crate::backend::{Backend, InternError, StringBackend};
 use crate::symbol::{Symbol, SymbolU32};
+use crate::tests::tell_refused;
 use std::alloc::{AllocError, Global};
 use std::marker::Model;
 use std::mem::size_of;
@@ -219,7 +220,10 @@ fn probes_go_round_the_end(rt: HostRuntime) -> Result<(), Fail> {
 fn memory_for_a_capacity(rt: HostRuntime) -> Result<(), Fail> {
     let index = match Index::<SymbolU32>::with_capacity(rt.alloc(), 13) {
         Ok(index) => index,
-        Err(_) => Index::with_capacity(rt.alloc(), 13)?,
+        Err(_) => {
+            tell_refused(&rt, "with_capacity of Index")?;
+            Index::with_capacity(rt.alloc(), 13)?
+        }
     };
     assert_eq!(rt; index.slots(), 32);
     Ok(())
@@ -244,6 +248,7 @@ fn memory_for_one_more(rt: HostRuntime) -> Result<(), Fail> {
                     }
                 );
             }
+            tell_refused(&rt, "reserve_one of Index")?;
             filled.reserve()?;
         }
         // The backend may be refused too, which is no matter of the index.

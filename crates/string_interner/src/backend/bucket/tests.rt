@@ -1,4 +1,5 @@
 use super::*;
+use crate::tests::tell_refused;
 use std::test::Fail;
 
 /// The capacity and the length of the head, how many older buckets there are, all capacities together, and all bytes.
@@ -185,12 +186,18 @@ fn sizes_that_do_not_fit_are_refused(rt: HostRuntime) {
 fn memory_makers(rt: HostRuntime) -> Result<(), Fail> {
     let made = match BucketBackend::<DefaultSymbol>::with_capacity(rt.alloc(), 10) {
         Ok(made) => made,
-        Err(AllocError) => BucketBackend::with_capacity(rt.alloc(), 10)?,
+        Err(AllocError) => {
+            tell_refused(&rt, "with_capacity of BucketBackend")?;
+            BucketBackend::with_capacity(rt.alloc(), 10)?
+        }
     };
     assert_eq!(rt; shape(&made), (10, 0, 0, 10, 0));
     let bucket = match FixedString::with_capacity(rt.alloc(), 3) {
         Ok(bucket) => bucket,
-        Err(AllocError) => FixedString::with_capacity(rt.alloc(), 3)?,
+        Err(AllocError) => {
+            tell_refused(&rt, "with_capacity of FixedString")?;
+            FixedString::with_capacity(rt.alloc(), 3)?
+        }
     };
     assert_eq!(rt; bucket.capacity(), 3);
     Ok(())
@@ -222,6 +229,7 @@ fn memory_intern(rt: HostRuntime) -> Result<(), Fail> {
                 assert_eq!(rt; error, InternError::Memory(AllocError));
                 assert_eq!(rt; backend.count(), index);
                 assert_eq!(rt; shape(&backend), before);
+                tell_refused(&rt, "intern of BucketBackend")?;
                 backend.intern(text)?
             }
         };
@@ -240,6 +248,7 @@ fn memory_intern_static(rt: HostRuntime) -> Result<(), Fail> {
         Err(error) => {
             assert_eq!(rt; error, InternError::Memory(AllocError));
             assert_eq!(rt; backend.count(), 0);
+            tell_refused(&rt, "intern_static of BucketBackend")?;
             backend.intern_static("aa")?
         }
     };
@@ -269,6 +278,7 @@ fn memory_clone(rt: HostRuntime) -> Result<(), Fail> {
         Err(AllocError) => {
             assert_eq!(rt; shape(&backend), before);
             assert_eq!(rt; backend.count(), 3);
+            tell_refused(&rt, "clone of BucketBackend")?;
             backend.clone()?
         }
     };

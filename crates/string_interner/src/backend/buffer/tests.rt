@@ -1,58 +1,10 @@
 ghost use Rattle.std.specs.Prelude.{◌^◌, ◌-◌, ◌≤◌, ◌<◌, ◌≡◌, ℕ};
-ghost use Rattle.std.proofs.Common.{rules, lit≤};
-ghost use Rattle.string_interner.specs.Symbol.{number_below, number_below-some};
 
 use super::*;
-use std::io;
+use crate::symbol::SymbolU16;
+use crate::tests::tell_refused;
 use std::process::Abort;
 use std::test::Fail;
-
-/// A symbol in two bytes, with the numbers from 0 to 65534.
-#[derive(Clone, Copy, PartialEq, Eq, Debug)]
-struct SymbolU16 {
-    value: u16,
-}
-
-impl Model for SymbolU16 {
-    ghost Value = { ℕ };
-
-    ghost view = { λ symbol. symbol.value };
-
-    ghost invariant = { λ symbol. symbol.value < 2 ^ 16 - 1 };
-
-    ghost inverse = { λ n. record { value = n } };
-}
-
-impl Symbol for SymbolU16 {
-    ghost number = { λ symbol. symbol };
-
-    ghost symbol_of = { number_below (2 ^ 16 - 1) };
-
-    fn try_from_usize(index: usize) -> Option<Self> {
-        if index < u16::MAX as usize {
-            Some(SymbolU16 {
-                value: index as u16,
-            })
-        } else {
-            None
-        }
-    }
-
-    fn to_usize(self) -> usize {
-        self.value as usize
-    }
-
-    ghost numbered = { number_below-some (2 ^ 16 - 1) (lit≤ tt) };
-
-    ghost equal_by_number = { Prim.search rules };
-
-    ghost injective = { λ a b same. same };
-}
-
-/// Says that a call was refused memory and left all as it should.
-fn tell_refused(rt: &impl Print, call: &str) -> io::Result<()> {
-    println!(rt; "refused: {call} of BufferBackend")
-}
 
 /// The letter `a`, so many times.
 fn letters(alloc: Global, count: usize) -> Result<String, AllocError> {
@@ -341,7 +293,7 @@ fn memory_of_with_capacity(rt: HostRuntime) -> Result<(), Fail> {
     for (capacity, texts, places) in vectors {
         let mut made = BufferBackend::<DefaultSymbol>::with_capacity(rt.alloc(), capacity);
         if made.is_err() {
-            tell_refused(&rt, "with_capacity")?;
+            tell_refused(&rt, "with_capacity of BufferBackend")?;
             made = BufferBackend::with_capacity(rt.alloc(), capacity);
         }
         let mut backend = made?;
@@ -368,7 +320,7 @@ fn memory_of_intern(rt: HostRuntime) -> Result<(), Fail> {
             assert_eq!(rt; error, InternError::Memory(AllocError));
             assert_eq!(rt; backend.count(), count);
             assert_eq!(rt; backend.as_bytes().len(), len);
-            tell_refused(&rt, "intern")?;
+            tell_refused(&rt, "intern of BufferBackend")?;
             backend.intern(text)?;
         }
         assert_eq!(rt; read(&backend, place), Some(text));
@@ -383,13 +335,13 @@ fn memory_of_copies(rt: HostRuntime) -> Result<(), Fail> {
     let mut backend = BufferBackend::<DefaultSymbol>::new(rt.alloc());
     for _ in 0..2 {
         if backend.intern("Tiger").is_err() {
-            tell_refused(&rt, "intern")?;
+            tell_refused(&rt, "intern of BufferBackend")?;
             backend.intern("Tiger")?;
         }
     }
     let mut copy = backend.clone();
     if copy.is_err() {
-        tell_refused(&rt, "clone")?;
+        tell_refused(&rt, "clone of BufferBackend")?;
         copy = backend.clone();
     }
     assert!(rt; copy? == backend);

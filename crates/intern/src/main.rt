@@ -1,0 +1,37 @@
+//! The program `intern`: it runs a list of commands on an empty interner, and prints a line for each reply.
+#![tactic(auto)]
+
+mod fault;
+mod line;
+mod serve;
+
+use fault::Fault;
+use std::env;
+use std::io::BufWriter;
+use std::process::ExitCode;
+
+/// Serves standard input. Without memory for a buffer the lines go to standard output one by one:
+/// whether the run fails is for `serve` alone to find.
+fn run(rt: &HostRuntime) -> Result<(), Fault> {
+    let alloc = rt.alloc();
+    let arguments: Vec<String> = env::args(rt)
+        .map_err(|_| Fault::Usage)?
+        .skip(1)
+        .collect(alloc)
+        .map_err(|_| Fault::Usage)?;
+    match BufWriter::new(alloc, rt.stdout()) {
+        Ok(mut output) => serve::serve(alloc, &arguments, &mut rt.stdin(), &mut output),
+        Err(_) => serve::serve(alloc, &arguments, &mut rt.stdin(), &mut rt.stdout()),
+    }
+}
+
+fn main(rt: HostRuntime) -> ExitCode {
+    match run(&rt) {
+        Ok(()) => ExitCode::SUCCESS,
+        Err(fault) => {
+            // There is nowhere left to tell that standard error is closed.
+            let _ = eprintln!(rt; "{fault}");
+            ExitCode::from(fault.status())
+        }
+    }
+}

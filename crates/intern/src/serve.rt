@@ -1,0 +1,159 @@
+//! From the arguments and the input to the output.
+
+ghost use Rattle.std.specs.Prelude.{◌≡◌, ℕ, List, [], ◌+◌, ◌<◌, ◌^◌, ◌↔◌, ◌⊎◌, true, flat_map, string_bytes, All, IfErr, IfOk, IfSome, IsErrOf, IsNone, IsOk, IsOkUnless, MatchOption, OnOk};
+ghost use Rattle.std.specs.List.{AllZip};
+ghost use Rattle.std.specs.Str.Iter.{split_has_more, split_terminator_parts, split_terminator_pattern, split_text};
+ghost use Rattle.std.specs.Io.KnownBytes.{Appends};
+ghost use Rattle.intern.specs.Arguments.{Name};
+ghost use Rattle.intern.specs.Fault.{IsReadFault, IsLineFault};
+ghost use Rattle.intern.specs.Line.{States, reply_line};
+ghost use Rattle.intern.specs.Lines.{IsFirstBad, IsFirstBadLine, IsStated, lines_of};
+ghost use Rattle.intern.specs.Served.{Answers, RunOver};
+ghost use Rattle.intern.specs.declared.serve.Choice.{Choice};
+ghost use Rattle.string_interner.specs.Run.{Run};
+ghost use Rattle.string_interner.specs.Text.{Text};
+
+use crate::fault::Fault;
+use crate::line;
+use std::alloc::Global;
+use std::io::{ErrorKind, Read, Write};
+use std::str::SplitTerminator;
+use string_interner::StringInterner;
+use string_interner::backend::{Backend, BucketBackend, BufferBackend, StringBackend};
+use string_interner::run::{Command, Reply, run};
+
+#[cfg(test)]
+mod tests;
+
+/// Which backend the interner keeps its texts in.
+#[derive(Clone, Copy)]
+enum Choice {
+    String,
+    Bucket,
+    Buffer,
+}
+
+/// The backend that the arguments name, if they are one known word.
+fn chosen(arguments: &[String]) -> Option<Choice>
+    ensures named { IfSome result (Name arguments.now) }
+    ensures unnamed { IsNone result → (choice : Choice) → ¬ (Name arguments.now choice) }
+{
+    match arguments {
+        [word] if word.as_str() == "string" => Some(Choice::String),
+        [word] if word.as_str() == "bucket" => Some(Choice::Bucket),
+        [word] if word.as_str() == "buffer" => Some(Choice::Buffer),
+        _ => None,
+    }
+}
+
+/// All of the input, which is UTF-8. Std tells a refused growth by its kind of error.
+fn read_text<R: Read>(alloc: Global, input: &mut R) -> Result<String, Fault>
+    ensures whole { IfOk result (λ text. IfSome (R.remaining input.old) (λ bytes. string_bytes text ≡ bytes)) }
+    ensures fault { IfErr result IsReadFault }
+{
+    let mut text = String::new(alloc);
+    match input.read_to_string(&mut text) {
+        Ok(_) => Ok(text),
+        Err(error) if error.kind() == ErrorKind::OutOfMemory => Err(Fault::Memory),
+        Err(_) => Err(Fault::Input),
+    }
+}
+
+/// The lines. A newline at the very end ends the last one, and begins no further one.
+fn lines(text: &str) -> SplitTerminator<'_, char>
+    ensures pattern { split_terminator_pattern result ≡ 10 }
+    ensures text { split_text (split_terminator_parts result) ≡ text.now }
+    ensures has_more { split_has_more (split_terminator_parts result) ≡ true }
+{
+    text.split_terminator('\n')
+}
+
+/// The index of the first bad line, if there is one.
+fn first_bad(text: &str) -> Option<usize>
+    ensures first { MatchOption result (All IsStated (lines_of text.now)) (IsFirstBad (lines_of text.now)) }
+    ensures room { IfSome result (λ index. index + 1 < 2 ^ 64) }
+{
+    lines(text).position(|line| line::command(line).is_none())
+}
+
+/// The command of each line. A bad line is told even where there is no memory for the commands.
+fn commands_of(alloc: Global, text: &str) -> Result<Vec<Command<'_>>, Fault>
+    ensures stated { IfOk result (λ commands. AllZip States commands.items (lines_of text.now)) }
+    ensures fault { IfErr result (IsLineFault (lines_of text.now)) }
+{
+    if let Some(index) = first_bad(text) {
+        return Err(Fault::BadLine(index + 1));
+    }
+    let mut commands = Vec::with_capacity(alloc, lines(text).count()).map_err(|_| Fault::Memory)?;
+    for line in lines(text) {
+        let command = line::command(line).unwrap();
+        commands.push(command).map_err(|_| Fault::Memory)?;
+    }
+    Ok(commands)
+}
+
+/// The replies of an empty interner over the backend `B`.
+fn replies_over<B: Backend + Drop>(
+    alloc: Global,
+    commands: &[Command<'_>],
+) -> Result<Vec<Reply>, Fault>
+    ensures ran { IfOk result (λ replies. (texts : List Text) × Run B.Symbol.symbol_of B.Symbol.number B.place B.read [] []
+        commands.now replies.items texts) }
+    ensures fault { IsOkUnless result Fault.Memory }
+{
+    let mut interner = StringInterner::<B>::new(alloc);
+    run(alloc, &mut interner, commands).map_err(|_| Fault::Memory)
+}
+
+/// The replies of an empty interner over the chosen backend.
+fn replies_of(alloc: Global, choice: Choice, commands: &[Command<'_>]) -> Result<Vec<Reply>, Fault>
+    ensures ran { IfOk result (λ replies. (texts : List Text) × RunOver choice commands.now replies.items texts) }
+    ensures fault { IsOkUnless result Fault.Memory }
+{
+    match choice {
+        Choice::String => replies_over::<StringBackend>(alloc, commands),
+        Choice::Bucket => replies_over::<BucketBackend>(alloc, commands),
+        Choice::Buffer => replies_over::<BufferBackend>(alloc, commands),
+    }
+}
+
+/// Writes a line for each reply.
+fn write_replies<W: Write>(output: &mut W, replies: &[Reply]) -> Result<(), Fault>
+    ensures written { OnOk result (Appends (W.contents output.old) (W.contents output.new) (flat_map reply_line replies.now)) }
+    ensures fault { IsOkUnless result Fault.Output }
+{
+    for reply in replies {
+        line::write_reply(output, reply).map_err(|_| Fault::Output)?;
+    }
+    output.flush().map_err(|_| Fault::Output)
+}
+
+/// Runs the commands of the input on an empty interner over the backend that the arguments name,
+/// and writes a line for each reply.
+///
+/// The faults are looked for in this order: the arguments, reading the input, the first bad line,
+/// memory for the commands and the replies, writing. Nothing runs where a line is bad, and nothing
+/// is written before the last reply is known. The input is held in memory whole, beside a command
+/// and a reply for each line.
+pub fn serve<R: Read, W: Write>(
+    alloc: Global,
+    arguments: &[String],
+    input: &mut R,
+    output: &mut W,
+) -> Result<(), Fault>
+    ensures usage { IsErrOf result Fault.Usage ↔ ((choice : Choice) → ¬ (Name arguments.now choice)) }
+
+    // Of a reader whose bytes are known: what a bad line and a whole answer say of them.
+    ensures bad_line { (n : ℕ) → IsErrOf result (Fault.BadLine n) → IfSome (R.remaining input.old) (λ bytes. IsFirstBadLine (lines_of bytes) n) }
+    ensures answered { OnOk result (IfSome (R.remaining input.old) (λ bytes. (choice : Choice) × Name arguments.now choice
+        × Answers choice bytes (W.contents output.old) (W.contents output.new))) }
+
+    // Unless all went well or a write failed, the output was not touched.
+    ensures silent { IsOk result ⊎ (IsErrOf result Fault.Output ⊎ (output.new ≡ output.old)) }
+{
+    let choice = chosen(arguments).ok_or(Fault::Usage)?;
+    let text = read_text(alloc, input)?;
+    let commands = commands_of(alloc, &text)?;
+    let replies = replies_of(alloc, choice, &commands)?;
+    write_replies(output, &replies)
+}
