@@ -4,9 +4,9 @@ use Rattle.std.specs.Fmt.{decimal}
 use Rattle.std.specs.Str.Parse.{IsNumeral, digits_value}
 use Rattle.std.specs.String.{string_bytes}
 use Rattle.string_interner.specs.declared.run.Command.{Command}
-use Rattle.string_interner.specs.declared.run.Command.TheVariants.{Intern, Get, Resolve, Number, Len}
+use Rattle.string_interner.specs.declared.run.Command.TheVariants.{Intern, InternStatic, Get, Resolve, Number, Len, Shrink}
 use Rattle.string_interner.specs.declared.run.Reply.{Reply}
-use Rattle.string_interner.specs.declared.run.Reply.TheVariants.{Symbol, Nothing, Text, Len as LenReply, NoReply, NoSymbol, NoMemory}
+use Rattle.string_interner.specs.declared.run.Reply.TheVariants.{Symbol, Nothing, Text, Len as LenReply, Done, NoReply, NoSymbol, NoMemory}
 
 -- one or more digits, of a number that fits 64 bits
 abbrev pub IsNumber : List ℕ → Type 0
@@ -23,6 +23,8 @@ States (Get text) line = line ≡ codes "g " ++ text.now
 States (Resolve k) line = StatesNumber (codes "r ") k line
 States (Number n) line = StatesNumber (codes "n ") n line
 States Len line = line ≡ codes "len"
+States Shrink line = line ≡ codes "shrink"
+States (InternStatic _) line = ⊥
 
 -- what a reply prints
 abbrev pub reply_text : Reply → List ℕ
@@ -30,6 +32,7 @@ reply_text (Symbol n) = codes "symbol " ++ decimal n
 reply_text Nothing = codes "none"
 reply_text (Text text) = codes "text " ++ string_bytes text
 reply_text (LenReply n) = codes "len " ++ decimal n
+reply_text Done = codes "ok"
 reply_text NoReply = codes "no reply"
 reply_text NoSymbol = codes "no symbol"
 reply_text NoMemory = codes "no memory"

@@ -32,6 +32,7 @@ pub fn command(line: &str) -> Option<Command<'_>>
         Some(("r", digits)) => Some(Command::Resolve(number(digits)?)),
         Some(("n", digits)) => Some(Command::Number(number(digits)?)),
         None if line == "len" => Some(Command::Len),
+        None if line == "shrink" => Some(Command::Shrink),
         _ => None,
     }
 }
@@ -52,6 +53,7 @@ impl fmt::Display for Line<'_> {
             Reply::Nothing => write!(f, "none"),
             Reply::Text(text) => write!(f, "text {text}"),
             Reply::Len(count) => write!(f, "len {count}"),
+            Reply::Done => write!(f, "ok"),
             Reply::NoReply => write!(f, "no reply"),
             Reply::NoSymbol => write!(f, "no symbol"),
             Reply::NoMemory => write!(f, "no memory"),

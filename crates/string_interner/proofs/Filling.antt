@@ -97,6 +97,12 @@ module _ {S : Type 0} where
   length-symbols (None ∷ rest) = let h = length-symbols rest in omega arith
   length-symbols (Some y ∷ rest) = let h = length-symbols rest in omega arith
 
+  -- where each slot is empty there is no symbol
+  pub symbols-none : (slots : List (Option S)) → ((k : ℕ) → k < length slots → get_or slots k None ≡ None) → symbols slots ≡ []
+  symbols-none [] h = refl
+  symbols-none (None ∷ rest) h = symbols-none rest (λ k l. h (suc k) (omega arith))
+  symbols-none (Some y ∷ rest) h = absurd (let e = h 0 (omega arith) in cc)
+
   pub symbols-append : (a b : List (Option S)) → symbols (a ++ b) ≡ symbols a ++ symbols b
   symbols-append [] b = refl
   symbols-append (None ∷ a) b = symbols-append a b

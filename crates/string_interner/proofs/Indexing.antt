@@ -1,7 +1,7 @@
 -- What a put of an entry's symbol does to the map.
-use Rattle.std.proofs.Common.{◌≡◌, ℕ, ◌+◌, ◌%◌, true, List, [], Option, Some, None, length, refl, subst, ap, ◌∙◌}
+use Rattle.std.proofs.Common.{◌≡◌, ℕ, ◌+◌, ◌%◌, true, List, [], Option, Some, None, length, max, refl, sym, subst, ap, ◌∙◌}
 use Rattle.std.specs.Option.{IsSome, is_some, unwrap_or}
-use Rattle.string_interner.specs.Index.{HasRoom, IsSound, Indexed, Inserts, IsAbsent, Fits, text_of}
+use Rattle.string_interner.specs.Index.{entry_count, HasRoom, IsSound, Indexed, Inserts, IsAbsent, Fits, text_of}
 use Rattle.string_interner.specs.Probe.{Puts}
 use Rattle.string_interner.specs.Text.{Text}
 use Rattle.string_interner.proofs.Growing.{IsSound-more}
@@ -15,9 +15,9 @@ module _ {S : Type 0} (entry : S → Option Text) where
 
   -- what a put into the slots inserts
   pub inserted : (code : Text → ℕ) (old new : Indexed S) (slots : List (Option S)) (symbol : S) → slots ≡ old.slots → new.put_back ≡ old.put_back
-      → Fits entry code old.slots → IsAbsent entry old.slots symbol → Puts slots new.slots (code (text_of entry symbol) % length slots) symbol
+      → new.greatest ≡ max old.greatest (entry_count old + 1) → Fits entry code old.slots → IsAbsent entry old.slots symbol → Puts slots new.slots (code (text_of entry symbol) % length slots) symbol
       → Inserts entry code old new symbol
-  inserted code old new slots symbol same back fits absent puts =
+  inserted code old new slots symbol same back greatest fits absent puts =
       let t = text_of entry symbol in
       let p : Puts old.slots new.slots (code t % length old.slots) symbol =
       subst (λ (xs : List (Option S)). Puts xs new.slots (code t % length xs) symbol) same puts in
@@ -28,13 +28,21 @@ module _ {S : Type 0} (entry : S → Option Text) where
         count = Puts-symbols old.slots new.slots _ symbol p;
         slots = Puts-length old.slots new.slots _ symbol p;
         put_back = back;
+        greatest = greatest ∙ ap (max old.greatest) (sym (Puts-symbols old.slots new.slots _ symbol p));
       }
 
   -- an index keeps to its bounds when a symbol is inserted
   pub IsSound-inserted : (code : Text → ℕ) (inside old new : Indexed S) (len : ℕ) (symbol : S) → inside ≡ old → IsSound inside len → HasRoom old
-      → Inserts entry code old new symbol → new.greatest ≡ inside.greatest + 1 → IsSound new (len + 1)
-  IsSound-inserted code inside old new len symbol same sound room i greatest =
-      IsSound-more old new len (subst (λ x. IsSound x len) same sound) room i.count i.slots i.put_back (greatest ∙ ap (λ x. x.greatest + 1) same)
+      → Inserts entry code old new symbol → IsSound new (len + 1)
+  IsSound-inserted code inside old new len symbol same sound room i =
+      let s = subst (λ x. IsSound x len) same sound in
+      IsSound-more old new len s room i.count i.slots i.put_back (i.greatest ∙ ap (max old.greatest) (i.count ∙ ap (λ n. n + 1) (sym s.counted)))
+
+-- the greatest number of entries, when one more is inserted
+pub greatest-inserted : {S : Type 0} (inside old : Indexed S) (len result : ℕ) → inside ≡ old → IsSound inside len → result ≡ max inside.greatest (len + 1)
+    → result ≡ max old.greatest (entry_count old + 1)
+greatest-inserted inside old len result same sound e =
+    e ∙ ap (λ n. max inside.greatest (n + 1)) sound.counted ∙ ap (λ x. max x.greatest (entry_count x + 1)) same
 
 -- what is put by a code is put by the code that this is
 pub puts_at : {S : Type 0} (old new : List (Option S)) (m n : ℕ) (symbol : S) → m ≡ n → Puts old new (m % length old) symbol → Puts old new (n % length old) symbol

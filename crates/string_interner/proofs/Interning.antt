@@ -83,10 +83,13 @@ module _ {S : Type 0} (symbol_of : ℕ → Option S) (number : S → ℕ) (place
     pub absent-more : IsAbsent (entries more) slots s
     absent-more = IsAbsent-added (entries texts) (entries more) code slots slots s t is.whole is.whole.fits (λ u. refl) adds absent
 
+    -- it has the text
+    pub text-more : text_of (entries more) s ≡ t
+    text-more = text_of-added (entries texts) (entries more) code slots slots s t is.whole is.whole.fits (λ u. refl) adds
+
     -- and goes where the text does
     pub vacant-more : (known_code : ℕ) (at : Option ℕ) → IsVacant code slots t known_code at → IsVacant code slots (text_of (entries more) s) known_code at
-    vacant-more known_code at v =
-        rw (text_of-added (entries texts) (entries more) code slots slots s t is.whole is.whole.fits (λ u. refl) adds) v
+    vacant-more known_code at v = rw text-more v
 
     -- once it is inserted the index has each text again
     pub interned-more : (old new : Indexed S) → IsKept symbol_of place more → old.slots ≡ slots → Inserts (entries more) code old new s

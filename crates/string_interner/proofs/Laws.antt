@@ -9,13 +9,13 @@ use Rattle.std.proofs.lemmas.List.{length_push, take-append-le, take_all}
 use Rattle.string_interner.specs.Text.{Text, first}
 use Rattle.string_interner.specs.Backend.{Appends, BeginsAt}
 use Rattle.string_interner.specs.Interner.{Interns, entry_symbol}
-use Rattle.string_interner.specs.Run.{intern_reply, number_told, IsCopy, number_read, NumberReply, Step, Run}
+use Rattle.string_interner.specs.Run.{intern_reply, number_told, IsCopy, number_read, NumberReply, InternReply, Step, Run}
 use Rattle.string_interner.specs.declared.backend.InternError.{InternError}
 use Rattle.string_interner.specs.declared.backend.InternError.TheVariants.{NoSymbol as InternNoSymbol, Memory}
 use Rattle.string_interner.specs.declared.run.Command.{Command}
-use Rattle.string_interner.specs.declared.run.Command.TheVariants.{Intern, Get, Resolve, Number, Len}
+use Rattle.string_interner.specs.declared.run.Command.TheVariants.{Intern, InternStatic, Get, Resolve, Number, Len, Shrink}
 use Rattle.string_interner.specs.declared.run.Reply.{Reply}
-use Rattle.string_interner.specs.declared.run.Reply.TheVariants.{Symbol, Nothing, Text as TextReply, Len as LenReply, NoReply, NoSymbol, NoMemory}
+use Rattle.string_interner.specs.declared.run.Reply.TheVariants.{Symbol, Nothing, Text as TextReply, Len as LenReply, Done, NoReply, NoSymbol, NoMemory}
 use Rattle.string_interner.proofs.Firsts.{first_within, first_is}
 
 -- memory was not refused
@@ -43,6 +43,7 @@ equal-say (TextReply a) b e = subst (SayTheSame (TextReply a)) e refl
 equal-say (Symbol n) b e = subst (SayTheSame (Symbol n)) e refl
 equal-say Nothing b e = subst (SayTheSame Nothing) e refl
 equal-say (LenReply n) b e = subst (SayTheSame (LenReply n)) e refl
+equal-say Done b e = subst (SayTheSame Done) e refl
 equal-say NoReply b e = subst (SayTheSame NoReply) e refl
 equal-say NoSymbol b e = subst (SayTheSame NoSymbol) e refl
 equal-say NoMemory b e = subst (SayTheSame NoMemory) e refl
@@ -137,18 +138,24 @@ module _ {S : Type 0} (symbol_of : ℕ → Option S) (number : S → ℕ) (place
   resolved-say old None reply reply' m m' r r' = equal-say reply reply' (r ∙ sym r')
   resolved-say old (Some n) reply reply' m m' r r' = numbers-say (number_read symbol_of number place read old n) reply reply' m m' r r'
 
+  interned-say : (old : List Text) (text : Text) (reply reply' : Reply) (new new' : List Text) → ReplyHasMemory reply → ReplyHasMemory reply'
+      → InternReply symbol_of number place read old text reply new → InternReply symbol_of number place read old text reply' new' → SayTheSame reply reply' × (new ≡ new')
+  interned-say old text reply reply' new new' m m' (outcome, i, e) (outcome', i', e') =
+      let d = interning-determined symbol_of place old new new' text outcome outcome' (told outcome reply e m) (told outcome' reply' e' m') i i' in
+      (equal-say reply reply' (e ∙ (ap (intern_reply number) d.0 ∙ sym e')), d.1)
+
   -- from one list, a command to which memory is not refused is answered one way and leaves one list
   pub step-determined : (old : List Text) (earlier earlier' : List Reply) (command : Command) (reply reply' : Reply) (new new' : List Text) → AllSayTheSame earlier earlier' → ReplyHasMemory reply → ReplyHasMemory reply'
       → Step symbol_of number place read old earlier command reply new → Step symbol_of number place read old earlier' command reply' new' → SayTheSame reply reply' × (new ≡ new')
-  step-determined old earlier earlier' (Intern text) reply reply' new new' say m m' (outcome, i, e) (outcome', i', e') =
-      let d = interning-determined symbol_of place old new new' text.now outcome outcome' (told outcome reply e m) (told outcome' reply' e' m') i i' in
-      (equal-say reply reply' (e ∙ (ap (intern_reply number) d.0 ∙ sym e')), d.1)
+  step-determined old earlier earlier' (Intern text) reply reply' new new' say m m' s s' = interned-say old text.now reply reply' new new' m m' s s'
+  step-determined old earlier earlier' (InternStatic text) reply reply' new new' say m m' s s' = interned-say old text.now reply reply' new new' m m' s s'
   step-determined old earlier earlier' (Get text) reply reply' new new' say m m' s s' = (equal-say reply reply' (s.0 ∙ sym s'.0), s.1 ∙ sym s'.1)
   step-determined old earlier earlier' (Resolve k) reply reply' new new' say m m' s s' =
       let r' = subst (λ o. MatchOption o (reply' ≡ NoReply) (λ n. NumberReply symbol_of number place read old n reply')) (sym (numbers_told k earlier earlier' say)) s'.0 in
       (resolved-say old (number_told (slice_get earlier k)) reply reply' m m' s.0 r', s.1 ∙ sym s'.1)
   step-determined old earlier earlier' (Number n) reply reply' new new' say m m' s s' = (numbers-say (number_read symbol_of number place read old n) reply reply' m m' s.0 s'.0, s.1 ∙ sym s'.1)
   step-determined old earlier earlier' Len reply reply' new new' say m m' s s' = (equal-say reply reply' (s.0 ∙ sym s'.0), s.1 ∙ sym s'.1)
+  step-determined old earlier earlier' Shrink reply reply' new new' say m m' s s' = (equal-say reply reply' (s.0 ∙ sym s'.0), s.1 ∙ sym s'.1)
 
   -- from one list, commands to which memory is not refused are answered one way and leave one list
   pub run-determined : (old : List Text) (earlier earlier' : List Reply) (commands : List Command) (replies replies' : List Reply) (new new' : List Text) → AllSayTheSame earlier earlier' → AllByRecursion ReplyHasMemory replies → AllByRecursion ReplyHasMemory replies'

@@ -15,6 +15,7 @@ pub mod Interning
 pub mod Kept
 pub mod Laws
 pub mod LookUp
+pub mod Placing
 pub mod Probing
 pub mod Putting
 pub mod Rebuilding

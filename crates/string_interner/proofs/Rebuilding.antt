@@ -12,9 +12,13 @@ use Rattle.string_interner.proofs.LookUp.{FirstIs, first_is, same_first, entry_f
 use Rattle.string_interner.specs.Text.{Text}
 use Rattle.string_interner.proofs.Indexing.{text_of_is}
 
+-- empty slots have no symbols
+pub symbols-replicate : (S : Type 0) (n : ℕ) → symbols {S = S} (replicate n None) ≡ []
+symbols-replicate S zero = refl
+symbols-replicate S (suc n) = symbols-replicate S n
+
 pub no_symbols : (S : Type 0) (n : ℕ) → length (symbols {S = S} (replicate n None)) ≡ 0
-no_symbols S zero = refl
-no_symbols S (suc n) = no_symbols S n
+no_symbols S n = ap length (symbols-replicate S n)
 
 module _ {S : Type 0} where
   none_there : (n : ℕ) (s : S) → Contains (replicate n None) (Some s) → ⊥

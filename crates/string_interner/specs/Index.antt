@@ -2,7 +2,7 @@
 -- a hasher, and how its slots grow.
 -- Cited by `Index` and by all that stands on it. In what follows `entry` is the text of the entry that has a symbol,
 -- if one has, and `code` is that of a text under a hasher.
-use Rattle.std.specs.Prelude.{◌≡◌, ℕ, ◌+◌, ◌*◌, ◌^◌, ◌<◌, ◌≤◌, ◌%◌, ◌⊎◌, List, [], length, slice_index_or, Contains, Bool, false, if◌then◌else◌, Option, Some, None, IsSome, unwrap_or, option_and_then}
+use Rattle.std.specs.Prelude.{◌≡◌, ℕ, ◌+◌, ◌*◌, ◌^◌, ◌<◌, ◌≤◌, ◌%◌, ◌⊎◌, max, List, [], length, slice_index_or, Contains, Bool, false, if◌then◌else◌, Option, Some, None, IsSome, unwrap_or, option_and_then}
 use Rattle.std.specs.Option.{option_map_or}
 use Rattle.std.specs.Str.{bytes_eq}
 use Rattle.string_interner.specs.Text.{Text}
@@ -39,7 +39,7 @@ pub record IsBounded {S : Type 0} (index : Indexed S) : Type 0 where
   pub allowed : IsSlotCount (length index.slots)
   pub load : 4 * entry_count index ≤ 3 * length index.slots
   pub put_back : index.put_back ≤ 2 * index.greatest
-  pub greatest : index.greatest ≡ entry_count index
+  pub greatest : entry_count index ≤ index.greatest
 
 -- what an index keeps to, beside its count of entries
 pub record IsSound {S : Type 0} (index : Indexed S) (len : ℕ) : Type 0 where
@@ -93,13 +93,14 @@ module _ {S : Type 0} (entry : S → Option Text) where
       -- each symbol is in the filled run of its text
       pub placed : (symbol : S) (text : Text) → Contains slots (Some symbol) → entry symbol ≡ Some text → Contains (run_of code slots text) symbol
 
-    -- the symbol is added, and nothing else changes but the count of entries
+    -- the symbol is added, and nothing else changes but the counts of entries
     pub record Inserts (old new : Indexed S) (symbol : S) : Type 0 where
       pub fits : Fits new.slots
       pub pair : AddsPair old.slots new.slots symbol
       pub count : entry_count new ≡ entry_count old + 1
       pub slots : length new.slots ≡ length old.slots
       pub put_back : new.put_back ≡ old.put_back
+      pub greatest : new.greatest ≡ max old.greatest (entry_count new)
 
     -- the slots fit, and have the text of each entry under its symbol
     pub record IsWhole (slots : List (Option S)) : Type 0 where
@@ -116,3 +117,11 @@ pub record Grows {S : Type 0} (old new : Indexed S) : Type 0 where
   pub doubled : 0 < length old.slots → length new.slots ≡ 2 * length old.slots
   pub put_back : new.put_back ≡ old.put_back + entry_count old
   pub greatest : new.greatest ≡ old.greatest
+
+-- The slots of the old index have each entry under its symbol, and nothing else: `count` entries. As many slots stay.
+pub record Refills {S : Type 0} (entry : S → Option Text) (code : Text → ℕ) (old new : Indexed S) (count : ℕ) : Type 0 where
+  pub whole : IsWhole entry code new.slots
+  pub count_is : entry_count new ≡ count
+  pub slots : length new.slots ≡ length old.slots
+  pub put_back : new.put_back ≡ old.put_back
+  pub greatest : new.greatest ≡ max old.greatest count

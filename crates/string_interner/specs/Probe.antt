@@ -1,6 +1,6 @@
 -- What the steps of the index do to its slots.
 -- Cited by the private functions of `dedup` alone.
-use Rattle.std.specs.Prelude.{◌≡◌, ℕ, ◌<◌, ◌%◌, List, length, IfSome, slice_index_or, slice_set, Contains, Option, Some, None}
+use Rattle.std.specs.Prelude.{◌≡◌, ℕ, ◌<◌, ◌*◌, ◌%◌, ◌⊎◌, List, length, IfSome, slice_index_or, slice_set, Contains, Option, Some, None}
 use Rattle.string_interner.specs.Text.{Text}
 use Rattle.string_interner.specs.Slots.{symbols, filled_run, probed}
 use Rattle.string_interner.specs.Index.{Fits}
@@ -28,3 +28,7 @@ pub record Rebuilt {S : Type 0} (entry : S → Option Text) (code : Text → ℕ
   pub count : length (symbols new) ≡ length (symbols old)
   pub to : (symbol : S) → Contains old (Some symbol) → Contains new (Some symbol)
   pub from : (symbol : S) → Contains new (Some symbol) → Contains old (Some symbol)
+
+-- what a count of slots grows to: 8 from none, or twice as many
+abbrev pub GrowsTo : ℕ → ℕ → Type 0
+GrowsTo count more = ((count ≡ 0) × (more ≡ 8)) ⊎ ((0 < count) × (more ≡ 2 * count))

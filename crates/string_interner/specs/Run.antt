@@ -8,9 +8,9 @@ use Rattle.string_interner.specs.Interner.{Interns}
 use Rattle.string_interner.specs.declared.backend.InternError.{InternError}
 use Rattle.string_interner.specs.declared.backend.InternError.TheVariants.{NoSymbol as InternNoSymbol, Memory}
 use Rattle.string_interner.specs.declared.run.Command.{Command}
-use Rattle.string_interner.specs.declared.run.Command.TheVariants.{Intern, Get, Resolve, Number, Len}
+use Rattle.string_interner.specs.declared.run.Command.TheVariants.{Intern, InternStatic, Get, Resolve, Number, Len, Shrink}
 use Rattle.string_interner.specs.declared.run.Reply.{Reply}
-use Rattle.string_interner.specs.declared.run.Reply.TheVariants.{Symbol, Nothing, Text as TextReply, Len as LenReply, NoReply, NoSymbol, NoMemory}
+use Rattle.string_interner.specs.declared.run.Reply.TheVariants.{Symbol, Nothing, Text as TextReply, Len as LenReply, Done, NoReply, NoSymbol, NoMemory}
 
 -- the reply that tells how an interning ended
 abbrev pub intern_reply : {S : Type 0} → (S → ℕ) → Result S InternError → Reply
@@ -38,16 +38,21 @@ module _ {S : Type 0} (symbol_of : ℕ → Option S) (number : S → ℕ) (place
   abbrev pub NumberReply : List Text → ℕ → Reply → Type 0
   NumberReply texts n reply = MatchOption (number_read texts n) (reply ≡ Nothing) (λ text. IsCopy text reply)
 
+  -- the text is interned, and the reply tells how that ended
+  abbrev pub InternReply : List Text → Text → Reply → List Text → Type 0
+  InternReply old text reply new = (outcome : Result S InternError) × Interns symbol_of place old text outcome new × (reply ≡ intern_reply number outcome)
+
   -- From the old list, and after the earlier replies of the run, the command may have this reply and leave the new list.
   abbrev pub Step : List Text → List Reply → Command → Reply → List Text → Type 0
-  -- the reply tells how the text was interned
-  Step old earlier (Intern text) reply new = (outcome : Result S InternError) × Interns symbol_of place old text.now outcome new × (reply ≡ intern_reply number outcome)
+  Step old earlier (Intern text) reply new = InternReply old text.now reply new
+  Step old earlier (InternStatic text) reply new = InternReply old text.now reply new
   -- the place of a known text
   Step old earlier (Get text) reply new = (reply ≡ option_map_or (λ i. Symbol (place (take i old))) (first old text.now) Nothing) × (new ≡ old)
   -- the reply to the number that an earlier reply told
   Step old earlier (Resolve k) reply new = MatchOption (number_told (slice_get earlier k)) (reply ≡ NoReply) (λ n. NumberReply old n reply) × (new ≡ old)
   Step old earlier (Number n) reply new = NumberReply old n reply × (new ≡ old)
   Step old earlier Len reply new = (reply ≡ LenReply (length old)) × (new ≡ old)
+  Step old earlier Shrink reply new = (reply ≡ Done) × (new ≡ old)
 
   -- From the old list, and after the earlier replies, the commands may have these replies, one to each, and leave the
   -- new list.

@@ -7,21 +7,24 @@ mod slots;
 #[cfg(test)]
 mod tests;
 
-ghost use Rattle.std.specs.Prelude.{◌≡◌, ℕ, ◌+◌, ◌*◌, ◌<◌, ◌≤◌, ◌%◌, ◌^◌, length, [], IsNone, IsOk, IfOk, OnOk, OnErr, Ok, false, ◌↔◌};
+ghost use Rattle.std.specs.Prelude.{◌≡◌, ℕ, ◌+◌, ◌*◌, ◌<◌, ◌≤◌, ◌%◌, ◌^◌, length, [], IsTrue, IsNone, IsOk, IfOk, OnOk, OnErr, Ok, false, ◌↔◌};
+ghost use Rattle.string_interner.specs.Text.{IsDistinct};
+ghost use Rattle.string_interner.specs.Backend.{IsKept};
 ghost use Rattle.string_interner.specs.Entry.{entry_text};
-ghost use Rattle.string_interner.specs.Slots.{IsFilledRun};
-ghost use Rattle.string_interner.specs.Index.{entry_count, Fits, FitsAll, Grows, HasRoom, Inserts, IsAbsent, IsBounded, IsLeastFor, SameMap, look_up, text_of};
-ghost use Rattle.string_interner.specs.Probe.{IsFree, IsVacant};
+ghost use Rattle.string_interner.specs.Slots.{IsFilledRun, symbols};
+ghost use Rattle.string_interner.specs.Index.{entry_count, Fits, FitsAll, Grows, HasRoom, Inserts, IsAbsent, IsBounded, IsLeastFor, IsWhole, Refills, SameMap, look_up, text_of};
+ghost use Rattle.string_interner.specs.Probe.{GrowsTo, IsFree, IsVacant};
 
 use crate::backend::Backend;
 use crate::symbol::Symbol;
-pub use hasher::{DefaultHashBuilder, FixedState, TextHasher};
-pub(crate) use probe::Vacancy;
-use probe::{Ended, home_of, least_count, probe, rebuilt, settle};
-pub use slots::Looks;
+use probe::{Ended, home_of, least_count, next_count, place_all, probe, rebuilt, settle};
 use slots::Slots;
 use std::alloc::{AllocError, Global};
 use std::marker::Model;
+
+pub(crate) use probe::Vacancy;
+pub use hasher::{DefaultHashBuilder, FixedState, TextHasher};
+pub use slots::Looks;
 
 /// A hash index of the entries of a backend: it finds the symbol of a text.
 ///
@@ -36,18 +39,19 @@ pub struct Index<S: Symbol> {
     slots: Slots<S>,
     len: usize,
     put_back: usize,
+    greatest: usize,
     alloc: Global,
 }
 
-/// Contracts see the slots, and how many symbols doublings placed again.
+/// Contracts see the slots, how many symbols doublings placed again, and the greatest number of entries so far.
 impl<S: Symbol> Model for Index<S> {
     ghost use Rattle.string_interner.specs.Index.{Indexed, IsSound};
 
     ghost Value = { Indexed S };
 
-    ghost view = { λ i. record { slots = i.slots; put_back = i.put_back; greatest = i.len } };
+    ghost view = { λ i. record { slots = i.slots; put_back = i.put_back; greatest = i.greatest } };
 
-    ghost invariant = { λ i. IsSound (record { slots = i.slots; put_back = i.put_back; greatest = i.len }) i.len };
+    ghost invariant = { λ i. IsSound (record { slots = i.slots; put_back = i.put_back; greatest = i.greatest }) i.len };
 }
 
 impl<S: Symbol> Index<S> {
@@ -62,6 +66,7 @@ impl<S: Symbol> Index<S> {
             slots: Slots::new(alloc),
             len: 0,
             put_back: 0,
+            greatest: 0,
             alloc,
         }
     }
@@ -83,6 +88,7 @@ impl<S: Symbol> Index<S> {
             slots: Slots::empty(alloc, count)?,
             len: 0,
             put_back: 0,
+            greatest: 0,
             alloc,
         })
     }
@@ -102,6 +108,14 @@ impl<S: Symbol> Index<S> {
         ensures bounded { IsBounded self.now }
     {
         self.put_back
+    }
+
+    /// The greatest number of entries that there were, since the index was made.
+    pub fn greatest(&self) -> usize
+        ensures value { result ≡ self.now.greatest }
+        ensures bounded { IsBounded self.now }
+    {
+        self.greatest
     }
 
     /// The symbol whose text this is, if any.
@@ -124,8 +138,7 @@ impl<S: Symbol> Index<S> {
         ensures at_most { looks.new.count ≤ looks.old.count + entry_count self.now + 1 }
         ensures no_slots { length self.now.slots ≡ 0 → looks.new.count ≡ looks.old.count }
     {
-        self.seek(hasher, hasher.hash_text(text), looks, text)
-            .symbol
+        self.seek(hasher, hasher.hash_text(text), looks, text).symbol
     }
 
     /// Finds the symbol as `find` does, for a text whose code is known, and tells the slot where the probe ended: a
@@ -162,6 +175,29 @@ impl<S: Symbol> Index<S> {
         probe(&self.slots, home_of(code, count), looks, text)
     }
 
+    /// Whether one more entry is allowed.
+    #[inline]
+    fn has_room(&self) -> bool
+        ensures { IsTrue result ↔ HasRoom self.now }
+    {
+        let count = self.slots.len();
+        // Three quarters, since a count of slots is a multiple of 4.
+        self.len < count - count / 4
+    }
+
+    /// Takes bigger slots in which all symbols were placed again.
+    fn grow(&mut self, bigger: Slots<S>)
+        requires full { ¬ HasRoom self.old }
+        requires count { GrowsTo (length self.old.slots) (length bigger) }
+        requires symbols { length (symbols bigger) ≡ entry_count self.old }
+        ensures slots { self.new.slots ≡ bigger }
+        ensures grown { Grows self.old self.new }
+        ensures room { HasRoom self.new }
+    {
+        self.slots = bigger;
+        self.put_back += self.len;
+    }
+
     /// Makes room for one more entry: does nothing where one more is allowed, and else grows from no slots to 8, or
     /// to twice as many, placing the symbols again by the codes of their texts.
     ///
@@ -180,19 +216,30 @@ impl<S: Symbol> Index<S> {
         ensures grown { ¬ HasRoom self.old → OnOk result (Grows self.old self.new) }
         ensures err { OnErr result (self.new ≡ self.old) }
     {
-        self.reserve(hasher, backend)?;
+        if self.has_room() {
+            return Ok(());
+        }
+        let count = next_count(self.slots.len()).ok_or(AllocError)?;
+        // The bigger slots are built first, so that a refusal leaves all as it was.
+        let bigger = rebuilt(&mut self.slots, count, hasher, backend, self.alloc)?;
+        self.grow(bigger);
         Ok(())
     }
 
-    /// Makes room as `reserve_one` does, and tells whether the slots grew.
+    /// Makes room as `reserve_one` does, in an index that has every entry of the backend, and tells whether the slots
+    /// grew. The symbols are placed again in the order of the entries, whose texts are then read in sequence.
     pub(crate) fn reserve<H: TextHasher, B: Backend<Symbol = S>>(
         &mut self,
         hasher: &H,
         backend: &B,
     ) -> Result<bool, AllocError>
-        requires { Fits (entry_text S.number B.place (B.texts backend.now)) (H.code hasher.now) self.old.slots }
-        ensures fits { Fits (entry_text S.number B.place (B.texts backend.now)) (H.code hasher.now) self.new.slots }
-        ensures same { SameMap (entry_text S.number B.place (B.texts backend.now)) self.old.slots self.new.slots }
+        requires kept { IsKept S.symbol_of B.place (B.texts backend.now) }
+        requires distinct { IsDistinct (B.texts backend.now) }
+        requires whole { IsWhole (entry_text S.number B.place (B.texts backend.now)) (H.code hasher.now)
+            self.old.slots }
+        requires entries { entry_count self.old ≡ length (B.texts backend.now) }
+        ensures whole { IsWhole (entry_text S.number B.place (B.texts backend.now)) (H.code hasher.now)
+            self.new.slots }
         ensures count { entry_count self.new ≡ entry_count self.old }
         ensures room { OnOk result (HasRoom self.new) }
         ensures had_room { HasRoom self.old → (result ≡ Ok false) × (self.new ≡ self.old) }
@@ -200,30 +247,18 @@ impl<S: Symbol> Index<S> {
         ensures unchanged { result ≡ Ok false → self.new ≡ self.old }
         ensures err { OnErr result (self.new ≡ self.old) }
     {
-        let count = self.slots.len();
-        // Three quarters, since a count of slots is a multiple of 4.
-        if self.len < count - count / 4 {
+        if self.has_room() {
             return Ok(false);
         }
-        let more = if count == 0 {
-            8
-        } else {
-            count.checked_mul(2).ok_or(AllocError)?
-        };
-        // The bigger slots are built first, so that a refusal leaves all as it was.
-        let bigger = rebuilt(&mut self.slots, more, hasher, backend, self.alloc)?;
-        self.slots = bigger;
-        self.put_back += self.len;
+        let count = next_count(self.slots.len()).ok_or(AllocError)?;
+        let mut bigger = Slots::empty(self.alloc, count)?;
+        place_all(&mut bigger, hasher, backend);
+        self.grow(bigger);
         Ok(true)
     }
 
     /// Adds the symbol of an entry whose text is not in the index, where one more entry is allowed. Takes no memory.
-    pub fn insert<H: TextHasher, B: Backend<Symbol = S>>(
-        &mut self,
-        hasher: &H,
-        backend: &B,
-        symbol: S,
-    )
+    pub fn insert<H: TextHasher, B: Backend<Symbol = S>>(&mut self, hasher: &H, backend: &B, symbol: S)
         requires fits { Fits (entry_text S.number B.place (B.texts backend.now)) (H.code hasher.now) self.old.slots }
         requires room { HasRoom self.old }
         requires absent { IsAbsent (entry_text S.number B.place (B.texts backend.now)) self.old.slots symbol }
@@ -257,5 +292,20 @@ impl<S: Symbol> Index<S> {
     {
         settle(&mut self.slots, vacancy, symbol);
         self.len += 1;
+        self.greatest = self.greatest.max(self.len);
+    }
+
+    /// Empties all slots, and adds the symbol of every entry of the backend, whose texts are distinct and at most three
+    /// quarters of the slots. Takes no memory, and no doubling happens in it.
+    pub fn refill<H: TextHasher, B: Backend<Symbol = S>>(&mut self, hasher: &H, backend: &B)
+        requires distinct { IsDistinct (B.texts backend.now) }
+        requires room { 4 * length (B.texts backend.now) ≤ 3 * length self.old.slots }
+        ensures { Refills (entry_text S.number B.place (B.texts backend.now)) (H.code hasher.now) self.old self.new
+            (length (B.texts backend.now)) }
+    {
+        self.slots.clear();
+        self.len = backend.count();
+        self.greatest = self.greatest.max(self.len);
+        place_all(&mut self.slots, hasher, backend);
     }
 }

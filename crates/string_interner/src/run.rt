@@ -15,6 +15,8 @@ use std::alloc::{AllocError, Global};
 pub enum Command<'c> {
     /// Intern the text: replied by its `Symbol`, or by `NoSymbol` or `NoMemory`.
     Intern(&'c str),
+    /// Intern the text by `get_or_intern_static`: replied as `Intern`.
+    InternStatic(&'static str),
     /// Look for the text: replied by its `Symbol`, or by `Nothing` where it is new.
     Get(&'c str),
     /// Resolve the symbol that the reply with this index told, counted from 0: replied as its `Number`, or by `NoReply`
@@ -25,6 +27,8 @@ pub enum Command<'c> {
     Number(usize),
     /// Count the texts: replied by `Len`.
     Len,
+    /// Give back memory that no text needs: replied by `Done`.
+    Shrink,
 }
 
 /// What a command was answered.
@@ -38,6 +42,8 @@ pub enum Reply {
     Text(String),
     /// How many texts there are.
     Len(usize),
+    /// It is done, and there is nothing to tell.
+    Done,
     /// No earlier reply told the symbol that was asked for.
     NoReply,
     /// The text is new, and the symbol type has no symbol for it.
@@ -107,6 +113,7 @@ fn step<B: Backend, H: TextHasher>(
 {
     match command {
         Command::Intern(text) => intern_reply(interner.get_or_intern(text)),
+        Command::InternStatic(text) => intern_reply(interner.get_or_intern_static(text)),
         Command::Get(text) => match interner.get(text) {
             Some(symbol) => Reply::Symbol(symbol.to_usize()),
             None => Reply::Nothing,
@@ -117,6 +124,10 @@ fn step<B: Backend, H: TextHasher>(
         },
         Command::Number(n) => number_reply(alloc, interner, *n),
         Command::Len => Reply::Len(interner.len()),
+        Command::Shrink => {
+            interner.shrink_to_fit();
+            Reply::Done
+        }
     }
 }
 

@@ -1,10 +1,12 @@
 //! Linear probing: from the home of a text on, slot by slot, round the end to the first.
 
-ghost use Rattle.std.specs.Prelude.{◌≡◌, ◌+◌, ◌*◌, ◌<◌, ◌≤◌, ◌%◌, ◌^◌, length, IsNone, IsSome, IfOk, IfSome, OnSome, Contains, Some};
+ghost use Rattle.std.specs.Prelude.{◌≡◌, ◌+◌, ◌*◌, ◌<◌, ◌≤◌, ◌%◌, ◌^◌, length, IsNone, IsSome, IfOk, IfSome, OnSome, Contains, [], Some};
 ghost use Rattle.string_interner.specs.Entry.{entry_text};
 ghost use Rattle.string_interner.specs.Slots.{probed, filled_run, first_passing, symbols};
-ghost use Rattle.string_interner.specs.Index.{Fits, IsLeastFor, IsSlotCount, has_text};
-ghost use Rattle.string_interner.specs.Probe.{IsFree, Puts, Rebuilt};
+ghost use Rattle.string_interner.specs.Index.{Fits, IsWhole, IsLeastFor, IsSlotCount, has_text};
+ghost use Rattle.string_interner.specs.Text.{IsDistinct};
+ghost use Rattle.string_interner.specs.Backend.{IsKept};
+ghost use Rattle.string_interner.specs.Probe.{GrowsTo, IsFree, Puts, Rebuilt};
 
 use crate::backend::Backend;
 use crate::dedup::hasher::TextHasher;
@@ -124,6 +126,33 @@ pub fn rebuilt<S: Symbol, H: TextHasher, B: Backend<Symbol = S>>(
         }
     }
     Ok(bigger)
+}
+
+/// Puts the symbol of each entry of a backend into slots that are empty, in the order of the entries.
+pub fn place_all<S: Symbol, H: TextHasher, B: Backend<Symbol = S>>(slots: &mut Slots<S>, hasher: &H, backend: &B)
+    requires kept { IsKept S.symbol_of B.place (B.texts backend.now) }
+    requires distinct { IsDistinct (B.texts backend.now) }
+    requires empty { symbols slots.old ≡ [] }
+    requires room { 4 * length (B.texts backend.now) ≤ 3 * length slots.old }
+    requires count { IsSlotCount (length slots.old) }
+    ensures whole { IsWhole (entry_text S.number B.place (B.texts backend.now)) (H.code hasher.now) slots.new }
+    ensures entries { length (symbols slots.new) ≡ length (B.texts backend.now) }
+    ensures count { length slots.new ≡ length slots.old }
+{
+    for (symbol, text) in backend.iter() {
+        place(slots, hasher.hash_text(text), symbol);
+    }
+}
+
+/// The count of slots after so many, where it fits a `usize`: 8 after none, and else twice as many.
+pub fn next_count(count: usize) -> Option<usize>
+    ensures { IfSome result (GrowsTo count) }
+{
+    if count == 0 {
+        Some(8)
+    } else {
+        count.checked_mul(2)
+    }
 }
 
 /// The least allowed count of slots that has room for so many entries, where it fits a `usize`.

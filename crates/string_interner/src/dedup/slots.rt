@@ -66,6 +66,16 @@ impl<S: Symbol> Model for Slots<S> {
     ghost view = { λ s. s.items.items };
 }
 
+/// Empties all slots.
+fn empty_all<S: Symbol>(slots: &mut [Option<S>])
+    ensures empty { symbols slots.new ≡ [] }
+    ensures count { length slots.new ≡ length slots.old }
+{
+    for slot in slots.iter_mut() {
+        *slot = None;
+    }
+}
+
 impl<S: Symbol> Slots<S> {
     /// No slots. Takes no memory.
     pub fn new(alloc: Global) -> Self
@@ -135,6 +145,14 @@ impl<S: Symbol> Slots<S> {
         ensures small { length self.old < 2 ^ 64 }
     {
         self.items[at] = Some(symbol);
+    }
+
+    /// Empties all slots.
+    pub fn clear(&mut self)
+        ensures empty { symbols self.new ≡ [] }
+        ensures count { length self.new ≡ length self.old }
+    {
+        empty_all(&mut self.items);
     }
 
     /// Puts the symbol into the first empty slot from its home on, round the end to the first slot.

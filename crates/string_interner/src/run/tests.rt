@@ -106,6 +106,44 @@ fn numbers_and_replies_that_told_none(rt: HostRuntime) -> Result<(), Fail> {
 }
 
 #[test]
+fn a_static_text_is_interned_as_any_other(rt: HostRuntime) -> Result<(), Fail> {
+    let commands = [Command::InternStatic("aa"), Command::Intern("aa")];
+    let wanted = [Reply::Symbol(0), Reply::Symbol(0)];
+    let mut interner = StringInterner::<StringBackend>::new(rt.alloc());
+    let replies = run(rt.alloc(), &mut interner, &commands)?;
+    assert_eq!(rt; replies.as_slice(), wanted.as_slice());
+    Ok(())
+}
+
+#[test]
+fn shrinking_keeps_texts_and_symbols(rt: HostRuntime) -> Result<(), Fail> {
+    let commands = [
+        Command::Intern("Tiger"),
+        Command::Intern("Horse"),
+        Command::Shrink,
+        Command::Intern("Tiger"),
+        Command::Resolve(1),
+        Command::Resolve(2),
+        Command::Intern("Bear"),
+        Command::Len,
+    ];
+    let mut interner = StringInterner::<StringBackend>::new(rt.alloc());
+    let replies = run(rt.alloc(), &mut interner, &commands)?;
+    let wanted = [
+        Reply::Symbol(0),
+        Reply::Symbol(1),
+        Reply::Done,
+        Reply::Symbol(0),
+        text(rt.alloc(), "Horse")?,
+        Reply::NoReply,
+        Reply::Symbol(2),
+        Reply::Len(3),
+    ];
+    assert_eq!(rt; replies.as_slice(), wanted.as_slice());
+    Ok(())
+}
+
+#[test]
 fn resolves_what_get_told(rt: HostRuntime) -> Result<(), Fail> {
     let commands = [
         Command::Intern("a"),

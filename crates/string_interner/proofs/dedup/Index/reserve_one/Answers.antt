@@ -1,0 +1,20 @@
+use Rattle.std.proofs.Common.{◌≡◌, sym, ap, subst, length}
+use Rattle.string_interner.specs.Entry.{entry_text}
+use Rattle.string_interner.specs.Probe.{GrowsTo, Rebuilt}
+use Rattle.string_interner.proofs.Rebuilding.{Rebuilt-same}
+use Rattle.string_interner.proofs.Growing.{GrowsTo-more, IsSlotCount-grown}
+use Rattle.string_interner.proofs.dedup.Index.reserve_one.Goals as goal
+
+pub returns-clause-same : goal.returns-clause-same
+returns-clause-same g c =
+    let entry = entry_text g.S.Symbol.number g.B.Backend.place (g.B.Backend.texts c.args.backend.now) in let code = g.H.TextHasher.code c.args.hasher.now in
+    rw c.grow.ensures.slots (Rebuilt-same entry code c.args.self.now.slots c.in_ok-bigger.bigger c.requires
+    (subst (λ xs. Rebuilt entry code xs c.in_ok-bigger.bigger) (ap (λ x. x.slots) c.self.view_is) c.in_ok-bigger.ensures.made))
+
+pub rebuilt-requires-clause-count : goal.rebuilt-requires-clause-count
+rebuilt-requires-clause-count g c = IsSlotCount-grown _ _ c.self.invariant.bounded.allowed
+    (subst (λ n. GrowsTo n c.in_ok-count.count) c.len.ensures (rw c.in_ok-count.ensures.ok_part at c.next_count.ensures))
+
+pub rebuilt-requires-clause-more : goal.rebuilt-requires-clause-more
+rebuilt-requires-clause-more g c = GrowsTo-more _ _
+    (subst (λ n. GrowsTo n c.in_ok-count.count) c.len.ensures (rw c.in_ok-count.ensures.ok_part at c.next_count.ensures))

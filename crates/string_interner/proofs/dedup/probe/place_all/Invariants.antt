@@ -1,0 +1,10 @@
+use Rattle.std.proofs.Common.{◌≡◌, length}
+use Rattle.string_interner.proofs.Placing.{IsPlaced}
+use Rattle.string_interner.proofs.dedup.probe.place_all.Given as goal
+
+-- the entries so far are in the slots
+abbrev pub invariant-loop-symbol : goal.invariant-loop-symbol
+invariant-loop-symbol g l = record {
+  placed : IsPlaced g.S.Symbol.symbol_of g.S.Symbol.number g.B.Backend.place (g.H.TextHasher.code l.hasher) (g.B.Backend.texts l.backend) l.symbol-iterator.behind l.symbol-iterator.ahead l.slots;
+  size : length l.slots ≡ length l.fn.slots;
+}
