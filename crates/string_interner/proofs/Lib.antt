@@ -1,6 +1,7 @@
 pub mod Buckets
 pub mod BufferReads
 pub mod Buffers
+pub mod Collecting
 pub mod Compared
 pub mod Cuts
 pub mod Entries

@@ -14,5 +14,6 @@ pub mod Index
 pub mod Probe
 pub mod Interner
 pub mod Sought
+pub mod Collect
 pub mod Run
 pub mod Samples

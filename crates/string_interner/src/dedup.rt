@@ -93,6 +93,11 @@ impl<S: Symbol> Index<S> {
         })
     }
 
+    /// The allocator that the index was made with.
+    pub(crate) fn allocator(&self) -> Global {
+        self.alloc
+    }
+
     /// How many slots there are.
     pub fn slots(&self) -> usize
         ensures value { result ≡ length self.now.slots }

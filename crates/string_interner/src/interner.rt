@@ -1,5 +1,7 @@
 //! An interner: each text once, with the symbol that stands for it.
 
+mod collect;
+
 ghost use Rattle.std.specs.Prelude.{◌≡◌, ℕ, ◌+◌, ◌*◌, ◌≤◌, ◌&&◌, ◌↔◌, List, [], ◌∷◌, length, slice_get, Option, Some, IsTrue, IsSome, IsOk, IfOk, IsErrOf, OnOk, OnErr};
 ghost use Rattle.std.specs.Option.{option_copied};
 ghost use Rattle.std.specs.Cmp.{partial_equiv_from_equiv, on_equiv};
@@ -8,7 +10,7 @@ ghost use Rattle.string_interner.specs.Backend.{BeginsAt, IsPlace, IsKept};
 ghost use Rattle.string_interner.specs.Interner.{Interned, Interns, IsInterned, known_symbol};
 ghost use Rattle.string_interner.specs.Sought.{Seeks};
 
-use crate::backend::{Backend, InternError, Iter};
+use crate::backend::{Backend, CopyBackend, InternError, Iter};
 use crate::dedup::{DefaultHashBuilder, Index, Looks, TextHasher, Vacancy};
 use crate::symbol::Symbol;
 use std::alloc::{AllocError, Global};
@@ -262,6 +264,26 @@ impl<B: Backend, H: TextHasher> StringInterner<B, H> {
         ensures { result ≡ record { behind = []; ahead = self.now.texts } }
     {
         self.backend.iter()
+    }
+}
+
+impl<B: CopyBackend + Drop, H: TextHasher + Clone + Drop> StringInterner<B, H> {
+    /// An interner with an equal list, and so with the same symbols. Its index is made anew under the clone's own
+    /// hasher, whatever that answers, with the least slots for its texts.
+    ///
+    /// Refuses only where memory was refused.
+    pub fn clone(&self) -> Result<Self, AllocError>
+        ensures { IfOk result (λ copy. copy.texts ≡ self.now.texts) }
+    {
+        let hasher = self.hasher.clone()?;
+        let mut index = Index::with_capacity(self.index.allocator(), self.len())?;
+        let backend = self.backend.try_copy()?;
+        index.refill(&hasher, &backend);
+        Ok(StringInterner {
+            backend,
+            hasher,
+            index,
+        })
     }
 }
 

@@ -1,0 +1,69 @@
+-- Interning many texts, one after another: all of them, or those in front of the first that is refused.
+-- Cited by `StringInterner::extend`, `StringInterner::from_iter` and `run`.
+use Rattle.std.specs.Prelude.{◌≡◌, ℕ, ◌+◌, ◌*◌, ◌≤◌, List, [], ◌∷◌, ◌++◌, length, map, Option, Some, Result, Ok, Err, MatchResult, ⊤}
+use Rattle.std.specs.Borrow.{Bor}
+use Rattle.std.specs.Iterator.{Drains, YieldsThen}
+use Rattle.std.specs.List.{sum_by}
+use Rattle.std.specs.Option.{option_map_or}
+use Rattle.string_interner.specs.Text.{Text, first}
+use Rattle.string_interner.specs.Interner.{Interned, Interns}
+use Rattle.string_interner.specs.declared.backend.InternError.{InternError}
+use Rattle.string_interner.specs.declared.backend.InternError.TheVariants.{NoSymbol, Memory}
+
+-- the texts that are borrowed
+abbrev pub texts_of : List (Bor Text) → List Text
+texts_of items = map (λ item. item.now) items
+
+-- the texts that are new when they come, one after another, to the list: each once, in the order in which it first came
+abbrev pub fresh : List Text → List Text → List Text
+fresh old [] = []
+fresh old (text ∷ texts) = option_map_or (λ _. fresh old texts) (first old text) (text ∷ fresh (old ++ text ∷ []) texts)
+
+-- memory was refused
+abbrev pub IsMemory : InternError → Type 0
+IsMemory NoSymbol = ⊥
+IsMemory (Memory _) = ⊤
+
+module _ {S : Type 0} (symbol_of : ℕ → Option S) (place : List Text → ℕ) where
+  -- the texts are interned one after another, each with a symbol
+  abbrev pub InternsAll : List Text → List Text → List Text → Type 0
+  InternsAll old [] new = new ≡ old
+  InternsAll old (text ∷ texts) new =
+      (mid : List Text) × ((symbol : S) × Interns symbol_of place old text (Ok symbol) mid) × InternsAll mid texts new
+
+  -- the texts are interned in order: all of them, or those in front of the first that is refused, and so refused
+  abbrev pub InternsInOrder : List Text → List Text → Result (Unit {0}) InternError → List Text → Type 0
+  InternsInOrder old texts (Ok _) new = InternsAll old texts new
+  InternsInOrder old texts (Err error) new = (front : List Text) × (refused : Text) × (rest : List Text)
+      × (texts ≡ front ++ refused ∷ rest) × InternsAll old front new × Interns symbol_of place new refused (Err error) new
+
+  module _ (cost : Text → ℕ) where
+    -- The texts fit the room of the backend and of the index: those that are fresh.
+    pub record HasRoomFor (interner : Interned) (texts : List Text) : Type 0 where
+      pub backend : sum_by cost (fresh interner.texts texts) ≤ interner.room
+      pub index : 4 * (length interner.texts + length (fresh interner.texts texts)) ≤ 3 * interner.slots
+
+    -- The texts are interned. They take no more of the room than the fresh ones cost.
+    pub record TakesIn (old : Interned) (texts : List Text) (new : Interned) : Type 0 where
+      pub interned : InternsAll old.texts texts new.texts
+      pub spent : old.room ≤ new.room + sum_by cost (fresh old.texts texts)
+      pub slots : old.slots ≤ new.slots
+
+    -- After the texts went in, the next one is refused so: for memory only where they and it do not fit the old room.
+    pub record StopsAt (old : Interned) (texts : List Text) (refused : Text) (error : InternError) (new : Interned) : Type 0 where
+      pub refuses : Interns symbol_of place new.texts refused (Err error) new.texts
+      pub beyond : IsMemory error → ¬ HasRoomFor old (texts ++ refused ∷ [])
+
+    -- Items of what `iter` became are interned: all that it yields, or those in front of the first that is refused, and
+    -- then none was asked for after that.
+    abbrev pub Extends : {I W : Type 0} → (I → W → Type 0) → (W → Option (Bor Text) → W → Type 0) → I → Interned → Result (Unit {0}) InternError → Interned → Type 0
+    Extends {I} {W} becomes steps iter old outcome new =
+        (walk : W) × (items : List (Bor Text)) × becomes iter walk × TakesIn old (texts_of items) new × MatchResult outcome
+        (λ _. Drains steps walk items)
+        (λ error. (refused : Bor Text) × (rest : W) × YieldsThen steps walk items (Some refused) rest × StopsAt old (texts_of items) refused.now error new)
+
+    -- An interner that has no texts is extended by the items. Where one is refused, no interner is made.
+    abbrev pub Collects : {I W : Type 0} → (I → W → Type 0) → (W → Option (Bor Text) → W → Type 0) → I → Result Interned InternError → Type 0
+    Collects becomes steps iter outcome = (empty : Interned) × (empty.texts ≡ []) × MatchResult outcome
+        (λ made. Extends becomes steps iter empty (Ok tt) made)
+        (λ error. (front : Interned) × Extends becomes steps iter empty (Err error) front)
