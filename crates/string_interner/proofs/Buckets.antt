@@ -1,16 +1,15 @@
 -- What stands in buckets stays while they are put texts, and so do the entries.
-use Rattle.std.proofs.Common.{◌≡◌, ℕ, ◌+◌, ◌-◌, ◌*◌, ◌^◌, ◌<◌, ◌≤◌, max, List, [], ◌∷◌, ◌++◌, length, take, drop, get_or, map, All, Bool, true, false, Option, IsSome, refl, sym, ap, subst, ◌∙◌, inl, inr, arith, Bor}
-use Rattle.std.specs.Prelude.{slice_range, sum_by}
+use Rattle.std.proofs.Common.{◌≡◌, ℕ, ◌+◌, ◌-◌, ◌*◌, ◌^◌, ◌<◌, ◌≤◌, List, [], ◌∷◌, ◌++◌, length, take, drop, get_or, map, All, false, Option, IsSome, refl, sym, ap, subst, ◌∙◌, inl, inr, arith, Bor}
+use Rattle.std.specs.Prelude.{slice_range}
 use Rattle.std.specs.Str.{IsUtf8, IsCharBoundary}
 use Rattle.std.proofs.lemmas.Bool.{cases_lt, cases_eq}
 use Rattle.std.proofs.lemmas.Str.{IsCharBoundary-at_seam, IsCharBoundary-end, IsUtf8-nil}
 use Rattle.std.proofs.lemmas.List.{append-nil, append_assoc, get_or_append_left, get_or_push, length_push, length-append, length-take, length-drop, drop-append-le, take-append-le, drop_at, map_push, length-map, take_all, take_more, get_or-map}
-use Rattle.std.proofs.lemmas.List.Elements.{All-nil, All-push, All-head, All-tail, All-weaker, All-get_or}
+use Rattle.std.proofs.lemmas.List.Elements.{All-push, All-head, All-tail, All-weaker, All-get_or}
 use Rattle.std.proofs.lemmas.List.Sums.{sum_by_push}
 use Rattle.string_interner.specs.Text.{Text}
-use Rattle.string_interner.specs.Backend.{Bucket, IsKept}
-use Rattle.string_interner.specs.BucketBackend.{buckets_of, bucket_at, total_capacity, byte_count, IsBounded, Puts, Stays, is_static, copied_bytes, text_of, IsPart, IsEntry, entry_len, IsLast, IsTight, IsStored, IsCopy, AreCopies}
-use Rattle.string_interner.specs.declared.backend.bucket.fixed_str.Span.{Span}
+use Rattle.string_interner.specs.Backend.{Bucket}
+use Rattle.string_interner.specs.BucketBackend.{buckets_of, bucket_at, total_capacity, byte_count, Puts, Stays, is_static, copied_bytes, text_of, IsPart, IsEntry, entry_len, IsLast, IsTight, IsStored, IsCopy, AreCopies}
 use Rattle.string_interner.specs.declared.backend.bucket.interned_str.InternedStr.{InternedStr}
 use Rattle.string_interner.specs.declared.backend.bucket.interned_str.InternedStr.TheVariants.{InBucket, Static}
 use Rattle.string_interner.proofs.Kept.{kept-more}

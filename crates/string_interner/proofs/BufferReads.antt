@@ -1,22 +1,20 @@
 -- What is read in a buffer: from any number on, and at the place of an entry.
-use Rattle.std.proofs.Common.{◌≡◌, ℕ, ◌+◌, ◌-◌, ◌<◌, ◌≤◌, ◌^◌, ◌↔◌, ◌&&◌, cond, List, [], ◌∷◌, ◌++◌, length, take, drop, get_or, All, Option, Some, None, Result, Ok, Err, Bool, true, false, refl, sym, ap, subst, ◌∙◌, inl, inr, arith}
-use Rattle.std.specs.Prelude.{slice_range, nat_le, nat_lt, IsSome, SomeIff, MatchResult}
+use Rattle.std.proofs.Common.{◌≡◌, ℕ, ◌+◌, ◌-◌, ◌<◌, ◌≤◌, ◌^◌, ◌↔◌, ◌&&◌, cond, List, [], ◌∷◌, ◌++◌, length, take, drop, get_or, Option, Some, None, Result, Ok, Err, Bool, true, false, refl, sym, ap, subst, ◌∙◌, inl, inr, arith}
+use Rattle.std.specs.Prelude.{slice_range, nat_le, IsSome, SomeIff, MatchResult}
 use Rattle.std.specs.Borrow.{Bor}
 use Rattle.std.specs.Option.{option_copied}
 use Rattle.std.specs.Result.{result_ok}
 use Rattle.std.specs.declared.str.Utf8Error.{Utf8Error}
 use Rattle.std.specs.Str.{IsUtf8, is_utf8}
-use Rattle.std.proofs.lemmas.Bool.{cases_lt, leb-true, ltb-true, lt-leb, le-leb, and_parts, cases_Bool}
-use Rattle.std.proofs.lemmas.List.{take_at, take-append-drop, length-append, length-take, length-drop, take_rest, drop_all, drop_more}
-use Rattle.std.proofs.lemmas.List.Elements.{All-get_or}
+use Rattle.std.proofs.lemmas.Bool.{cases_lt, leb-true, lt-leb, le-leb, and_parts, cases_Bool}
+use Rattle.std.proofs.lemmas.List.{take_at, take-append-drop, length-take, length-drop, take_rest, drop_all}
 use Rattle.std.proofs.lemmas.List.Sums.{sum_by_more, sum_by-take-le}
-use Rattle.std.proofs.lemmas.Option.{slice_get-get_or}
 use Rattle.std.proofs.lemmas.Str.{is_utf8-from_IsUtf8, IsUtf8-from_is_utf8}
 use Rattle.string_interner.specs.Text.{Text}
 use Rattle.string_interner.specs.Backend.{BeginsAt}
-use Rattle.string_interner.specs.Spelling.{IsChain, value, digits, front_len, front_value, after_front, has_front}
+use Rattle.string_interner.specs.Spelling.{IsChain, digits, front_len, front_value, after_front, has_front}
 use Rattle.string_interner.specs.declared.backend.buffer.spelling.Spelled.{Spelled}
-use Rattle.string_interner.specs.BufferBackend.{entry_of, bytes_of, entry_len, place_of, Reads, read_front, read_at, HasEntryAt}
+use Rattle.string_interner.specs.BufferBackend.{entry_of, bytes_of, entry_len, place_of, Reads, read_front, read_at}
 use Rattle.string_interner.specs.BufferLaws.{digits-ten, IsChain-cons, front_len-small, front_len-large, read_front-chain, length-bytes_of, from_place}
 use Rattle.string_interner.proofs.Spelling.{front_there, has_front-there}
 use Rattle.string_interner.proofs.Buffers.{IsEntryFront, entry_front}

@@ -1,17 +1,14 @@
 -- A buffer and the texts that it spells: they are fixed by its bytes, and one more goes to the end.
-use Rattle.std.proofs.Common.{◌≡◌, ℕ, zero, suc, ◌+◌, ◌<◌, ◌≤◌, ◌^◌, ◌↔◌, List, [], ◌∷◌, ◌++◌, length, take, drop, get_or, All, Option, Some, IsSome, Bool, true, false, refl, sym, ap, subst, ◌∙◌, append_assoc, arith}
-use Rattle.std.specs.Prelude.{slice_get}
-use Rattle.std.specs.Bool.{Decides}
+use Rattle.std.proofs.Common.{◌≡◌, ℕ, zero, suc, ◌+◌, ◌<◌, ◌≤◌, ◌^◌, List, [], ◌∷◌, ◌++◌, length, take, drop, Option, IsSome, refl, sym, ap, ◌∙◌, append_assoc, arith}
 use Rattle.std.specs.Str.{IsUtf8, bytes_eq}
 use Rattle.std.proofs.lemmas.List.{take_at, drop_at, length-append, append-nil, length_push}
 use Rattle.std.proofs.lemmas.List.Concat.{flat_map-append, flat_map-cons}
 use Rattle.std.proofs.lemmas.List.Sums.{sum_by-cons}
 use Rattle.std.proofs.lemmas.Slice.Eq.{bytes_eq-Decides}
 use Rattle.string_interner.specs.Text.{Text, texts_eq}
-use Rattle.string_interner.specs.Backend.{IsKept}
 use Rattle.string_interner.specs.Spelling.{spell, digits, front_len, front_value, after_front}
 use Rattle.string_interner.specs.BufferBackend.{entry_of, bytes_of, entry_len, place_of, texts_in, IsSpelled}
-use Rattle.string_interner.specs.BufferLaws.{length-spell, digits-least_count, spell-IsChain, value-spell, front_len-chain, front_value-chain, after_front-chain, entry_len-positive, length-bytes_of}
+use Rattle.string_interner.specs.BufferLaws.{length-spell, spell-IsChain, value-spell, front_len-chain, front_value-chain, after_front-chain, entry_len-positive, length-bytes_of}
 use Rattle.string_interner.proofs.Kept.{kept-more}
 use Rattle.string_interner.proofs.Equal.{texts_eq-Decides, same_tests}
 

@@ -38,7 +38,7 @@ module _ (place : List Text → ℕ) where
   text_ahead-is behind [] at text e = absurd (cc)
   text_ahead-is behind (t ∷ ts) at text e =
       let by : (b : Bool) → (place behind == at) ≡ b → (if b then Some t else text_ahead place (behind ++ t ∷ []) ts at) ≡ Some text
-          → (i : ℕ) × IsAhead behind (t ∷ ts) at text i =
+      → (i : ℕ) × IsAhead behind (t ∷ ts) at text i =
       elim [
         | true ↦ λ f g. let h : place behind ≡ at = grind (arith, nat_tests, f) in (0, record { begins = ap place (append-nil behind) ∙ h; is = g })
         | false ↦ λ f g. later behind t ts at text (text_ahead-is (behind ++ t ∷ []) ts at text g)

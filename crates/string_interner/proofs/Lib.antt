@@ -13,6 +13,7 @@ pub mod Firsts
 pub mod Growing
 pub mod Indexing
 pub mod Interning
+pub mod JsonForms
 pub mod Kept
 pub mod Laws
 pub mod LookUp

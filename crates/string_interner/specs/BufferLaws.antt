@@ -1,5 +1,5 @@
 -- The laws of the byte buffer, with their proofs: a text takes a place, and at the place of an entry its text is read.
--- Cited by `BufferBackend` as the laws of its numbering; what is claimed stands in the definitions, and none is made here.
+-- Cited by `BufferBackend` as the laws of its numbering. Nothing here needs to be believed: each line is proved.
 use Rattle.std.proofs.Common.{◌≡◌, ℕ, zero, suc, ◌+◌, ◌*◌, ◌/◌, ◌%◌, ◌^◌, ◌<◌, ◌≤◌, List, [], ◌∷◌, ◌++◌, length, take, drop, get_or, Option, Some, true, refl, sym, ap, ◌∙◌, inl, inr, append_assoc, arith}
 use Rattle.std.specs.Prelude.{slice_get, nat_le, nat_lt}
 use Rattle.std.specs.Str.{IsUtf8, is_utf8}

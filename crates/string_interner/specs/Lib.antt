@@ -15,5 +15,6 @@ pub mod Probe
 pub mod Interner
 pub mod Sought
 pub mod Collect
+pub mod Json
 pub mod Run
 pub mod Samples

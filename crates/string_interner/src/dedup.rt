@@ -17,14 +17,13 @@ ghost use Rattle.string_interner.specs.Probe.{GrowsTo, IsFree, IsVacant};
 
 use crate::backend::Backend;
 use crate::symbol::Symbol;
+pub use hasher::{DefaultHashBuilder, FixedState, TextHasher};
+pub(crate) use probe::Vacancy;
 use probe::{Ended, home_of, least_count, next_count, place_all, probe, rebuilt, settle};
+pub use slots::Looks;
 use slots::Slots;
 use std::alloc::{AllocError, Global};
 use std::marker::Model;
-
-pub(crate) use probe::Vacancy;
-pub use hasher::{DefaultHashBuilder, FixedState, TextHasher};
-pub use slots::Looks;
 
 /// A hash index of the entries of a backend: it finds the symbol of a text.
 ///
@@ -143,7 +142,8 @@ impl<S: Symbol> Index<S> {
         ensures at_most { looks.new.count ≤ looks.old.count + entry_count self.now + 1 }
         ensures no_slots { length self.now.slots ≡ 0 → looks.new.count ≡ looks.old.count }
     {
-        self.seek(hasher, hasher.hash_text(text), looks, text).symbol
+        self.seek(hasher, hasher.hash_text(text), looks, text)
+            .symbol
     }
 
     /// Finds the symbol as `find` does, for a text whose code is known, and tells the slot where the probe ended: a
@@ -263,7 +263,12 @@ impl<S: Symbol> Index<S> {
     }
 
     /// Adds the symbol of an entry whose text is not in the index, where one more entry is allowed. Takes no memory.
-    pub fn insert<H: TextHasher, B: Backend<Symbol = S>>(&mut self, hasher: &H, backend: &B, symbol: S)
+    pub fn insert<H: TextHasher, B: Backend<Symbol = S>>(
+        &mut self,
+        hasher: &H,
+        backend: &B,
+        symbol: S,
+    )
         requires fits { Fits (entry_text S.number B.place (B.texts backend.now)) (H.code hasher.now) self.old.slots }
         requires room { HasRoom self.old }
         requires absent { IsAbsent (entry_text S.number B.place (B.texts backend.now)) self.old.slots symbol }

@@ -8,6 +8,7 @@
 pub mod backend;
 pub mod dedup;
 mod interner;
+pub mod json;
 pub mod run;
 pub mod symbol;
 #[cfg(test)]

@@ -1,6 +1,6 @@
 //! Linear probing: from the home of a text on, slot by slot, round the end to the first.
 
-ghost use Rattle.std.specs.Prelude.{◌≡◌, ◌+◌, ◌*◌, ◌<◌, ◌≤◌, ◌%◌, ◌^◌, length, IsNone, IsSome, IfOk, IfSome, OnSome, Contains, [], Some};
+ghost use Rattle.std.specs.Prelude.{◌≡◌, ◌+◌, ◌*◌, ◌<◌, ◌≤◌, ◌%◌, ◌^◌, length, IsNone, IsSome, IfNone, IfOk, IfSome, OnSome, Contains, [], Some};
 ghost use Rattle.string_interner.specs.Entry.{entry_text};
 ghost use Rattle.string_interner.specs.Slots.{probed, filled_run, first_passing, symbols};
 ghost use Rattle.string_interner.specs.Index.{Fits, IsWhole, IsLeastFor, IsSlotCount, has_text};
@@ -129,7 +129,11 @@ pub fn rebuilt<S: Symbol, H: TextHasher, B: Backend<Symbol = S>>(
 }
 
 /// Puts the symbol of each entry of a backend into slots that are empty, in the order of the entries.
-pub fn place_all<S: Symbol, H: TextHasher, B: Backend<Symbol = S>>(slots: &mut Slots<S>, hasher: &H, backend: &B)
+pub fn place_all<S: Symbol, H: TextHasher, B: Backend<Symbol = S>>(
+    slots: &mut Slots<S>,
+    hasher: &H,
+    backend: &B,
+)
     requires kept { IsKept S.symbol_of B.place (B.texts backend.now) }
     requires distinct { IsDistinct (B.texts backend.now) }
     requires empty { symbols slots.old ≡ [] }
@@ -146,7 +150,8 @@ pub fn place_all<S: Symbol, H: TextHasher, B: Backend<Symbol = S>>(slots: &mut S
 
 /// The count of slots after so many, where it fits a `usize`: 8 after none, and else twice as many.
 pub fn next_count(count: usize) -> Option<usize>
-    ensures { IfSome result (GrowsTo count) }
+    ensures some { IfSome result (GrowsTo count) }
+    ensures none { IfNone result (2 ^ 63 ≤ count) }
 {
     if count == 0 {
         Some(8)
@@ -159,6 +164,7 @@ pub fn next_count(count: usize) -> Option<usize>
 pub fn least_count(capacity: usize) -> Option<usize>
     ensures least { IfSome result (IsLeastFor capacity) }
     ensures fits { OnSome result (4 * capacity ≤ 3 * 2 ^ 63) }
+    ensures none { IfNone result (3 * 2 ^ 63 < 4 * capacity) }
 {
     if capacity == 0 {
         return Some(0);

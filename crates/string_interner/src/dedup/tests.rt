@@ -102,6 +102,23 @@ impl<B: Backend, H: TextHasher> Filled<B, H> {
     }
 }
 
+impl<B: Backend + Drop, H: TextHasher + Drop> Filled<B, H> {
+    /// Takes the texts of another into the slots that stand, where these are at most half of them.
+    fn take_texts(&mut self, other: Filled<B, H>) -> bool {
+        let Filled {
+            backend,
+            hasher: _,
+            index: _,
+        } = other;
+        let fits = backend.count() <= self.index.slots() / 2;
+        if fits {
+            self.backend = backend;
+            self.index.refill(&self.hasher, &self.backend);
+        }
+        fits
+    }
+}
+
 /// The decimal numbers below a count, added as texts under a hasher that gives all one code.
 fn with_numbers(
     alloc: Global,
@@ -213,6 +230,30 @@ fn probes_go_round_the_end(rt: HostRuntime) -> Result<(), Fail> {
         );
         assert!(rt; filled.find(text).is_none());
     }
+    Ok(())
+}
+
+#[test]
+fn a_refill_keeps_slots_and_counts(rt: HostRuntime) -> Result<(), Fail> {
+    let mut filled = with_numbers(rt.alloc(), 13)?;
+    assert_eq!(rt; filled.index.greatest(), 13);
+    assert!(rt; filled.take_texts(with_numbers(rt.alloc(), 2)?));
+    assert_eq!(rt;
+        (
+            filled.index.slots(),
+            filled.index.put_back(),
+            filled.index.greatest()
+        ),
+        (32, 18, 13)
+    );
+    for (text, number) in [("0", Some(0)), ("1", Some(1)), ("2", None), ("12", None)] {
+        assert_eq!(rt;
+            filled.find(text).map(|symbol| symbol.to_usize()),
+            number,
+            "of {text}"
+        );
+    }
+    assert_eq!(rt; filled.add("12")?.to_usize(), 2);
     Ok(())
 }
 

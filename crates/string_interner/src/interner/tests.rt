@@ -141,15 +141,16 @@ fn walks_in_order_of_first_interning(rt: HostRuntime) -> Result<(), Fail> {
         (3, "Air", 0),
     ] {
         assert_eq!(rt; entries.len(), left + 1);
-        assert_eq!(rt;
-            entries
-                .next()
-                .map(|(symbol, text)| (symbol.to_usize(), text)),
-            Some((number, text))
-        );
+        match entries.next() {
+            Some((symbol, found)) => {
+                assert_eq!(rt; symbol.to_usize(), number);
+                assert_eq!(rt; found, text);
+            }
+            None => assert!(rt; false, "{text} is missing"),
+        }
         assert_eq!(rt; entries.len(), left);
     }
-    assert_eq!(rt; entries.next(), None);
+    assert!(rt; entries.next().is_none());
     assert_eq!(rt; entries.size_hint(), (0, Some(0)));
     Ok(())
 }

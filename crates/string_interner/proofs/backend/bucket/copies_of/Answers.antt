@@ -1,10 +1,6 @@
 use Rattle.std.proofs.Common.{◌∙◌, arith}
-use Rattle.std.specs.Str.{IsUtf8}
-use Rattle.std.proofs.lemmas.List.{take_more, map_more}
-use Rattle.std.proofs.lemmas.List.Elements.{All-get_or}
 use Rattle.std.proofs.lemmas.List.Sums.{sum_by_more_le}
-use Rattle.string_interner.specs.BucketBackend.{buckets_of, text_of, entry_len, IsEntry, AreCopies}
-use Rattle.string_interner.specs.declared.backend.bucket.interned_str.InternedStr.{InternedStr}
+use Rattle.string_interner.specs.BucketBackend.{buckets_of, entry_len}
 use Rattle.string_interner.specs.declared.backend.bucket.interned_str.InternedStr.TheVariants.{InBucket}
 use Rattle.string_interner.proofs.Buckets.{AreCopies-step}
 use Rattle.string_interner.proofs.backend.bucket.copies_of.Goals as goal

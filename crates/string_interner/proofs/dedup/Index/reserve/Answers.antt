@@ -11,4 +11,4 @@ place_all-requires-clause-empty g c = rw c.in_ok-bigger.ensures (symbols-replica
 
 pub place_all-requires-clause-count : goal.place_all-requires-clause-count
 place_all-requires-clause-count g c = subst IsSlotCount (sym (ap length c.in_ok-bigger.ensures ∙ length-replicate c.in_ok-count.count None))
-    (IsSlotCount-grown _ _ c.self.invariant.bounded.allowed (subst (λ n. GrowsTo n c.in_ok-count.count) c.len.ensures (rw c.in_ok-count.ensures.ok_part at c.next_count.ensures)))
+    (IsSlotCount-grown _ _ c.self.invariant.bounded.allowed (subst (λ n. GrowsTo n c.in_ok-count.count) c.len.ensures (rw c.in_ok-count.ensures.ok_part at c.next_count.ensures.some)))

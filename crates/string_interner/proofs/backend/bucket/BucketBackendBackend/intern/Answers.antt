@@ -1,5 +1,4 @@
 use Rattle.std.proofs.Common.{◌≡◌, ◌++◌, ◌∷◌, [], map, arith, rules, ap, ◌∙◌}
-use Rattle.std.proofs.lemmas.List.{length-map}
 use Rattle.string_interner.specs.BucketBackend.{BucketContents, buckets_of, text_of, IsStored}
 use Rattle.string_interner.proofs.Buckets.{stored-puts, Stays-puts}
 use Rattle.string_interner.proofs.backend.bucket.BucketBackendBackend.intern.Goals as goal

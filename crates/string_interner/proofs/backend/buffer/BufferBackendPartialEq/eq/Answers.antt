@@ -1,4 +1,4 @@
-use Rattle.std.proofs.Common.{◌≡◌, ap, ◌∙◌}
+use Rattle.std.proofs.Common.{ap}
 use Rattle.string_interner.specs.BufferBackend.{bytes_of}
 use Rattle.string_interner.proofs.Equal.{texts_eq-Decides}
 use Rattle.string_interner.proofs.Buffers.{bytes_of-eq, bytes_of-apart, entry_of-apart}

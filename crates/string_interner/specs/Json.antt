@@ -1,0 +1,51 @@
+-- The JSON forms of a list of texts and of a symbol, and reading them.
+-- Cited by `to_json` and `from_json`, and by `symbol_to_json` and `symbol_from_json`.
+use Rattle.std.specs.Prelude.{◌≡◌, ℕ, ◌+◌, List, [], map, Option, MatchOption, MatchResult, option_and_then, Result, Ok, Err, IsOkAnd, ⊤}
+use Rattle.std.specs.Option.{ok_or, option_map_or}
+use Rattle.serde_json.specs.Data.{Data, number, unsigned, string, array, Items, no_items, item}
+use Rattle.serde_json.specs.Find.{as_array, as_number, as_str, as_u64}
+use Rattle.serde_json.specs.View.{items_of}
+use Rattle.string_interner.specs.Text.{Text}
+use Rattle.string_interner.specs.Interner.{Interned, Interns}
+use Rattle.string_interner.specs.declared.backend.InternError.{InternError}
+use Rattle.string_interner.specs.declared.backend.InternError.TheVariants.{NoSymbol as InternNoSymbol, Memory as InternMemory}
+use Rattle.string_interner.specs.declared.json.JsonError.{JsonError}
+use Rattle.string_interner.specs.declared.json.JsonError.TheVariants.{NoSymbol, Memory, NotAList, NotAText, NotANumber}
+
+-- the JSON form of a list of texts: the array of the texts in order, each a JSON string
+abbrev pub json_of_texts : List Text → Data
+json_of_texts texts = array (items_of (map string texts))
+
+-- the JSON form of a symbol that has this number
+abbrev pub json_of_number : ℕ → Data
+json_of_number n = number (unsigned n)
+
+-- why an element is refused whose text an interner refused
+abbrev pub refused : InternError → JsonError
+refused InternNoSymbol = NoSymbol
+refused (InternMemory error) = Memory error
+
+module _ {S : Type 0} (symbol_of : ℕ → Option S) where
+  -- the symbol with the number that the JSON value is, or why there is none
+  abbrev pub symbol_read : Data → Result S JsonError
+  symbol_read value = option_map_or (λ n. ok_or (symbol_of n) NoSymbol) (option_and_then as_u64 (as_number value)) (Err NotANumber)
+
+  module _ (place : List Text → ℕ) where
+    -- The elements, the first of which has this index, are read into the old list one after another, with this outcome:
+    -- a string is interned, and the first refused element decides.
+    abbrev pub Reads : List Text → ℕ → Items → Result Interned JsonError → Type 0
+    Reads old index no_items outcome = IsOkAnd outcome (λ interner. interner.texts ≡ old)
+    Reads old index (item element rest) outcome = MatchOption (as_str element)
+        (outcome ≡ Err (NotAText index))
+        (λ text. (interned : Result S InternError) × (mid : List Text) × Interns symbol_of place old text interned mid
+        × MatchResult interned (λ _. Reads mid (index + 1) rest outcome) (λ error. outcome ≡ Err (refused error)))
+
+    -- the elements of an array are read into the empty list, and what is no array is refused
+    abbrev pub ReadsArray : Data → Result Interned JsonError → Type 0
+    ReadsArray value outcome = MatchOption (as_array value) (outcome ≡ Err NotAList) (λ elements. Reads [] 0 elements outcome)
+
+-- what may come of reading a list back: the list, or want of memory
+abbrev pub GivesBack : List Text → Result Interned JsonError → Type 0
+GivesBack texts (Ok interner) = interner.texts ≡ texts
+GivesBack texts (Err (Memory _)) = ⊤
+GivesBack texts (Err _) = ⊥

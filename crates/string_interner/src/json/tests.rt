@@ -1,0 +1,294 @@
+ghost use Rattle.std.specs.Prelude.{ℕ, ◌<◌};
+ghost use Rattle.std.proofs.Common.{rules, lit≤};
+ghost use Rattle.string_interner.specs.Symbol.{number_below, number_below-some};
+ghost use Rattle.string_interner.specs.Json.{GivesBack};
+
+use super::*;
+use crate::DefaultStringInterner;
+use crate::backend::StringBackend;
+use crate::symbol::{SymbolU16, SymbolU32, SymbolUsize};
+use crate::tests::{Counting, tell_refused};
+use std::marker::Model;
+use std::test::Fail;
+
+/// A symbol type with the numbers 0 and 1 alone.
+#[derive(Clone, Copy, PartialEq, Eq, Debug)]
+struct Two {
+    value: u8,
+}
+
+impl Model for Two {
+    ghost Value = { ℕ };
+
+    ghost view = { λ symbol. symbol.value };
+
+    ghost invariant = { λ symbol. symbol.value < 2 };
+
+    ghost inverse = { λ n. record { value = n } };
+}
+
+impl Symbol for Two {
+    ghost number = { λ symbol. symbol };
+
+    ghost symbol_of = { number_below 2 };
+
+    fn try_from_usize(index: usize) -> Option<Self> {
+        if index < 2 {
+            Some(Two { value: index as u8 })
+        } else {
+            None
+        }
+    }
+
+    fn to_usize(self) -> usize {
+        usize::from(self.value)
+    }
+
+    ghost numbered = { number_below-some 2 (lit≤ tt) };
+
+    ghost equal_by_number = { Prim.search rules };
+
+    ghost injective = { λ a b same. same };
+}
+
+/// Interns the texts. A text that is refused once is interned again.
+fn fill<B: Backend, H: TextHasher>(
+    interner: &mut StringInterner<B, H>,
+    texts: &[&str],
+) -> Result<(), InternError> {
+    for text in texts {
+        if interner.get_or_intern(text).is_err() {
+            interner.get_or_intern(text)?;
+        }
+    }
+    Ok(())
+}
+
+/// The value of a JSON text, which is read again where memory was refused once.
+fn parsed(alloc: Global, json: &str) -> Result<Value, serde_json::Error> {
+    match Value::from_str(alloc, json) {
+        Ok(value) => Ok(value),
+        Err(_) => Value::from_str(alloc, json),
+    }
+}
+
+/// How many texts an interner over the backend reads from a JSON text.
+fn count_read<B: Backend + Drop>(
+    alloc: Global,
+    json: &str,
+) -> Result<Result<usize, JsonError>, Fail> {
+    let value = parsed(alloc, json)?;
+    match StringInterner::<B>::from_json(alloc, &value) {
+        Ok(interner) => Ok(Ok(interner.len())),
+        Err(error) => Ok(Err(error)),
+    }
+}
+
+/// The number of the symbol that is read from a JSON text.
+fn number_in<S: Symbol>(alloc: Global, json: &str) -> Result<Result<usize, JsonError>, Fail> {
+    let value = parsed(alloc, json)?;
+    match symbol_from_json::<S>(&value) {
+        Ok(symbol) => Ok(Ok(symbol.to_usize())),
+        Err(error) => Ok(Err(error)),
+    }
+}
+
+#[test]
+fn writes_the_texts_in_order(rt: HostRuntime) -> Result<(), Fail> {
+    for (texts, json) in [
+        (
+            ["Elephant", "Tiger", "Horse"],
+            "[\"Elephant\",\"Tiger\",\"Horse\"]",
+        ),
+        (["a\"b", "\n", "é"], "[\"a\\\"b\",\"\\n\",\"é\"]"),
+    ] {
+        let mut interner = <DefaultStringInterner>::new(rt.alloc());
+        fill(&mut interner, &texts)?;
+        let written = interner.to_json(rt.alloc())?.to_string(rt.alloc())?;
+        assert_eq!(rt; written.as_str(), json);
+    }
+    Ok(())
+}
+
+#[test]
+fn reads_arrays_of_strings_alone(rt: HostRuntime) -> Result<(), Fail> {
+    for (json, wanted) in [
+        ("[\"a\",\"a\",\"b\"]", Ok(2)),
+        ("[\"\",\"\"]", Ok(1)),
+        ("[]", Ok(0)),
+        ("{}", Err(JsonError::NotAList)),
+        ("null", Err(JsonError::NotAList)),
+        ("3", Err(JsonError::NotAList)),
+        ("\"a\"", Err(JsonError::NotAList)),
+        ("true", Err(JsonError::NotAList)),
+        ("[\"a\",null,3]", Err(JsonError::NotAText { index: 1 })),
+        ("[[]]", Err(JsonError::NotAText { index: 0 })),
+        ("[\"a\",{}]", Err(JsonError::NotAText { index: 1 })),
+    ] {
+        assert_eq!(rt;
+            count_read::<StringBackend>(rt.alloc(), json)?,
+            wanted,
+            "{json}"
+        );
+        assert_eq!(rt; count_read::<Counting>(rt.alloc(), json)?, wanted, "{json}");
+    }
+    Ok(())
+}
+
+#[test]
+fn the_first_refused_element_decides(rt: HostRuntime) -> Result<(), Fail> {
+    for (json, wanted) in [
+        ("[\"a\",\"b\",\"a\"]", Ok(2)),
+        ("[\"a\",\"b\",\"c\",null]", Err(JsonError::NoSymbol)),
+        (
+            "[\"a\",\"b\",\"a\",null]",
+            Err(JsonError::NotAText { index: 3 }),
+        ),
+    ] {
+        assert_eq!(rt;
+            count_read::<StringBackend<Two>>(rt.alloc(), json)?,
+            wanted,
+            "{json}"
+        );
+    }
+    Ok(())
+}
+
+#[test]
+fn reads_texts_in_order(rt: HostRuntime) -> Result<(), Fail> {
+    let value = parsed(rt.alloc(), "[\"Elephant\",\"Tiger\",\"Tiger\",\"Horse\"]")?;
+    let interner = <DefaultStringInterner>::from_json(rt.alloc(), &value)?;
+    assert_eq!(rt; interner.len(), 3);
+    for (number, text) in [(0, "Elephant"), (1, "Tiger"), (2, "Horse")] {
+        let found = interner.get(text).map(|symbol| symbol.to_usize());
+        assert_eq!(rt; found, Some(number), "{text}");
+    }
+    Ok(())
+}
+
+/// Writes an interner and reads it back: proved to give its list, or want of memory.
+fn read_back<B: Backend + Drop, H: TextHasher + Default + Drop>(
+    alloc: Global,
+    interner: &StringInterner<B, H>,
+) -> Result<StringInterner<B, H>, JsonError>
+    ensures { GivesBack interner.now.texts result }
+{
+    let value = interner.to_json(alloc).map_err(JsonError::Memory)?;
+    StringInterner::from_json(alloc, &value)
+}
+
+#[test]
+fn what_was_written_is_read_back(rt: HostRuntime) -> Result<(), Fail> {
+    let mut interner = StringInterner::<Counting>::new(rt.alloc());
+    fill(&mut interner, &["b", "", "a", "é"])?;
+    let mut back = read_back(rt.alloc(), &interner)?;
+    assert!(rt; back == interner);
+    for (symbol, text) in &interner {
+        assert_eq!(rt; back.get(text), Some(symbol));
+    }
+    fill(&mut back, &["c"])?;
+    assert!(rt; back != interner);
+    Ok(())
+}
+
+#[test]
+fn a_symbol_is_its_number(rt: HostRuntime) -> Result<(), Fail> {
+    for (number, json) in [(0, "0"), (65534, "65534")] {
+        let symbol = SymbolU16::try_from_usize(number).ok_or("a small number")?;
+        let written = symbol_to_json(rt.alloc(), symbol)?.to_string(rt.alloc())?;
+        assert_eq!(rt; written.as_str(), json);
+        assert_eq!(rt; number_in::<SymbolU16>(rt.alloc(), json)?, Ok(number));
+    }
+    for (json, wanted) in [
+        ("65535", JsonError::NoSymbol),
+        ("-1", JsonError::NotANumber),
+        ("\"1\"", JsonError::NotANumber),
+        ("null", JsonError::NotANumber),
+        ("[]", JsonError::NotANumber),
+    ] {
+        assert_eq!(rt;
+            number_in::<SymbolU16>(rt.alloc(), json)?,
+            Err(wanted),
+            "{json}"
+        );
+    }
+    Ok(())
+}
+
+#[test]
+fn the_last_number_of_a_usize(rt: HostRuntime) -> Result<(), Fail> {
+    let json = "18446744073709551615";
+    assert_eq!(rt;
+        number_in::<SymbolU32>(rt.alloc(), json)?,
+        Err(JsonError::NoSymbol)
+    );
+    assert_eq!(rt;
+        number_in::<SymbolUsize>(rt.alloc(), json)?,
+        Err(JsonError::NoSymbol)
+    );
+    assert_eq!(rt;
+        number_in::<usize>(rt.alloc(), json)?,
+        Ok(18446744073709551615)
+    );
+    Ok(())
+}
+
+#[test]
+fn messages_of_refusals(rt: HostRuntime) -> Result<(), Fail> {
+    for (error, message) in [
+        (JsonError::from(InternError::NoSymbol), "no symbol is left"),
+        (
+            JsonError::from(InternError::Memory(AllocError)),
+            "out of memory",
+        ),
+        (JsonError::NotAList, "not a list"),
+        (JsonError::NotAText { index: 1 }, "element 1 is not a text"),
+        (JsonError::NotANumber, "not a number"),
+    ] {
+        assert_eq!(rt; error.to_string(rt.alloc())?.as_str(), message);
+    }
+    Ok(())
+}
+
+/// Passes whichever request for memory is refused.
+#[test]
+fn memory_of_to_json(rt: HostRuntime) -> Result<(), Fail> {
+    let texts = ["Tiger", "Horse"];
+    let mut interner = StringInterner::<StringBackend>::new(rt.alloc());
+    fill(&mut interner, &texts)?;
+    if interner.to_json(rt.alloc()).is_err() {
+        tell_refused(&rt, "to_json over StringBackend")?;
+    }
+    assert_eq!(rt; interner.len(), 2);
+    let value = interner.to_json(rt.alloc())?;
+    for (i, text) in texts.iter().enumerate() {
+        assert_eq!(rt; value.get(i).and_then(Value::as_str), Some(*text));
+    }
+    assert!(rt; value.get(2).is_none());
+    Ok(())
+}
+
+/// Passes whichever request for memory is refused.
+#[test]
+fn memory_of_from_json(rt: HostRuntime) -> Result<(), Fail> {
+    let value = parsed(rt.alloc(), "[\"Tiger\",\"Horse\"]")?;
+    if let Err(error) = StringInterner::<StringBackend>::from_json(rt.alloc(), &value) {
+        assert_eq!(rt; error, JsonError::Memory(AllocError));
+        tell_refused(&rt, "from_json over StringBackend")?;
+    }
+    let interner = StringInterner::<StringBackend>::from_json(rt.alloc(), &value)?;
+    assert_eq!(rt; interner.len(), 2);
+    assert_eq!(rt;
+        interner.get("Horse").map(|symbol| symbol.to_usize()),
+        Some(1)
+    );
+    Ok(())
+}
+
+/// It takes no memory, so it answers whichever request is refused.
+#[test]
+fn memory_of_symbol_to_json(rt: HostRuntime) -> Result<(), Fail> {
+    let value = symbol_to_json(rt.alloc(), 7usize)?;
+    assert_eq!(rt; value.as_u64(), Some(7));
+    Ok(())
+}
