@@ -298,46 +298,39 @@ fn served_over_memory(alloc: Global, input: &[u8]) -> Option<Outcome> {
 
 const TWO_TIGERS: &[u8] = b"i Tiger\ni Tiger\n";
 
-/// Fails exactly where `tells_refused_memory` meets a refusal, since both ask for the same memory.
-#[test]
-fn meets_no_refusal(rt: HostRuntime) -> Result<(), Fail> {
-    let outcome = served_over_memory(rt.alloc(), TWO_TIGERS).ok_or("no memory for the arguments")?;
-    outcome.served?;
-    assert_eq!(rt;
-        outcome.written.get(..outcome.length),
-        Some(b"symbol 0\nsymbol 0\n".as_slice())
-    );
-    Ok(())
+/// Says that `serve` was refused memory and answered as it should. The gate refuses the first request of a test for
+/// memory, then the second, and so on, and counts these lines: it stops where there is none.
+fn tell_refused(rt: &impl Print, call: &str) -> io::Result<()> {
+    println!(rt; "refused: {call}")
 }
 
-/// Holds whichever request for memory is refused: the answer is the one with ample memory, or the
-/// one that is stated for the refused request.
+/// Passes whichever request for memory is refused.
 #[test]
-fn tells_refused_memory(rt: HostRuntime) -> Result<(), Fail> {
+fn memory_of_serve(rt: HostRuntime) -> Result<(), Fail> {
     let Some(outcome) = served_over_memory(rt.alloc(), TWO_TIGERS) else {
-        return Ok(());
+        return tell_refused(&rt, "the test's own arguments").map_err(Fail::from);
     };
     let written = outcome
         .written
         .get(..outcome.length)
         .ok_or("a long answer")?;
     match outcome.served {
-        Ok(()) => {
-            let is_ample = written == b"symbol 0\nsymbol 0\n".as_slice();
-            let is_first_refused = written == b"no memory\nsymbol 0\n".as_slice();
-            assert!(rt; is_ample || is_first_refused, "{written:?}");
+        Ok(()) if written == b"no memory\nsymbol 0\n".as_slice() => {
+            tell_refused(&rt, "serve, its first text")?;
         }
+        Ok(()) => assert_eq!(rt; written, b"symbol 0\nsymbol 0\n".as_slice()),
         Err(fault) => {
             assert!(rt; matches!(fault, Fault::Memory));
             assert!(rt; written.is_empty());
+            tell_refused(&rt, "serve, its input, commands or replies")?;
         }
     }
     Ok(())
 }
 
-/// Likewise: once the input is read, a bad line is told whatever memory is refused.
+/// Passes whichever request for memory is refused: once the input is read, a bad line is told all the same.
 #[test]
-fn tells_a_bad_line_before_memory(rt: HostRuntime) -> Result<(), Fail> {
+fn memory_before_a_bad_line(rt: HostRuntime) -> Result<(), Fail> {
     let Some(outcome) = served_over_memory(rt.alloc(), b"i Tiger\nx\n") else {
         return Ok(());
     };
@@ -346,11 +339,10 @@ fn tells_a_bad_line_before_memory(rt: HostRuntime) -> Result<(), Fail> {
         assert!(rt; matches!(outcome.served, Err(Fault::BadLine(2))));
     } else {
         assert!(rt; matches!(outcome.served, Err(Fault::Memory)));
+        tell_refused(&rt, "serve, its input")?;
     }
     Ok(())
 }
-
-// The lines below the first form.
 
 #[test]
 fn asks_back(rt: HostRuntime) -> Result<(), Fail> {
@@ -375,6 +367,23 @@ fn asks_back(rt: HostRuntime) -> Result<(), Fail> {
         expect_served(&rt, &["string"], input.as_bytes(), "", 0, output)?;
     }
     Ok(())
+}
+
+#[test]
+fn serves_each_backend(rt: HostRuntime) -> Result<(), Fail> {
+    let counted = "symbol 0\nsymbol 1\nsymbol 0\nsymbol 1\ntext Horse\nlen 2\nnone\n";
+    let by_bytes = "symbol 0\nsymbol 6\nsymbol 0\nsymbol 6\ntext Horse\nlen 2\nnone\n";
+    let input = b"i Tiger\ni Horse\ni Tiger\ng Horse\nr 1\nlen\ng Bear\n";
+    for (word, output) in [
+        ("string", counted),
+        ("bucket", counted),
+        ("buffer", by_bytes),
+    ] {
+        expect_served(&rt, &[word], input, "", 0, output)?;
+    }
+    let input = b"i Tiger\nn 1\nn 6\nr 5\nr 1\nr 0\nlen\nshrink\n";
+    let output = "symbol 0\nnone\nnone\nno reply\nno reply\ntext Tiger\nlen 1\nok\n";
+    expect_served(&rt, &["buffer"], input, "", 0, output)
 }
 
 #[test]
