@@ -1,6 +1,6 @@
 -- Laws of interning and of runs that a sceptic would ask for. They follow from the definitions of specs/ that every
 -- contract cites, so they speak of the code.
-use Rattle.std.proofs.Common.{zero, suc, ◌≡◌, ℕ, ◌<◌, List, [], ◌∷◌, ◌++◌, length, take, get_or, refl, sym, ap, ◌∙◌, subst, arith, Option, Some, None, Result, Ok, Err}
+use Rattle.std.proofs.Common.{zero, suc, ◌≡◌, ℕ, ◌<◌, List, [], ◌∷◌, ◌++◌, length, take, get_or, refl, sym, ap, ◌∙◌, subst, arith, ◌⊎◌, inl, inr, Option, Some, None, Result, Ok, Err}
 use Rattle.std.specs.Prelude.{slice_get, MatchOption, IsOkAnd, ◌^◌, ⊤}
 use Rattle.std.specs.List.{AllByRecursion}
 use Rattle.std.specs.String.{string_bytes}
@@ -9,11 +9,12 @@ use Rattle.std.proofs.lemmas.List.{length_push, take-append-le, take_all}
 use Rattle.string_interner.specs.Text.{Text, first}
 use Rattle.string_interner.specs.Backend.{Appends, BeginsAt}
 use Rattle.string_interner.specs.Interner.{Interns, entry_symbol}
-use Rattle.string_interner.specs.Run.{intern_reply, number_told, IsCopy, number_read, NumberReply, InternReply, Step, Run}
+use Rattle.string_interner.specs.Collect.{texts_of, InternsAll, InternsInOrder}
+use Rattle.string_interner.specs.Run.{intern_reply, extend_reply, number_told, IsCopy, number_read, NumberReply, InternReply, ExtendReply, Step, Run}
 use Rattle.string_interner.specs.declared.backend.InternError.{InternError}
 use Rattle.string_interner.specs.declared.backend.InternError.TheVariants.{NoSymbol as InternNoSymbol, Memory}
 use Rattle.string_interner.specs.declared.run.Command.{Command}
-use Rattle.string_interner.specs.declared.run.Command.TheVariants.{Intern, InternStatic, Get, Resolve, Number, Len, Shrink}
+use Rattle.string_interner.specs.declared.run.Command.TheVariants.{Intern, InternStatic, Get, Resolve, Number, Len, Shrink, Extend}
 use Rattle.string_interner.specs.declared.run.Reply.{Reply}
 use Rattle.string_interner.specs.declared.run.Reply.TheVariants.{Symbol, Nothing, Text as TextReply, Len as LenReply, Done, NoReply, NoSymbol, NoMemory}
 use Rattle.string_interner.proofs.Firsts.{first_within, first_is}
@@ -103,6 +104,48 @@ module _ {S : Type 0} (symbol_of : ℕ → Option S) (place : List Text → ℕ)
       of None h h' = appends-determined old new new' text o o' m m' h h'
       of (Some i) h h' = (known i o o' h.0 h'.0, h.1 ∙ sym h'.1)
 
+  -- the same of many texts, by recursion over them
+  abbrev InTurn : List Text → List Text → Result (Unit {0}) InternError → List Text → Type 0
+  InTurn old [] outcome new = (outcome ≡ Ok tt) × (new ≡ old)
+  InTurn old (text ∷ texts) outcome new = ((mid : List Text) × (symbol : S) × Interns symbol_of place old text (Ok symbol) mid × InTurn mid texts outcome new)
+      ⊎ ((error : InternError) × (outcome ≡ Err error) × Interns symbol_of place old text (Err error) new)
+
+  all-in-turn : (old texts new : List Text) → InternsAll symbol_of place old texts new → InTurn old texts (Ok tt) new
+  all-in-turn old [] new h = (refl, h)
+  all-in-turn old (text ∷ texts) new h = inl (h.0, h.1.0, h.1.1, all-in-turn h.0 texts new h.2)
+
+  front-in-turn : (old front : List Text) (text : Text) (rest' new : List Text) (error : InternError) → InternsAll symbol_of place old front new → Interns symbol_of place new text (Err error) new → InTurn old (front ++ text ∷ rest') (Err error) new
+  front-in-turn old [] text rest' new error h i = inr (error, refl, subst (λ (xs : List Text). Interns symbol_of place xs text (Err error) new) h i)
+  front-in-turn old (t ∷ ts) text rest' new error h i = inl (h.0, h.1.0, h.1.1, front-in-turn h.0 ts text rest' new error h.2 i)
+
+  in-turn : (old texts : List Text) (outcome : Result (Unit {0}) InternError) (new : List Text) → InternsInOrder symbol_of place old texts outcome new → InTurn old texts outcome new
+  in-turn old texts (Ok u) new h = all-in-turn old texts new h
+  in-turn old texts (Err error) new (front, text, rest', e, h, i) = rw e (front-in-turn old front text rest' new error h i)
+
+  has-memory : (e : InternError) → HasMemory {S = Unit {0}} (Err e) → HasMemory {S = S} (Err e)
+  has-memory InternNoSymbol m = tt
+  has-memory (Memory e) m = absurd m
+
+  same-error : (o : Result S InternError) (e e' : InternError) → o ≡ Err e → o ≡ Err e' → e ≡ e'
+  same-error o e e' a b = cc
+
+  turn-determined : (old texts new new' : List Text) (o o' : Result (Unit {0}) InternError) → HasMemory o → HasMemory o' → InTurn old texts o new → InTurn old texts o' new' → (o ≡ o') × (new ≡ new')
+  turn-determined old [] new new' o o' m m' t t' = (t.0 ∙ sym t'.0, t.1 ∙ sym t'.1)
+  turn-determined old (text ∷ texts) new new' o o' m m' (inl (mid, s, i, t)) (inl (mid', s', i', t')) =
+      let d = interning-determined old mid mid' text (Ok s) (Ok s') tt tt i i' in
+      turn-determined mid texts new new' o o' m m' t (subst (λ (xs : List Text). InTurn xs texts o' new') (sym d.1) t')
+  turn-determined old (text ∷ texts) new new' o o' m m' (inl (mid, s, i, t)) (inr (e', q', i')) =
+      let d = interning-determined old mid new' text (Ok s) (Err e') tt (has-memory e' (subst HasMemory q' m')) i i' in let x = d.0 in cc
+  turn-determined old (text ∷ texts) new new' o o' m m' (inr (e, q, i)) (inl (mid', s', i', t')) =
+      let d = interning-determined old new mid' text (Err e) (Ok s') (has-memory e (subst HasMemory q m)) tt i i' in let x = d.0 in cc
+  turn-determined old (text ∷ texts) new new' o o' m m' (inr (e, q, i)) (inr (e', q', i')) =
+      let d = interning-determined old new new' text (Err e) (Err e') (has-memory e (subst HasMemory q m)) (has-memory e' (subst HasMemory q' m')) i i' in
+      (q ∙ (ap Err (same-error (Err e) e e' refl d.0) ∙ sym q'), d.1)
+
+  -- interning many texts is determined, but for want of memory
+  pub order-determined : (old texts new new' : List Text) (o o' : Result (Unit {0}) InternError) → HasMemory o → HasMemory o' → InternsInOrder symbol_of place old texts o new → InternsInOrder symbol_of place old texts o' new' → (o ≡ o') × (new ≡ new')
+  order-determined old texts new new' o o' m m' h h' = turn-determined old texts new new' o o' m m' (in-turn old texts o new h) (in-turn old texts o' new' h')
+
   -- the number of an answered symbol is the place of an entry that is the text
   pub answered-place : (number : S → ℕ) → ((i : ℕ) (s : S) → symbol_of i ≡ Some s → (number s ≡ i) × (i < 2 ^ 64))
       → (old new : List Text) (text : Text) (s : S) → Interns symbol_of place old text (Ok s) new → (i : ℕ) × BeginsAt place new (number s) i × (get_or new i [] ≡ text)
@@ -120,6 +163,11 @@ module _ {S : Type 0} (symbol_of : ℕ → Option S) (number : S → ℕ) (place
   told (Ok s) reply e m = tt
   told (Err InternNoSymbol) reply e m = tt
   told (Err (Memory x)) reply e m = let none : ReplyHasMemory NoMemory = subst ReplyHasMemory e m in absurd none
+
+  extend-told : (outcome : Result (Unit {0}) InternError) (reply : Reply) → reply ≡ extend_reply outcome → ReplyHasMemory reply → HasMemory outcome
+  extend-told (Ok u) reply e m = tt
+  extend-told (Err InternNoSymbol) reply e m = tt
+  extend-told (Err (Memory x)) reply e m = let none : ReplyHasMemory NoMemory = subst ReplyHasMemory e m in absurd none
 
   copies-say : (text : Text) (reply reply' : Reply) → ReplyHasMemory reply → ReplyHasMemory reply' → IsCopy text reply → IsCopy text reply' → SayTheSame reply reply'
   copies-say text (TextReply a) (TextReply b) m m' c c' = c ∙ sym c'
@@ -144,6 +192,12 @@ module _ {S : Type 0} (symbol_of : ℕ → Option S) (number : S → ℕ) (place
       let d = interning-determined symbol_of place old new new' text outcome outcome' (told outcome reply e m) (told outcome' reply' e' m') i i' in
       (equal-say reply reply' (e ∙ (ap (intern_reply number) d.0 ∙ sym e')), d.1)
 
+  extended-say : (old texts : List Text) (reply reply' : Reply) (new new' : List Text) → ReplyHasMemory reply → ReplyHasMemory reply'
+      → ExtendReply symbol_of number place read old texts reply new → ExtendReply symbol_of number place read old texts reply' new' → SayTheSame reply reply' × (new ≡ new')
+  extended-say old texts reply reply' new new' m m' (outcome, i, e) (outcome', i', e') =
+      let d = order-determined symbol_of place old texts new new' outcome outcome' (extend-told outcome reply e m) (extend-told outcome' reply' e' m') i i' in
+      (equal-say reply reply' (e ∙ (ap extend_reply d.0 ∙ sym e')), d.1)
+
   -- from one list, a command to which memory is not refused is answered one way and leaves one list
   pub step-determined : (old : List Text) (earlier earlier' : List Reply) (command : Command) (reply reply' : Reply) (new new' : List Text) → AllSayTheSame earlier earlier' → ReplyHasMemory reply → ReplyHasMemory reply'
       → Step symbol_of number place read old earlier command reply new → Step symbol_of number place read old earlier' command reply' new' → SayTheSame reply reply' × (new ≡ new')
@@ -156,6 +210,7 @@ module _ {S : Type 0} (symbol_of : ℕ → Option S) (number : S → ℕ) (place
   step-determined old earlier earlier' (Number n) reply reply' new new' say m m' s s' = (numbers-say (number_read symbol_of number place read old n) reply reply' m m' s.0 s'.0, s.1 ∙ sym s'.1)
   step-determined old earlier earlier' Len reply reply' new new' say m m' s s' = (equal-say reply reply' (s.0 ∙ sym s'.0), s.1 ∙ sym s'.1)
   step-determined old earlier earlier' Shrink reply reply' new new' say m m' s s' = (equal-say reply reply' (s.0 ∙ sym s'.0), s.1 ∙ sym s'.1)
+  step-determined old earlier earlier' (Extend texts) reply reply' new new' say m m' s s' = extended-say old (texts_of texts.now) reply reply' new new' m m' s s'
 
   -- from one list, commands to which memory is not refused are answered one way and leave one list
   pub run-determined : (old : List Text) (earlier earlier' : List Reply) (commands : List Command) (replies replies' : List Reply) (new new' : List Text) → AllSayTheSame earlier earlier' → AllByRecursion ReplyHasMemory replies → AllByRecursion ReplyHasMemory replies'

@@ -5,18 +5,28 @@ use Rattle.std.specs.Option.{option_map_or}
 use Rattle.std.specs.String.{string_bytes}
 use Rattle.string_interner.specs.Text.{Text, first}
 use Rattle.string_interner.specs.Interner.{Interns}
+use Rattle.string_interner.specs.Collect.{texts_of, InternsInOrder}
 use Rattle.string_interner.specs.declared.backend.InternError.{InternError}
 use Rattle.string_interner.specs.declared.backend.InternError.TheVariants.{NoSymbol as InternNoSymbol, Memory}
 use Rattle.string_interner.specs.declared.run.Command.{Command}
-use Rattle.string_interner.specs.declared.run.Command.TheVariants.{Intern, InternStatic, Get, Resolve, Number, Len, Shrink}
+use Rattle.string_interner.specs.declared.run.Command.TheVariants.{Intern, InternStatic, Get, Resolve, Number, Len, Shrink, Extend}
 use Rattle.string_interner.specs.declared.run.Reply.{Reply}
 use Rattle.string_interner.specs.declared.run.Reply.TheVariants.{Symbol, Nothing, Text as TextReply, Len as LenReply, Done, NoReply, NoSymbol, NoMemory}
+
+-- the reply that tells why a text was refused
+abbrev pub refusal : InternError → Reply
+refusal InternNoSymbol = NoSymbol
+refusal (Memory _) = NoMemory
 
 -- the reply that tells how an interning ended
 abbrev pub intern_reply : {S : Type 0} → (S → ℕ) → Result S InternError → Reply
 intern_reply number (Ok symbol) = Symbol (number symbol)
-intern_reply number (Err InternNoSymbol) = NoSymbol
-intern_reply number (Err (Memory _)) = NoMemory
+intern_reply number (Err error) = refusal error
+
+-- the reply that tells how the interning of many texts ended
+abbrev pub extend_reply : Result (Unit {0}) InternError → Reply
+extend_reply (Ok _) = Done
+extend_reply (Err error) = refusal error
 
 -- the number that a reply told, if there is such a reply and it told one
 abbrev pub number_told : Option Reply → Option ℕ
@@ -42,6 +52,10 @@ module _ {S : Type 0} (symbol_of : ℕ → Option S) (number : S → ℕ) (place
   abbrev pub InternReply : List Text → Text → Reply → List Text → Type 0
   InternReply old text reply new = (outcome : Result S InternError) × Interns symbol_of place old text outcome new × (reply ≡ intern_reply number outcome)
 
+  -- the texts are interned in order, and the reply tells how that ended
+  abbrev pub ExtendReply : List Text → List Text → Reply → List Text → Type 0
+  ExtendReply old texts reply new = (outcome : Result (Unit {0}) InternError) × InternsInOrder symbol_of place old texts outcome new × (reply ≡ extend_reply outcome)
+
   -- From the old list, and after the earlier replies of the run, the command may have this reply and leave the new list.
   abbrev pub Step : List Text → List Reply → Command → Reply → List Text → Type 0
   Step old earlier (Intern text) reply new = InternReply old text.now reply new
@@ -53,6 +67,7 @@ module _ {S : Type 0} (symbol_of : ℕ → Option S) (number : S → ℕ) (place
   Step old earlier (Number n) reply new = NumberReply old n reply × (new ≡ old)
   Step old earlier Len reply new = (reply ≡ LenReply (length old)) × (new ≡ old)
   Step old earlier Shrink reply new = (reply ≡ Done) × (new ≡ old)
+  Step old earlier (Extend texts) reply new = ExtendReply old (texts_of texts.now) reply new
 
   -- From the old list, and after the earlier replies, the commands may have these replies, one to each, and leave the
   -- new list.

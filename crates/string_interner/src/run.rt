@@ -2,7 +2,8 @@
 
 ghost use Rattle.std.specs.Prelude.{◌≡◌, ℕ, [], slice_get, Option, Some, None, IfOk, OnErr};
 ghost use Rattle.std.specs.Option.{option_copied};
-ghost use Rattle.string_interner.specs.Run.{intern_reply, number_told, IsCopy, number_read, NumberReply, Step, Run};
+ghost use Rattle.string_interner.specs.Collect.{texts_of};
+ghost use Rattle.string_interner.specs.Run.{refusal, intern_reply, number_told, IsCopy, number_read, NumberReply, ExtendReply, Step, Run};
 
 use crate::backend::{Backend, InternError};
 use crate::dedup::TextHasher;
@@ -29,6 +30,9 @@ pub enum Command<'c> {
     Len,
     /// Give back memory that no text needs: replied by `Done`.
     Shrink,
+    /// Intern the texts in order: replied by `Done`, or by `NoSymbol` or `NoMemory` of the first that is refused. Those
+    /// before it stay.
+    Extend(&'c [&'c str]),
 }
 
 /// What a command was answered.
@@ -52,14 +56,37 @@ pub enum Reply {
     NoMemory,
 }
 
+/// The reply that tells why a text was refused.
+fn refusal(error: InternError) -> Reply
+    ensures { result ≡ refusal error }
+{
+    match error {
+        InternError::NoSymbol => Reply::NoSymbol,
+        InternError::Memory(_) => Reply::NoMemory,
+    }
+}
+
 /// The reply that tells how an interning ended.
 fn intern_reply<S: Symbol>(outcome: Result<S, InternError>) -> Reply
     ensures { result ≡ intern_reply S.number outcome }
 {
     match outcome {
         Ok(symbol) => Reply::Symbol(symbol.to_usize()),
-        Err(InternError::NoSymbol) => Reply::NoSymbol,
-        Err(InternError::Memory(_)) => Reply::NoMemory,
+        Err(error) => refusal(error),
+    }
+}
+
+/// Interns the texts in order. The reply tells how that ended.
+fn extend_reply<B: Backend, H: TextHasher>(
+    interner: &mut StringInterner<B, H>,
+    texts: &[&str],
+) -> Reply
+    ensures { ExtendReply B.Symbol.symbol_of B.Symbol.number B.place B.read interner.old.texts (texts_of texts.now) result
+        interner.new.texts }
+{
+    match interner.extend(texts.iter().copied()) {
+        Ok(()) => Reply::Done,
+        Err(error) => refusal(error),
     }
 }
 
@@ -128,6 +155,7 @@ fn step<B: Backend, H: TextHasher>(
             interner.shrink_to_fit();
             Reply::Done
         }
+        Command::Extend(texts) => extend_reply(interner, texts),
     }
 }
 
