@@ -1,6 +1,6 @@
 -- Interning text after text.
 use Rattle.std.proofs.Common.{◌≡◌, ℕ, ◌+◌, ◌*◌, ◌≤◌, List, [], ◌∷◌, ◌++◌, length, refl, sym, ap, ◌∙◌, subst, arith, Option, Some, None, Ok, Err, Bor}
-use Rattle.std.specs.Prelude.{MatchOption, IsOkAnd, IsOk, IsSome, Result}
+use Rattle.std.specs.Prelude.{MatchOption, IsOk, IsSome, Result}
 use Rattle.std.specs.Iterator.{Yields, YieldsThen, AlwaysYields}
 use Rattle.std.specs.List.{sum_by}
 use Rattle.std.specs.Option.{option_map_or}
@@ -10,7 +10,7 @@ use Rattle.std.proofs.lemmas.List.Sums.{sum_by-append}
 use Rattle.string_interner.specs.Text.{Text, first}
 use Rattle.string_interner.specs.Backend.{Appends}
 use Rattle.string_interner.specs.Interner.{Interned, Interns, entry_symbol}
-use Rattle.string_interner.specs.Collect.{texts_of, fresh, IsMemory, InternsAll, HasRoomFor, TakesIn, StopsAt, Extends, InternsInOrder}
+use Rattle.string_interner.specs.Collect.{texts_of, fresh, IsMemory, InternsAll, TakesIn, StopsAt, Extends, InternsInOrder}
 use Rattle.string_interner.proofs.Laws.{refused-keeps}
 use Rattle.string_interner.specs.declared.backend.InternError.{InternError}
 use Rattle.string_interner.specs.declared.backend.InternError.TheVariants.{NoSymbol, Memory}
@@ -31,10 +31,10 @@ fresh-append old (x ∷ xs) ys =
     let now = fresh old (x ∷ []) in
     let later = fresh (old ++ now) xs in
     fresh-first old x (xs ++ ys)
-      ∙ ap (λ zs. now ++ zs) (fresh-append (old ++ now) xs ys)
-      ∙ sym (append_assoc now later (fresh ((old ++ now) ++ later) ys))
-      ∙ ap (λ zs. (now ++ later) ++ fresh zs ys) (append_assoc old now later)
-      ∙ ap (λ zs. zs ++ fresh (old ++ zs) ys) (sym (fresh-first old x xs))
+    ∙ ap (λ zs. now ++ zs) (fresh-append (old ++ now) xs ys)
+    ∙ sym (append_assoc now later (fresh ((old ++ now) ++ later) ys))
+    ∙ ap (λ zs. (now ++ later) ++ fresh zs ys) (append_assoc old now later)
+    ∙ ap (λ zs. zs ++ fresh (old ++ zs) ys) (sym (fresh-first old x xs))
 
 module _ {S : Type 0} (symbol_of : ℕ → Option S) (place : List Text → ℕ) where
   -- a text that is interned is put last where it is fresh
@@ -52,9 +52,9 @@ module _ {S : Type 0} (symbol_of : ℕ → Option S) (place : List Text → ℕ)
       let now = fresh old (text ∷ []) in
       let mid : h.0 ≡ old ++ now = interned-fresh old text h.1.0 h.0 h.1.1 in
       all-fresh h.0 texts new h.2
-        ∙ ap (λ zs. zs ++ fresh zs texts) mid
-        ∙ append_assoc old now (fresh (old ++ now) texts)
-        ∙ ap (λ zs. old ++ zs) (sym (fresh-first old text texts))
+      ∙ ap (λ zs. zs ++ fresh zs texts) mid
+      ∙ append_assoc old now (fresh (old ++ now) texts)
+      ∙ ap (λ zs. old ++ zs) (sym (fresh-first old text texts))
 
   -- one more text is interned
   pub all-more : (old texts mid : List Text) (text : Text) (symbol : S) (new : List Text) → InternsAll symbol_of place old texts mid → Interns symbol_of place mid text (Ok symbol) new → InternsAll symbol_of place old (texts ++ text ∷ []) new
@@ -125,9 +125,13 @@ module _ {S : Type 0} (symbol_of : ℕ → Option S) (place : List Text → ℕ)
     pub extends-refused : {I W : Type 0} (becomes : I → W → Type 0) (steps : W → Option (Bor Text) → W → Type 0) (iter : I) (walk rest : W) (items : List (Bor Text)) (item : Bor Text) (old mid new : Interned) (error : InternError) (outcome : Result (Unit {0}) InternError)
         → becomes iter walk → YieldsThen steps walk items (Some item) rest → outcome ≡ Err error → TakesIn symbol_of place cost old (texts_of items) mid → Interns symbol_of place mid.texts item.now (Err error) new.texts
         → (IsSome (symbol_of (place mid.texts)) → cost item.now ≤ mid.room → 4 * (length mid.texts + 1) ≤ 3 * mid.slots → IsOk {T = S} {E = InternError} (Err error)) → mid.room ≤ new.room → mid.slots ≤ new.slots → Extends symbol_of place cost becomes steps iter old outcome new
-    extends-refused becomes steps iter walk rest items item old mid new error outcome b y e taken i granted unspent slots = rw e (walk, items, b,
-        refused-taken old mid new (texts_of items) item.now error taken i unspent slots,
-        (item, rest, y, stopped old mid new (texts_of items) item.now error taken i granted))
+    extends-refused becomes steps iter walk rest items item old mid new error outcome b y e taken i granted unspent slots = rw e (
+      walk,
+      items,
+      b,
+      refused-taken old mid new (texts_of items) item.now error taken i unspent slots,
+      (item, rest, y, stopped old mid new (texts_of items) item.now error taken i granted),
+    )
 
 -- an iteration that ended went over the whole list
 drained : {W A : Type 0} (steps : W → Option A → W → Type 0) (xs : List A) (s t u : W) (all : List A) → Yields steps s xs t → steps t None u → AlwaysYields steps (λ x. x) s all → all ≡ xs

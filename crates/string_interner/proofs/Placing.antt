@@ -1,17 +1,17 @@
 -- The symbols of all entries put into empty slots, one after another.
-use Rattle.std.proofs.Common.{◌≡◌, ℕ, ◌+◌, ◌-◌, ◌<◌, ◌≤◌, ◌≢◌, ◌%◌, max, Bool, true, false, List, [], ◌∷◌, ◌++◌, length, take, get_or, Option, Some, None, Ok, IsSome, refl, sym, ap, subst, ◌∙◌, arith}
-use Rattle.std.specs.Prelude.{◌^◌, ◌*◌}
+use Rattle.std.proofs.Common.{◌≡◌, ℕ, ◌+◌, ◌-◌, ◌<◌, ◌≢◌, ◌%◌, max, Bool, true, false, List, [], ◌∷◌, ◌++◌, length, take, get_or, Option, Some, None, IsSome, refl, sym, ap, subst, ◌∙◌, arith}
+use Rattle.std.specs.Prelude.{◌^◌}
 use Rattle.std.specs.List.{Contains}
 use Rattle.std.specs.Str.{IsUtf8, bytes_eq}
 use Rattle.std.proofs.lemmas.List.{append_assoc, append-nil, length-append, take-append-le, take_at, get_or_append_left, get_or-append_right}
-use Rattle.std.proofs.lemmas.List.Elements.{All-nil, All-same, All-take}
+use Rattle.std.proofs.lemmas.List.Elements.{All-same, All-take}
 use Rattle.std.proofs.lemmas.Slice.Eq.{bytes_eq-Decides}
 use Rattle.string_interner.specs.Text.{Text, IsDistinct, first}
 use Rattle.string_interner.specs.Backend.{IsKept}
 use Rattle.string_interner.specs.Walk.{entries}
 use Rattle.string_interner.specs.Entry.{entry_text}
 use Rattle.string_interner.specs.Slots.{symbols}
-use Rattle.string_interner.specs.Index.{Fits, Indexed, Inserts}
+use Rattle.string_interner.specs.Index.{Fits, Indexed}
 use Rattle.string_interner.specs.Probe.{Puts}
 use Rattle.string_interner.specs.Interner.{IsInterned}
 use Rattle.string_interner.proofs.EntryTexts.{places_grow}

@@ -1,5 +1,4 @@
-use Rattle.std.proofs.Common.{refl, max, ap, subst, sym, ◌∙◌, arith, length}
-use Rattle.string_interner.specs.Index.{IsSlotCount, IsSound}
+use Rattle.std.proofs.Common.{refl, max, ap, sym, ◌∙◌, arith, length}
 use Rattle.string_interner.proofs.Growing.{IsSound-refilled}
 use Rattle.string_interner.proofs.dedup.Index.refill.Goals as goal
 

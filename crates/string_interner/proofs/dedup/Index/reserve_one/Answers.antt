@@ -1,4 +1,4 @@
-use Rattle.std.proofs.Common.{◌≡◌, sym, ap, subst, length}
+use Rattle.std.proofs.Common.{ap, subst}
 use Rattle.string_interner.specs.Entry.{entry_text}
 use Rattle.string_interner.specs.Probe.{GrowsTo, Rebuilt}
 use Rattle.string_interner.proofs.Rebuilding.{Rebuilt-same}
