@@ -1,7 +1,8 @@
 //! What the tests share: a caller's own symbol type and backend, used through their bounds, and refused memory.
 
-ghost use Rattle.std.specs.Prelude.{◌≡◌, ◌*◌, ℕ, length, slice_get, max};
-ghost use Rattle.std.proofs.Common.{rules, refl};
+ghost use Rattle.std.specs.Prelude.{◌≡◌, ◌<◌, ◌*◌, ℕ, length, slice_get, max};
+ghost use Rattle.std.proofs.Common.{rules, refl, lit≤};
+ghost use Rattle.string_interner.specs.Symbol.{number_below, number_below-some};
 ghost use Rattle.string_interner.specs.StringBackend.{length_grows, reads_at_length};
 ghost use Rattle.string_interner.specs.Samples.{half_of, half_of-some, halves_equal, halves_same};
 
@@ -56,6 +57,48 @@ impl Symbol for Even {
     ghost equal_by_number = { halves_equal };
 
     ghost injective = { halves_same };
+}
+
+/// A symbol type that has two symbols: the numbers 0 and 1.
+#[derive(Clone, Copy, PartialEq, Eq, Debug)]
+pub struct Bit {
+    number: u8,
+}
+
+impl Model for Bit {
+    ghost Value = { ℕ };
+
+    ghost view = { λ symbol. symbol.number };
+
+    ghost invariant = { λ symbol. symbol.number < 2 };
+
+    ghost inverse = { λ n. record { number = n } };
+}
+
+impl Symbol for Bit {
+    ghost number = { λ symbol. symbol };
+
+    ghost symbol_of = { number_below 2 };
+
+    fn try_from_usize(index: usize) -> Option<Self> {
+        if index < 2 {
+            Some(Bit {
+                number: index as u8,
+            })
+        } else {
+            None
+        }
+    }
+
+    fn to_usize(self) -> usize {
+        self.number as usize
+    }
+
+    ghost numbered = { number_below-some 2 (lit≤ tt) };
+
+    ghost equal_by_number = { Prim.search rules };
+
+    ghost injective = { λ a b same. same };
 }
 
 /// A backend that counts the texts that it is asked for.

@@ -44,3 +44,6 @@ impl<B: Backend + Drop, H: TextHasher + Default + Drop> StringInterner<B, H> {
         Ok(interner)
     }
 }
+
+#[cfg(test)]
+mod tests;

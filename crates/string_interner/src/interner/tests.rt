@@ -2,11 +2,19 @@ ghost use Rattle.std.specs.Prelude.{◌≡◌, IfOk, map};
 
 use super::*;
 use crate::DefaultStringInterner;
-use crate::backend::StringBackend;
+use crate::backend::{BucketBackend, BufferBackend, StringBackend};
+use crate::dedup::FixedState;
 use crate::symbol::DefaultSymbol;
 use crate::tests::{Counting, Even, tell_refused};
 use std::alloc::AllocError;
 use std::test::Fail;
+
+impl<B: Backend, H: TextHasher> StringInterner<B, H> {
+    /// The backend, for the tests of the backends to look at.
+    pub(crate) fn backend(&self) -> &B {
+        &self.backend
+    }
+}
 
 /// The numbers that texts answer, one after another, in an interner over a backend that is known by its bound alone.
 fn numbers<B: Backend, H: TextHasher>(
@@ -167,6 +175,98 @@ fn equal_exactly_for_equal_lists(rt: HostRuntime) -> Result<(), Fail> {
             assert_eq!(rt; left == right, i == k, "{one:?} and {other:?}");
         }
     }
+    Ok(())
+}
+
+#[test]
+fn room_is_granted_and_kept(rt: HostRuntime) -> Result<(), Fail> {
+    let mut interner = StringInterner::<StringBackend>::with_capacity(rt.alloc(), 2)?;
+    assert_eq!(rt; interner.index.slots(), 8);
+    let texts = ["Tiger", "Horse", "Tiger"];
+    assert_eq!(rt;
+        numbers(rt.alloc(), &mut interner, &texts)?.as_slice(),
+        [0, 1, 0].as_slice()
+    );
+    interner.shrink_to_fit();
+    assert_eq!(rt;
+        numbers(rt.alloc(), &mut interner, &texts)?.as_slice(),
+        [0, 1, 0].as_slice()
+    );
+    assert_eq!(rt; interner.len(), 2);
+    Ok(())
+}
+
+#[test]
+fn capacities_that_do_not_fit(rt: HostRuntime) {
+    let most = 18446744073709551615;
+    assert!(rt; StringInterner::<StringBackend>::with_capacity(rt.alloc(), most).is_err());
+    assert!(rt; StringInterner::<BucketBackend>::with_capacity(rt.alloc(), most).is_err());
+    assert!(rt; StringInterner::<BufferBackend>::with_capacity(rt.alloc(), most).is_err());
+}
+
+#[test]
+fn a_clone_is_equal_and_its_own(rt: HostRuntime) -> Result<(), Fail> {
+    let mut interner = StringInterner::<BufferBackend>::with_hasher(rt.alloc(), FixedState);
+    numbers(rt.alloc(), &mut interner, &["Tiger", "Horse"])?;
+    let mut copy = interner.clone()?;
+    assert!(rt; copy == interner);
+    for text in ["Tiger", "Horse", "Bear"] {
+        assert_eq!(rt; copy.get(text), interner.get(text));
+    }
+    assert_eq!(rt; copy.get_or_intern("Bear")?.to_usize(), 12);
+    assert!(rt; copy != interner);
+    assert_eq!(rt; interner.get("Bear"), None);
+    Ok(())
+}
+
+/// Passes whichever request for memory is refused: once an interner was made with room, none is asked for within it.
+#[test]
+fn memory_of_makers(rt: HostRuntime) -> Result<(), Fail> {
+    let mut interner = match StringInterner::<BufferBackend>::with_capacity(rt.alloc(), 2) {
+        Ok(interner) => interner,
+        Err(AllocError) => {
+            tell_refused(&rt, "with_capacity of StringInterner")?;
+            StringInterner::with_capacity(rt.alloc(), 2)?
+        }
+    };
+    for (number, text) in [(0, "Tiger"), (6, "Horse"), (0, "Tiger")] {
+        assert_eq!(rt; interner.get_or_intern(text)?.to_usize(), number);
+    }
+    Ok(())
+}
+
+/// Likewise over the other backends, whose room is counted otherwise.
+#[test]
+fn memory_within_the_room(rt: HostRuntime) -> Result<(), Fail> {
+    let Ok(mut joined) = StringInterner::<StringBackend>::with_capacity(rt.alloc(), 2) else {
+        return tell_refused(&rt, "with_capacity of StringInterner").map_err(Fail::from);
+    };
+    let Ok(mut buckets) = StringInterner::<BucketBackend>::with_capacity(rt.alloc(), 10) else {
+        return tell_refused(&rt, "with_capacity of StringInterner").map_err(Fail::from);
+    };
+    for (number, text) in [(0, "Tiger"), (1, "Horse"), (0, "Tiger")] {
+        assert_eq!(rt; joined.get_or_intern(text)?.to_usize(), number);
+        assert_eq!(rt; buckets.get_or_intern(text)?.to_usize(), number);
+    }
+    Ok(())
+}
+
+/// Passes whichever request for memory is refused.
+#[test]
+fn memory_of_clone(rt: HostRuntime) -> Result<(), Fail> {
+    let Ok(mut interner) = StringInterner::<StringBackend>::with_capacity(rt.alloc(), 2) else {
+        return tell_refused(&rt, "with_capacity of StringInterner").map_err(Fail::from);
+    };
+    interner.get_or_intern("Tiger")?;
+    let copy = match interner.clone() {
+        Ok(copy) => copy,
+        Err(AllocError) => {
+            assert_eq!(rt; interner.len(), 1);
+            tell_refused(&rt, "clone of StringInterner")?;
+            interner.clone()?
+        }
+    };
+    assert!(rt; copy == interner);
     Ok(())
 }
 

@@ -256,11 +256,14 @@ fn memory_of_to_json(rt: HostRuntime) -> Result<(), Fail> {
     let texts = ["Tiger", "Horse"];
     let mut interner = StringInterner::<StringBackend>::new(rt.alloc());
     fill(&mut interner, &texts)?;
-    if interner.to_json(rt.alloc()).is_err() {
-        tell_refused(&rt, "to_json over StringBackend")?;
-    }
+    let value = match interner.to_json(rt.alloc()) {
+        Ok(value) => value,
+        Err(_) => {
+            tell_refused(&rt, "to_json over StringBackend")?;
+            interner.to_json(rt.alloc())?
+        }
+    };
     assert_eq!(rt; interner.len(), 2);
-    let value = interner.to_json(rt.alloc())?;
     for (i, text) in texts.iter().enumerate() {
         assert_eq!(rt; value.get(i).and_then(Value::as_str), Some(*text));
     }
@@ -272,11 +275,14 @@ fn memory_of_to_json(rt: HostRuntime) -> Result<(), Fail> {
 #[test]
 fn memory_of_from_json(rt: HostRuntime) -> Result<(), Fail> {
     let value = parsed(rt.alloc(), "[\"Tiger\",\"Horse\"]")?;
-    if let Err(error) = StringInterner::<StringBackend>::from_json(rt.alloc(), &value) {
-        assert_eq!(rt; error, JsonError::Memory(AllocError));
-        tell_refused(&rt, "from_json over StringBackend")?;
-    }
-    let interner = StringInterner::<StringBackend>::from_json(rt.alloc(), &value)?;
+    let interner = match StringInterner::<StringBackend>::from_json(rt.alloc(), &value) {
+        Ok(interner) => interner,
+        Err(error) => {
+            assert_eq!(rt; error, JsonError::Memory(AllocError));
+            tell_refused(&rt, "from_json over StringBackend")?;
+            StringInterner::<StringBackend>::from_json(rt.alloc(), &value)?
+        }
+    };
     assert_eq!(rt; interner.len(), 2);
     assert_eq!(rt;
         interner.get("Horse").map(|symbol| symbol.to_usize()),

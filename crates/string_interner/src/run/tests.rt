@@ -1,6 +1,6 @@
 use super::*;
 use crate::backend::StringBackend;
-use crate::tests::{Counting, Even, tell_refused};
+use crate::tests::{Bit, Counting, Even, tell_refused};
 use std::test::Fail;
 
 #[test]
@@ -138,6 +138,50 @@ fn shrinking_keeps_texts_and_symbols(rt: HostRuntime) -> Result<(), Fail> {
         Reply::NoReply,
         Reply::Symbol(2),
         Reply::Len(3),
+    ];
+    assert_eq!(rt; replies.as_slice(), wanted.as_slice());
+    Ok(())
+}
+
+#[test]
+fn extends_by_lists_of_texts(rt: HostRuntime) -> Result<(), Fail> {
+    let commands = [
+        Command::Extend(&["Tiger", "Horse"]),
+        Command::Intern("Bear"),
+        Command::Intern("Horse"),
+        Command::Resolve(1),
+        Command::Len,
+    ];
+    let mut interner = StringInterner::<StringBackend>::new(rt.alloc());
+    let replies = run(rt.alloc(), &mut interner, &commands)?;
+    let wanted = [
+        Reply::Done,
+        Reply::Symbol(2),
+        Reply::Symbol(1),
+        text(rt.alloc(), "Bear")?,
+        Reply::Len(3),
+    ];
+    assert_eq!(rt; replies.as_slice(), wanted.as_slice());
+    Ok(())
+}
+
+#[test]
+fn texts_before_a_refused_one_stay(rt: HostRuntime) -> Result<(), Fail> {
+    let commands = [
+        Command::Extend(&["a", "b", "a", "c", "b"]),
+        Command::Len,
+        Command::Get("b"),
+        Command::Extend(&["a"]),
+        Command::Extend(&[]),
+    ];
+    let mut interner = StringInterner::<StringBackend<Bit>>::new(rt.alloc());
+    let replies = run(rt.alloc(), &mut interner, &commands)?;
+    let wanted = [
+        Reply::NoSymbol,
+        Reply::Len(2),
+        Reply::Symbol(1),
+        Reply::Done,
+        Reply::Done,
     ];
     assert_eq!(rt; replies.as_slice(), wanted.as_slice());
     Ok(())

@@ -1,9 +1,12 @@
 use super::*;
+use crate::interner::StringInterner;
+use crate::run::{Command, Reply, run};
+use crate::symbol::SymbolU16;
 use crate::tests::tell_refused;
 use std::test::Fail;
 
 /// The capacity and the length of the head, how many older buckets there are, all capacities together, and all bytes.
-fn shape(backend: &BucketBackend) -> (usize, usize, usize, usize, usize) {
+fn shape<S: Symbol>(backend: &BucketBackend<S>) -> (usize, usize, usize, usize, usize) {
     let mut capacities = backend.head.capacity();
     let mut bytes = backend.head.len();
     for bucket in &backend.full {
@@ -26,6 +29,31 @@ fn static_count(backend: &BucketBackend) -> usize {
         .iter()
         .filter(|interned| matches!(interned, InternedStr::Static(_)))
         .count()
+}
+
+#[test]
+fn a_static_text_is_not_copied_by_a_run(rt: HostRuntime) -> Result<(), Fail> {
+    let mut interner = StringInterner::<BucketBackend>::new(rt.alloc());
+    let commands = [Command::InternStatic("aa"), Command::Intern("aa")];
+    let replies = run(rt.alloc(), &mut interner, &commands)?;
+    assert_eq!(rt;
+        replies.as_slice(),
+        [Reply::Symbol(0), Reply::Symbol(0)].as_slice()
+    );
+    assert_eq!(rt; shape(interner.backend()), (0, 0, 0, 0, 0));
+    let copy = interner.clone()?;
+    assert!(rt; copy == interner);
+    assert_eq!(rt; shape(copy.backend()), (0, 0, 0, 0, 0));
+    Ok(())
+}
+
+#[test]
+fn two_byte_symbols_over_buckets(rt: HostRuntime) -> Result<(), Fail> {
+    let mut interner = StringInterner::<BucketBackend<SymbolU16>>::new(rt.alloc());
+    for (number, text) in [(0, "Tiger"), (1, "Horse"), (0, "Tiger")] {
+        assert_eq!(rt; interner.get_or_intern(text)?.to_usize(), number);
+    }
+    Ok(())
 }
 
 #[test]

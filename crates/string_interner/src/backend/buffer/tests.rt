@@ -1,6 +1,8 @@
 ghost use Rattle.std.specs.Prelude.{◌^◌, ◌-◌, ◌≤◌, ◌<◌, ◌≡◌, ℕ};
 
 use super::*;
+use crate::interner::StringInterner;
+use crate::run::{Command, Reply, run};
 use crate::symbol::SymbolU16;
 use crate::tests::tell_refused;
 use std::process::Abort;
@@ -134,6 +136,27 @@ fn assert_reads(
         );
     }
     assert_eq!(rt; read(&backend, 4294967294), None);
+    numbers_of_a_run(rt, texts, answers)
+}
+
+/// The same by a run, on an interner of the texts.
+fn numbers_of_a_run(
+    rt: &(impl Abort + Alloc<A = Global>),
+    texts: &[&str],
+    answers: &[(usize, Option<&str>)],
+) -> Result<(), Fail> {
+    let mut interner = StringInterner::<BufferBackend>::new(rt.alloc());
+    for text in texts {
+        interner.get_or_intern(text)?;
+    }
+    for (number, answer) in answers {
+        let replies = run(rt.alloc(), &mut interner, &[Command::Number(*number)])?;
+        let wanted = match answer {
+            Some(text) => Reply::Text(String::from_str(rt.alloc(), text)?),
+            None => Reply::Nothing,
+        };
+        assert_eq!(rt; replies.as_slice(), [wanted].as_slice(), "at {number}");
+    }
     Ok(())
 }
 
@@ -173,6 +196,26 @@ fn any_number_is_read_or_gives_nothing(rt: HostRuntime) -> Result<(), Fail> {
         b"\x0B\xC3\xA9\xC3\xA9\xC3\xA9\xC3\xA9\xC3\xA9\x02",
         &[(1, None), (2, None), (11, None)],
     )
+}
+
+#[test]
+fn an_interner_ends_at_the_last_place(rt: HostRuntime) -> Result<(), Fail> {
+    let mut interner = StringInterner::<BufferBackend<SymbolU16>>::new(rt.alloc());
+    let long = letters(rt.alloc(), 65531)?;
+    assert_eq!(rt; interner.get_or_intern(&long)?.to_usize(), 0);
+    assert_eq!(rt; interner.get_or_intern("b")?.to_usize(), 65534);
+    assert_eq!(rt; interner.get_or_intern("c"), Err(InternError::NoSymbol));
+    assert_eq!(rt; interner.get_or_intern("b")?.to_usize(), 65534);
+    assert_eq!(rt; interner.len(), 2);
+    let mut interner = StringInterner::<BufferBackend>::new(rt.alloc());
+    for (number, text) in [(0, "Tiger"), (6, "Horse"), (0, "Tiger")] {
+        assert_eq!(rt; interner.get_or_intern(text)?.to_usize(), number);
+    }
+    assert_eq!(rt;
+        interner.backend().as_bytes(),
+        b"\x05Tiger\x05Horse".as_slice()
+    );
+    Ok(())
 }
 
 #[test]
