@@ -44,11 +44,16 @@ fn is_made_of_the_elements(rt: HostRuntime) -> Result<(), Fail> {
         (3, "Air", 1),
     ] {
         assert_eq!(rt; entries.len(), left);
-        let (symbol, found) = entries.next().ok_or("an entry")?;
-        assert_eq!(rt; (symbol.to_usize(), found), (number, text));
+        match entries.next() {
+            Some((symbol, found)) => {
+                assert_eq!(rt; symbol.to_usize(), number);
+                assert_eq!(rt; found, text);
+            }
+            None => assert!(rt; false, "{text} is missing"),
+        }
     }
     assert_eq!(rt; entries.len(), 0);
-    assert_eq!(rt; entries.next(), None);
+    assert!(rt; entries.next().is_none());
     Ok(())
 }
 
