@@ -44,7 +44,7 @@ abbrev pub IsBounded : List Bucket → Type 0
 IsBounded buckets = total_capacity buckets ≤ max (bucket_at buckets 0).capacity (4 * byte_count buckets)
 
 -- A text is put into the buckets: at the end of the head where the capacity of the head allows it. Else the head joins
--- the older buckets, and the text begins a new head, whose capacity is a power of two.
+-- the older buckets, and the text begins a new head, whose capacity is the least power of two above both.
 pub record Puts (text : Text) (full : List Bucket) (head : Bucket) (new_full : List Bucket) (new_head : Bucket) : Type 0 where
   pub fits : length head.bytes + length text ≤ head.capacity → (new_full ≡ full) × (new_head ≡ record head { bytes = head.bytes ++ text })
   pub too_long : head.capacity < length head.bytes + length text

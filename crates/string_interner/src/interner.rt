@@ -8,6 +8,7 @@ ghost use Rattle.std.specs.Cmp.{partial_equiv_from_equiv, on_equiv};
 ghost use Rattle.string_interner.specs.Text.{Text, IsDistinct, first, texts_eq, texts_eq-IsEquivalence};
 ghost use Rattle.string_interner.specs.Backend.{BeginsAt, IsPlace, IsKept};
 ghost use Rattle.string_interner.specs.Interner.{Interned, Interns, IsInterned, known_symbol};
+ghost use Rattle.string_interner.specs.Index.{IsLeastFor};
 ghost use Rattle.string_interner.specs.Sought.{Seeks};
 
 use crate::backend::{Backend, CopyBackend, InternError, Iter};
@@ -273,7 +274,8 @@ impl<B: CopyBackend + Drop, H: TextHasher + Clone + Drop> StringInterner<B, H> {
     ///
     /// Refuses only where memory was refused.
     pub fn clone(&self) -> Result<Self, AllocError>
-        ensures { IfOk result (λ copy. copy.texts ≡ self.now.texts) }
+        ensures texts { IfOk result (λ copy. copy.texts ≡ self.now.texts) }
+        ensures slots { IfOk result (λ copy. IsLeastFor (length self.now.texts) copy.slots) }
     {
         let hasher = self.hasher.clone()?;
         let mut index = Index::with_capacity(self.index.allocator(), self.len())?;

@@ -387,7 +387,14 @@ impl<S: Symbol> BucketBackend<S> {
 impl<S: Symbol> CopyBackend for BucketBackend<S> {
     fn try_copy(&self) -> Result<Self, AllocError>
         ensures texts { IfOk result (λ copy. copy.texts ≡ self.now.texts) }
+        ensures statics { IfOk result (λ copy. copy.statics ≡ self.now.statics) }
+        ensures full { IfOk result (λ copy. copy.full ≡ []) }
+        ensures head { IfOk result (λ copy. copy.head ≡ record {
+          capacity = self.now.head.capacity + byte_count self.now.full;
+          bytes = copied_bytes self.now.texts self.now.statics;
+        }) }
         ensures bounded { IfOk result (λ copy. IsBounded (buckets_of copy.full copy.head)) }
+        ensures fits { OnOk result (self.now.head.capacity + byte_count self.now.full < 2 ^ 64) }
     {
         self.clone()
     }

@@ -91,6 +91,54 @@ fn the_last_symbol_of_two_bytes(rt: HostRuntime) -> Result<(), Fail> {
     Ok(())
 }
 
+#[test]
+fn capacities_that_do_not_fit(rt: HostRuntime) {
+    // A fifth of 2^64, rounded up, and the greatest capacity.
+    for capacity in [3689348814741910324, 18446744073709551615] {
+        assert!(rt; StringBackend::<DefaultSymbol>::with_capacity(rt.alloc(), capacity).is_err());
+    }
+}
+
+#[test]
+fn a_copy_is_equal_and_its_own(rt: HostRuntime) -> Result<(), Fail> {
+    let mut backend = StringBackend::<DefaultSymbol>::with_capacity(rt.alloc(), 2)?;
+    for text in ["Tiger", "Horse"] {
+        backend.intern(text)?;
+    }
+    backend.shrink_to_fit();
+    let mut copy = backend.try_copy()?;
+    assert!(rt; copy == backend);
+    assert_eq!(rt; copy.intern_static("Bear")?.to_usize(), 2);
+    assert!(rt; copy != backend);
+    assert_eq!(rt; backend.count(), 2);
+    Ok(())
+}
+
+/// Passes whichever request for memory is refused: within the room that was granted none is asked for.
+#[test]
+fn memory_of_makers_and_copies(rt: HostRuntime) -> Result<(), Fail> {
+    let mut backend = match StringBackend::<DefaultSymbol>::with_capacity(rt.alloc(), 2) {
+        Ok(backend) => backend,
+        Err(AllocError) => {
+            tell_refused(&rt, "with_capacity of StringBackend")?;
+            StringBackend::with_capacity(rt.alloc(), 2)?
+        }
+    };
+    for (number, text) in [(0, "Tiger"), (1, "Horse")] {
+        assert_eq!(rt; backend.intern(text)?.to_usize(), number);
+    }
+    let copy = match backend.clone() {
+        Ok(copy) => copy,
+        Err(AllocError) => {
+            assert_eq!(rt; backend.joined.as_str(), "TigerHorse");
+            tell_refused(&rt, "clone of StringBackend")?;
+            backend.clone()?
+        }
+    };
+    assert!(rt; copy == backend);
+    Ok(())
+}
+
 /// Passes whichever request for memory is refused.
 #[test]
 fn memory_of_intern(rt: HostRuntime) -> Result<(), Fail> {

@@ -1,6 +1,6 @@
 use super::*;
 use crate::DefaultStringInterner;
-use crate::backend::StringBackend;
+use crate::backend::{Backend, BufferBackend, StringBackend};
 use crate::symbol::Symbol;
 use crate::tests::{Bit, tell_refused};
 use std::alloc::AllocError;
@@ -54,6 +54,31 @@ fn is_made_of_the_elements(rt: HostRuntime) -> Result<(), Fail> {
     }
     assert_eq!(rt; entries.len(), 0);
     assert!(rt; entries.next().is_none());
+    Ok(())
+}
+
+/// Passes whichever request for memory is refused: within the room that was granted none is asked for.
+#[test]
+fn memory_within_the_room(rt: HostRuntime) -> Result<(), Fail> {
+    let Ok(mut interner) = StringInterner::<BufferBackend>::with_capacity(rt.alloc(), 3) else {
+        return tell_refused(&rt, "with_capacity of StringInterner").map_err(Fail::from);
+    };
+    let texts = ["Tiger", "Horse", "Tiger", "Bear"];
+    interner.extend(texts.iter().copied())?;
+    for (text, number) in [("Tiger", 0), ("Horse", 6), ("Bear", 12)] {
+        assert_eq!(rt;
+            interner.get(text).map(|symbol| symbol.to_usize()),
+            Some(number),
+            "{text}"
+        );
+    }
+    assert_eq!(rt;
+        interner
+            .backend()
+            .next_symbol()
+            .map(|symbol| symbol.to_usize()),
+        Some(17)
+    );
     Ok(())
 }
 
