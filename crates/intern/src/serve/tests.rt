@@ -352,6 +352,14 @@ fn asks_back(rt: HostRuntime) -> Result<(), Fail> {
             "symbol 0\nsymbol 1\nsymbol 1\ntext Tiger\nnone\n",
         ),
         ("i \nr 0\n", "symbol 0\ntext \n"),
+        (
+            "i a\nn 0\nn 1\nn 4294967295\nn 18446744073709551615\nr 1\nr 0\nlen\n",
+            "symbol 0\ntext a\nnone\nnone\nnone\nno reply\ntext a\nlen 1\n",
+        ),
+        (
+            "i a\ni b\ng b\nr 2\n",
+            "symbol 0\nsymbol 1\nsymbol 1\ntext b\n",
+        ),
         ("i a\nn 000", "symbol 0\ntext a\n"),
         ("len", "len 0\n"),
         (
