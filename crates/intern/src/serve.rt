@@ -148,6 +148,8 @@ pub fn serve<R: Read, W: Write>(
     ensures answered { OnOk result (IfSome (R.remaining input.old) (λ bytes. (choice : Choice) × Name arguments.now choice
         × Answers choice bytes (W.contents output.old) (W.contents output.new))) }
 
+    ensures output { IsErrOf result Fault.Output → IfSome (R.remaining input.old) (λ bytes. All IsStated (lines_of bytes)) }
+
     // Unless all went well or a write failed, the output was not touched.
     ensures silent { IsOk result ⊎ (IsErrOf result Fault.Output ⊎ (output.new ≡ output.old)) }
 {

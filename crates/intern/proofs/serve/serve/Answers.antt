@@ -1,11 +1,15 @@
-use Rattle.std.proofs.Common.{◌≡◌, ℕ, List, Option, Some, None, Result, Ok, Err, IfSome, OnOk, subst, string_bytes, rules}
+use Rattle.std.proofs.Common.{◌≡◌, ℕ, List, [], ◌∷◌, All, Option, Some, None, Result, Ok, Err, IfSome, OnOk, subst, string_bytes, rules}
+use Rattle.std.specs.List.{AllZip}
+use Rattle.std.proofs.lemmas.List.Elements.{All-cons, All-nil}
 use Rattle.intern.specs.Arguments.{Name}
 use Rattle.intern.specs.Fault.{IsLineFault}
 use Rattle.intern.specs.declared.serve.Choice.{Choice}
-use Rattle.intern.specs.Lines.{IsFirstBadLine, lines_of}
+use Rattle.intern.specs.Line.{States}
+use Rattle.intern.specs.Lines.{IsFirstBadLine, IsStated, lines_of}
 use Rattle.intern.specs.Served.{Answers}
 use Rattle.intern.specs.declared.fault.Fault.{Fault}
 use Rattle.intern.specs.declared.fault.Fault.TheVariants.{BadLine}
+use Rattle.string_interner.specs.declared.run.Command.{Command}
 use Rattle.intern.proofs.serve.serve.Goals as goal
 
 -- the text that was read is the known input
@@ -19,6 +23,12 @@ OnOk-map (Err e) f h = h
 
 IsFirstBadLine-from_fault : (lines : List (List ℕ)) (fault : Fault) (n : ℕ) → IsLineFault lines fault → fault ≡ BadLine n → IsFirstBadLine lines n
 IsFirstBadLine-from_fault lines fault n h e = subst (λ f. IsLineFault lines f) e h
+
+All-IsStated : (commands : List Command) (lines : List (List ℕ)) → AllZip States commands lines → All IsStated lines
+All-IsStated [] [] h = All-nil IsStated
+All-IsStated (c ∷ cs) (l ∷ ls) h = All-cons IsStated l ls (c, h.0) (All-IsStated cs ls h.1)
+All-IsStated [] (l ∷ ls) h = search rules
+All-IsStated (c ∷ cs) [] h = search rules
 
 pub returns-in_err-commands-clause-bad_line : goal.returns-in_err-commands-clause-bad_line
 returns-in_err-commands-clause-bad_line g c = λ n e.
@@ -37,3 +47,9 @@ returns-clause-answered g c =
     (g.R.Read.remaining c.args.input.now) (string_bytes c.in_ok-text.text) c.in_ok-text.ensures.whole
     (c.in_ok-choice.choice, search rules, record { commands = c.in_ok-commands.commands.items; replies = c.in_ok-replies.replies.items; texts = ran.0; stated = stated; ran = ran_on; written = rw c.deref-3.ensures.value at told }))
     c.write_replies.ensures.written
+
+pub returns-clause-output : goal.returns-clause-output
+returns-clause-output g c = λ e.
+    let stated = rw c.deref.ensures at c.in_ok-commands.ensures.stated in
+    let all = All-IsStated c.in_ok-commands.commands.items (lines_of (string_bytes c.in_ok-text.text)) stated in
+    IfSome-input (λ bytes. All IsStated (lines_of bytes)) (g.R.Read.remaining c.args.input.now) (string_bytes c.in_ok-text.text) c.in_ok-text.ensures.whole all
