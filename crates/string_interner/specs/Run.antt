@@ -9,7 +9,7 @@ use Rattle.string_interner.specs.Collect.{texts_of, InternsInOrder}
 use Rattle.string_interner.specs.declared.backend.InternError.{InternError}
 use Rattle.string_interner.specs.declared.backend.InternError.TheVariants.{NoSymbol as InternNoSymbol, Memory}
 use Rattle.string_interner.specs.declared.run.Command.{Command}
-use Rattle.string_interner.specs.declared.run.Command.TheVariants.{Intern, InternStatic, Get, Resolve, Number, Len, Shrink, Extend}
+use Rattle.string_interner.specs.declared.run.Command.TheVariants.{Intern, InternStatic, Get, Resolve, Number, Len, Shrink, Truncate, Extend}
 use Rattle.string_interner.specs.declared.run.Reply.{Reply}
 use Rattle.string_interner.specs.declared.run.Reply.TheVariants.{Symbol, Nothing, Text as TextReply, Len as LenReply, Done, NoReply, NoSymbol, NoMemory}
 
@@ -67,6 +67,7 @@ module _ {S : Type 0} (symbol_of : ℕ → Option S) (number : S → ℕ) (place
   Step old earlier (Number n) reply new = NumberReply old n reply × (new ≡ old)
   Step old earlier Len reply new = (reply ≡ LenReply (length old)) × (new ≡ old)
   Step old earlier Shrink reply new = (reply ≡ Done) × (new ≡ old)
+  Step old earlier (Truncate len) reply new = (reply ≡ Done) × (new ≡ take len old)
   Step old earlier (Extend texts) reply new = ExtendReply old (texts_of texts.now) reply new
 
   -- From the old list, and after the earlier replies, the commands may have these replies, one to each, and leave the
