@@ -4,14 +4,16 @@ use Rattle.std.specs.Prelude.{slice_range}
 use Rattle.std.specs.Str.{IsUtf8, IsCharBoundary}
 use Rattle.std.proofs.lemmas.Bool.{cases_lt, cases_eq}
 use Rattle.std.proofs.lemmas.Str.{IsCharBoundary-at_seam, IsCharBoundary-end, IsUtf8-nil}
-use Rattle.std.proofs.lemmas.List.{append-nil, append_assoc, get_or_append_left, get_or_push, length_push, length-append, length-take, length-drop, drop-append-le, take-append-le, drop_at, map_push, length-map, take_all, take_more, get_or-map}
-use Rattle.std.proofs.lemmas.List.Elements.{All-push, All-head, All-tail, All-weaker, All-get_or}
-use Rattle.std.proofs.lemmas.List.Sums.{sum_by_push}
+use Rattle.std.proofs.lemmas.List.{append-nil, append_assoc, get_or_append_left, get_or_push, length_push, length-append, length-take, length-drop, drop-append-le, take-append-le, drop_at, map_push, length-map, take_all, take_more, take-map, get_or-map}
+use Rattle.std.proofs.lemmas.List.Elements.{All-push, All-head, All-tail, All-weaker, All-get_or, All-take}
+use Rattle.std.proofs.lemmas.List.Sums.{sum_by_push, sum_by-take-le}
 use Rattle.string_interner.specs.Text.{Text}
-use Rattle.string_interner.specs.Backend.{Bucket}
+use Rattle.string_interner.specs.Backend.{Bucket, IsKept}
+use Rattle.string_interner.specs.StringBackend.{length_grows}
 use Rattle.string_interner.specs.BucketBackend.{buckets_of, bucket_at, total_capacity, byte_count, Puts, Stays, is_static, copied_bytes, text_of, IsPart, IsEntry, entry_len, IsLast, IsTight, IsStored, IsCopy, AreCopies}
 use Rattle.string_interner.specs.declared.backend.bucket.interned_str.InternedStr.{InternedStr}
 use Rattle.string_interner.specs.declared.backend.bucket.interned_str.InternedStr.TheVariants.{InBucket, Static}
+use Rattle.string_interner.proofs.Fronts.{kept-take}
 use Rattle.string_interner.proofs.Kept.{kept-more}
 
 -- a boundary between characters is one still where a text follows
@@ -228,6 +230,15 @@ stored-static symbol_of text full head entries more stored utf8 some small is =
       tight = stored.tight;
       kept = rw now (kept-more symbol_of length texts text.now stored.kept utf8 some (omega (arith, count, length_push texts text.now)));
     })
+
+-- the first entries stay stored, in the same buckets
+pub stored-take : {S : Type 0} (symbol_of : ℕ → Option S) (full : List Bucket) (head : Bucket) (entries fewer : List InternedStr) (len : ℕ) → IsStored symbol_of full head entries → fewer ≡ take len entries → IsStored symbol_of full head fewer
+stored-take symbol_of full head entries fewer len stored is = rw is (record {
+  standing = All-take (IsEntry (buckets_of full head)) len entries stored.standing;
+  shared = omega (arith, sum_by-take-le entry_len entries len, stored.shared);
+  tight = stored.tight;
+  kept = subst (IsKept symbol_of length) (take-map (text_of (buckets_of full head)) len entries) (kept-take symbol_of length length_grows len (map (text_of (buckets_of full head)) entries) stored.kept);
+})
 
 -- ---- a copy
 

@@ -1,14 +1,15 @@
 -- A buffer and the texts that it spells: they are fixed by its bytes, and one more goes to the end.
 use Rattle.std.proofs.Common.{◌≡◌, ℕ, zero, suc, ◌+◌, ◌<◌, ◌≤◌, ◌^◌, List, [], ◌∷◌, ◌++◌, length, take, drop, Option, IsSome, refl, sym, ap, ◌∙◌, append_assoc, arith}
 use Rattle.std.specs.Str.{IsUtf8, bytes_eq}
-use Rattle.std.proofs.lemmas.List.{take_at, drop_at, length-append, append-nil, length_push}
+use Rattle.std.proofs.lemmas.List.{take_at, drop_at, length-append, append-nil, length_push, length-take-le, take-append-drop}
 use Rattle.std.proofs.lemmas.List.Concat.{flat_map-append, flat_map-cons}
 use Rattle.std.proofs.lemmas.List.Sums.{sum_by-cons}
 use Rattle.std.proofs.lemmas.Slice.Eq.{bytes_eq-Decides}
 use Rattle.string_interner.specs.Text.{Text, texts_eq}
 use Rattle.string_interner.specs.Spelling.{spell, digits, front_len, front_value, after_front}
 use Rattle.string_interner.specs.BufferBackend.{entry_of, bytes_of, entry_len, place_of, texts_in, IsSpelled}
-use Rattle.string_interner.specs.BufferLaws.{length-spell, spell-IsChain, value-spell, front_len-chain, front_value-chain, after_front-chain, entry_len-positive, length-bytes_of}
+use Rattle.string_interner.specs.BufferLaws.{length-spell, spell-IsChain, value-spell, front_len-chain, front_value-chain, after_front-chain, entry_len-positive, length-bytes_of, place_grows}
+use Rattle.string_interner.proofs.Fronts.{kept-take}
 use Rattle.string_interner.proofs.Kept.{kept-more}
 use Rattle.string_interner.proofs.Equal.{texts_eq-Decides, same_tests}
 
@@ -93,6 +94,18 @@ spelled-more symbol_of buffer more_buffer count t is utf8 has small e =
     let texts_are : texts_in (count + 1) more_buffer ≡ texts ++ t ∷ [] = ap (λ (k : ℕ). texts_in k more_buffer) n ∙ ap (texts_in (length (texts ++ t ∷ []))) bytes_are ∙ texts_in-bytes_of (texts ++ t ∷ []) in
     let fits : place_of (texts ++ t ∷ []) < 2 ^ 64 = omega (arith, ap length bytes_are, length-bytes_of (texts ++ t ∷ [])) in
     (texts_are, rw texts_are (record { bytes_are = bytes_are; kept = kept-more symbol_of place_of texts t is.kept utf8 has fits }))
+
+-- the first texts stay spelled
+pub spelled-take : {S : Type 0} (symbol_of : ℕ → Option S) (buffer fewer_buffer : List ℕ) (count len : ℕ) → IsSpelled symbol_of buffer (texts_in count buffer) → len ≤ count → fewer_buffer ≡ take (place_of (take len (texts_in count buffer))) buffer →
+    (texts_in len fewer_buffer ≡ take len (texts_in count buffer)) × IsSpelled symbol_of fewer_buffer (texts_in len fewer_buffer)
+spelled-take symbol_of buffer fewer_buffer count len is h e =
+    let texts : List Text = texts_in count buffer in
+    let front = take len texts in
+    let split : bytes_of texts ≡ bytes_of front ++ bytes_of (drop len texts) = ap bytes_of (sym (take-append-drop len texts)) ∙ flat_map-append entry_of front (drop len texts) in
+    let bytes_are : fewer_buffer ≡ bytes_of front = e ∙ ap (take (place_of front)) (is.bytes_are ∙ split) ∙ take_at (bytes_of front) (bytes_of (drop len texts)) (place_of front) (length-bytes_of front) in
+    let n : len ≡ length front = sym (length-take-le len texts (omega (arith, length-texts_in count buffer))) in
+    let texts_are : texts_in len fewer_buffer ≡ front = ap (λ (k : ℕ). texts_in k fewer_buffer) n ∙ ap (texts_in (length front)) bytes_are ∙ texts_in-bytes_of front in
+    (texts_are, rw texts_are (record { bytes_are = bytes_are; kept = kept-take symbol_of place_of place_grows len texts is.kept }))
 
 -- the test of the bytes is the test of the lists
 pub bytes_of-eq : (ls ms : List Text) → bytes_eq (bytes_of ls) (bytes_of ms) ≡ texts_eq ls ms

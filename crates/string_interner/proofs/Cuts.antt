@@ -4,12 +4,13 @@ use Rattle.std.specs.Str.{IsUtf8, IsCharBoundary}
 use Rattle.std.proofs.lemmas.Grind.{common_steps}
 use Rattle.std.proofs.lemmas.List.{append_assoc, length-take-le, length-append, take_at, drop_at, length_push, take-append-drop, take_more, drop_more}
 use Rattle.std.proofs.lemmas.Option.{slice_get-get_or}
-use Rattle.std.proofs.lemmas.List.Elements.{All-push, All-head, All-tail, All-drop}
+use Rattle.std.proofs.lemmas.List.Elements.{All-push, All-head, All-tail, All-take, All-drop}
 use Rattle.std.proofs.lemmas.Str.{IsUtf8-append, IsUtf8-nil, IsCharBoundary-at_seam}
 use Rattle.string_interner.specs.Text.{Text}
 use Rattle.string_interner.specs.Backend.{IsKept, IsPlace}
+use Rattle.string_interner.proofs.Fronts.{kept-take}
 use Rattle.string_interner.proofs.Kept.{kept-more}
-use Rattle.string_interner.specs.StringBackend.{cut, joined, ends_of, start_at, IsCut, IsStored}
+use Rattle.string_interner.specs.StringBackend.{cut, joined, ends_of, start_at, IsCut, IsStored, length_grows}
 
 -- texts that are joined and cut again are the texts
 pub cut-joined : (from : ℕ) (texts : List Text) → cut from (joined texts) (ends_of from texts) ≡ texts
@@ -110,3 +111,27 @@ stored-more symbol_of bytes ends more_bytes more_ends t k u s small eb ee =
     let fits : length (xs ++ t ∷ []) < 2 ^ 64 = omega (arith, length_push xs t, cut_length 0 bytes ends) in
     let is = cut-IsCut more_bytes more_ends (xs ++ t ∷ []) m in
     (is, rw is (record { parts = m; kept = kept-more symbol_of length xs t k.kept u s fits }))
+
+take-ends_of : (from len : ℕ) (xs : List Text) → take len (ends_of from xs) ≡ ends_of from (take len xs)
+take-ends_of from zero xs = refl
+take-ends_of from (suc len) [] = refl
+take-ends_of from (suc len) (x ∷ xs) = ap (λ ends. (from + length x) ∷ ends) (take-ends_of (from + length x) len xs)
+
+-- the first texts are those of the bytes up to the end of the last of them
+cut-take : (bytes ends : List ℕ) (xs : List Text) (len : ℕ) → IsCut bytes ends xs → len ≤ length xs → IsCut (take (start_at ends len) bytes) (take len ends) (take len xs)
+cut-take bytes ends xs len k h = record {
+  bytes_are =
+      (let split : joined xs ≡ joined (take len xs) ++ joined (drop len xs) = ap joined (sym (take-append-drop len xs)) ∙ joined-append (take len xs) (drop len xs) in
+      rw (k.bytes_are, k.ends_are, start_of xs len h, split) (take_at (joined (take len xs)) (joined (drop len xs)) (length (joined (take len xs))) refl));
+  ends_are = rw k.ends_are (take-ends_of 0 len xs);
+  utf8 = All-take IsUtf8 len xs k.utf8;
+}
+
+-- the first texts stay stored
+pub stored-take : {S : Type 0} (symbol_of : ℕ → Option S) (bytes ends fewer_bytes fewer_ends : List ℕ) (len : ℕ) → IsStored symbol_of bytes ends (cut 0 bytes ends) → len ≤ length ends → fewer_bytes ≡ take (start_at ends len) bytes → fewer_ends ≡ take len ends →
+    (cut 0 fewer_bytes fewer_ends ≡ take len (cut 0 bytes ends)) × IsStored symbol_of fewer_bytes fewer_ends (cut 0 fewer_bytes fewer_ends)
+stored-take symbol_of bytes ends fewer_bytes fewer_ends len k h eb ee =
+    let xs = cut 0 bytes ends in
+    let m : IsCut fewer_bytes fewer_ends (take len xs) = rw (eb, ee) (cut-take bytes ends xs len k.parts (omega (arith, cut_length 0 bytes ends))) in
+    let is = cut-IsCut fewer_bytes fewer_ends (take len xs) m in
+    (is, rw is (record { parts = m; kept = kept-take symbol_of length length_grows len xs k.kept }))

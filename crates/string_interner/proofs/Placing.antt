@@ -14,9 +14,9 @@ use Rattle.string_interner.specs.Slots.{symbols}
 use Rattle.string_interner.specs.Index.{Fits, Indexed}
 use Rattle.string_interner.specs.Probe.{Puts}
 use Rattle.string_interner.specs.Interner.{IsInterned}
-use Rattle.string_interner.proofs.EntryTexts.{places_grow}
 use Rattle.string_interner.proofs.Filling.{none, Contains-symbols}
 use Rattle.string_interner.proofs.Firsts.{first_new}
+use Rattle.string_interner.proofs.Fronts.{kept-front}
 use Rattle.string_interner.proofs.Indexing.{inserted}
 use Rattle.string_interner.proofs.Interning.{fits-more, absent-more, text-more, interned-more}
 use Rattle.string_interner.proofs.LookUp.{text_in-from}
@@ -31,12 +31,7 @@ Fits-none {S} entry code slots e =
       placed = λ s t h r. absurd (gone s h);
     }
 
--- the front of a list of distinct texts is one
-distinct-front : (xs ys : List Text) → IsDistinct (xs ++ ys) → IsDistinct xs
-distinct-front xs ys d i j x l m = λ e. d i j x l (let a = length-append xs ys in omega arith)
-    (get_or_append_left xs ys x i (omega arith) ∙ e ∙ sym (get_or_append_left xs ys x j m))
-
--- and what comes after it is new to it
+-- what comes after a front of distinct texts is new to it
 distinct-next : (xs ys : List Text) (t : Text) → IsDistinct (xs ++ t ∷ ys) → first xs t ≡ None
 distinct-next xs ys t d =
     let long = length-append xs (t ∷ ys) in let z : length xs - length xs ≡ 0 = omega arith in
@@ -61,16 +56,6 @@ module _ {S : Type 0} (symbol_of : ℕ → Option S) (number : S → ℕ) (place
     (injective : (a b : S) → number a ≡ number b → a ≡ b)
     (grows : (texts : List Text) (text : Text) → place texts < place (texts ++ text ∷ []))
     (code : Text → ℕ) (texts : List Text) (kept : IsKept symbol_of place texts) (distinct : IsDistinct texts) where
-  kept-front : (xs ys : List Text) → texts ≡ xs ++ ys → IsKept symbol_of place xs
-  kept-front xs ys e =
-      let all = rw e at kept in
-      record {
-        utf8 = All-same IsUtf8 xs (take (length xs) (xs ++ ys)) (sym (take_at xs ys (length xs) refl)) (All-take IsUtf8 (length xs) (xs ++ ys) all.utf8);
-        has_symbols = λ i h. let long = length-append xs ys in
-            subst (λ (zs : List Text). IsSome (symbol_of (place zs))) (take-append-le i xs ys (omega arith)) (all.has_symbols i (omega arith));
-        fits = (let a = places_grow place grows xs ys in let b = all.fits in omega arith);
-      }
-
   pub placed-start : (slots : List (Option S)) → symbols slots ≡ [] → IsPlaced symbol_of number place code texts [] texts slots
   placed-start slots e = record {
     done = [];
@@ -78,7 +63,7 @@ module _ {S : Type 0} (symbol_of : ℕ → Option S) (number : S → ℕ) (place
     all = refl;
     interned = record {
       distinct = λ i j d l m. absurd (omega arith);
-      kept = kept-front [] texts refl;
+      kept = kept-front symbol_of place grows [] texts kept;
       whole = record { fits = Fits-none (entry_text number place []) code slots e; whole = λ s t q. absurd (cc) };
       count = ap length e;
     };
@@ -107,7 +92,7 @@ module _ {S : Type 0} (symbol_of : ℕ → Option S) (number : S → ℕ) (place
         done = more;
         todo = us;
         all = front;
-        interned = interned-more symbol_of number place numbered injective grows code done slots is u s more new_text put (index slots) now (kept-front more us front) refl inserts;
+        interned = interned-more symbol_of number place numbered injective grows code done slots is u s more new_text put (index slots) now (kept-front symbol_of place grows more us (rw front at kept)) refl inserts;
         same = sym rest;
       }
 

@@ -17,7 +17,7 @@ pub use string::StringBackend;
 use thiserror::Error;
 pub use walk::Iter;
 
-/// Why a text was not interned. The list of texts is then as it was.
+/// Why a text was not interned. That text left the list as it was.
 #[derive(Clone, Copy, Debug, PartialEq, Eq, Error)]
 pub enum InternError {
     /// The symbol type has no symbol for the next place.
@@ -131,6 +131,14 @@ pub trait Backend {
         ensures texts { texts self.new ≡ texts self.old }
         ensures buckets { buckets self.new ≡ buckets self.old };
 
+    /// Keeps the first `len` texts with their symbols, and drops the others. Changes nothing where there are not more
+    /// than that. Takes no memory; buckets stay, with the bytes of dropped texts.
+    fn truncate(&mut self, len: usize)
+        ensures texts { texts self.new ≡ take len (texts self.old) }
+        ensures same { length (texts self.old) ≤ len → self.new ≡ self.old }
+        ensures buckets { buckets self.new ≡ buckets self.old }
+        ensures room { room self.old ≤ room self.new };
+
     /// The entries in order, each with its symbol.
     final fn iter(&self) -> Iter<'_, Self>
     where
@@ -156,7 +164,9 @@ pub trait Backend {
 
 /// A backend that can be copied.
 pub trait CopyBackend: Backend {
-    /// A backend with an equal list, and so with the same symbols. Refuses only where memory was refused.
+    /// A backend with an equal list, and so with the same symbols.
+    ///
+    /// Refuses only where memory was refused or a size does not fit a `usize`.
     fn try_copy(&self) -> Result<Self, AllocError>
         ensures { IfOk result (λ copy. Self.texts copy ≡ Self.texts self.now) };
 }

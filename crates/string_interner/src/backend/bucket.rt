@@ -5,7 +5,7 @@ mod interned_str;
 #[cfg(test)]
 mod tests;
 
-ghost use Rattle.std.specs.Prelude.{◌≡◌, ◌+◌, ◌^◌, max, ◌<◌, ◌≤◌, ◌↔◌, [], ◌∷◌, ◌++◌, length, map, sum_by, slice_get, All, true, false, Some, IsSome, IsOk, IfOk, IfSome, OnOk, OnErr, refl};
+ghost use Rattle.std.specs.Prelude.{◌≡◌, ◌+◌, ◌^◌, max, ◌<◌, ◌≤◌, ◌↔◌, [], ◌∷◌, ◌++◌, length, take, map, sum_by, slice_get, All, true, false, Some, IsSome, IsOk, IfOk, IfSome, OnOk, OnErr, refl};
 ghost use Rattle.std.specs.Int.{IsNextPowerOfTwo};
 ghost use Rattle.std.specs.Str.{IsUtf8};
 ghost use Rattle.std.specs.Cmp.{partial_equiv_from_equiv, on_equiv};
@@ -345,6 +345,21 @@ impl<S: Symbol> Backend for BucketBackend<S> {
     {
         self.entries.shrink_to_fit();
         self.full.shrink_to_fit();
+    }
+
+    fn truncate(&mut self, len: usize)
+        ensures texts { self.new.texts ≡ take len self.old.texts }
+        ensures same { length self.old.texts ≤ len → self.new ≡ self.old }
+        ensures buckets { buckets_of self.new.full self.new.head ≡ buckets_of self.old.full self.old.head }
+        ensures room { self.old.room ≤ self.new.room }
+
+        // The buckets stay, with the bytes of dropped texts.
+        ensures statics { self.new.statics ≡ take len self.old.statics }
+        ensures full { self.new.full ≡ self.old.full }
+        ensures head { self.new.head ≡ self.old.head }
+        ensures bounded { IsBounded (buckets_of self.new.full self.new.head) }
+    {
+        self.entries.truncate(len);
     }
 
     ghost starts = { refl };

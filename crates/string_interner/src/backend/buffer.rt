@@ -95,6 +95,19 @@ impl<S: Symbol> BufferBackend<S> {
     {
         &self.bytes
     }
+
+    /// The place of the entry `index`, found by walking over those before it.
+    fn place_at(&self, index: usize) -> usize
+        requires { index ≤ length self.now.texts }
+        ensures { result ≡ place_of (take index self.now.texts) }
+    {
+        let bytes = self.as_bytes();
+        let mut at = 0;
+        for _entry in 0..index {
+            at = entry(bytes, at).1;
+        }
+        at
+    }
 }
 
 impl<S: Symbol> Backend for BufferBackend<S> {
@@ -178,6 +191,14 @@ impl<S: Symbol> Backend for BufferBackend<S> {
 
     fn shrink_to_fit(&mut self) {
         self.bytes.shrink_to_fit();
+    }
+
+    fn truncate(&mut self, len: usize) {
+        if len < self.count {
+            let end = self.place_at(len);
+            self.bytes.truncate(end);
+            self.count = len;
+        }
     }
 
     ghost starts = { refl };

@@ -140,6 +140,13 @@ impl<S: Symbol> Backend for StringBackend<S> {
         self.ends.shrink_to_fit();
     }
 
+    fn truncate(&mut self, len: usize) {
+        if len < self.ends.len() {
+            self.joined.truncate(start_of(&self.ends, len));
+            self.ends.truncate(len);
+        }
+    }
+
     ghost starts = { refl };
 
     ghost grows = { length_grows };

@@ -60,6 +60,7 @@ impl FixedString {
         ensures value { result ≡ self.now.capacity }
         ensures within { length self.now.bytes ≤ result }
     {
+        // Opens the value for the proof, which needs what holds of it.
         let _ = &self.contents;
         self.capacity
     }
