@@ -97,11 +97,21 @@ impl<S: Symbol> Index<S> {
         self.alloc
     }
 
+    /// Does nothing. Its clause tells a proof what holds of every index.
+    #[inline]
+    pub(crate) fn keeps(&self)
+        ensures { IsBounded self.now }
+    {
+        // Opens the value for the proof, which needs what holds of it.
+        let _ = &self.greatest;
+    }
+
     /// How many slots there are.
     pub fn slots(&self) -> usize
         ensures value { result ≡ length self.now.slots }
         ensures bounded { IsBounded self.now }
     {
+        // Opens the value for the proof, which needs what holds of it.
         let _ = &self.len;
         self.slots.len()
     }

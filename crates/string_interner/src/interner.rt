@@ -2,7 +2,7 @@
 
 mod collect;
 
-ghost use Rattle.std.specs.Prelude.{◌≡◌, ℕ, ◌+◌, ◌*◌, ◌≤◌, ◌&&◌, ◌↔◌, List, [], ◌∷◌, length, slice_get, Option, Some, IsTrue, IsSome, IsOk, IfOk, IsErrOf, OnOk, OnErr};
+ghost use Rattle.std.specs.Prelude.{◌≡◌, ℕ, ◌+◌, ◌*◌, ◌≤◌, ◌&&◌, ◌↔◌, List, [], ◌∷◌, length, take, slice_get, Option, Some, IsTrue, IsSome, IsOk, IfOk, IsErrOf, OnOk, OnErr};
 ghost use Rattle.std.specs.Option.{option_copied};
 ghost use Rattle.std.specs.Cmp.{partial_equiv_from_equiv, on_equiv};
 ghost use Rattle.string_interner.specs.Text.{Text, IsDistinct, first, texts_eq, texts_eq-IsEquivalence};
@@ -109,7 +109,7 @@ impl<B: Backend, H: TextHasher + Default + Drop> StringInterner<B, H> {
     pub fn with_capacity(alloc: Global, capacity: usize) -> Result<Self, AllocError>
         ensures texts { IfOk result (λ interner. interner.texts ≡ []) }
         ensures room { IfOk result (λ interner. B.grant capacity ≤ interner.room) }
-        ensures slots { IfOk result (λ interner. 4 * capacity ≤ 3 * interner.slots) }
+        ensures slots { IfOk result (λ interner. IsLeastFor capacity interner.slots) }
     {
         StringInterner::with_capacity_and_hasher(alloc, capacity, H::default())
     }
@@ -126,7 +126,7 @@ impl<B: Backend, H: TextHasher + Drop> StringInterner<B, H> {
     ) -> Result<Self, AllocError>
         ensures texts { IfOk result (λ interner. interner.texts ≡ []) }
         ensures room { IfOk result (λ interner. B.grant capacity ≤ interner.room) }
-        ensures slots { IfOk result (λ interner. 4 * capacity ≤ 3 * interner.slots) }
+        ensures slots { IfOk result (λ interner. IsLeastFor capacity interner.slots) }
     {
         let index = Index::with_capacity(alloc, capacity)?;
         let backend = B::with_capacity(alloc, capacity)?;
@@ -158,6 +158,15 @@ impl<B: Backend, H: TextHasher> StringInterner<B, H> {
         ensures kept { IsKept B.Symbol.symbol_of B.place self.now.texts }
     {
         self.backend.count()
+    }
+
+    /// Does nothing. Its clause tells a proof what holds of every interner.
+    #[inline]
+    pub(crate) fn keeps(&self)
+        ensures { IsKept B.Symbol.symbol_of B.place self.now.texts }
+    {
+        // Opens the value for the proof, which needs what holds of it.
+        let _ = &self.backend;
     }
 
     /// Whether there is no text.
@@ -235,13 +244,31 @@ impl<B: Backend, H: TextHasher> StringInterner<B, H> {
         }
     }
 
-    /// Gives back memory of the backend that no text needs, where that can be had. The index stays as it is.
+    /// Gives back memory of the backend that no text needs, where that can be had. As many slots stay.
     pub fn shrink_to_fit(&mut self)
         ensures texts { self.new.texts ≡ self.old.texts }
         ensures buckets { self.new.buckets ≡ self.old.buckets }
         ensures slots { self.new.slots ≡ self.old.slots }
     {
         self.backend.shrink_to_fit();
+    }
+
+    /// Keeps the first `len` texts with their symbols, and drops the others, which are then new again. Changes nothing
+    /// where there are not more than that.
+    ///
+    /// Takes no memory, and gives none back. Costs a placing of each kept text in the index.
+    pub fn truncate(&mut self, len: usize)
+        ensures texts { self.new.texts ≡ take len self.old.texts }
+        ensures same { length self.old.texts ≤ len → self.new ≡ self.old }
+        ensures buckets { self.new.buckets ≡ self.old.buckets }
+        ensures room { self.old.room ≤ self.new.room }
+        ensures slots { self.new.slots ≡ self.old.slots }
+    {
+        if len < self.backend.count() {
+            self.index.keeps();
+            self.backend.truncate(len);
+            self.index.refill(&self.hasher, &self.backend);
+        }
     }
 
     /// What the backend reads at a symbol's number, for any symbol: at the symbol of an entry, its text.
@@ -272,7 +299,7 @@ impl<B: CopyBackend + Drop, H: TextHasher + Clone + Drop> StringInterner<B, H> {
     /// An interner with an equal list, and so with the same symbols. Its index is made anew under the clone's own
     /// hasher, whatever that answers, with the least slots for its texts.
     ///
-    /// Refuses only where memory was refused.
+    /// Refuses only where memory was refused or a size does not fit a `usize`.
     pub fn clone(&self) -> Result<Self, AllocError>
         ensures texts { IfOk result (λ copy. copy.texts ≡ self.now.texts) }
         ensures slots { IfOk result (λ copy. IsLeastFor (length self.now.texts) copy.slots) }
