@@ -3,6 +3,7 @@
 use Rattle.std.proofs.Common.{zero, suc, ◌≡◌, ℕ, ◌<◌, List, [], ◌∷◌, ◌++◌, length, take, get_or, refl, sym, ap, ◌∙◌, subst, arith, ◌⊎◌, inl, inr, Option, Some, None, Result, Ok, Err}
 use Rattle.std.specs.Prelude.{slice_get, MatchOption, IsOkAnd, ◌^◌, ⊤}
 use Rattle.std.specs.List.{AllByRecursion}
+use Rattle.std.specs.Option.{unwrap_or}
 use Rattle.std.specs.String.{string_bytes}
 use Rattle.std.proofs.Math.Seq.{get_or-append_seam}
 use Rattle.std.proofs.lemmas.List.{length_push, take-append-le, take_all}
@@ -14,7 +15,7 @@ use Rattle.string_interner.specs.Run.{intern_reply, extend_reply, number_told, I
 use Rattle.string_interner.specs.declared.backend.InternError.{InternError}
 use Rattle.string_interner.specs.declared.backend.InternError.TheVariants.{NoSymbol as InternNoSymbol, Memory}
 use Rattle.string_interner.specs.declared.run.Command.{Command}
-use Rattle.string_interner.specs.declared.run.Command.TheVariants.{Intern, InternStatic, Get, Resolve, Number, Len, Shrink, Extend}
+use Rattle.string_interner.specs.declared.run.Command.TheVariants.{Intern, InternStatic, Get, Resolve, Number, Len, Shrink, Truncate, Extend}
 use Rattle.string_interner.specs.declared.run.Reply.{Reply}
 use Rattle.string_interner.specs.declared.run.Reply.TheVariants.{Symbol, Nothing, Text as TextReply, Len as LenReply, Done, NoReply, NoSymbol, NoMemory}
 use Rattle.string_interner.proofs.Firsts.{first_within, first_is}
@@ -146,17 +147,18 @@ module _ {S : Type 0} (symbol_of : ℕ → Option S) (place : List Text → ℕ)
   pub order-determined : (old texts new new' : List Text) (o o' : Result (Unit {0}) InternError) → HasMemory o → HasMemory o' → InternsInOrder symbol_of place old texts o new → InternsInOrder symbol_of place old texts o' new' → (o ≡ o') × (new ≡ new')
   order-determined old texts new new' o o' m m' h h' = turn-determined old texts new new' o o' m m' (in-turn old texts o new h) (in-turn old texts o' new' h')
 
-  -- the number of an answered symbol is the place of an entry that is the text
+  -- the number of an answered symbol is the place of the text's first entry, which is the last one where the text was new
   pub answered-place : (number : S → ℕ) → ((i : ℕ) (s : S) → symbol_of i ≡ Some s → (number s ≡ i) × (i < 2 ^ 64))
-      → (old new : List Text) (text : Text) (s : S) → Interns symbol_of place old text (Ok s) new → (i : ℕ) × BeginsAt place new (number s) i × (get_or new i [] ≡ text)
+      → (old new : List Text) (text : Text) (s : S) → Interns symbol_of place old text (Ok s) new
+      → BeginsAt place new (number s) (unwrap_or (first old text) (length old)) × (get_or new (unwrap_or (first old text) (length old)) [] ≡ text)
   answered-place number numbered old new text s i = of (first old text) refl i
     where
-      of : (f : Option ℕ) → first old text ≡ f → Cases old text (Ok s) new f → (i : ℕ) × BeginsAt place new (number s) i × (get_or new i [] ≡ text)
+      of : (f : Option ℕ) → first old text ≡ f → Cases old text (Ok s) new f → BeginsAt place new (number s) (unwrap_or f (length old)) × (get_or new (unwrap_or f (length old)) [] ≡ text)
       of None e h =
           let n : number s ≡ place old = (numbered (place old) s h.0).0 in
           let t : take (length old) new ≡ old = rw (h.1, take-append-le (length old) old (text ∷ []) (omega arith)) (take_all (length old) old (omega arith)) in
-          (length old, record { within = rw h.1 (omega (arith, length_push old text)); begins = rw t (sym n) }, rw h.1 (get_or-append_seam old text [] []))
-      of (Some i) e h = (i, record { within = rw h.1 (first_within old text i e); begins = rw h.1 (sym (numbered (place (take i old)) s h.0).0) }, rw h.1 (first_is old text i e))
+          (record { within = rw h.1 (omega (arith, length_push old text)); begins = rw t (sym n) }, rw h.1 (get_or-append_seam old text [] []))
+      of (Some i) e h = (record { within = rw h.1 (first_within old text i e); begins = rw h.1 (sym (numbered (place (take i old)) s h.0).0) }, rw h.1 (first_is old text i e))
 
 module _ {S : Type 0} (symbol_of : ℕ → Option S) (number : S → ℕ) (place : List Text → ℕ) (read : List Text → ℕ → Option Text) where
   told : (outcome : Result S InternError) (reply : Reply) → reply ≡ intern_reply number outcome → ReplyHasMemory reply → HasMemory outcome
@@ -210,6 +212,7 @@ module _ {S : Type 0} (symbol_of : ℕ → Option S) (number : S → ℕ) (place
   step-determined old earlier earlier' (Number n) reply reply' new new' say m m' s s' = (numbers-say (number_read symbol_of number place read old n) reply reply' m m' s.0 s'.0, s.1 ∙ sym s'.1)
   step-determined old earlier earlier' Len reply reply' new new' say m m' s s' = (equal-say reply reply' (s.0 ∙ sym s'.0), s.1 ∙ sym s'.1)
   step-determined old earlier earlier' Shrink reply reply' new new' say m m' s s' = (equal-say reply reply' (s.0 ∙ sym s'.0), s.1 ∙ sym s'.1)
+  step-determined old earlier earlier' (Truncate len) reply reply' new new' say m m' s s' = (equal-say reply reply' (s.0 ∙ sym s'.0), s.1 ∙ sym s'.1)
   step-determined old earlier earlier' (Extend texts) reply reply' new new' say m m' s s' = extended-say old (texts_of texts.now) reply reply' new new' m m' s s'
 
   -- from one list, commands to which memory is not refused are answered one way and leave one list

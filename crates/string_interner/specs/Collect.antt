@@ -62,8 +62,8 @@ module _ {S : Type 0} (symbol_of : ℕ → Option S) (place : List Text → ℕ)
         (λ _. Drains steps walk items)
         (λ error. (refused : Bor Text) × (rest : W) × YieldsThen steps walk items (Some refused) rest × StopsAt old (texts_of items) refused.now error new)
 
-    -- An interner that has no texts is extended by the items. Where one is refused, no interner is made.
+    -- An interner that has no texts and no slots is extended by the items. Where one is refused, no interner is made.
     abbrev pub Collects : {I W : Type 0} → (I → W → Type 0) → (W → Option (Bor Text) → W → Type 0) → I → Result Interned InternError → Type 0
-    Collects becomes steps iter outcome = (empty : Interned) × (empty.texts ≡ []) × MatchResult outcome
+    Collects becomes steps iter outcome = (empty : Interned) × (empty.texts ≡ []) × (empty.slots ≡ 0) × MatchResult outcome
         (λ made. Extends becomes steps iter empty (Ok tt) made)
         (λ error. (front : Interned) × Extends becomes steps iter empty (Err error) front)

@@ -3,6 +3,7 @@
 ghost use Rattle.std.specs.Prelude.{◌≡◌, ℕ, [], slice_get, Option, Some, None, IfOk, OnErr};
 ghost use Rattle.std.specs.Option.{option_copied};
 ghost use Rattle.string_interner.specs.Collect.{texts_of};
+ghost use Rattle.string_interner.specs.ListAnswers.{AnswersAsAList};
 ghost use Rattle.string_interner.specs.Run.{refusal, intern_reply, number_told, IsCopy, number_read, NumberReply, ExtendReply, Step, Run};
 
 use crate::backend::{Backend, InternError};
@@ -21,7 +22,8 @@ pub enum Command<'c> {
     /// Look for the text: replied by its `Symbol`, or by `Nothing` where it is new.
     Get(&'c str),
     /// Resolve the symbol that the reply with this index told, counted from 0: replied as its `Number`, or by `NoReply`
-    /// where no such reply stands before this command or it told no symbol.
+    /// where no such reply stands before this command or it told no symbol. Where its entry was dropped, something else
+    /// or nothing may be read there.
     Resolve(usize),
     /// Resolve the symbol with this number: replied by `Text`, or by `Nothing` where the symbol type has no such number
     /// or nothing is read there, or by `NoMemory` for the copy.
@@ -30,6 +32,8 @@ pub enum Command<'c> {
     Len,
     /// Give back memory that no text needs: replied by `Done`.
     Shrink,
+    /// Keep this many texts, the first ones, and drop the others: replied by `Done`. Dropped texts are new again.
+    Truncate(usize),
     /// Intern the texts in order: replied by `Done`, or by `NoSymbol` or `NoMemory` of the first that is refused. Those
     /// before it stay.
     Extend(&'c [&'c str]),
@@ -155,6 +159,10 @@ fn step<B: Backend, H: TextHasher>(
             interner.shrink_to_fit();
             Reply::Done
         }
+        Command::Truncate(len) => {
+            interner.truncate(*len);
+            Reply::Done
+        }
         Command::Extend(texts) => extend_reply(interner, texts),
     }
 }
@@ -165,6 +173,9 @@ fn step<B: Backend, H: TextHasher>(
 /// nothing; a new one goes last, under the next place of the backend. It is refused for want of a symbol exactly where
 /// the symbol type has none for that place, and else only for want of memory; a refused text leaves the list alone.
 ///
+/// Where no command is a `Number` or a `Truncate` and nothing is refused, the replies are one function of the list and
+/// the commands, told by the places of the entries; so all backends answer alike.
+///
 /// Room for all replies is taken first, in one growth. Where that is refused, nothing ran.
 pub fn run<B: Backend, H: TextHasher>(
     alloc: Global,
@@ -173,6 +184,8 @@ pub fn run<B: Backend, H: TextHasher>(
 ) -> Result<Vec<Reply>, AllocError>
     ensures run { IfOk result (λ replies. Run B.Symbol.symbol_of B.Symbol.number B.place B.read interner.old.texts []
         commands.now replies.items interner.new.texts) }
+    ensures as_a_list { IfOk result (λ replies. AnswersAsAList B.place interner.old.texts commands.now replies.items
+        interner.new.texts) }
     ensures err { OnErr result (interner.new ≡ interner.old) }
 {
     let mut replies = Vec::with_capacity(alloc, commands.len())?;
@@ -180,6 +193,7 @@ pub fn run<B: Backend, H: TextHasher>(
         let reply = step(alloc, interner, &replies, command);
         replies.push_reserved(reply);
     }
+    interner.keeps();
     Ok(replies)
 }
 

@@ -1,4 +1,6 @@
 use Rattle.std.proofs.Common.{rules}
+use Rattle.std.proofs.lemmas.List.{take_all}
+use Rattle.string_interner.proofs.ListAnswers.{Run-tells}
 use Rattle.string_interner.proofs.Runs.{Run-step}
 use Rattle.string_interner.proofs.run.run.Goals as goal
 
@@ -8,3 +10,7 @@ loop-command-preserved g c = record {
   count = search rules;
   room = search rules;
 }
+
+pub returns-clause-as_a_list : goal.returns-clause-as_a_list
+returns-clause-as_a_list g c = Run-tells g.B.Symbol.Symbol.symbol_of g.B.Symbol.Symbol.number g.B.Backend.place g.B.Backend.read g.met.B.Symbol.Symbol.numbered g.met.B.Backend.grows g.met.B.Backend.reads _ _ _ _ c.keeps.ensures
+    (rw (take_all c.loop-command.command-index c.args.commands.now c.loop-command-test.false) at c.loop-command.invariant.ran)

@@ -1,0 +1,81 @@
+-- What a list of distinct texts answers to commands where nothing is refused: a function of the list and the commands
+-- alone. An entry is told by its index; no backend, no symbol type, no hasher occurs.
+-- Cited by `run`.
+use Rattle.std.specs.Prelude.{◌≡◌, ℕ, List, [], ◌∷◌, ◌++◌, length, slice_get, All, Option, Some, None, option_and_then, ⊤}
+use Rattle.std.specs.List.{AllZip}
+use Rattle.std.specs.Option.{option_map_or, unwrap_or}
+use Rattle.std.specs.String.{string_bytes}
+use Rattle.string_interner.specs.Text.{Text, first}
+use Rattle.string_interner.specs.Backend.{BeginsAt}
+use Rattle.string_interner.specs.Collect.{texts_of, fresh}
+use Rattle.string_interner.specs.declared.run.Command.{Command}
+use Rattle.string_interner.specs.declared.run.Command.TheVariants.{Intern, InternStatic, Get, Resolve, Number, Len, Shrink, Truncate, Extend}
+use Rattle.string_interner.specs.declared.run.Reply.{Reply}
+use Rattle.string_interner.specs.declared.run.Reply.TheVariants.{Symbol, Nothing, Text as TextReply, Len as LenReply, Done, NoReply, NoSymbol, NoMemory}
+
+-- a reply with the index of an entry in the place of its symbol
+pub data Answer : Type 0 where
+  entry : ℕ → Answer
+  nothing : Answer
+  text : Text → Answer
+  count : ℕ → Answer
+  done : Answer
+  no_reply : Answer
+
+-- the index that an answer told, if there is such an answer and it told one
+abbrev pub index_told : Option Answer → Option ℕ
+index_told (Some (entry i)) = Some i
+index_told _ = None
+
+-- what the list answers, after the earlier answers, to a command that names no number and drops no text
+abbrev pub list_answer : List Text → List Answer → Command → Answer
+list_answer texts earlier (Intern t) = entry (unwrap_or (first texts t.now) (length texts))
+list_answer texts earlier (InternStatic t) = entry (unwrap_or (first texts t.now) (length texts))
+list_answer texts earlier (Get t) = option_map_or entry (first texts t.now) nothing
+list_answer texts earlier (Resolve k) = option_map_or text (option_and_then (slice_get texts) (index_told (slice_get earlier k))) no_reply
+list_answer texts earlier (Number n) = nothing
+list_answer texts earlier Len = count (length texts)
+list_answer texts earlier Shrink = done
+list_answer texts earlier (Truncate len) = done
+list_answer texts earlier (Extend ts) = done
+
+-- the texts that a command interns
+abbrev pub texts_interned : Command → List Text
+texts_interned (Intern t) = t.now ∷ []
+texts_interned (InternStatic t) = t.now ∷ []
+texts_interned (Extend ts) = texts_of ts.now
+texts_interned _ = []
+
+-- the answers to the commands one after another, each of which puts last the texts that are new
+abbrev pub list_answers : List Text → List Answer → List Command → List Answer
+list_answers texts earlier [] = []
+list_answers texts earlier (command ∷ commands) =
+    let answer = list_answer texts earlier command in
+    answer ∷ list_answers (texts ++ fresh texts (texts_interned command)) (earlier ++ answer ∷ []) commands
+
+-- the reply is the answer, with the place of the entry in this list in the place of its index
+abbrev pub Tells : (List Text → ℕ) → List Text → Reply → Answer → Type 0
+Tells place texts (Symbol n) (entry i) = BeginsAt place texts n i
+Tells place texts Nothing nothing = ⊤
+Tells place texts (TextReply copy) (text t) = string_bytes copy ≡ t
+Tells place texts (LenReply n) (count m) = n ≡ m
+Tells place texts Done done = ⊤
+Tells place texts NoReply no_reply = ⊤
+Tells place texts _ _ = ⊥
+
+-- nothing was refused
+abbrev pub IsGranted : Reply → Type 0
+IsGranted NoSymbol = ⊥
+IsGranted NoMemory = ⊥
+IsGranted _ = ⊤
+
+-- the command names no number and drops no text
+abbrev pub KeepsToTexts : Command → Type 0
+KeepsToTexts (Number n) = ⊥
+KeepsToTexts (Truncate len) = ⊥
+KeepsToTexts _ = ⊤
+
+-- Where no command names a number or drops texts and nothing was refused, the replies are those that the old list
+-- answers, each index told by the place of that entry in the new list.
+abbrev pub AnswersAsAList : (List Text → ℕ) → List Text → List Command → List Reply → List Text → Type 0
+AnswersAsAList place old commands replies new = All KeepsToTexts commands → All IsGranted replies → AllZip (Tells place new) replies (list_answers old [] commands)
