@@ -10,12 +10,15 @@ pub mod Equal
 pub mod FilledRuns
 pub mod Filling
 pub mod Firsts
+pub mod Fronts
 pub mod Growing
 pub mod Indexing
 pub mod Interning
+pub mod JsonExact
 pub mod JsonForms
 pub mod Kept
 pub mod Laws
+pub mod ListAnswers
 pub mod LookUp
 pub mod Placing
 pub mod Probing
@@ -23,6 +26,7 @@ pub mod Putting
 pub mod Rebuilding
 pub mod Runs
 pub mod SameEntries
+pub mod Scopes
 pub mod Spelling
 pub mod Steps
 pub mod WholeTexts

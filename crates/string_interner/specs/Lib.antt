@@ -16,5 +16,7 @@ pub mod Interner
 pub mod Sought
 pub mod Collect
 pub mod Json
+pub mod Scopes
 pub mod Run
+pub mod ListAnswers
 pub mod Samples

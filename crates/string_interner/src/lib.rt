@@ -10,6 +10,7 @@ pub mod dedup;
 mod interner;
 pub mod json;
 pub mod run;
+pub mod scope;
 pub mod symbol;
 #[cfg(test)]
 mod tests;

@@ -1,0 +1,5 @@
+use Rattle.string_interner.proofs.Scopes.{leaving-gives-back}
+use Rattle.string_interner.proofs.scope.scope_law.Goals as goal
+
+pub returns : goal.returns
+returns c = leaving-gives-back
