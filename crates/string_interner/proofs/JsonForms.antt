@@ -32,7 +32,7 @@ pub written_over : {X Y Z : Type 0} (f : X → Z) (g : Y → Z) (kept : List X) 
 written_over {X} {Y} {Z} f g kept ahead all e s = sym (append-nil (map f kept)) ∙ (ap (λ (zs : List Z). map f kept ++ zs) (sym (ap (map g) s)) ∙ e)
 
 -- a text that no earlier one equals is new to those before it
-new_text : (front : List Text) (text : Text) (texts : List Text) → IsDistinct (front ++ text ∷ texts) → first front text ≡ None
+pub new_text : (front : List Text) (text : Text) (texts : List Text) → IsDistinct (front ++ text ∷ texts) → first front text ≡ None
 new_text front text texts distinct = first_new front text (λ k h.
     let other : get_or front k [] ≢ text =
     (let d = distinct k (length front) [] h (rw (length-append front (text ∷ texts)) (omega arith)) in

@@ -1,16 +1,17 @@
 -- The JSON forms of a list of texts and of a symbol, and reading them.
--- Cited by `to_json` and `from_json`, and by `symbol_to_json` and `symbol_from_json`.
+-- Cited by `to_json`, `from_json` and `from_json_exact`, and by `symbol_to_json` and `symbol_from_json`.
 use Rattle.std.specs.Prelude.{◌≡◌, ℕ, ◌+◌, List, [], map, Option, MatchOption, MatchResult, option_and_then, Result, Ok, Err, IsOkAnd, ⊤}
 use Rattle.std.specs.Option.{ok_or, option_map_or}
 use Rattle.serde_json.specs.Data.{Data, number, unsigned, string, array, Items, no_items, item}
 use Rattle.serde_json.specs.Find.{as_array, as_number, as_str, as_u64}
 use Rattle.serde_json.specs.View.{items_of}
-use Rattle.string_interner.specs.Text.{Text}
+use Rattle.string_interner.specs.Text.{Text, first}
+use Rattle.string_interner.specs.Backend.{Appends}
 use Rattle.string_interner.specs.Interner.{Interned, Interns}
 use Rattle.string_interner.specs.declared.backend.InternError.{InternError}
 use Rattle.string_interner.specs.declared.backend.InternError.TheVariants.{NoSymbol as InternNoSymbol, Memory as InternMemory}
 use Rattle.string_interner.specs.declared.json.JsonError.{JsonError}
-use Rattle.string_interner.specs.declared.json.JsonError.TheVariants.{NoSymbol, Memory, NotAList, NotAText, NotANumber}
+use Rattle.string_interner.specs.declared.json.JsonError.TheVariants.{NoSymbol, Memory, NotAList, NotAText, Repeated, NotANumber}
 
 -- the JSON form of a list of texts: the array of the texts in order, each a JSON string
 abbrev pub json_of_texts : List Text → Data
@@ -40,9 +41,23 @@ module _ {S : Type 0} (symbol_of : ℕ → Option S) where
         (λ text. (interned : Result S InternError) × (mid : List Text) × Interns symbol_of place old text interned mid
         × MatchResult interned (λ _. Reads mid (index + 1) rest outcome) (λ error. outcome ≡ Err (refused error)))
 
+    -- The elements are read likewise behind the old list, which are the elements before them, each once: a string that
+    -- is equal to one of those is refused, and any other is put last.
+    abbrev pub ReadsExactly : List Text → ℕ → Items → Result Interned JsonError → Type 0
+    ReadsExactly old index no_items outcome = IsOkAnd outcome (λ interner. interner.texts ≡ old)
+    ReadsExactly old index (item element rest) outcome = MatchOption (as_str element)
+        (outcome ≡ Err (NotAText index))
+        (λ text. MatchOption (first old text)
+        ((interned : Result S InternError) × (mid : List Text) × Appends symbol_of place old text interned mid
+        × MatchResult interned (λ _. ReadsExactly mid (index + 1) rest outcome) (λ error. outcome ≡ Err (refused error)))
+        (λ _. outcome ≡ Err (Repeated index)))
+
     -- the elements of an array are read into the empty list, and what is no array is refused
     abbrev pub ReadsArray : Data → Result Interned JsonError → Type 0
     ReadsArray value outcome = MatchOption (as_array value) (outcome ≡ Err NotAList) (λ elements. Reads [] 0 elements outcome)
+
+    abbrev pub ReadsArrayExactly : Data → Result Interned JsonError → Type 0
+    ReadsArrayExactly value outcome = MatchOption (as_array value) (outcome ≡ Err NotAList) (λ elements. ReadsExactly [] 0 elements outcome)
 
 -- what may come of reading a list back: the list, or want of memory
 abbrev pub GivesBack : List Text → Result Interned JsonError → Type 0

@@ -4,7 +4,7 @@ ghost use Rattle.std.specs.Prelude.{◌≡◌, List, Ok, IfOk, IsOkAnd};
 ghost use Rattle.serde_json.specs.View.{view};
 ghost use Rattle.string_interner.specs.Text.{Text, IsDistinct};
 ghost use Rattle.string_interner.specs.Backend.{IsKept};
-ghost use Rattle.string_interner.specs.Json.{json_of_texts, json_of_number, refused, ReadsArray, GivesBack, symbol_read};
+ghost use Rattle.string_interner.specs.Json.{json_of_texts, json_of_number, refused, ReadsArray, ReadsArrayExactly, GivesBack, symbol_read};
 
 use crate::backend::{Backend, InternError};
 use crate::dedup::TextHasher;
@@ -29,6 +29,10 @@ pub enum JsonError {
     /// The element with this index, counted from 0, is not a string.
     #[error("element {index} is not a text")]
     NotAText { index: usize },
+    /// The element with this index, counted from 0, is a string that is equal to an earlier one, where each must be
+    /// another.
+    #[error("element {index} is repeated")]
+    Repeated { index: usize },
     /// The value is not a whole number from 0 to 2^64 - 1.
     #[error("not a number")]
     NotANumber,
@@ -66,7 +70,7 @@ impl<B: Backend, H: TextHasher> StringInterner<B, H> {
 impl<B: Backend + Drop, H: TextHasher + Default + Drop> StringInterner<B, H> {
     /// An interner of the texts of an array of JSON strings, under the hasher's default.
     ///
-    /// It starts empty, with no room reserved, and interns element after element, so that repeats fold into one text.
+    /// It starts empty and interns element after element, so that repeats fold into one text.
     /// Refuses a value that is not an array with `NotAList`. Else the first refused element decides: with `NotAText`
     /// where it is not a string, and as `get_or_intern` refuses where it is.
     pub fn from_json(alloc: Global, value: &Value) -> Result<Self, JsonError>
@@ -83,6 +87,36 @@ impl<B: Backend + Drop, H: TextHasher + Default + Drop> StringInterner<B, H> {
             interner.get_or_intern(text)?;
         }
         Ok(interner)
+    }
+
+    /// An interner of the texts of an array of JSON strings that are all different, under the hasher's default: the array
+    /// is then what `to_json` gives.
+    ///
+    /// Reads and refuses as `from_json` does, but folds no repeats: a string that is equal to an earlier element is
+    /// refused with `Repeated`, before a symbol or memory is asked for it.
+    pub fn from_json_exact(alloc: Global, value: &Value) -> Result<Self, JsonError>
+        ensures reads { ReadsArrayExactly B.Symbol.symbol_of B.place (view value.now) result }
+        ensures form { IfOk result (λ interner. view value.now ≡ json_of_texts interner.texts) }
+
+        // What `to_json` wrote is read back, in order and with the same symbols, or memory was refused.
+        ensures gives_back { (texts : List Text) → IsDistinct texts → IsKept B.Symbol.symbol_of B.place texts
+            → view value.now ≡ json_of_texts texts → GivesBack texts result }
+    {
+        let Some(elements) = value.as_array() else {
+            return Err(JsonError::NotAList);
+        };
+        let mut different = StringInterner::new(alloc);
+        for (index, element) in elements.iter().enumerate() {
+            let Some(text) = element.as_str() else {
+                return Err(JsonError::NotAText { index });
+            };
+            different.get_or_intern(text)?;
+            // Each element before this one lengthened the list, and one that is repeated does not.
+            if different.len() == index {
+                return Err(JsonError::Repeated { index });
+            }
+        }
+        Ok(different)
     }
 }
 
