@@ -4,7 +4,7 @@ use Rattle.std.specs.Fmt.{decimal}
 use Rattle.std.specs.Str.Parse.{IsNumeral, digits_value}
 use Rattle.std.specs.String.{string_bytes}
 use Rattle.string_interner.specs.declared.run.Command.{Command}
-use Rattle.string_interner.specs.declared.run.Command.TheVariants.{Intern, InternStatic, Get, Resolve, Number, Len, Shrink, Extend}
+use Rattle.string_interner.specs.declared.run.Command.TheVariants.{Intern, InternStatic, Get, Resolve, Number, Len, Shrink, Truncate, Extend}
 use Rattle.string_interner.specs.declared.run.Reply.{Reply}
 use Rattle.string_interner.specs.declared.run.Reply.TheVariants.{Symbol, Nothing, Text, Len as LenReply, Done, NoReply, NoSymbol, NoMemory}
 
@@ -25,6 +25,7 @@ States (Number n) line = StatesNumber (codes "n ") n line
 States Len line = line ≡ codes "len"
 States Shrink line = line ≡ codes "shrink"
 States (InternStatic _) line = ⊥
+States (Truncate _) line = ⊥
 States (Extend _) line = ⊥
 
 -- what a reply prints

@@ -143,6 +143,9 @@ pub fn serve<R: Read, W: Write>(
 ) -> Result<(), Fault>
     ensures usage { IsErrOf result Fault.Usage ↔ ((choice : Choice) → ¬ (Name arguments.now choice)) }
 
+    // Wrong arguments are told before any input is read.
+    ensures untouched { IsErrOf result Fault.Usage → input.new ≡ input.old }
+
     // Of a reader whose bytes are known: what a bad line and a whole answer say of them.
     ensures bad_line { (n : ℕ) → IsErrOf result (Fault.BadLine n) → IfSome (R.remaining input.old) (λ bytes. IsFirstBadLine (lines_of bytes) n) }
     ensures answered { OnOk result (IfSome (R.remaining input.old) (λ bytes. (choice : Choice) × Name arguments.now choice
