@@ -1,22 +1,96 @@
-//! What the tests share: a caller's own symbol type and backend, used through their bounds, and refused memory.
+//! What the tests share: a caller's own symbol types, backend and hashers, used through their bounds, and refused memory.
 
-ghost use Rattle.std.specs.Prelude.{◌≡◌, ◌<◌, ◌*◌, ℕ, length, slice_get, max};
+pub mod last;
+
+ghost use Rattle.std.specs.Prelude.{◌≡◌, ◌<◌, ◌+◌, ◌*◌, ◌%◌, ◌^◌, ℕ, length, slice_get, max};
 ghost use Rattle.std.proofs.Common.{rules, refl, lit≤};
 ghost use Rattle.string_interner.specs.Symbol.{number_below, number_below-some};
 ghost use Rattle.string_interner.specs.StringBackend.{length_grows, reads_at_length};
 ghost use Rattle.string_interner.specs.Samples.{half_of, half_of-some, halves_equal, halves_same};
 
 use crate::backend::{Backend, InternError, StringBackend};
+use crate::dedup::TextHasher;
+use crate::interner::StringInterner;
 use crate::symbol::{Symbol, SymbolU32};
 use std::alloc::{AllocError, Global};
 use std::cell::Cell;
 use std::io;
 use std::marker::Model;
+use std::test::Fail;
 
 /// Says that a call was refused memory and left all as it should. The gate refuses the first request of a test for
 /// memory, then the second, and so on, and counts these lines: it stops where there is none.
 pub fn tell_refused(rt: &impl Print, call: &str) -> io::Result<()> {
     println!(rt; "refused: {call}")
+}
+
+/// Asks for memory once, at the end of a test. A call that asks again for what it was refused, or that hides a refusal,
+/// leaves a gap in the requests that were told as refused before this one, and the gate looks for gaps.
+pub fn ask_last(rt: &(impl Print + AllocGlobal)) -> io::Result<()> {
+    match String::with_capacity(rt.alloc(), 1) {
+        Ok(_) => Ok(()),
+        Err(AllocError) => tell_refused(rt, "the last request of the test"),
+    }
+}
+
+/// An interner of the texts, for a test of what can be done with it.
+pub fn made_of<B: Backend + Drop>(
+    rt: &(impl Print + AllocGlobal),
+    texts: &[&str],
+) -> Result<StringInterner<B>, Fail> {
+    match StringInterner::from_iter(rt.alloc(), texts.iter().copied()) {
+        Ok(made) => Ok(made),
+        Err(_) => {
+            tell_refused(rt, "the set-up of a test")?;
+            Ok(StringInterner::from_iter(rt.alloc(), texts.iter().copied())?)
+        }
+    }
+}
+
+/// A hasher that gives all texts one code.
+#[derive(Clone, Copy, Default)]
+pub struct Constant;
+
+impl TextHasher for Constant {
+    ghost code = { λ _ text. 0 };
+
+    fn hash_text(&self, _text: &str) -> u64 {
+        0
+    }
+}
+
+/// A hasher by the count of bytes.
+#[derive(Clone, Copy, Default)]
+pub struct ByteCount;
+
+impl TextHasher for ByteCount {
+    ghost code = { λ _ text. length text };
+
+    fn hash_text(&self, text: &str) -> u64 {
+        text.len() as u64
+    }
+}
+
+/// A hasher by the count of bytes and a salt. Its clone has another salt.
+#[derive(Drop)]
+pub struct Salted {
+    pub salt: u64,
+}
+
+impl Clone for Salted {
+    fn clone(&self) -> Result<Self, AllocError> {
+        Ok(Salted {
+            salt: self.salt.wrapping_add(29),
+        })
+    }
+}
+
+impl TextHasher for Salted {
+    ghost code = { λ hasher text. (hasher.salt + length text) % 2 ^ 64 };
+
+    fn hash_text(&self, text: &str) -> u64 {
+        self.salt.wrapping_add(text.len() as u64)
+    }
 }
 
 /// A symbol type with gaps: the even numbers below 2^17.
@@ -172,6 +246,10 @@ impl Backend for Counting {
 
     fn shrink_to_fit(&mut self) {
         self.inner.shrink_to_fit();
+    }
+
+    fn truncate(&mut self, len: usize) {
+        self.inner.truncate(len);
     }
 
     ghost starts = { refl };

@@ -1,41 +1,17 @@
 //! Worked rows of slots, homes and codes, and refused growths.
 
-ghost use Rattle.std.specs.Prelude.{◌≡◌, length};
+ghost use Rattle.std.specs.Prelude.{◌≡◌};
 ghost use Rattle.string_interner.specs.Interner.{known_symbol};
 
 use super::probe::home_of;
 use super::{FixedState, Index, Looks, TextHasher};
 use crate::backend::{Backend, InternError, StringBackend};
 use crate::symbol::{Symbol, SymbolU32};
-use crate::tests::tell_refused;
+use crate::tests::{ByteCount, Constant, ask_last, tell_refused};
 use std::alloc::{AllocError, Global};
 use std::marker::Model;
 use std::mem::size_of;
 use std::test::Fail;
-
-/// A hasher that gives all texts one code.
-#[derive(Drop)]
-struct Constant;
-
-impl TextHasher for Constant {
-    ghost code = { λ _ text. 0 };
-
-    fn hash_text(&self, _text: &str) -> u64 {
-        0
-    }
-}
-
-/// A hasher by the count of bytes.
-#[derive(Drop)]
-struct ByteCount;
-
-impl TextHasher for ByteCount {
-    ghost code = { λ _ text. length text };
-
-    fn hash_text(&self, text: &str) -> u64 {
-        text.len() as u64
-    }
-}
 
 /// A backend of distinct texts with an index of them, by the public calls alone.
 #[derive(Drop)]
@@ -267,7 +243,7 @@ fn memory_for_a_capacity(rt: HostRuntime) -> Result<(), Fail> {
         }
     };
     assert_eq!(rt; index.slots(), 32);
-    Ok(())
+    ask_last(&rt).map_err(Fail::from)
 }
 
 #[test]
@@ -294,6 +270,7 @@ fn memory_for_one_more(rt: HostRuntime) -> Result<(), Fail> {
         }
         // The backend may be refused too, which is no matter of the index.
         if filled.add(text).is_err() {
+            tell_refused(&rt, "the set-up of a test")?;
             let _ = filled.add(text)?;
         }
     }
@@ -304,5 +281,42 @@ fn memory_for_one_more(rt: HostRuntime) -> Result<(), Fail> {
             Some(number)
         );
     }
-    Ok(())
+    ask_last(&rt).map_err(Fail::from)
+}
+
+/// A backend of the texts with an index of them, where a refused set-up is told and made again.
+fn filled_or_told(
+    rt: &(impl Print + AllocGlobal),
+    texts: &[&str],
+) -> Result<Filled<StringBackend<SymbolU32>, Constant>, Fail> {
+    let mut filled = Filled::new(rt.alloc(), Constant);
+    for text in texts {
+        if filled.add(text).is_err() {
+            tell_refused(rt, "the set-up of a test")?;
+            let _ = filled.add(text)?;
+        }
+    }
+    Ok(filled)
+}
+
+/// Passes whichever request for memory is refused: an index that stands is asked and filled anew without any.
+#[test]
+fn memory_is_not_asked_for_by_an_index_that_stands(rt: HostRuntime) -> Result<(), Fail> {
+    let mut filled = filled_or_told(&rt, &["a", "b", "c"])?;
+    let other = filled_or_told(&rt, &["d", "a"])?;
+    assert_eq!(rt; Index::<SymbolU32>::new(rt.alloc()).slots(), 0);
+    filled.reserve()?;
+    assert!(rt; filled.take_texts(other));
+    assert_eq!(rt; filled.find("a").map(|symbol| symbol.to_usize()), Some(1));
+    assert_eq!(rt; filled.find("d").map(|symbol| symbol.to_usize()), Some(0));
+    assert!(rt; filled.find("b").is_none());
+    assert_eq!(rt;
+        (
+            filled.index.slots(),
+            filled.index.put_back(),
+            filled.index.greatest()
+        ),
+        (8, 0, 3)
+    );
+    ask_last(&rt).map_err(Fail::from)
 }

@@ -1,18 +1,28 @@
 ghost use Rattle.std.specs.Prelude.{◌≡◌, IfOk, map};
 
+mod hashers;
+mod last;
+mod memory;
+
 use super::*;
 use crate::DefaultStringInterner;
 use crate::backend::{BucketBackend, BufferBackend, StringBackend};
 use crate::dedup::FixedState;
 use crate::symbol::DefaultSymbol;
-use crate::tests::{Counting, Even, tell_refused};
+use crate::tests::{Bit, Constant, Counting, Even};
 use std::alloc::AllocError;
+use std::process::Abort;
 use std::test::Fail;
 
 impl<B: Backend, H: TextHasher> StringInterner<B, H> {
     /// The backend, for the tests of the backends to look at.
     pub(crate) fn backend(&self) -> &B {
         &self.backend
+    }
+
+    /// How many slots the index has.
+    pub(crate) fn index_slots(&self) -> usize {
+        self.index.slots()
     }
 }
 
@@ -89,6 +99,53 @@ fn a_symbol_type_with_gaps_refuses(rt: HostRuntime) -> Result<(), Fail> {
         [0].as_slice()
     );
     Ok(())
+}
+
+/// Each text is answered its number, or refused for want of a symbol where there is none.
+fn assert_answers<B: Backend + Drop>(
+    rt: &(impl Abort + AllocGlobal),
+    answers: &[(&str, Option<usize>)],
+) {
+    let mut interner = StringInterner::<B>::new(rt.alloc());
+    for (text, number) in answers {
+        match interner.get_or_intern(text) {
+            Ok(symbol) => assert_eq!(rt; Some(symbol.to_usize()), *number, "{text}"),
+            Err(error) => {
+                assert_eq!(rt; error, InternError::NoSymbol, "{text}");
+                assert_eq!(rt; *number, None, "{text}");
+            }
+        }
+    }
+}
+
+#[test]
+fn places_that_a_symbol_type_lacks(rt: HostRuntime) {
+    // After `cc` the next place is 7, which is odd.
+    assert_answers::<BufferBackend<Even>>(
+        &rt,
+        &[
+            ("a", Some(0)),
+            ("b", Some(2)),
+            ("cc", Some(4)),
+            ("d", None),
+            ("b", Some(2)),
+            ("", None),
+            ("d", None),
+        ],
+    );
+    // After `a` the next place is 2.
+    assert_answers::<BufferBackend<Bit>>(&rt, &[("a", Some(0)), ("b", None), ("a", Some(0))]);
+    // After the empty text the next place is 1, and after `a` it is 3.
+    assert_answers::<BufferBackend<Bit>>(
+        &rt,
+        &[
+            ("", Some(0)),
+            ("a", Some(1)),
+            ("b", None),
+            ("a", Some(1)),
+            ("", Some(0)),
+        ],
+    );
 }
 
 #[test]
@@ -202,6 +259,12 @@ fn capacities_that_do_not_fit(rt: HostRuntime) {
     assert!(rt; StringInterner::<StringBackend>::with_capacity(rt.alloc(), most).is_err());
     assert!(rt; StringInterner::<BucketBackend>::with_capacity(rt.alloc(), most).is_err());
     assert!(rt; StringInterner::<BufferBackend>::with_capacity(rt.alloc(), most).is_err());
+    let made = StringInterner::<StringBackend, Constant>::with_capacity_and_hasher(
+        rt.alloc(),
+        most,
+        Constant,
+    );
+    assert!(rt; made.is_err());
 }
 
 #[test]
@@ -223,57 +286,6 @@ fn a_clone_is_equal_and_its_own(rt: HostRuntime) -> Result<(), Fail> {
     Ok(())
 }
 
-/// Passes whichever request for memory is refused: once an interner was made with room, none is asked for within it.
-#[test]
-fn memory_of_makers(rt: HostRuntime) -> Result<(), Fail> {
-    let mut interner = match StringInterner::<BufferBackend>::with_capacity(rt.alloc(), 2) {
-        Ok(interner) => interner,
-        Err(AllocError) => {
-            tell_refused(&rt, "with_capacity of StringInterner")?;
-            StringInterner::with_capacity(rt.alloc(), 2)?
-        }
-    };
-    for (number, text) in [(0, "Tiger"), (6, "Horse"), (0, "Tiger")] {
-        assert_eq!(rt; interner.get_or_intern(text)?.to_usize(), number);
-    }
-    Ok(())
-}
-
-/// Likewise over the other backends, whose room is counted otherwise.
-#[test]
-fn memory_within_the_room(rt: HostRuntime) -> Result<(), Fail> {
-    let Ok(mut joined) = StringInterner::<StringBackend>::with_capacity(rt.alloc(), 2) else {
-        return tell_refused(&rt, "with_capacity of StringInterner").map_err(Fail::from);
-    };
-    let Ok(mut buckets) = StringInterner::<BucketBackend>::with_capacity(rt.alloc(), 10) else {
-        return tell_refused(&rt, "with_capacity of StringInterner").map_err(Fail::from);
-    };
-    for (number, text) in [(0, "Tiger"), (1, "Horse"), (0, "Tiger")] {
-        assert_eq!(rt; joined.get_or_intern(text)?.to_usize(), number);
-        assert_eq!(rt; buckets.get_or_intern(text)?.to_usize(), number);
-    }
-    Ok(())
-}
-
-/// Passes whichever request for memory is refused.
-#[test]
-fn memory_of_clone(rt: HostRuntime) -> Result<(), Fail> {
-    let Ok(mut interner) = StringInterner::<StringBackend>::with_capacity(rt.alloc(), 2) else {
-        return tell_refused(&rt, "with_capacity of StringInterner").map_err(Fail::from);
-    };
-    interner.get_or_intern("Tiger")?;
-    let copy = match interner.clone() {
-        Ok(copy) => copy,
-        Err(AllocError) => {
-            assert_eq!(rt; interner.len(), 1);
-            tell_refused(&rt, "clone of StringInterner")?;
-            interner.clone()?
-        }
-    };
-    assert!(rt; copy == interner);
-    Ok(())
-}
-
 #[test]
 fn messages_of_refusals(rt: HostRuntime) -> Result<(), Fail> {
     for (error, message) in [
@@ -285,18 +297,38 @@ fn messages_of_refusals(rt: HostRuntime) -> Result<(), Fail> {
     Ok(())
 }
 
-/// Passes whichever request for memory is refused.
 #[test]
-fn memory_of_get_or_intern(rt: HostRuntime) -> Result<(), Fail> {
-    let mut interner = StringInterner::<StringBackend>::new(rt.alloc());
-    for (number, text) in [(0, "Tiger"), (1, "Horse")] {
-        if let Err(error) = interner.get_or_intern(text) {
-            assert_eq!(rt; error, InternError::Memory(AllocError));
-            assert_eq!(rt; interner.len(), number);
-            tell_refused(&rt, "get_or_intern over StringBackend")?;
-        }
-        assert_eq!(rt; interner.get_or_intern(text)?.to_usize(), number);
-    }
+fn dropped_texts_are_new_again(rt: HostRuntime) -> Result<(), Fail> {
+    let mut interner = StringInterner::<StringBackend<Bit>>::new(rt.alloc());
+    interner.extend(["a", "b"].iter().copied())?;
+    assert_eq!(rt; interner.get_or_intern("c"), Err(InternError::NoSymbol));
+    interner.truncate(1);
+    assert!(rt; interner.get("b").is_none());
+    assert_eq!(rt; interner.get_or_intern("c")?.to_usize(), 1);
+    interner.truncate(5);
     assert_eq!(rt; interner.len(), 2);
+    Ok(())
+}
+
+#[test]
+fn truncating_keeps_slots_and_counts(rt: HostRuntime) -> Result<(), Fail> {
+    let mut interner = <DefaultStringInterner>::new(rt.alloc());
+    for number in 0..13 {
+        interner.get_or_intern(&format!(in rt.alloc(); "{number}")?)?;
+    }
+    interner.truncate(2);
+    assert_eq!(rt; interner.len(), 2);
+    assert_eq!(rt;
+        (
+            interner.index.slots(),
+            interner.index.greatest(),
+            interner.index.put_back()
+        ),
+        (32, 13, 18)
+    );
+    for (text, number) in [("0", Some(0)), ("1", Some(1)), ("2", None), ("12", None)] {
+        let found = interner.get(text).map(|symbol| symbol.to_usize());
+        assert_eq!(rt; found, number, "of {text}");
+    }
     Ok(())
 }

@@ -5,10 +5,11 @@ ghost use Rattle.string_interner.specs.Json.{GivesBack};
 
 use super::*;
 use crate::DefaultStringInterner;
-use crate::backend::StringBackend;
+use crate::backend::{BucketBackend, BufferBackend, StringBackend};
 use crate::symbol::{SymbolU16, SymbolU32, SymbolUsize};
-use crate::tests::{Counting, tell_refused};
+use crate::tests::{Counting, ask_last, made_of, tell_refused};
 use std::marker::Model;
+use std::process::Abort;
 use std::test::Fail;
 
 /// A symbol type with the numbers 0 and 1 alone.
@@ -79,6 +80,18 @@ fn count_read<B: Backend + Drop>(
 ) -> Result<Result<usize, JsonError>, Fail> {
     let value = parsed(alloc, json)?;
     match StringInterner::<B>::from_json(alloc, &value) {
+        Ok(interner) => Ok(Ok(interner.len())),
+        Err(error) => Ok(Err(error)),
+    }
+}
+
+/// How many texts an interner over the backend reads exactly from a JSON text.
+fn count_read_exactly<B: Backend + Drop>(
+    alloc: Global,
+    json: &str,
+) -> Result<Result<usize, JsonError>, Fail> {
+    let value = parsed(alloc, json)?;
+    match StringInterner::<B>::from_json_exact(alloc, &value) {
         Ok(interner) => Ok(Ok(interner.len())),
         Err(error) => Ok(Err(error)),
     }
@@ -155,6 +168,38 @@ fn the_first_refused_element_decides(rt: HostRuntime) -> Result<(), Fail> {
 }
 
 #[test]
+fn reads_exactly_what_has_no_repeats(rt: HostRuntime) -> Result<(), Fail> {
+    for (json, wanted) in [
+        ("[\"a\",\"b\",\"a\"]", Err(JsonError::Repeated { index: 2 })),
+        ("[\"a\",3,\"a\"]", Err(JsonError::NotAText { index: 1 })),
+        ("[\"a\",\"a\",null]", Err(JsonError::Repeated { index: 1 })),
+        ("{}", Err(JsonError::NotAList)),
+        ("[]", Ok(0)),
+    ] {
+        assert_eq!(rt;
+            count_read_exactly::<StringBackend>(rt.alloc(), json)?,
+            wanted,
+            "{json}"
+        );
+        assert_eq!(rt;
+            count_read_exactly::<BucketBackend>(rt.alloc(), json)?,
+            wanted,
+            "{json}"
+        );
+        assert_eq!(rt;
+            count_read_exactly::<BufferBackend>(rt.alloc(), json)?,
+            wanted,
+            "{json}"
+        );
+    }
+    assert_eq!(rt;
+        count_read_exactly::<StringBackend<Two>>(rt.alloc(), "[\"a\",\"b\",\"c\",\"a\"]")?,
+        Err(JsonError::NoSymbol)
+    );
+    Ok(())
+}
+
+#[test]
 fn reads_texts_in_order(rt: HostRuntime) -> Result<(), Fail> {
     let value = parsed(rt.alloc(), "[\"Elephant\",\"Tiger\",\"Tiger\",\"Horse\"]")?;
     let interner = <DefaultStringInterner>::from_json(rt.alloc(), &value)?;
@@ -175,6 +220,25 @@ fn read_back<B: Backend + Drop, H: TextHasher + Default + Drop>(
 {
     let value = interner.to_json(alloc).map_err(JsonError::Memory)?;
     StringInterner::from_json(alloc, &value)
+}
+
+/// The same, by reading exactly.
+fn read_back_exactly<B: Backend + Drop, H: TextHasher + Default + Drop>(
+    alloc: Global,
+    interner: &StringInterner<B, H>,
+) -> Result<StringInterner<B, H>, JsonError>
+    ensures { GivesBack interner.now.texts result }
+{
+    let value = interner.to_json(alloc).map_err(JsonError::Memory)?;
+    StringInterner::from_json_exact(alloc, &value)
+}
+
+#[test]
+fn what_was_written_is_read_back_exactly(rt: HostRuntime) -> Result<(), Fail> {
+    let mut interner = StringInterner::<Counting>::new(rt.alloc());
+    fill(&mut interner, &["b", "", "a", "é"])?;
+    assert!(rt; read_back_exactly(rt.alloc(), &interner)? == interner);
+    Ok(())
 }
 
 #[test]
@@ -243,6 +307,7 @@ fn messages_of_refusals(rt: HostRuntime) -> Result<(), Fail> {
         ),
         (JsonError::NotAList, "not a list"),
         (JsonError::NotAText { index: 1 }, "element 1 is not a text"),
+        (JsonError::Repeated { index: 2 }, "element 2 is repeated"),
         (JsonError::NotANumber, "not a number"),
     ] {
         assert_eq!(rt; error.to_string(rt.alloc())?.as_str(), message);
@@ -251,50 +316,123 @@ fn messages_of_refusals(rt: HostRuntime) -> Result<(), Fail> {
 }
 
 /// Passes whichever request for memory is refused.
-#[test]
-fn memory_of_to_json(rt: HostRuntime) -> Result<(), Fail> {
+fn to_json_in_turn<B: Backend + Drop>(
+    rt: &(impl Abort + Print + AllocGlobal),
+    call: &str,
+) -> Result<(), Fail> {
     let texts = ["Tiger", "Horse"];
-    let mut interner = StringInterner::<StringBackend>::new(rt.alloc());
-    fill(&mut interner, &texts)?;
+    let interner = made_of::<B>(rt, &texts)?;
     let value = match interner.to_json(rt.alloc()) {
         Ok(value) => value,
-        Err(_) => {
-            tell_refused(&rt, "to_json over StringBackend")?;
+        Err(AllocError) => {
+            tell_refused(rt, call)?;
             interner.to_json(rt.alloc())?
         }
     };
     assert_eq!(rt; interner.len(), 2);
     for (i, text) in texts.iter().enumerate() {
         assert_eq!(rt; value.get(i).and_then(Value::as_str), Some(*text));
+        assert!(rt; interner.get(text).is_some(), "{text}");
     }
     assert!(rt; value.get(2).is_none());
-    Ok(())
+    ask_last(rt).map_err(Fail::from)
+}
+
+#[test]
+fn memory_of_to_json_over_strings(rt: HostRuntime) -> Result<(), Fail> {
+    to_json_in_turn::<StringBackend>(&rt, "to_json over StringBackend")
+}
+
+#[test]
+fn memory_of_to_json_over_buckets(rt: HostRuntime) -> Result<(), Fail> {
+    to_json_in_turn::<BucketBackend>(&rt, "to_json over BucketBackend")
+}
+
+#[test]
+fn memory_of_to_json_over_buffers(rt: HostRuntime) -> Result<(), Fail> {
+    to_json_in_turn::<BufferBackend>(&rt, "to_json over BufferBackend")
+}
+
+/// The interner that a JSON value holds, read exactly or not.
+fn read_in<B: Backend + Drop>(
+    alloc: Global,
+    value: &Value,
+    is_exact: bool,
+) -> Result<StringInterner<B>, JsonError> {
+    if is_exact {
+        StringInterner::from_json_exact(alloc, value)
+    } else {
+        StringInterner::from_json(alloc, value)
+    }
 }
 
 /// Passes whichever request for memory is refused.
-#[test]
-fn memory_of_from_json(rt: HostRuntime) -> Result<(), Fail> {
-    let value = parsed(rt.alloc(), "[\"Tiger\",\"Horse\"]")?;
-    let interner = match StringInterner::<StringBackend>::from_json(rt.alloc(), &value) {
+fn from_json_in_turn<B: Backend + Drop>(
+    rt: &(impl Abort + Print + AllocGlobal),
+    call: &str,
+    is_exact: bool,
+) -> Result<(), Fail> {
+    let json = "[\"Tiger\",\"Horse\"]";
+    let value = match Value::from_str(rt.alloc(), json) {
+        Ok(value) => value,
+        Err(_) => {
+            tell_refused(rt, "the set-up of a test")?;
+            Value::from_str(rt.alloc(), json)?
+        }
+    };
+    let interner = match read_in::<B>(rt.alloc(), &value, is_exact) {
         Ok(interner) => interner,
         Err(error) => {
             assert_eq!(rt; error, JsonError::Memory(AllocError));
-            tell_refused(&rt, "from_json over StringBackend")?;
-            StringInterner::<StringBackend>::from_json(rt.alloc(), &value)?
+            tell_refused(rt, call)?;
+            read_in::<B>(rt.alloc(), &value, is_exact)?
         }
     };
     assert_eq!(rt; interner.len(), 2);
-    assert_eq!(rt;
-        interner.get("Horse").map(|symbol| symbol.to_usize()),
-        Some(1)
-    );
-    Ok(())
+    for (symbol, text) in &interner {
+        assert!(rt; interner.get(text) == Some(symbol), "{text}");
+    }
+    assert!(rt; interner.get("Horse").is_some());
+    assert!(rt; interner.get("Tiger").is_some());
+    ask_last(rt).map_err(Fail::from)
 }
 
-/// It takes no memory, so it answers whichever request is refused.
 #[test]
-fn memory_of_symbol_to_json(rt: HostRuntime) -> Result<(), Fail> {
+fn memory_of_from_json_over_strings(rt: HostRuntime) -> Result<(), Fail> {
+    from_json_in_turn::<StringBackend>(&rt, "from_json over StringBackend", false)
+}
+
+#[test]
+fn memory_of_from_json_over_buckets(rt: HostRuntime) -> Result<(), Fail> {
+    from_json_in_turn::<BucketBackend>(&rt, "from_json over BucketBackend", false)
+}
+
+#[test]
+fn memory_of_from_json_over_buffers(rt: HostRuntime) -> Result<(), Fail> {
+    from_json_in_turn::<BufferBackend>(&rt, "from_json over BufferBackend", false)
+}
+
+#[test]
+fn memory_of_from_json_exact_over_strings(rt: HostRuntime) -> Result<(), Fail> {
+    from_json_in_turn::<StringBackend>(&rt, "from_json_exact over StringBackend", true)
+}
+
+#[test]
+fn memory_of_from_json_exact_over_buckets(rt: HostRuntime) -> Result<(), Fail> {
+    from_json_in_turn::<BucketBackend>(&rt, "from_json_exact over BucketBackend", true)
+}
+
+#[test]
+fn memory_of_from_json_exact_over_buffers(rt: HostRuntime) -> Result<(), Fail> {
+    from_json_in_turn::<BufferBackend>(&rt, "from_json_exact over BufferBackend", true)
+}
+
+/// A number takes no memory, so it is written and read whichever request is refused.
+#[test]
+fn memory_is_not_asked_for_by_a_symbol(rt: HostRuntime) -> Result<(), Fail> {
     let value = symbol_to_json(rt.alloc(), 7usize)?;
     assert_eq!(rt; value.as_u64(), Some(7));
-    Ok(())
+    assert_eq!(rt; symbol_from_json::<usize>(&value)?, 7);
+    assert_eq!(rt; symbol_from_json::<Two>(&value), Err(JsonError::NoSymbol));
+    ask_last(&rt).map_err(Fail::from)
 }

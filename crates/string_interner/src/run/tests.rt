@@ -1,6 +1,7 @@
 use super::*;
-use crate::backend::StringBackend;
-use crate::tests::{Bit, Counting, Even, tell_refused};
+use crate::backend::{BucketBackend, BufferBackend, StringBackend};
+use crate::tests::{Bit, Counting, Even, ask_last, made_of, tell_refused};
+use std::process::Abort;
 use std::test::Fail;
 
 #[test]
@@ -143,8 +144,12 @@ fn shrinking_keeps_texts_and_symbols(rt: HostRuntime) -> Result<(), Fail> {
     Ok(())
 }
 
-#[test]
-fn extends_by_lists_of_texts(rt: HostRuntime) -> Result<(), Fail> {
+/// Lists of texts go in, over a backend under which `Horse` and `Bear` have these numbers.
+fn extends_by_lists<B: Backend + Drop>(
+    rt: &(impl Abort + Alloc<A = Global>),
+    horse: usize,
+    bear: usize,
+) -> Result<(), Fail> {
     let commands = [
         Command::Extend(&["Tiger", "Horse"]),
         Command::Intern("Bear"),
@@ -152,17 +157,24 @@ fn extends_by_lists_of_texts(rt: HostRuntime) -> Result<(), Fail> {
         Command::Resolve(1),
         Command::Len,
     ];
-    let mut interner = StringInterner::<StringBackend>::new(rt.alloc());
+    let mut interner = StringInterner::<B>::new(rt.alloc());
     let replies = run(rt.alloc(), &mut interner, &commands)?;
     let wanted = [
         Reply::Done,
-        Reply::Symbol(2),
-        Reply::Symbol(1),
+        Reply::Symbol(bear),
+        Reply::Symbol(horse),
         text(rt.alloc(), "Bear")?,
         Reply::Len(3),
     ];
     assert_eq!(rt; replies.as_slice(), wanted.as_slice());
     Ok(())
+}
+
+#[test]
+fn extends_by_lists_of_texts(rt: HostRuntime) -> Result<(), Fail> {
+    extends_by_lists::<StringBackend>(&rt, 1, 2)?;
+    extends_by_lists::<BucketBackend>(&rt, 1, 2)?;
+    extends_by_lists::<BufferBackend>(&rt, 6, 12)
 }
 
 #[test]
@@ -207,21 +219,91 @@ fn resolves_what_get_told(rt: HostRuntime) -> Result<(), Fail> {
     Ok(())
 }
 
-/// Passes whichever request for memory is refused.
+/// Texts are dropped and others come in their place, over a backend under which the second text and the one after
+/// both have these numbers.
+fn drops_texts<B: Backend + Drop>(
+    rt: &(impl Abort + Alloc<A = Global>),
+    second: usize,
+    next: usize,
+) -> Result<(), Fail> {
+    let commands = [
+        Command::Intern("Tiger"),
+        Command::Intern("Horse"),
+        Command::Truncate(1),
+        Command::Resolve(1),
+        Command::Get("Horse"),
+        Command::Intern("Ox"),
+        Command::Resolve(1),
+    ];
+    let mut interner = StringInterner::<B>::new(rt.alloc());
+    let replies = run(rt.alloc(), &mut interner, &commands)?;
+    let wanted = [
+        Reply::Symbol(0),
+        Reply::Symbol(second),
+        Reply::Done,
+        Reply::Nothing,
+        Reply::Nothing,
+        Reply::Symbol(second),
+        text(rt.alloc(), "Ox")?,
+    ];
+    assert_eq!(rt; replies.as_slice(), wanted.as_slice());
+    assert_eq!(rt; interner.get_or_intern("")?.to_usize(), next);
+    Ok(())
+}
+
 #[test]
-fn memory_of_run(rt: HostRuntime) -> Result<(), Fail> {
-    let commands = [Command::Intern("Tiger"), Command::Intern("Tiger")];
-    let ample = [Reply::Symbol(0), Reply::Symbol(0)];
-    let first_refused = [Reply::NoMemory, Reply::Symbol(0)];
-    let mut interner = StringInterner::<StringBackend>::new(rt.alloc());
-    let refused = match run(rt.alloc(), &mut interner, &commands) {
+fn dropped_texts_make_room_for_others(rt: HostRuntime) -> Result<(), Fail> {
+    drops_texts::<StringBackend>(&rt, 1, 2)?;
+    drops_texts::<BucketBackend>(&rt, 1, 2)?;
+    drops_texts::<BufferBackend>(&rt, 6, 9)
+}
+
+#[test]
+fn a_dropped_symbol_reads_what_stands_there_now(rt: HostRuntime) -> Result<(), Fail> {
+    let commands = [
+        Command::Intern("a"),
+        Command::Intern("b"),
+        Command::Intern("c"),
+        Command::Truncate(1),
+        Command::Intern("x\u{1}y"),
+        Command::Resolve(2),
+    ];
+    let mut interner = StringInterner::<BufferBackend>::new(rt.alloc());
+    let replies = run(rt.alloc(), &mut interner, &commands)?;
+    let wanted = [
+        Reply::Symbol(0),
+        Reply::Symbol(2),
+        Reply::Symbol(4),
+        Reply::Done,
+        Reply::Symbol(2),
+        text(rt.alloc(), "y")?,
+    ];
+    assert_eq!(rt; replies.as_slice(), wanted.as_slice());
+    Ok(())
+}
+
+/// Passes whichever request for memory is refused: nothing ran where it was that of the replies, and else the first
+/// text alone is refused, which the second one is not.
+fn tigers_in_turn<B: Backend + Drop>(
+    rt: &(impl Abort + Print + AllocGlobal),
+    backend: &str,
+) -> Result<(), Fail> {
+    let commands = [
+        Command::Intern("Tiger"),
+        Command::Intern("Tiger"),
+        Command::Len,
+    ];
+    let ample = [Reply::Symbol(0), Reply::Symbol(0), Reply::Len(1)];
+    let first_refused = [Reply::NoMemory, Reply::Symbol(0), Reply::Len(1)];
+    let mut interner = StringInterner::<B>::new(rt.alloc());
+    let is_refused = match run(rt.alloc(), &mut interner, &commands) {
         Err(AllocError) => {
             assert!(rt; interner.is_empty(), "nothing ran");
-            tell_refused(&rt, "run, its replies")?;
+            println!(rt; "refused: run over {backend}, its replies")?;
             true
         }
         Ok(replies) if replies.as_slice() == first_refused.as_slice() => {
-            tell_refused(&rt, "run, its first text")?;
+            println!(rt; "refused: run over {backend}, its first text")?;
             true
         }
         Ok(replies) => {
@@ -229,24 +311,37 @@ fn memory_of_run(rt: HostRuntime) -> Result<(), Fail> {
             false
         }
     };
-    if refused {
+    if is_refused {
         let replies = run(rt.alloc(), &mut interner, &commands)?;
         assert_eq!(rt; replies.as_slice(), ample.as_slice());
     }
     assert_eq!(rt; interner.len(), 1);
-    Ok(())
+    ask_last(rt).map_err(Fail::from)
+}
+
+#[test]
+fn memory_of_run_over_strings(rt: HostRuntime) -> Result<(), Fail> {
+    tigers_in_turn::<StringBackend>(&rt, "StringBackend")
+}
+
+#[test]
+fn memory_of_run_over_buckets(rt: HostRuntime) -> Result<(), Fail> {
+    tigers_in_turn::<BucketBackend>(&rt, "BucketBackend")
+}
+
+#[test]
+fn memory_of_run_over_buffers(rt: HostRuntime) -> Result<(), Fail> {
+    tigers_in_turn::<BufferBackend>(&rt, "BufferBackend")
 }
 
 /// Passes whichever request for memory is refused: the copy of a text is refused for its own reply alone.
 #[test]
 fn memory_of_copies(rt: HostRuntime) -> Result<(), Fail> {
-    let wanted = String::from_str(rt.alloc(), "Tiger");
-    let mut interner = StringInterner::<StringBackend>::new(rt.alloc());
-    if wanted.is_err() || interner.get_or_intern("Tiger").is_err() {
-        // What was refused is the set-up, which other tests are about.
-        return Ok(());
-    }
-    let wanted = Reply::Text(wanted?);
+    let Ok(wanted) = String::from_str(rt.alloc(), "Tiger") else {
+        return tell_refused(&rt, "the set-up of a test").map_err(Fail::from);
+    };
+    let wanted = Reply::Text(wanted);
+    let mut interner = made_of::<StringBackend>(&rt, &["Tiger"])?;
     let commands = [Command::Number(0), Command::Number(0), Command::Len];
     let Ok(replies) = run(rt.alloc(), &mut interner, &commands) else {
         return tell_refused(&rt, "run, its replies").map_err(Fail::from);
@@ -264,5 +359,47 @@ fn memory_of_copies(rt: HostRuntime) -> Result<(), Fail> {
         replies[0] == wanted || replies[1] == wanted,
         "one copy alone was refused"
     );
-    Ok(())
+    ask_last(&rt).map_err(Fail::from)
+}
+
+/// Passes whichever request for memory is refused: beside its replies and their texts, a run takes none for what is
+/// known, for what is not there and for a text that has no symbol.
+#[test]
+fn memory_is_not_asked_for_by_a_run(rt: HostRuntime) -> Result<(), Fail> {
+    let mut interner = made_of::<StringBackend<Bit>>(&rt, &["a", "b"])?;
+    let commands = [
+        Command::Intern("a"),
+        Command::InternStatic("b"),
+        Command::Get("b"),
+        Command::Get("c"),
+        Command::Resolve(4),
+        Command::Number(2),
+        Command::Intern("c"),
+        Command::InternStatic("c"),
+        Command::Extend(&["b", "a", "c", "d"]),
+        Command::Extend(&["b", "a"]),
+        Command::Len,
+    ];
+    let wanted = [
+        Reply::Symbol(0),
+        Reply::Symbol(1),
+        Reply::Symbol(1),
+        Reply::Nothing,
+        Reply::NoReply,
+        Reply::Nothing,
+        Reply::NoSymbol,
+        Reply::NoSymbol,
+        Reply::NoSymbol,
+        Reply::Done,
+        Reply::Len(2),
+    ];
+    let replies = match run(rt.alloc(), &mut interner, &commands) {
+        Ok(replies) => replies,
+        Err(AllocError) => {
+            tell_refused(&rt, "run, its replies")?;
+            run(rt.alloc(), &mut interner, &commands)?
+        }
+    };
+    assert_eq!(rt; replies.as_slice(), wanted.as_slice());
+    ask_last(&rt).map_err(Fail::from)
 }

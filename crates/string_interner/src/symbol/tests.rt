@@ -57,15 +57,32 @@ fn hash_of<T: Hash + Drop>(value: T) -> u64 {
 }
 
 #[test]
-fn symbols_are_ordered_and_hashed_by_number(rt: HostRuntime) {
+fn symbols_are_ordered_by_number(rt: HostRuntime) {
     for (small, large) in [(0, 1), (7, 40000), (65533, 65534)] {
         assert!(rt; SymbolU16::try_from_usize(small) < SymbolU16::try_from_usize(large));
         assert!(rt; SymbolU32::try_from_usize(small) < SymbolU32::try_from_usize(large));
         assert!(rt; SymbolUsize::try_from_usize(small) < SymbolUsize::try_from_usize(large));
         assert!(rt; SymbolU16::try_from_usize(small) != SymbolU16::try_from_usize(large));
         assert!(rt; SymbolU32::try_from_usize(small) == SymbolU32::try_from_usize(small));
-        assert!(rt;
-            hash_of(SymbolU16::try_from_usize(small)) == hash_of(SymbolU16::try_from_usize(small))
+    }
+}
+
+/// A symbol is hashed as the number of that many bytes is.
+#[test]
+fn symbols_are_hashed_by_number(rt: HostRuntime) {
+    for number in [0u16, 1, 300, 65534] {
+        let index = usize::from(number);
+        assert_eq!(rt;
+            SymbolU16::try_from_usize(index).map(hash_of),
+            Some(hash_of(number))
+        );
+        assert_eq!(rt;
+            SymbolU32::try_from_usize(index).map(hash_of),
+            Some(hash_of(u32::from(number)))
+        );
+        assert_eq!(rt;
+            SymbolUsize::try_from_usize(index).map(hash_of),
+            Some(hash_of(index))
         );
     }
 }

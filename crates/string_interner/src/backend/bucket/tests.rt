@@ -2,7 +2,8 @@ use super::*;
 use crate::interner::StringInterner;
 use crate::run::{Command, Reply, run};
 use crate::symbol::SymbolU16;
-use crate::tests::tell_refused;
+use crate::tests::last::{NEW_TEXTS, assert_refuses, with_all_symbols};
+use crate::tests::{ask_last, tell_refused};
 use std::test::Fail;
 
 /// The capacity and the length of the head, how many older buckets there are, all capacities together, and all bytes.
@@ -53,6 +54,17 @@ fn two_byte_symbols_over_buckets(rt: HostRuntime) -> Result<(), Fail> {
     for (number, text) in [(0, "Tiger"), (1, "Horse"), (0, "Tiger")] {
         assert_eq!(rt; interner.get_or_intern(text)?.to_usize(), number);
     }
+    Ok(())
+}
+
+#[test]
+fn no_bucket_changes_without_a_symbol(rt: HostRuntime) -> Result<(), Fail> {
+    let mut interner = with_all_symbols::<BucketBackend<SymbolU16>>(&rt)?;
+    let before = shape(interner.backend());
+    // The digits of all numbers below 65535.
+    assert_eq!(rt; before.4, 316565);
+    assert_refuses(&rt, &mut interner, &NEW_TEXTS);
+    assert_eq!(rt; shape(interner.backend()), before);
     Ok(())
 }
 
@@ -228,14 +240,49 @@ fn memory_makers(rt: HostRuntime) -> Result<(), Fail> {
         }
     };
     assert_eq!(rt; bucket.capacity(), 3);
-    Ok(())
+    ask_last(&rt).map_err(Fail::from)
+}
+
+/// A bucket takes texts up to its capacity, and refuses longer ones, without asking for memory.
+#[test]
+fn memory_is_not_asked_for_by_a_bucket(rt: HostRuntime) -> Result<(), Fail> {
+    let mut bucket = match FixedString::with_capacity(rt.alloc(), 3) {
+        Ok(bucket) => bucket,
+        Err(AllocError) => {
+            tell_refused(&rt, "the set-up of a test")?;
+            FixedString::with_capacity(rt.alloc(), 3)?
+        }
+    };
+    let steps = [
+        ("ab", Some((0, 2))),
+        ("cdefghijklmnopqrstuvwxyz", None),
+        ("c", Some((2, 3))),
+        ("d", None),
+        ("", Some((3, 3))),
+    ];
+    for (text, place) in steps {
+        assert_eq!(rt;
+            bucket.push_str(text)?.map(|span| (span.from, span.to)),
+            place,
+            "at {text}"
+        );
+    }
+    let mut empty = FixedString::new(rt.alloc());
+    assert!(rt; empty.push_str("a")?.is_none());
+    assert!(rt; empty.push_str("")?.is_some());
+    assert_eq!(rt; (bucket.capacity(), bucket.len()), (3, 3));
+    assert_eq!(rt; bucket.finish().as_str(), "abc");
+    ask_last(&rt).map_err(Fail::from)
 }
 
 #[test]
 fn memory_within_the_room(rt: HostRuntime) -> Result<(), Fail> {
     let mut backend = match BucketBackend::<DefaultSymbol>::with_capacity(rt.alloc(), 10) {
         Ok(made) => made,
-        Err(AllocError) => BucketBackend::with_capacity(rt.alloc(), 10)?,
+        Err(AllocError) => {
+            tell_refused(&rt, "the set-up of a test")?;
+            BucketBackend::with_capacity(rt.alloc(), 10)?
+        }
     };
     // No call below asks for memory, so none is refused.
     assert_eq!(rt; backend.intern("Tiger")?.to_usize(), 0);
@@ -243,7 +290,7 @@ fn memory_within_the_room(rt: HostRuntime) -> Result<(), Fail> {
     assert_eq!(rt; backend.intern_static("Ox")?.to_usize(), 2);
     assert_eq!(rt; backend.intern("")?.to_usize(), 3);
     assert_eq!(rt; shape(&backend), (10, 10, 0, 10, 10));
-    Ok(())
+    ask_last(&rt).map_err(Fail::from)
 }
 
 #[test]
@@ -265,7 +312,7 @@ fn memory_intern(rt: HostRuntime) -> Result<(), Fail> {
         assert_eq!(rt; backend.resolve(symbol), Some(*text));
     }
     assert_eq!(rt; shape(&backend), (16, 8, 4, 30, 18));
-    Ok(())
+    ask_last(&rt).map_err(Fail::from)
 }
 
 #[test]
@@ -282,11 +329,30 @@ fn memory_intern_static(rt: HostRuntime) -> Result<(), Fail> {
     };
     assert_eq!(rt; backend.resolve(symbol), Some("aa"));
     assert_eq!(rt; shape(&backend), (0, 0, 0, 0, 0));
+    ask_last(&rt).map_err(Fail::from)
+}
+
+#[test]
+fn bytes_of_dropped_texts_stay(rt: HostRuntime) -> Result<(), Fail> {
+    let mut backend = BucketBackend::<DefaultSymbol>::new(rt.alloc());
+    for text in ["a", "bc", "de"] {
+        backend.intern(text)?;
+    }
+    backend.truncate(1);
+    assert_eq!(rt; backend.count(), 1);
+    let (_, _, _, capacities, bytes) = shape(&backend);
+    assert_eq!(rt; (capacities, bytes), (6, 5));
+    let copy = backend.clone()?;
+    let (head, len, _, _, _) = shape(&copy);
+    assert_eq!(rt; (head, len), (5, 1));
+    assert_eq!(rt; backend.intern("xy")?.to_usize(), 1);
+    let (head, _, _, capacities, bytes) = shape(&backend);
+    assert_eq!(rt; (head, capacities, bytes), (8, 14, 7));
     Ok(())
 }
 
 /// A backend with texts in two buckets, and a static one.
-fn sample(rt: &HostRuntime) -> Result<BucketBackend, InternError> {
+fn new_sample(rt: &HostRuntime) -> Result<BucketBackend, InternError> {
     let mut backend = BucketBackend::<DefaultSymbol>::new(rt.alloc());
     backend.intern("a")?;
     backend.intern("bc")?;
@@ -294,12 +360,20 @@ fn sample(rt: &HostRuntime) -> Result<BucketBackend, InternError> {
     Ok(backend)
 }
 
+/// The same, made again where that was refused memory.
+fn sample(rt: &HostRuntime) -> Result<BucketBackend, Fail> {
+    match new_sample(rt) {
+        Ok(backend) => Ok(backend),
+        Err(_) => {
+            tell_refused(rt, "the set-up of a test")?;
+            Ok(new_sample(rt)?)
+        }
+    }
+}
+
 #[test]
 fn memory_clone(rt: HostRuntime) -> Result<(), Fail> {
-    let backend = match sample(&rt) {
-        Ok(backend) => backend,
-        Err(_) => sample(&rt)?,
-    };
+    let backend = sample(&rt)?;
     let before = shape(&backend);
     let copy = match backend.clone() {
         Ok(copy) => copy,
@@ -312,15 +386,34 @@ fn memory_clone(rt: HostRuntime) -> Result<(), Fail> {
     };
     assert!(rt; copy == backend);
     assert_eq!(rt; shape(&copy), (5, 3, 0, 5, 3));
-    Ok(())
+    ask_last(&rt).map_err(Fail::from)
+}
+
+/// A backend whose entries are used up by all the symbols of two bytes.
+#[test]
+fn memory_is_not_asked_for_without_a_symbol(rt: HostRuntime) -> Result<(), Fail> {
+    let mut backend = match BucketBackend::<SymbolU16>::with_capacity(rt.alloc(), 65535) {
+        Ok(backend) => backend,
+        Err(AllocError) => {
+            tell_refused(&rt, "the set-up of a test")?;
+            BucketBackend::with_capacity(rt.alloc(), 65535)?
+        }
+    };
+    for _ in 0..65535 {
+        backend.intern("a")?;
+    }
+    for text in ["", "a longer one"] {
+        assert_eq!(rt; backend.intern(text), Err(InternError::NoSymbol));
+        assert_eq!(rt; backend.intern_static(text), Err(InternError::NoSymbol));
+        assert_eq!(rt; shape(&backend), (65535, 65535, 0, 65535, 65535));
+        assert_eq!(rt; backend.count(), 65535);
+    }
+    ask_last(&rt).map_err(Fail::from)
 }
 
 #[test]
-fn memory_shrink_to_fit(rt: HostRuntime) -> Result<(), Fail> {
-    let mut backend = match sample(&rt) {
-        Ok(backend) => backend,
-        Err(_) => sample(&rt)?,
-    };
+fn memory_of_shrinking(rt: HostRuntime) -> Result<(), Fail> {
+    let mut backend = sample(&rt)?;
     let before = shape(&backend);
     backend.shrink_to_fit();
     assert_eq!(rt; shape(&backend), before);

@@ -4,7 +4,8 @@ use super::*;
 use crate::interner::StringInterner;
 use crate::run::{Command, Reply, run};
 use crate::symbol::SymbolU16;
-use crate::tests::tell_refused;
+use crate::tests::last::assert_refuses;
+use crate::tests::{ask_last, tell_refused};
 use std::process::Abort;
 use std::test::Fail;
 
@@ -205,8 +206,11 @@ fn an_interner_ends_at_the_last_place(rt: HostRuntime) -> Result<(), Fail> {
     assert_eq!(rt; interner.get_or_intern(&long)?.to_usize(), 0);
     assert_eq!(rt; interner.get_or_intern("b")?.to_usize(), 65534);
     assert_eq!(rt; interner.get_or_intern("c"), Err(InternError::NoSymbol));
+    assert_refuses(&rt, &mut interner, &["c", "", "a", "bb"]);
     assert_eq!(rt; interner.get_or_intern("b")?.to_usize(), 65534);
+    assert_eq!(rt; interner.get_or_intern(&long)?.to_usize(), 0);
     assert_eq!(rt; interner.len(), 2);
+    assert_eq!(rt; interner.backend().as_bytes().len(), 65536);
     let mut interner = StringInterner::<BufferBackend>::new(rt.alloc());
     for (number, text) in [(0, "Tiger"), (6, "Horse"), (0, "Tiger")] {
         assert_eq!(rt; interner.get_or_intern(text)?.to_usize(), number);
@@ -215,6 +219,20 @@ fn an_interner_ends_at_the_last_place(rt: HostRuntime) -> Result<(), Fail> {
         interner.backend().as_bytes(),
         b"\x05Tiger\x05Horse".as_slice()
     );
+    Ok(())
+}
+
+/// After these many letters the next place is 65535 or 65536, which two bytes have no symbol for.
+#[test]
+fn one_long_text_takes_all_places(rt: HostRuntime) -> Result<(), Fail> {
+    for count in [65532, 65533] {
+        let long = letters(rt.alloc(), count)?;
+        let mut interner = StringInterner::<BufferBackend<SymbolU16>>::new(rt.alloc());
+        assert_eq!(rt; interner.get_or_intern(&long)?.to_usize(), 0);
+        assert_refuses(&rt, &mut interner, &["b", "", "a"]);
+        assert_eq!(rt; interner.get_or_intern(&long)?.to_usize(), 0);
+        assert_eq!(rt; interner.backend().as_bytes().len(), count + 3);
+    }
     Ok(())
 }
 
@@ -347,7 +365,7 @@ fn memory_of_with_capacity(rt: HostRuntime) -> Result<(), Fail> {
         }
         assert_eq!(rt; backend.bytes.capacity(), room);
     }
-    Ok(())
+    ask_last(&rt).map_err(Fail::from)
 }
 
 /// Passes whichever request for memory is refused.
@@ -369,7 +387,52 @@ fn memory_of_intern(rt: HostRuntime) -> Result<(), Fail> {
         assert_eq!(rt; read(&backend, place), Some(text));
     }
     assert_eq!(rt; backend.count(), 3);
-    Ok(())
+    ask_last(&rt).map_err(Fail::from)
+}
+
+/// Passes whichever request for memory is refused.
+#[test]
+fn memory_of_intern_static(rt: HostRuntime) -> Result<(), Fail> {
+    let mut backend = BufferBackend::<DefaultSymbol>::new(rt.alloc());
+    for (place, text) in [(0, "Tiger"), (6, "Horse")] {
+        let count = backend.count();
+        if let Err(error) = backend.intern_static(text) {
+            assert_eq!(rt; error, InternError::Memory(AllocError));
+            assert_eq!(rt; backend.count(), count);
+            assert_eq!(rt; backend.as_bytes().len(), place);
+            tell_refused(&rt, "intern_static of BufferBackend")?;
+            backend.intern_static(text)?;
+        }
+        assert_eq!(rt; read(&backend, place), Some(text));
+    }
+    ask_last(&rt).map_err(Fail::from)
+}
+
+/// A buffer without a place for a further text, and with no room for a longer one.
+#[test]
+fn memory_is_not_asked_for_without_a_symbol(rt: HostRuntime) -> Result<(), Fail> {
+    let mut backend = match BufferBackend::<SymbolU16>::with_capacity(rt.alloc(), 5042) {
+        Ok(backend) => backend,
+        Err(AllocError) => {
+            tell_refused(&rt, "the set-up of a test")?;
+            BufferBackend::with_capacity(rt.alloc(), 5042)?
+        }
+    };
+    // A place for each empty text: as many as there are symbols.
+    for place in 0..65535 {
+        assert_eq!(rt;
+            backend.next_symbol().map(|symbol| symbol.to_usize()),
+            Some(place)
+        );
+        backend.intern("")?;
+    }
+    for text in ["", "a longer one"] {
+        assert_eq!(rt; backend.intern(text), Err(InternError::NoSymbol));
+        assert_eq!(rt; backend.intern_static(text), Err(InternError::NoSymbol));
+        assert_eq!(rt; backend.count(), 65535);
+        assert_eq!(rt; backend.as_bytes().len(), 65535);
+    }
+    ask_last(&rt).map_err(Fail::from)
 }
 
 /// Passes whichever request for memory is refused.
@@ -378,7 +441,7 @@ fn memory_of_copies(rt: HostRuntime) -> Result<(), Fail> {
     let mut backend = BufferBackend::<DefaultSymbol>::new(rt.alloc());
     for _ in 0..2 {
         if backend.intern("Tiger").is_err() {
-            tell_refused(&rt, "intern of BufferBackend")?;
+            tell_refused(&rt, "the set-up of a test")?;
             backend.intern("Tiger")?;
         }
     }
@@ -389,9 +452,23 @@ fn memory_of_copies(rt: HostRuntime) -> Result<(), Fail> {
     }
     assert!(rt; copy? == backend);
     assert_eq!(rt; backend.as_bytes(), b"\x05Tiger\x05Tiger".as_slice());
-    // A refused shrinking is not seen.
+    ask_last(&rt).map_err(Fail::from)
+}
+
+/// Passes whichever request for memory is refused, as that of shrinking, which is not seen.
+#[test]
+fn memory_of_shrinking(rt: HostRuntime) -> Result<(), Fail> {
+    let mut backend = match BufferBackend::<DefaultSymbol>::with_capacity(rt.alloc(), 9) {
+        Ok(backend) => backend,
+        Err(AllocError) => {
+            tell_refused(&rt, "the set-up of a test")?;
+            BufferBackend::with_capacity(rt.alloc(), 9)?
+        }
+    };
+    backend.intern("Tiger")?;
     backend.shrink_to_fit();
-    assert_eq!(rt; backend.as_bytes(), b"\x05Tiger\x05Tiger".as_slice());
-    assert_eq!(rt; backend.count(), 2);
+    assert_eq!(rt; backend.as_bytes(), b"\x05Tiger".as_slice());
+    assert_eq!(rt; backend.count(), 1);
+    assert_eq!(rt; read(&backend, 0), Some("Tiger"));
     Ok(())
 }

@@ -1,6 +1,6 @@
 use super::*;
 use crate::symbol::SymbolU16;
-use crate::tests::{Even, tell_refused};
+use crate::tests::{Even, ask_last, tell_refused};
 use std::alloc::AllocError;
 use std::test::Fail;
 
@@ -136,7 +136,7 @@ fn memory_of_makers_and_copies(rt: HostRuntime) -> Result<(), Fail> {
         }
     };
     assert!(rt; copy == backend);
-    Ok(())
+    ask_last(&rt).map_err(Fail::from)
 }
 
 /// Passes whichever request for memory is refused.
@@ -156,5 +156,62 @@ fn memory_of_intern(rt: HostRuntime) -> Result<(), Fail> {
     }
     assert_eq!(rt; backend.count(), 2);
     assert_eq!(rt; backend.joined.as_str(), "TigerHorse");
+    ask_last(&rt).map_err(Fail::from)
+}
+
+/// Passes whichever request for memory is refused.
+#[test]
+fn memory_of_intern_static(rt: HostRuntime) -> Result<(), Fail> {
+    let mut backend = StringBackend::<DefaultSymbol>::new(rt.alloc());
+    for (index, text) in [(0, "Tiger"), (1, "Horse")] {
+        if let Err(error) = backend.intern_static(text) {
+            assert_eq!(rt; error, InternError::Memory(AllocError));
+            assert_eq!(rt; backend.count(), index);
+            assert_eq!(rt; backend.joined.len(), 5 * index);
+            tell_refused(&rt, "intern_static of StringBackend")?;
+            assert_eq!(rt; backend.intern_static(text)?.to_usize(), index);
+        }
+    }
+    assert_eq!(rt; backend.joined.as_str(), "TigerHorse");
+    ask_last(&rt).map_err(Fail::from)
+}
+
+/// A backend whose room is used up by all the symbols of two bytes.
+#[test]
+fn memory_is_not_asked_for_without_a_symbol(rt: HostRuntime) -> Result<(), Fail> {
+    let mut backend = match StringBackend::<SymbolU16>::with_capacity(rt.alloc(), 65535) {
+        Ok(backend) => backend,
+        Err(AllocError) => {
+            tell_refused(&rt, "the set-up of a test")?;
+            StringBackend::with_capacity(rt.alloc(), 65535)?
+        }
+    };
+    for _ in 0..65535 {
+        backend.intern("abcde")?;
+    }
+    for text in ["", "a longer one"] {
+        assert_eq!(rt; backend.intern(text), Err(InternError::NoSymbol));
+        assert_eq!(rt; backend.intern_static(text), Err(InternError::NoSymbol));
+        assert_eq!(rt; backend.count(), 65535);
+        assert_eq!(rt; backend.joined.len(), 327675);
+    }
+    ask_last(&rt).map_err(Fail::from)
+}
+
+/// Passes whichever request for memory is refused, as that of shrinking, which is not seen.
+#[test]
+fn memory_of_shrinking(rt: HostRuntime) -> Result<(), Fail> {
+    let mut backend = match StringBackend::<DefaultSymbol>::with_capacity(rt.alloc(), 9) {
+        Ok(backend) => backend,
+        Err(AllocError) => {
+            tell_refused(&rt, "the set-up of a test")?;
+            StringBackend::with_capacity(rt.alloc(), 9)?
+        }
+    };
+    let symbol = backend.intern("Tiger")?;
+    backend.shrink_to_fit();
+    assert_eq!(rt; backend.count(), 1);
+    assert_eq!(rt; backend.resolve(symbol), Some("Tiger"));
+    assert_eq!(rt; backend.joined.as_str(), "Tiger");
     Ok(())
 }

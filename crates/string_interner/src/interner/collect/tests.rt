@@ -1,9 +1,10 @@
 use super::*;
 use crate::DefaultStringInterner;
-use crate::backend::{Backend, BufferBackend, StringBackend};
+use crate::backend::{Backend, BucketBackend, BufferBackend, StringBackend};
 use crate::symbol::Symbol;
-use crate::tests::{Bit, tell_refused};
+use crate::tests::{Bit, ask_last, tell_refused};
 use std::alloc::AllocError;
+use std::process::Abort;
 use std::test::Fail;
 
 #[test]
@@ -44,6 +45,7 @@ fn is_made_of_the_elements(rt: HostRuntime) -> Result<(), Fail> {
         (3, "Air", 1),
     ] {
         assert_eq!(rt; entries.len(), left);
+        assert_eq!(rt; entries.size_hint(), (left, Some(left)));
         match entries.next() {
             Some((symbol, found)) => {
                 assert_eq!(rt; symbol.to_usize(), number);
@@ -61,7 +63,7 @@ fn is_made_of_the_elements(rt: HostRuntime) -> Result<(), Fail> {
 #[test]
 fn memory_within_the_room(rt: HostRuntime) -> Result<(), Fail> {
     let Ok(mut interner) = StringInterner::<BufferBackend>::with_capacity(rt.alloc(), 3) else {
-        return tell_refused(&rt, "with_capacity of StringInterner").map_err(Fail::from);
+        return tell_refused(&rt, "the set-up of a test").map_err(Fail::from);
     };
     let texts = ["Tiger", "Horse", "Tiger", "Bear"];
     interner.extend(texts.iter().copied())?;
@@ -79,40 +81,84 @@ fn memory_within_the_room(rt: HostRuntime) -> Result<(), Fail> {
             .map(|symbol| symbol.to_usize()),
         Some(17)
     );
-    Ok(())
+    ask_last(&rt).map_err(Fail::from)
 }
 
-/// Passes whichever request for memory is refused: the texts before the refused one stay.
-#[test]
-fn memory_of_extend(rt: HostRuntime) -> Result<(), Fail> {
-    let texts = ["Tiger", "Horse", "Tiger"];
-    let mut interner = StringInterner::<StringBackend>::new(rt.alloc());
+/// The texts of an interner are the first of these, in this order.
+fn assert_front<B: Backend>(rt: &impl Abort, interner: &StringInterner<B>, texts: &[&str]) {
+    for (index, (_, found)) in interner.iter().enumerate() {
+        assert_eq!(rt; texts.get(index).copied(), Some(found));
+    }
+}
+
+/// Passes whichever request for memory is refused: the texts before the refused one stay, and none comes after it.
+fn extend_in_turn<B: Backend + Drop>(
+    rt: &(impl Abort + Print + AllocGlobal),
+    call: &str,
+) -> Result<(), Fail> {
+    let texts = ["Tiger", "Horse", "Tiger", "Bear"];
+    let mut interner = StringInterner::<B>::new(rt.alloc());
     if let Err(error) = interner.extend(texts.iter().copied()) {
         assert_eq!(rt; error, InternError::Memory(AllocError));
         let stayed = interner.len();
-        assert!(rt; stayed < 2);
-        for (i, text) in [(0, "Tiger"), (1, "Horse")] {
+        assert!(rt; stayed < 3);
+        assert_front(rt, &interner, &["Tiger", "Horse", "Bear"]);
+        for (i, text) in [(0, "Tiger"), (1, "Horse"), (2, "Bear")] {
             assert_eq!(rt; interner.get(text).is_some(), i < stayed, "{text}");
         }
-        tell_refused(&rt, "extend over StringBackend")?;
+        tell_refused(rt, call)?;
         interner.extend(texts.iter().copied())?;
     }
-    assert_eq!(rt; interner.len(), 2);
-    Ok(())
+    assert_eq!(rt; interner.len(), 3);
+    assert_front(rt, &interner, &["Tiger", "Horse", "Bear"]);
+    ask_last(rt).map_err(Fail::from)
+}
+
+#[test]
+fn memory_of_extend_over_strings(rt: HostRuntime) -> Result<(), Fail> {
+    extend_in_turn::<StringBackend>(&rt, "extend over StringBackend")
+}
+
+#[test]
+fn memory_of_extend_over_buckets(rt: HostRuntime) -> Result<(), Fail> {
+    extend_in_turn::<BucketBackend>(&rt, "extend over BucketBackend")
+}
+
+#[test]
+fn memory_of_extend_over_buffers(rt: HostRuntime) -> Result<(), Fail> {
+    extend_in_turn::<BufferBackend>(&rt, "extend over BufferBackend")
 }
 
 /// Passes whichever request for memory is refused.
-#[test]
-fn memory_of_from_iter(rt: HostRuntime) -> Result<(), Fail> {
-    let texts = ["Tiger", "Horse"];
-    let made = match StringInterner::<StringBackend>::from_iter(rt.alloc(), texts.iter().copied()) {
+fn from_iter_in_turn<B: Backend + Drop>(
+    rt: &(impl Abort + Print + AllocGlobal),
+    call: &str,
+) -> Result<(), Fail> {
+    let texts = ["Tiger", "Horse", "Tiger"];
+    let made = match StringInterner::<B>::from_iter(rt.alloc(), texts.iter().copied()) {
         Ok(made) => made,
         Err(error) => {
             assert_eq!(rt; error, InternError::Memory(AllocError));
-            tell_refused(&rt, "from_iter over StringBackend")?;
-            StringInterner::<StringBackend>::from_iter(rt.alloc(), texts.iter().copied())?
+            tell_refused(rt, call)?;
+            StringInterner::<B>::from_iter(rt.alloc(), texts.iter().copied())?
         }
     };
     assert_eq!(rt; made.len(), 2);
-    Ok(())
+    assert_front(rt, &made, &["Tiger", "Horse"]);
+    ask_last(rt).map_err(Fail::from)
+}
+
+#[test]
+fn memory_of_from_iter_over_strings(rt: HostRuntime) -> Result<(), Fail> {
+    from_iter_in_turn::<StringBackend>(&rt, "from_iter over StringBackend")
+}
+
+#[test]
+fn memory_of_from_iter_over_buckets(rt: HostRuntime) -> Result<(), Fail> {
+    from_iter_in_turn::<BucketBackend>(&rt, "from_iter over BucketBackend")
+}
+
+#[test]
+fn memory_of_from_iter_over_buffers(rt: HostRuntime) -> Result<(), Fail> {
+    from_iter_in_turn::<BufferBackend>(&rt, "from_iter over BufferBackend")
 }
