@@ -9,8 +9,8 @@ use Rattle.std.proofs.lemmas.List.Elements.{All-push, All-head, All-tail, All-we
 use Rattle.std.proofs.lemmas.List.Sums.{sum_by_push, sum_by-take-le}
 use Rattle.string_interner.specs.Text.{Text}
 use Rattle.string_interner.specs.Backend.{Bucket, IsKept}
-use Rattle.string_interner.specs.StringBackend.{length_grows}
-use Rattle.string_interner.specs.BucketBackend.{buckets_of, bucket_at, total_capacity, byte_count, Puts, Stays, is_static, copied_bytes, text_of, IsPart, IsEntry, entry_len, IsLast, IsTight, IsStored, IsCopy, AreCopies}
+use Rattle.string_interner.specs.CountLaws.{length_grows}
+use Rattle.string_interner.specs.BucketBackend.{buckets_of, bucket_at, total_capacity, byte_count, Puts, Stays, is_static, copied_bytes, interned_text, IsPart, IsEntry, interned_len, IsLast, IsTight, IsInBuckets, IsCopy, AreCopies}
 use Rattle.string_interner.specs.declared.backend.bucket.interned_str.InternedStr.{InternedStr}
 use Rattle.string_interner.specs.declared.backend.bucket.interned_str.InternedStr.TheVariants.{InBucket, Static}
 use Rattle.string_interner.proofs.Fronts.{kept-take}
@@ -118,13 +118,13 @@ entry_stays : (old new : List Bucket) (e : InternedStr) → Grow old new → IsE
 entry_stays old new (InBucket bucket span) grow h = part_stays old new bucket span.from span.to grow h
 entry_stays old new (Static text) grow h = tt
 
-text_stays : (old new : List Bucket) (e : InternedStr) → Grow old new → IsEntry old e → text_of new e ≡ text_of old e
+text_stays : (old new : List Bucket) (e : InternedStr) → Grow old new → IsEntry old e → interned_text new e ≡ interned_text old e
 text_stays old new (InBucket bucket span) grow h =
     let g = grow.each bucket h.there in
     rw g.bytes (slice_range-append (bucket_at old bucket).bytes g.more span.from span.to h.ordered h.ends.0)
 text_stays old new (Static text) grow h = refl
 
-texts_stay : (old new : List Bucket) (entries : List InternedStr) → Grow old new → All (IsEntry old) entries → map (text_of new) entries ≡ map (text_of old) entries
+texts_stay : (old new : List Bucket) (entries : List InternedStr) → Grow old new → All (IsEntry old) entries → map (interned_text new) entries ≡ map (interned_text old) entries
 texts_stay old new [] grow h = refl
 texts_stay old new (e ∷ entries) grow h =
     rw (text_stays old new e grow (All-head (IsEntry old) e entries h), texts_stay old new entries grow (All-tail (IsEntry old) e entries h)) refl
@@ -133,12 +133,12 @@ texts_stay old new (e ∷ entries) grow h =
 entries-more : (old new : List Bucket) (entries : List InternedStr) (e : InternedStr) → Grow old new → All (IsEntry old) entries → IsEntry new e → All (IsEntry new) (entries ++ e ∷ [])
 entries-more old new entries e grow h is = All-push (IsEntry new) entries e (All-weaker (IsEntry old) (IsEntry new) (λ e h. entry_stays old new e grow h) entries h) is
 
-texts-more : (old new : List Bucket) (entries : List InternedStr) (e : InternedStr) → Grow old new → All (IsEntry old) entries → map (text_of new) (entries ++ e ∷ []) ≡ map (text_of old) entries ++ text_of new e ∷ []
-texts-more old new entries e grow h = rw (map_push (text_of new) entries e, texts_stay old new entries grow h) refl
+texts-more : (old new : List Bucket) (entries : List InternedStr) (e : InternedStr) → Grow old new → All (IsEntry old) entries → map (interned_text new) (entries ++ e ∷ []) ≡ map (interned_text old) entries ++ interned_text new e ∷ []
+texts-more old new entries e grow h = rw (map_push (interned_text new) entries e, texts_stay old new entries grow h) refl
 
 -- ---- the text at the end of the head
 
-last_text : (text : Text) (full : List Bucket) (head : Bucket) (e : InternedStr) → IsLast text full head e → text_of (buckets_of full head) e ≡ text
+last_text : (text : Text) (full : List Bucket) (head : Bucket) (e : InternedStr) → IsLast text full head e → interned_text (buckets_of full head) e ≡ text
 last_text text full head e last =
     let at : bucket_at (buckets_of full head) (length full) ≡ head = get_or_push full head _ (length full) refl in
     let n : (length last.before + length text) - length last.before ≡ length text = omega arith in
@@ -154,7 +154,7 @@ last_entry text full head e utf8 last =
       ends = rw (at, last.bytes_are, ← length-append last.before text) (IsCharBoundary-end (last.before ++ text));
     })
 
-last_len : (text : Text) (full : List Bucket) (head : Bucket) (e : InternedStr) → IsLast text full head e → entry_len e ≡ length text
+last_len : (text : Text) (full : List Bucket) (head : Bucket) (e : InternedStr) → IsLast text full head e → interned_len e ≡ length text
 last_len text full head e last = rw last.entry_is (omega arith)
 
 last_static : (text : Text) (full : List Bucket) (head : Bucket) (e : InternedStr) → IsLast text full head e → is_static e ≡ false
@@ -200,17 +200,17 @@ tight-puts text full head new_full new_head tight puts =
 
 -- a text that was put into the buckets
 pub stored-puts : {S : Type 0} (symbol_of : ℕ → Option S) (text : Text) (full : List Bucket) (head : Bucket) (new_full : List Bucket) (new_head : Bucket) (e : InternedStr) (entries more : List InternedStr)
-    → IsStored symbol_of full head entries → IsUtf8 text → IsSome (symbol_of (length (map (text_of (buckets_of full head)) entries))) → length entries + 1 < 2 ^ 64 → Puts text full head new_full new_head → IsLast text new_full new_head e → more ≡ entries ++ e ∷ []
-    → (map (text_of (buckets_of new_full new_head)) more ≡ map (text_of (buckets_of full head)) entries ++ text ∷ []) × IsStored symbol_of new_full new_head more
+    → IsInBuckets symbol_of full head entries → IsUtf8 text → IsSome (symbol_of (length (map (interned_text (buckets_of full head)) entries))) → length entries + 1 < 2 ^ 64 → Puts text full head new_full new_head → IsLast text new_full new_head e → more ≡ entries ++ e ∷ []
+    → (map (interned_text (buckets_of new_full new_head)) more ≡ map (interned_text (buckets_of full head)) entries ++ text ∷ []) × IsInBuckets symbol_of new_full new_head more
 stored-puts symbol_of text full head new_full new_head e entries more stored utf8 some small puts last is =
     let grow = grow-puts text full head new_full new_head utf8 puts in
-    let texts = map (text_of (buckets_of full head)) entries in
-    let count : length texts ≡ length entries = length-map entries (text_of (buckets_of full head)) in
-    let now : map (text_of (buckets_of new_full new_head)) (entries ++ e ∷ []) ≡ texts ++ text ∷ [] = texts-more _ _ entries e grow stored.standing ∙ ap (λ (t : Text). texts ++ t ∷ []) (last_text text new_full new_head e last) in (
+    let texts = map (interned_text (buckets_of full head)) entries in
+    let count : length texts ≡ length entries = length-map entries (interned_text (buckets_of full head)) in
+    let now : map (interned_text (buckets_of new_full new_head)) (entries ++ e ∷ []) ≡ texts ++ text ∷ [] = texts-more _ _ entries e grow stored.standing ∙ ap (λ (t : Text). texts ++ t ∷ []) (last_text text new_full new_head e last) in (
       rw is now,
       rw is (record {
         standing = entries-more _ _ entries e grow stored.standing (last_entry text new_full new_head e utf8 last);
-        shared = omega (arith, sum_by_push entry_len entries e, stored.shared, last_len text new_full new_head e last, byte_count-puts text full head new_full new_head puts);
+        shared = omega (arith, sum_by_push interned_len entries e, stored.shared, last_len text new_full new_head e last, byte_count-puts text full head new_full new_head puts);
         tight = tight-puts text full head new_full new_head stored.tight puts;
         kept = rw now (kept-more symbol_of length texts text stored.kept utf8 some (omega (arith, count, length_push texts text)));
       }),
@@ -218,60 +218,60 @@ stored-puts symbol_of text full head new_full new_head e entries more stored utf
 
 -- a text that stays where it is
 pub stored-static : {S : Type 0} (symbol_of : ℕ → Option S) (text : Bor Text) (full : List Bucket) (head : Bucket) (entries more : List InternedStr)
-    → IsStored symbol_of full head entries → IsUtf8 text.now → IsSome (symbol_of (length (map (text_of (buckets_of full head)) entries))) → length entries + 1 < 2 ^ 64 → more ≡ entries ++ Static text ∷ []
-    → IsStored symbol_of full head more
+    → IsInBuckets symbol_of full head entries → IsUtf8 text.now → IsSome (symbol_of (length (map (interned_text (buckets_of full head)) entries))) → length entries + 1 < 2 ^ 64 → more ≡ entries ++ Static text ∷ []
+    → IsInBuckets symbol_of full head more
 stored-static symbol_of text full head entries more stored utf8 some small is =
-    let texts = map (text_of (buckets_of full head)) entries in
-    let count : length texts ≡ length entries = length-map entries (text_of (buckets_of full head)) in
-    let now : map (text_of (buckets_of full head)) (entries ++ Static text ∷ []) ≡ texts ++ text.now ∷ [] = map_push (text_of (buckets_of full head)) entries (Static text) in
+    let texts = map (interned_text (buckets_of full head)) entries in
+    let count : length texts ≡ length entries = length-map entries (interned_text (buckets_of full head)) in
+    let now : map (interned_text (buckets_of full head)) (entries ++ Static text ∷ []) ≡ texts ++ text.now ∷ [] = map_push (interned_text (buckets_of full head)) entries (Static text) in
     rw is (record {
       standing = All-push (IsEntry (buckets_of full head)) entries (Static text) stored.standing tt;
-      shared = omega (arith, sum_by_push entry_len entries (Static text), stored.shared);
+      shared = omega (arith, sum_by_push interned_len entries (Static text), stored.shared);
       tight = stored.tight;
       kept = rw now (kept-more symbol_of length texts text.now stored.kept utf8 some (omega (arith, count, length_push texts text.now)));
     })
 
 -- the first entries stay stored, in the same buckets
-pub stored-take : {S : Type 0} (symbol_of : ℕ → Option S) (full : List Bucket) (head : Bucket) (entries fewer : List InternedStr) (len : ℕ) → IsStored symbol_of full head entries → fewer ≡ take len entries → IsStored symbol_of full head fewer
+pub stored-take : {S : Type 0} (symbol_of : ℕ → Option S) (full : List Bucket) (head : Bucket) (entries fewer : List InternedStr) (len : ℕ) → IsInBuckets symbol_of full head entries → fewer ≡ take len entries → IsInBuckets symbol_of full head fewer
 stored-take symbol_of full head entries fewer len stored is = rw is (record {
   standing = All-take (IsEntry (buckets_of full head)) len entries stored.standing;
-  shared = omega (arith, sum_by-take-le entry_len entries len, stored.shared);
+  shared = omega (arith, sum_by-take-le interned_len entries len, stored.shared);
   tight = stored.tight;
-  kept = subst (IsKept symbol_of length) (take-map (text_of (buckets_of full head)) len entries) (kept-take symbol_of length length_grows len (map (text_of (buckets_of full head)) entries) stored.kept);
+  kept = subst (IsKept symbol_of length) (take-map (interned_text (buckets_of full head)) len entries) (kept-take symbol_of length length_grows len (map (interned_text (buckets_of full head)) entries) stored.kept);
 })
 
 -- ---- a copy
 
 -- the bytes of one more entry come last
-copied_bytes-more : (entries : List InternedStr) (buckets : List Bucket) (e : InternedStr) → copied_bytes (map (text_of buckets) (entries ++ e ∷ [])) (map is_static (entries ++ e ∷ [])) ≡ copied_bytes (map (text_of buckets) entries) (map is_static entries) ++ copied_bytes (text_of buckets e ∷ []) (is_static e ∷ [])
+copied_bytes-more : (entries : List InternedStr) (buckets : List Bucket) (e : InternedStr) → copied_bytes (map (interned_text buckets) (entries ++ e ∷ [])) (map is_static (entries ++ e ∷ [])) ≡ copied_bytes (map (interned_text buckets) entries) (map is_static entries) ++ copied_bytes (interned_text buckets e ∷ []) (is_static e ∷ [])
 copied_bytes-more [] buckets e = refl
-copied_bytes-more (InBucket bucket span ∷ entries) buckets e = rw (copied_bytes-more entries buckets e) (sym (append_assoc (text_of buckets (InBucket bucket span)) (copied_bytes (map (text_of buckets) entries) (map is_static entries)) (copied_bytes (text_of buckets e ∷ []) (is_static e ∷ []))))
+copied_bytes-more (InBucket bucket span ∷ entries) buckets e = rw (copied_bytes-more entries buckets e) (sym (append_assoc (interned_text buckets (InBucket bucket span)) (copied_bytes (map (interned_text buckets) entries) (map is_static entries)) (copied_bytes (interned_text buckets e ∷ []) (is_static e ∷ []))))
 copied_bytes-more (Static text ∷ entries) buckets e = copied_bytes-more entries buckets e
 
 -- one more entry was copied
-AreCopies-more : (buckets : List Bucket) (entries copies : List InternedStr) (old new : Bucket) (e copy : InternedStr) → IsEntry buckets e → IsUtf8 (text_of buckets e) → AreCopies buckets entries copies old → IsCopy buckets e old new copy → AreCopies buckets (entries ++ e ∷ []) (copies ++ copy ∷ []) new
+AreCopies-more : (buckets : List Bucket) (entries copies : List InternedStr) (old new : Bucket) (e copy : InternedStr) → IsEntry buckets e → IsUtf8 (interned_text buckets e) → AreCopies buckets entries copies old → IsCopy buckets e old new copy → AreCopies buckets (entries ++ e ∷ []) (copies ++ copy ∷ []) new
 AreCopies-more buckets entries copies old new (InBucket bucket span) copy there utf8 are is =
     let e : InternedStr = InBucket bucket span in
-    let text = text_of buckets e in
+    let text = interned_text buckets e in
     let grow : Grow (old ∷ []) (new ∷ []) = grow-head [] old new text utf8 is.0 in
     let count : length new.bytes ≡ length old.bytes + length text = rw is.0 (length-append old.bytes text) in
     let part : length text ≡ span.to - span.from = length-slice_range (bucket_at buckets bucket).bytes span.from span.to there.ends.0 in
     record {
       standing = entries-more (old ∷ []) (new ∷ []) copies copy grow are.standing (last_entry text [] new copy utf8 is.1);
-      texts = rw (texts-more (old ∷ []) (new ∷ []) copies copy grow are.standing, map_push (text_of buckets) entries e, last_text text [] new copy is.1, are.texts) refl;
+      texts = rw (texts-more (old ∷ []) (new ∷ []) copies copy grow are.standing, map_push (interned_text buckets) entries e, last_text text [] new copy is.1, are.texts) refl;
       statics = rw (map_push is_static copies copy, map_push is_static entries e, last_static text [] new copy is.1, are.statics) refl;
       bytes = rw (is.0, copied_bytes-more entries buckets e, ← are.bytes, append-nil text) refl;
-      filled = omega (arith, sum_by_push entry_len entries e, are.filled, count, part);
-      len = omega (arith, sum_by_push entry_len copies copy, sum_by_push entry_len entries e, are.len, last_len text [] new copy is.1, part);
+      filled = omega (arith, sum_by_push interned_len entries e, are.filled, count, part);
+      len = omega (arith, sum_by_push interned_len copies copy, sum_by_push interned_len entries e, are.len, last_len text [] new copy is.1, part);
     }
 AreCopies-more buckets entries copies old new (Static text) copy there utf8 are is =
     rw (is.0, is.1) (record {
       standing = All-push (IsEntry (old ∷ [])) copies (Static text) are.standing tt;
-      texts = rw (map_push (text_of (old ∷ [])) copies (Static text), map_push (text_of buckets) entries (Static text), are.texts) refl;
+      texts = rw (map_push (interned_text (old ∷ [])) copies (Static text), map_push (interned_text buckets) entries (Static text), are.texts) refl;
       statics = rw (map_push is_static copies (Static text), map_push is_static entries (Static text), are.statics) refl;
       bytes = rw (copied_bytes-more entries buckets (Static text), append-nil) are.bytes;
-      filled = omega (arith, sum_by_push entry_len entries (Static text), are.filled);
-      len = omega (arith, sum_by_push entry_len copies (Static text), sum_by_push entry_len entries (Static text), are.len);
+      filled = omega (arith, sum_by_push interned_len entries (Static text), are.filled);
+      len = omega (arith, sum_by_push interned_len copies (Static text), sum_by_push interned_len entries (Static text), are.len);
     })
 
 copy_capacity : (buckets : List Bucket) (old new : Bucket) (e copy : InternedStr) → IsCopy buckets e old new copy → new.capacity ≡ old.capacity
@@ -279,14 +279,14 @@ copy_capacity buckets old new (InBucket bucket span) copy is = rw is.0 refl
 copy_capacity buckets old new (Static text) copy is = rw is.0 refl
 
 -- the same in a loop over the entries, which leaves the capacity of the bucket
-pub AreCopies-step : (buckets : List Bucket) (entries copies more : List InternedStr) (old new : Bucket) (i : ℕ) (d copy : InternedStr) → i < length entries → All (IsEntry buckets) entries → All IsUtf8 (map (text_of buckets) entries)
+pub AreCopies-step : (buckets : List Bucket) (entries copies more : List InternedStr) (old new : Bucket) (i : ℕ) (d copy : InternedStr) → i < length entries → All (IsEntry buckets) entries → All IsUtf8 (map (interned_text buckets) entries)
     → AreCopies buckets (take i entries) copies old → IsCopy buckets (get_or entries i d) old new copy → more ≡ copies ++ copy ∷ [] → (new.capacity ≡ old.capacity) × AreCopies buckets (take (i + 1) entries) more new
 AreCopies-step buckets entries copies more old new i d copy within standing utf8 are is m =
-    let text : IsUtf8 (text_of buckets (get_or entries i d)) = rw (← get_or-map (text_of buckets) entries i d [] within) (All-get_or IsUtf8 (map (text_of buckets) entries) i [] (omega (arith, length-map entries (text_of buckets))) utf8) in
+    let text : IsUtf8 (interned_text buckets (get_or entries i d)) = rw (← get_or-map (interned_text buckets) entries i d [] within) (All-get_or IsUtf8 (map (interned_text buckets) entries) i [] (omega (arith, length-map entries (interned_text buckets))) utf8) in
     (copy_capacity buckets old new (get_or entries i d) copy is, rw (m, take_more entries i d within) (AreCopies-more buckets (take i entries) copies old new (get_or entries i d) copy (All-get_or (IsEntry buckets) entries i d within standing) text are is))
 
 -- the copies are stored, in one bucket
-pub stored-copies : {S : Type 0} (symbol_of : ℕ → Option S) (full : List Bucket) (head : Bucket) (entries copies : List InternedStr) (bucket : Bucket) → IsStored symbol_of full head entries → AreCopies (buckets_of full head) entries copies bucket → bucket.capacity ≡ head.capacity + byte_count full → IsStored symbol_of [] bucket copies
+pub stored-copies : {S : Type 0} (symbol_of : ℕ → Option S) (full : List Bucket) (head : Bucket) (entries copies : List InternedStr) (bucket : Bucket) → IsInBuckets symbol_of full head entries → AreCopies (buckets_of full head) entries copies bucket → bucket.capacity ≡ head.capacity + byte_count full → IsInBuckets symbol_of [] bucket copies
 stored-copies symbol_of full head entries copies bucket stored are capacity = record {
   standing = are.standing;
   shared = omega (arith, are.filled, are.len);

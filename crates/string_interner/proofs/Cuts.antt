@@ -10,7 +10,8 @@ use Rattle.string_interner.specs.Text.{Text}
 use Rattle.string_interner.specs.Backend.{IsKept, IsPlace}
 use Rattle.string_interner.proofs.Fronts.{kept-take}
 use Rattle.string_interner.proofs.Kept.{kept-more}
-use Rattle.string_interner.specs.StringBackend.{cut, joined, ends_of, start_at, IsCut, IsStored, length_grows}
+use Rattle.string_interner.specs.StringBackend.{cut, joined, ends_of, start_at, IsCut, IsJoined}
+use Rattle.string_interner.specs.CountLaws.{length_grows}
 
 -- texts that are joined and cut again are the texts
 pub cut-joined : (from : ℕ) (texts : List Text) → cut from (joined texts) (ends_of from texts) ≡ texts
@@ -102,8 +103,8 @@ pub symbol_at : {S : Type 0} (symbol_of : ℕ → Option S) (texts : List Text) 
 symbol_at symbol_of texts at k h = let l : at ≤ length texts = omega arith in rw length-take-le at (k.has_symbols at h)
 
 -- one more text is stored
-pub stored-more : {S : Type 0} (symbol_of : ℕ → Option S) (bytes ends more_bytes more_ends : List ℕ) (t : Text) → IsStored symbol_of bytes ends (cut 0 bytes ends) → IsUtf8 t → IsSome (symbol_of (length (cut 0 bytes ends))) → length ends + 1 < 2 ^ 64 → more_bytes ≡ bytes ++ t → more_ends ≡ ends ++ length more_bytes ∷ [] →
-    (cut 0 more_bytes more_ends ≡ cut 0 bytes ends ++ t ∷ []) × IsStored symbol_of more_bytes more_ends (cut 0 more_bytes more_ends)
+pub stored-more : {S : Type 0} (symbol_of : ℕ → Option S) (bytes ends more_bytes more_ends : List ℕ) (t : Text) → IsJoined symbol_of bytes ends (cut 0 bytes ends) → IsUtf8 t → IsSome (symbol_of (length (cut 0 bytes ends))) → length ends + 1 < 2 ^ 64 → more_bytes ≡ bytes ++ t → more_ends ≡ ends ++ length more_bytes ∷ [] →
+    (cut 0 more_bytes more_ends ≡ cut 0 bytes ends ++ t ∷ []) × IsJoined symbol_of more_bytes more_ends (cut 0 more_bytes more_ends)
 stored-more symbol_of bytes ends more_bytes more_ends t k u s small eb ee =
     let xs = cut 0 bytes ends in
     let n : length more_bytes ≡ length bytes + length t = rw eb (length-append bytes t) in
@@ -128,8 +129,8 @@ cut-take bytes ends xs len k h = record {
 }
 
 -- the first texts stay stored
-pub stored-take : {S : Type 0} (symbol_of : ℕ → Option S) (bytes ends fewer_bytes fewer_ends : List ℕ) (len : ℕ) → IsStored symbol_of bytes ends (cut 0 bytes ends) → len ≤ length ends → fewer_bytes ≡ take (start_at ends len) bytes → fewer_ends ≡ take len ends →
-    (cut 0 fewer_bytes fewer_ends ≡ take len (cut 0 bytes ends)) × IsStored symbol_of fewer_bytes fewer_ends (cut 0 fewer_bytes fewer_ends)
+pub stored-take : {S : Type 0} (symbol_of : ℕ → Option S) (bytes ends fewer_bytes fewer_ends : List ℕ) (len : ℕ) → IsJoined symbol_of bytes ends (cut 0 bytes ends) → len ≤ length ends → fewer_bytes ≡ take (start_at ends len) bytes → fewer_ends ≡ take len ends →
+    (cut 0 fewer_bytes fewer_ends ≡ take len (cut 0 bytes ends)) × IsJoined symbol_of fewer_bytes fewer_ends (cut 0 fewer_bytes fewer_ends)
 stored-take symbol_of bytes ends fewer_bytes fewer_ends len k h eb ee =
     let xs = cut 0 bytes ends in
     let m : IsCut fewer_bytes fewer_ends (take len xs) = rw (eb, ee) (cut-take bytes ends xs len k.parts (omega (arith, cut_length 0 bytes ends))) in

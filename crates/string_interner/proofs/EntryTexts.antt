@@ -6,6 +6,7 @@ use Rattle.std.specs.Option.{option_map_or, unwrap_or}
 use Rattle.std.specs.Str.{bytes_eq}
 use Rattle.std.proofs.lemmas.List.{append_assoc, append-nil, length_push, take-append-le, take_all}
 use Rattle.std.proofs.lemmas.Bool.Decides.{nat_tests}
+use Rattle.std.proofs.lemmas.Option.{slice_get_within}
 use Rattle.string_interner.specs.Text.{Text}
 use Rattle.string_interner.specs.Backend.{BeginsAt, IsPlace}
 use Rattle.string_interner.specs.Entry.{text_ahead, entry_text}
@@ -15,12 +16,6 @@ use Rattle.string_interner.specs.Index.{has_text, text_of}
 some_value : {X : Type 0} (o : Option X) → IsSome o → (x : X) × (o ≡ Some x)
 some_value None h = absurd (let e : false ≡ true = h in cc)
 some_value (Some x) h = (x, refl)
-
--- what stands at an index is within the list
-pub slice_get-within : {X : Type 0} (xs : List X) (i : ℕ) (x : X) → slice_get xs i ≡ Some x → i < length xs
-slice_get-within [] i x e = absurd (cc)
-slice_get-within (y ∷ xs) zero x e = omega arith
-slice_get-within (y ∷ xs) (suc i) x e = let h = slice_get-within xs i x e in omega arith
 
 module _ (place : List Text → ℕ) where
   -- the entry `i` of the texts ahead begins at `at`, and is the text
@@ -68,7 +63,7 @@ module _ {S : Type 0} (number : S → ℕ) (place : List Text → ℕ) where
       → (i : ℕ) × (BeginsAt place texts (number symbol) i) × (slice_get texts i ≡ Some text)
   entry_text-is texts symbol text e =
       let r = text_ahead-is place [] texts (number symbol) text e in
-      (r.0, record { within = slice_get-within texts r.0 text r.1.is; begins = r.1.begins }, r.1.is)
+      (r.0, record { within = slice_get_within texts r.0 text r.1.is; begins = r.1.begins }, r.1.is)
 
   -- so an entry begins there
   pub entry_text-IsPlace : (texts : List Text) (symbol : S) → IsSome (entry_text number place texts symbol) → IsPlace place texts (number symbol)

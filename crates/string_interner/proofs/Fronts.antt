@@ -1,5 +1,5 @@
 -- The first texts of a list keep to what the list keeps to.
-use Rattle.std.proofs.Common.{ℕ, ◌<◌, ◌≤◌, ◌^◌, List, [], ◌∷◌, ◌++◌, length, take, drop, sym, ◌∙◌, arith, subst, Option, IsSome}
+use Rattle.std.proofs.Common.{ℕ, ◌<◌, ◌≤◌, List, [], ◌∷◌, ◌++◌, length, take, drop, sym, ◌∙◌, arith, subst, Option, IsSome}
 use Rattle.std.specs.Str.{IsUtf8}
 use Rattle.std.proofs.lemmas.List.{length-append, get_or_append_left, take-append-le, take-append-drop}
 use Rattle.string_interner.specs.Text.{Text, IsDistinct}

@@ -4,8 +4,7 @@ use Rattle.std.proofs.Math.Nat.{pow-succ'}
 use Rattle.std.proofs.lemmas.Nat.{and_mask}
 use Rattle.std.proofs.Math.Pow.{pow_mono}
 use Rattle.std.proofs.lemmas.Bool.{cases_lt}
-use Rattle.string_interner.specs.Probe.{GrowsTo}
-use Rattle.string_interner.specs.Index.{Indexed, IsSlotCount, IsSound, HasRoom, entry_count}
+use Rattle.string_interner.specs.Index.{Indexed, GrowsTo, IsSlotCount, IsSound, HasRoom, entry_count}
 
 pub IsSlotCount-grown : (count more : ℕ) → IsSlotCount count → GrowsTo count more → IsSlotCount more
 IsSlotCount-grown count more s (inl a) = inr (0, a.1)

@@ -13,7 +13,7 @@ use Rattle.serde_json.specs.declared.value.Value.{Value}
 use Rattle.string_interner.specs.Text.{Text, IsDistinct, first}
 use Rattle.string_interner.specs.Backend.{IsKept}
 use Rattle.string_interner.specs.Interner.{Interned, Interns}
-use Rattle.string_interner.specs.Json.{json_of_texts, refused, Reads, ReadsArray, GivesBack}
+use Rattle.string_interner.specs.Json.{json_of_texts, refused, ReadsElements, ReadsArray, GivesBack}
 use Rattle.string_interner.proofs.Firsts.{first_new}
 use Rattle.string_interner.specs.declared.backend.InternError.{InternError}
 use Rattle.string_interner.specs.declared.backend.InternError.TheVariants.{NoSymbol as InternNoSymbol, Memory as InternMemory}
@@ -50,18 +50,18 @@ next_element elements i element h is = ap items_view (drop_more elements i eleme
 
 module _ {S : Type 0} (symbol_of : ℕ → Option S) (place : List Text → ℕ) where
   -- nothing is left to read
-  pub reads_nothing : (i : ℕ) (elements : List Value) (interner : Interned) → length elements ≤ i → Reads symbol_of place interner.texts i (items_view (drop i elements)) (Ok interner)
+  pub reads_nothing : (i : ℕ) (elements : List Value) (interner : Interned) → length elements ≤ i → ReadsElements symbol_of place interner.texts i (items_view (drop i elements)) (Ok interner)
   reads_nothing i elements interner long = rw (drop_all i elements long) refl
 
   -- the next element is no string
   pub reads_no_text : (old : List Text) (i : ℕ) (element : Data) (rest all : Items) (outcome : Result Interned JsonError) → all ≡ item element rest → as_str element ≡ None
-      → outcome ≡ Err (NotAText i) → Reads symbol_of place old i all outcome
+      → outcome ≡ Err (NotAText i) → ReadsElements symbol_of place old i all outcome
   reads_no_text old i element rest all outcome is none e = rw (is, none) e
 
   -- the next element is a string, and its text is refused
   pub reads_refused : (old : List Text) (i : ℕ) (element : Data) (rest all : Items) (outcome : Result Interned JsonError) → all ≡ item element rest
       → (text : Text) (error : InternError) (mid : List Text) → as_str element ≡ Some text → Interns symbol_of place old text (Err error) mid
-      → outcome ≡ Err (refused error) → Reads symbol_of place old i all outcome
+      → outcome ≡ Err (refused error) → ReadsElements symbol_of place old i all outcome
   reads_refused old i element rest all outcome is text error mid is_text interns e = rw (is, is_text) (Err error, mid, interns, e)
 
   -- the place before a text of a kept list has a symbol
@@ -80,12 +80,12 @@ module _ {S : Type 0} (symbol_of : ℕ → Option S) (place : List Text → ℕ)
 
   -- reading on from the front of a list of distinct texts gives the list back
   gives_rest : (front texts : List Text) (i : ℕ) (outcome : Result Interned JsonError) → IsDistinct (front ++ texts) → IsKept symbol_of place (front ++ texts)
-      → Reads symbol_of place front i (items_of (map string texts)) outcome → GivesBack (front ++ texts) outcome
+      → ReadsElements symbol_of place front i (items_of (map string texts)) outcome → GivesBack (front ++ texts) outcome
   gives_rest front [] i (Ok interner) distinct kept read = read ∙ sym (append-nil front)
   gives_rest front [] i (Err error) distinct kept read = absurd read
   gives_rest front (text ∷ texts) i outcome distinct kept read =
       let seam : (front ++ text ∷ []) ++ texts ≡ front ++ text ∷ texts = append_assoc front (text ∷ []) texts in
-      gives_next front text (front ++ text ∷ texts) outcome read.0 read.1 (λ mid. Reads symbol_of place mid (i + 1) (items_of (map string texts)) outcome)
+      gives_next front text (front ++ text ∷ texts) outcome read.0 read.1 (λ mid. ReadsElements symbol_of place mid (i + 1) (items_of (map string texts)) outcome)
       (new_text front text texts distinct) (has_symbol front text texts kept) read.2 read.3
       (λ more. subst (λ all. GivesBack all outcome) seam
       (gives_rest (front ++ text ∷ []) texts (i + 1) outcome (subst IsDistinct (sym seam) distinct) (subst (IsKept symbol_of place) (sym seam) kept) more))

@@ -11,7 +11,7 @@ use Rattle.string_interner.specs.Text.{Text, first}
 use Rattle.string_interner.specs.Backend.{Appends, BeginsAt}
 use Rattle.string_interner.specs.Interner.{Interns, entry_symbol}
 use Rattle.string_interner.specs.Collect.{texts_of, InternsAll, InternsInOrder}
-use Rattle.string_interner.specs.Run.{intern_reply, extend_reply, number_told, IsCopy, number_read, NumberReply, InternReply, ExtendReply, Step, Run}
+use Rattle.string_interner.specs.Run.{intern_reply, extend_reply, number_told, CopyReply, number_read, NumberReply, InternReply, ExtendReply, Step, Run}
 use Rattle.string_interner.specs.declared.backend.InternError.{InternError}
 use Rattle.string_interner.specs.declared.backend.InternError.TheVariants.{NoSymbol as InternNoSymbol, Memory}
 use Rattle.string_interner.specs.declared.run.Command.{Command}
@@ -171,7 +171,7 @@ module _ {S : Type 0} (symbol_of : ℕ → Option S) (number : S → ℕ) (place
   extend-told (Err InternNoSymbol) reply e m = tt
   extend-told (Err (Memory x)) reply e m = let none : ReplyHasMemory NoMemory = subst ReplyHasMemory e m in absurd none
 
-  copies-say : (text : Text) (reply reply' : Reply) → ReplyHasMemory reply → ReplyHasMemory reply' → IsCopy text reply → IsCopy text reply' → SayTheSame reply reply'
+  copies-say : (text : Text) (reply reply' : Reply) → ReplyHasMemory reply → ReplyHasMemory reply' → CopyReply text reply → CopyReply text reply' → SayTheSame reply reply'
   copies-say text (TextReply a) (TextReply b) m m' c c' = c ∙ sym c'
   copies-say text NoMemory reply' m m' c c' = absurd m
   copies-say text (TextReply a) NoMemory m m' c c' = absurd m'
@@ -179,7 +179,7 @@ module _ {S : Type 0} (symbol_of : ℕ → Option S) (number : S → ℕ) (place
   copies-say text _ reply' m m' c c' = absurd c
 
   numbers-say : (read_there : Option Text) (reply reply' : Reply) → ReplyHasMemory reply → ReplyHasMemory reply'
-      → MatchOption read_there (reply ≡ Nothing) (λ text. IsCopy text reply) → MatchOption read_there (reply' ≡ Nothing) (λ text. IsCopy text reply') → SayTheSame reply reply'
+      → MatchOption read_there (reply ≡ Nothing) (λ text. CopyReply text reply) → MatchOption read_there (reply' ≡ Nothing) (λ text. CopyReply text reply') → SayTheSame reply reply'
   numbers-say None reply reply' m m' r r' = equal-say reply reply' (r ∙ sym r')
   numbers-say (Some text) reply reply' m m' r r' = copies-say text reply reply' m m' r r'
 

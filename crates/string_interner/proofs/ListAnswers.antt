@@ -1,18 +1,17 @@
 -- The replies of a run in which nothing is refused are what the list answers.
-use Rattle.std.proofs.Common.{zero, suc, ◌≡◌, ℕ, ◌<◌, ◌≤◌, List, [], ◌∷◌, ◌++◌, length, take, refl, sym, ap, ◌∙◌, subst, arith, Option, Some, None, Result, Ok, Err}
+use Rattle.std.proofs.Common.{zero, suc, ◌≡◌, ℕ, ◌<◌, ◌≤◌, List, [], ◌∷◌, ◌++◌, length, take, refl, sym, ap, ◌∙◌, subst, arith, Option, Some, None, Ok, Err}
 use Rattle.std.specs.Prelude.{◌^◌, ⊤, All, slice_get, MatchOption, IsSome, option_and_then}
 use Rattle.std.specs.List.{AllZip}
 use Rattle.std.specs.Option.{option_map_or, unwrap_or}
-use Rattle.std.specs.String.{string_bytes}
 use Rattle.std.proofs.lemmas.List.{append_assoc, append-nil, length-append, take-append-le}
 use Rattle.std.proofs.lemmas.List.Elements.{All-head, All-tail}
 use Rattle.std.proofs.lemmas.Option.{slice_get-get_or}
+use Rattle.std.proofs.lemmas.Slice.Zip.{all_zipped_more}
 use Rattle.string_interner.specs.Text.{Text, first}
 use Rattle.string_interner.specs.Backend.{BeginsAt, IsKept}
-use Rattle.string_interner.specs.Collect.{texts_of, fresh, InternsInOrder}
-use Rattle.string_interner.specs.Run.{intern_reply, extend_reply, number_told, IsCopy, number_read, NumberReply, InternReply, ExtendReply, Step, Run}
+use Rattle.string_interner.specs.Collect.{texts_of, fresh}
+use Rattle.string_interner.specs.Run.{number_told, CopyReply, number_read, NumberReply, InternReply, ExtendReply, Step, Run}
 use Rattle.string_interner.specs.ListAnswers.{Answer, entry, nothing, text, count, done, no_reply, index_told, list_answer, texts_interned, list_answers, Tells, IsGranted, KeepsToTexts, AnswersAsAList}
-use Rattle.string_interner.specs.declared.backend.InternError.{InternError}
 use Rattle.string_interner.specs.declared.backend.InternError.TheVariants.{NoSymbol as InternNoSymbol, Memory}
 use Rattle.string_interner.specs.declared.run.Command.{Command}
 use Rattle.string_interner.specs.declared.run.Command.TheVariants.{Intern, InternStatic, Get, Resolve, Number, Len, Shrink, Truncate, Extend}
@@ -22,12 +21,6 @@ use Rattle.string_interner.proofs.Collecting.{interned-fresh, all-fresh}
 use Rattle.string_interner.proofs.Firsts.{first_within}
 use Rattle.string_interner.proofs.Fronts.{kept-front}
 use Rattle.string_interner.proofs.Laws.{answered-place}
-
-zip_push : {A B : Type 0} (R : A → B → Type 0) (xs : List A) (ys : List B) (x : A) (y : B) → AllZip R xs ys → R x y → AllZip R (xs ++ x ∷ []) (ys ++ y ∷ [])
-zip_push R [] [] x y z r = (r, tt)
-zip_push R [] (b ∷ ys) x y z r = absurd z
-zip_push R (a ∷ xs) [] x y z r = absurd z
-zip_push R (a ∷ xs) (b ∷ ys) x y z r = (z.0, zip_push R xs ys x y z.1 r)
 
 zip_implied : {A B : Type 0} (R Q : A → B → Type 0) → ((x : A) (y : B) → R x y → Q x y) → (xs : List A) (ys : List B) → AllZip R xs ys → AllZip Q xs ys
 zip_implied R Q f [] [] z = tt
@@ -99,7 +92,7 @@ module _ {S : Type 0} (symbol_of : ℕ → Option S) (number : S → ℕ) (place
   got_tells old None reply within e = rw e tt
   got_tells old (Some i) reply within e = rw e (record { within = within i refl; begins = refl })
 
-  copied_tells : (old : List Text) (t : Text) (reply : Reply) → IsGranted reply → IsCopy t reply → Tells place old reply (text t)
+  copied_tells : (old : List Text) (t : Text) (reply : Reply) → IsGranted reply → CopyReply t reply → Tells place old reply (text t)
   copied_tells old t (TextReply copy) g c = c
   copied_tells old t NoMemory g c = absurd g
   copied_tells old t _ g c = absurd c
@@ -108,9 +101,9 @@ module _ {S : Type 0} (symbol_of : ℕ → Option S) (number : S → ℕ) (place
   resolved_tells : (old : List Text) (n_told i_told : Option ℕ) (reply : Reply) → IsKept symbol_of place old → TellAlike place old n_told i_told → IsGranted reply
       → MatchOption n_told (reply ≡ NoReply) (λ n. NumberReply symbol_of number place read old n reply) → Tells place old reply (option_map_or text (option_and_then (slice_get old) i_told) no_reply)
   resolved_tells old None None reply k t g r = rw r tt
-  resolved_tells old (Some n) (Some i) reply k b g r = of (slice_get old i) (rw (slice_get-get_or old i [] b.within) refl) (subst (λ o. MatchOption o (reply ≡ Nothing) (λ t. IsCopy t reply)) (read_entry old n i k b) r)
+  resolved_tells old (Some n) (Some i) reply k b g r = of (slice_get old i) (rw (slice_get-get_or old i [] b.within) refl) (subst (λ o. MatchOption o (reply ≡ Nothing) (λ t. CopyReply t reply)) (read_entry old n i k b) r)
     where
-      of : (o : Option Text) → IsSome o → MatchOption o (reply ≡ Nothing) (λ t. IsCopy t reply) → Tells place old reply (option_map_or text o no_reply)
+      of : (o : Option Text) → IsSome o → MatchOption o (reply ≡ Nothing) (λ t. CopyReply t reply) → Tells place old reply (option_map_or text o no_reply)
       of (Some t) h c = copied_tells old t reply g c
       of None h c = absurd (cc)
   resolved_tells old _ _ reply k t g r = absurd t
@@ -164,7 +157,7 @@ module _ {S : Type 0} (symbol_of : ℕ → Option S) (number : S → ℕ) (place
       let old_kept : IsKept symbol_of place old = kept-front symbol_of place grows old one (subst (IsKept symbol_of place) e mid_kept) in
       let t : Tells place mid reply a = step_tells old earlier answers command reply mid old_kept z (All-head KeepsToTexts command commands c) granted s in
       let still : AllZip (Tells place mid) earlier answers = rw e (zip_implied (Tells place old) (Tells place (old ++ one)) (told_later place old one) earlier answers z) in
-      let rest' = run_tells mid (earlier ++ reply ∷ []) (answers ++ a ∷ []) commands replies new k (zip_push (Tells place mid) earlier answers reply a still t) (All-tail KeepsToTexts command commands c) all_granted r in
+      let rest' = run_tells mid (earlier ++ reply ∷ []) (answers ++ a ∷ []) commands replies new k (all_zipped_more (Tells place mid) earlier answers reply a still t) (All-tail KeepsToTexts command commands c) all_granted r in
       (rw later.1 (told_later place mid later.0 reply a t), subst (λ texts. AllZip (Tells place new) replies (list_answers texts (answers ++ a ∷ []) commands)) e rest')
   run_tells old earlier answers [] (reply ∷ replies) new k z c g r = absurd r
   run_tells old earlier answers (command ∷ commands) [] new k z c g r = absurd r

@@ -7,7 +7,7 @@ use Rattle.std.specs.Option.{IsSome, option_and_then, option_map_or}
 use Rattle.std.specs.Str.{bytes_eq}
 use Rattle.string_interner.specs.Slots.{probed, symbols, filled_run, first_passing}
 use Rattle.string_interner.specs.Index.{Fits, has_text, look_up, run_of, text_in}
-use Rattle.string_interner.specs.Probe.{Puts}
+use Rattle.string_interner.specs.Probe.{FillsSlot}
 use Rattle.string_interner.proofs.Probing.{get_or-probe}
 use Rattle.string_interner.specs.Text.{Text}
 use Rattle.string_interner.proofs.Filling.{here, there, none, head_or_tail, set_cases, set_here, set_there, Contains-symbols, symbols-in, run-in, run-set, symbols-set, probe-set, Contains-turned}
@@ -98,29 +98,29 @@ module _ {S : Type 0} (entry : S → Option Text) where
         f s (Contains-symbols slots s h) (has_from_entry t s r)
 
 -- what a put keeps, and what it adds
-module _ {S : Type 0} (old new : List (Option S)) (home : ℕ) (symbol : S) (p : Puts old new home symbol) where
-  pub Puts-length : length new ≡ length old
-  Puts-length = ap length p.written ∙ length-set old p.at (Some symbol)
+module _ {S : Type 0} (old new : List (Option S)) (home : ℕ) (symbol : S) (p : FillsSlot old new home symbol) where
+  pub FillsSlot-length : length new ≡ length old
+  FillsSlot-length = ap length p.written ∙ length-set old p.at (Some symbol)
 
-  pub Puts-cases : (s : S) → Contains new (Some s) → (symbol ≡ s) ⊎ Contains old (Some s)
-  Puts-cases s h =
+  pub FillsSlot-cases : (s : S) → Contains new (Some s) → (symbol ≡ s) ⊎ Contains old (Some s)
+  FillsSlot-cases s h =
       let c : Contains (set old p.at (Some symbol)) (Some s) = subst (λ (xs : List (Option S)). Contains xs (Some s)) p.written h in
       elim (set_cases old p.at (Some symbol) (Some s) c) as (λ _. (symbol ≡ s) ⊎ Contains old (Some s)) [ inl e ↦ inl (cc) | inr t ↦ inr t ]
 
-  pub Puts-here : Contains new (Some symbol)
-  Puts-here = subst (λ (xs : List (Option S)). Contains xs (Some symbol)) (sym p.written) (set_here old p.at (Some symbol) p.in_range)
+  pub FillsSlot-here : Contains new (Some symbol)
+  FillsSlot-here = subst (λ (xs : List (Option S)). Contains xs (Some symbol)) (sym p.written) (set_here old p.at (Some symbol) p.in_range)
 
-  pub Puts-there : (s : S) → Contains old (Some s) → Contains new (Some s)
-  Puts-there s h =
+  pub FillsSlot-there : (s : S) → Contains old (Some s) → Contains new (Some s)
+  FillsSlot-there s h =
       let ne : get_or old p.at None ≢ Some s = λ e. let z = p.was_empty in let q : None ≡ Some s = sym z ∙ e in cc in
       subst (λ (xs : List (Option S)). Contains xs (Some s)) (sym p.written) (set_there old p.at (Some symbol) (Some s) None h p.in_range ne)
 
-  pub Puts-symbols : length (symbols new) ≡ length (symbols old) + 1
-  Puts-symbols = ap (λ xs. length (symbols xs)) p.written ∙ symbols-set old p.at symbol p.in_range p.was_empty
+  pub FillsSlot-symbols : length (symbols new) ≡ length (symbols old) + 1
+  FillsSlot-symbols = ap (λ xs. length (symbols xs)) p.written ∙ symbols-set old p.at symbol p.in_range p.was_empty
 
   -- each run keeps its symbols
-  pub Puts-run : (from : ℕ) (s : S) → from < length old → Contains (filled_run (probed old from)) s → Contains (filled_run (probed new from)) s
-  Puts-run from s l h =
+  pub FillsSlot-run : (from : ℕ) (s : S) → from < length old → Contains (filled_run (probed old from)) s → Contains (filled_run (probed new from)) s
+  FillsSlot-run from s l h =
       let place : (i : ℕ) × ((i < length old) × ((p.at ≡ from + i) ⊎ (p.at + length old ≡ from + i))) =
       let r = p.in_range in
       elim (cases_lt p.at from) [ inl b ↦ (p.at + length old - from, (omega arith, inr (omega arith))) | inr b ↦ (p.at - from, (omega arith, inl (omega arith))) ] in
@@ -157,36 +157,36 @@ module _ {S : Type 0} (old new : List (Option S)) (home : ℕ) (symbol : S) (p :
     abbrev Runs : S → ℕ → Type 0
     Runs s from = Contains (filled_run (probed new from)) s
 
-    pub Puts-fits : Fits entry code new
-    Puts-fits = record {
-      entries = λ s h. elim (Puts-cases s h) as (λ _. IsSome (entry s))
+    pub FillsSlot-fits : Fits entry code new
+    FillsSlot-fits = record {
+      entries = λ s h. elim (FillsSlot-cases s h) as (λ _. IsSome (entry s))
           [ inl e ↦ (let q : entry s ≡ Some t = ap entry (sym e) ∙ is in rw q refl) | inr o ↦ fits.entries s o ];
       distinct = distinct;
-      placed = λ s u h r. elim (Puts-cases s h) as (λ _. Contains (run_of code new u) s) [
+      placed = λ s u h r. elim (FillsSlot-cases s h) as (λ _. Contains (run_of code new u) s) [
         | inl e ↦ (let q : Some u ≡ Some t = sym r ∙ ap entry (sym e) ∙ is in let v : u ≡ t = cc in
-            let w : home ≡ code u % length new = at_home ∙ ap (λ n. code t % n) (sym Puts-length) ∙ ap (λ x. code x % length new) (sym v) in
+            let w : home ≡ code u % length new = at_home ∙ ap (λ n. code t % n) (sym FillsSlot-length) ∙ ap (λ x. code x % length new) (sym v) in
             subst (Runs s) w (subst (λ (x : S). Runs x home) e p.placed))
-        | inr o ↦ (let w : code u % length old ≡ code u % length new = ap (λ n. code u % n) (sym Puts-length) in
-            subst (Runs s) w (Puts-run (code u % length old) s (let l = p.in_range in omega arith) (fits.placed s u o r)))
+        | inr o ↦ (let w : code u % length old ≡ code u % length new = ap (λ n. code u % n) (sym FillsSlot-length) in
+            subst (Runs s) w (FillsSlot-run (code u % length old) s (let l = p.in_range in omega arith) (fits.placed s u o r)))
       ];
     }
 
-    pub Puts-look_up : (q : Text) → look_up entry new q ≡ cond (bytes_eq q t) (Some symbol) (look_up entry old q)
-    Puts-look_up q =
+    pub FillsSlot-look_up : (q : Text) → look_up entry new q ≡ cond (bytes_eq q t) (Some symbol) (look_up entry old q)
+    FillsSlot-look_up q =
         let test = has_text entry q in
-        let one = Fits-one entry code new Puts-fits q in
+        let one = Fits-one entry code new FillsSlot-fits q in
         let cases : (b : Bool) → bytes_eq q t ≡ b → look_up entry new q ≡ cond b (Some symbol) (look_up entry old q) =
         elim [
           | true ↦ λ e. let same : q ≡ t = (bytes_eq-Decides q t).0 e in
               let passes : has_text entry q symbol ≡ true = has_from_entry entry q symbol (is ∙ ap Some (sym same)) in
-              only_first (has_text entry q) (symbols new) symbol (Contains-symbols new symbol Puts-here) passes one
+              only_first (has_text entry q) (symbols new) symbol (Contains-symbols new symbol FillsSlot-here) passes one
           | false ↦ λ e. same_first (has_text entry q) (symbols new) (symbols old)
-              (λ s c h. elim (Puts-cases s (symbols-in new s h)) as (λ _. Contains (symbols old) s) [
+              (λ s c h. elim (FillsSlot-cases s (symbols-in new s h)) as (λ _. Contains (symbols old) s) [
                 | inl f ↦ absurd (let z : Some q ≡ Some t = sym (entry_from_has entry q s c) ∙ ap entry (sym f) ∙ is in
                     let y : q ≡ t = cc in let x = (bytes_eq-Decides q t).1 y in let w : true ≡ false = sym x ∙ e in cc)
                 | inr o ↦ Contains-symbols old s o
               ])
-              (λ s c h. Contains-symbols new s (Puts-there s (symbols-in old s h)))
+              (λ s c h. Contains-symbols new s (FillsSlot-there s (symbols-in old s h)))
               (Fits-one entry code old fits q)
         ] in
         cases (bytes_eq q t) refl

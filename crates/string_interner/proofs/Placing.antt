@@ -1,10 +1,9 @@
 -- The symbols of all entries put into empty slots, one after another.
-use Rattle.std.proofs.Common.{◌≡◌, ℕ, ◌+◌, ◌-◌, ◌<◌, ◌≢◌, ◌%◌, max, Bool, true, false, List, [], ◌∷◌, ◌++◌, length, take, get_or, Option, Some, None, IsSome, refl, sym, ap, subst, ◌∙◌, arith}
+use Rattle.std.proofs.Common.{◌≡◌, ℕ, ◌+◌, ◌-◌, ◌<◌, ◌≢◌, ◌%◌, max, Bool, true, false, List, [], ◌∷◌, ◌++◌, length, get_or, Option, Some, None, refl, sym, ap, subst, ◌∙◌, arith}
 use Rattle.std.specs.Prelude.{◌^◌}
 use Rattle.std.specs.List.{Contains}
-use Rattle.std.specs.Str.{IsUtf8, bytes_eq}
-use Rattle.std.proofs.lemmas.List.{append_assoc, append-nil, length-append, take-append-le, take_at, get_or_append_left, get_or-append_right}
-use Rattle.std.proofs.lemmas.List.Elements.{All-same, All-take}
+use Rattle.std.specs.Str.{bytes_eq}
+use Rattle.std.proofs.lemmas.List.{append_assoc, append-nil, length-append, get_or_append_left, get_or-append_right}
 use Rattle.std.proofs.lemmas.Slice.Eq.{bytes_eq-Decides}
 use Rattle.string_interner.specs.Text.{Text, IsDistinct, first}
 use Rattle.string_interner.specs.Backend.{IsKept}
@@ -12,7 +11,7 @@ use Rattle.string_interner.specs.Walk.{entries}
 use Rattle.string_interner.specs.Entry.{entry_text}
 use Rattle.string_interner.specs.Slots.{symbols}
 use Rattle.string_interner.specs.Index.{Fits, Indexed}
-use Rattle.string_interner.specs.Probe.{Puts}
+use Rattle.string_interner.specs.Probe.{FillsSlot}
 use Rattle.string_interner.specs.Interner.{IsInterned}
 use Rattle.string_interner.proofs.Filling.{none, Contains-symbols}
 use Rattle.string_interner.proofs.Firsts.{first_new}
@@ -75,7 +74,7 @@ module _ {S : Type 0} (symbol_of : ℕ → Option S) (number : S → ℕ) (place
 
   step : (done todo behind ahead : List Text) (slots new : List (Option S)) (s : S) (t : Text) → texts ≡ done ++ todo
       → IsInterned symbol_of place number code done slots → entries symbol_of place done todo ≡ (Some s, t) ∷ entries symbol_of place behind ahead
-      → Puts slots new (code t % length slots) s → IsPlaced symbol_of number place code texts behind ahead new
+      → FillsSlot slots new (code t % length slots) s → IsPlaced symbol_of number place code texts behind ahead new
   step done [] behind ahead slots new s t all is e puts = absurd (cc)
   step done (u ∷ us) behind ahead slots new s t all is e puts =
       let more = done ++ u ∷ [] in let front : texts ≡ more ++ us = all ∙ sym (append_assoc done (u ∷ []) us) in
@@ -87,7 +86,7 @@ module _ {S : Type 0} (symbol_of : ℕ → Option S) (number : S → ℕ) (place
       let text = text-more symbol_of number place numbered injective grows code done slots is u s more new_text put in
       let now : Indexed S = record { slots = new; put_back = 0; greatest = max 0 (length (symbols slots) + 1) } in
       let inserts = inserted (entry_text number place more) code (index slots) now slots s refl refl refl fits absent
-      (subst (λ x. Puts slots new (code x % length slots) s) (sym (ap (λ p. p.1) head) ∙ sym text) puts) in
+      (subst (λ x. FillsSlot slots new (code x % length slots) s) (sym (ap (λ p. p.1) head) ∙ sym text) puts) in
       record {
         done = more;
         todo = us;
@@ -98,7 +97,7 @@ module _ {S : Type 0} (symbol_of : ℕ → Option S) (number : S → ℕ) (place
 
   -- one more entry is put
   pub placed-next : (behind ahead behind' ahead' : List Text) (slots new : List (Option S)) (s : S) (t : Text) → IsPlaced symbol_of number place code texts behind ahead slots
-      → entries symbol_of place behind ahead ≡ (Some s, t) ∷ entries symbol_of place behind' ahead' → Puts slots new (code t % length slots) s
+      → entries symbol_of place behind ahead ≡ (Some s, t) ∷ entries symbol_of place behind' ahead' → FillsSlot slots new (code t % length slots) s
       → IsPlaced symbol_of number place code texts behind' ahead' new
   placed-next behind ahead behind' ahead' slots new s t p e puts = step p.done p.todo behind' ahead' slots new s t p.all p.interned (sym p.same ∙ e) puts
 

@@ -4,7 +4,7 @@ use Rattle.std.proofs.lemmas.List.{get_or_read}
 use Rattle.std.specs.List.{Contains}
 use Rattle.std.specs.Option.{is_some}
 use Rattle.string_interner.specs.Slots.{probed, symbols, filled_run}
-use Rattle.string_interner.specs.Probe.{IsFree, Puts}
+use Rattle.string_interner.specs.Probe.{IsFree, FillsSlot}
 use Rattle.string_interner.proofs.Probing.{Walked, Walked-empty, Walked-more, length-probe}
 use Rattle.string_interner.proofs.Filling.{run-set_end, probe-set, run_within}
 
@@ -12,7 +12,7 @@ module _ {S : Type 0} (slots : List (Option S)) (home : ℕ) (h : home < length 
   abbrev pub On : ℕ → ℕ → Type 0
   On i at = Walked (λ (_ : S). false) slots home i at
 
-  pub puts_at : (i at : ℕ) (s : S) → On i at → i < length slots → get_or slots at None ≡ None → Puts slots (set slots at (Some s)) home s
+  pub puts_at : (i at : ℕ) (s : S) → On i at → i < length slots → get_or slots at None ≡ None → FillsSlot slots (set slots at (Some s)) home s
   puts_at i at s w k e =
       let run = (Walked-empty (λ _. false) slots home i at h w k e).1 in
       let m : i < length (probed slots home) = omega (arith, length-probe slots home (omega arith)) in

@@ -6,9 +6,9 @@ use Rattle.std.specs.List.{Contains}
 use Rattle.std.specs.Option.{IsSome, option_and_then}
 use Rattle.string_interner.specs.Slots.{symbols, first_passing}
 use Rattle.string_interner.specs.Index.{Fits, SameMap, has_text, look_up, text_in, text_of}
-use Rattle.string_interner.specs.Probe.{Puts, Rebuilt}
+use Rattle.string_interner.specs.Probe.{FillsSlot, Rebuilt}
 use Rattle.string_interner.proofs.Filling.{none, head_or_tail, Contains-symbols, symbols-in, symbols-append, length-symbols}
-use Rattle.string_interner.proofs.LookUp.{FirstIs, first_is, same_first, entry_from_has, text_in-from, at_slot, Fits-one, Puts-fits, Puts-symbols, Puts-cases, Puts-here, Puts-there}
+use Rattle.string_interner.proofs.LookUp.{FirstIs, first_is, same_first, entry_from_has, text_in-from, at_slot, Fits-one, FillsSlot-fits, FillsSlot-symbols, FillsSlot-cases, FillsSlot-here, FillsSlot-there}
 use Rattle.string_interner.specs.Text.{Text}
 use Rattle.string_interner.proofs.Indexing.{text_of_is}
 
@@ -51,15 +51,15 @@ module _ {S : Type 0} (entry : S → Option Text) (code : Text → ℕ) where
   }
 
   pub Rebuilt-some : (xs old new : List (Option S)) (s : S) (t : Text) → Rebuilt entry code xs old → entry s ≡ Some t
-      → look_up entry old t ≡ None → Puts old new (code t % length old) s → Rebuilt entry code (xs ++ Some s ∷ []) new
+      → look_up entry old t ≡ None → FillsSlot old new (code t % length old) s → Rebuilt entry code (xs ++ Some s ∷ []) new
   Rebuilt-some xs old new s t r is absent p = record {
-    fits = Puts-fits old new _ s p entry code r.fits t is absent refl;
-    count = (let a = Puts-symbols old new _ s p in let b = r.count in let c = ap length (symbols-append xs (Some s ∷ [])) in let d = length-append (symbols xs) (s ∷ []) in omega arith);
+    fits = FillsSlot-fits old new _ s p entry code r.fits t is absent refl;
+    count = (let a = FillsSlot-symbols old new _ s p in let b = r.count in let c = ap length (symbols-append xs (Some s ∷ [])) in let d = length-append (symbols xs) (s ∷ []) in omega arith);
     to = λ u h. elim (Contains-push_cases xs (Some s) (Some u) h) as (λ _. Contains new (Some u)) [
-      | inl o ↦ Puts-there old new _ s p u (r.to u o)
-      | inr e ↦ (let q : s ≡ u = cc in subst (λ (v : S). Contains new (Some v)) q (Puts-here old new _ s p))
+      | inl o ↦ FillsSlot-there old new _ s p u (r.to u o)
+      | inr e ↦ (let q : s ≡ u = cc in subst (λ (v : S). Contains new (Some v)) q (FillsSlot-here old new _ s p))
     ];
-    from = λ u h. elim (Puts-cases old new _ s p u h) as (λ _. Contains (xs ++ Some s ∷ []) (Some u)) [
+    from = λ u h. elim (FillsSlot-cases old new _ s p u h) as (λ _. Contains (xs ++ Some s ∷ []) (Some u)) [
       | inl e ↦ subst (λ (v : S). Contains (xs ++ Some s ∷ []) (Some v)) e (Contains-push xs (Some s))
       | inr o ↦ Contains-append_left xs (Some s ∷ []) (Some u) (r.from u o)
     ];
@@ -91,7 +91,7 @@ module _ {S : Type 0} (entry : S → Option Text) (code : Text → ℕ) where
         ] in
         by (first_passing (has_text entry t) (symbols new)) (first_is (has_text entry t) (symbols new))
 
-    pub placed_again : (s : S) (more : List (Option S)) → get_or slots i None ≡ Some s → Puts new more (code (text_of entry s) % length new) s
+    pub placed_again : (s : S) (more : List (Option S)) → get_or slots i None ≡ Some s → FillsSlot new more (code (text_of entry s) % length new) s
         → Rebuilt entry code (take (i + 1) slots) more
     placed_again s more e p =
         let is_entry : IsSome (entry s) = fits.entries s (subst (Contains slots) e (Contains-get_or slots i None l)) in

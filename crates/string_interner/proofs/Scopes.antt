@@ -5,14 +5,14 @@ use Rattle.std.proofs.lemmas.List.{take-append-drop, take-append-le, drop-append
 use Rattle.string_interner.specs.Text.{Text, first}
 use Rattle.string_interner.specs.Backend.{Appends}
 use Rattle.string_interner.specs.Interner.{Interns, entry_symbol}
-use Rattle.string_interner.specs.Scopes.{Layer, joined, LayerStep, stays, enters, declares, leaves, StepsAbove, none, one_more, LeavingGivesBack, top_layer, layers_below, AreStarts}
+use Rattle.string_interner.specs.Scopes.{Layer, joined_layers, LayerStep, stays, enters, declares, leaves, StepsAbove, none, one_more, LeavingGivesBack, top_layer, layers_below, AreStarts}
 use Rattle.string_interner.specs.declared.backend.InternError.{InternError}
 use Rattle.string_interner.proofs.Laws.{refused-keeps}
 
 -- the layers of a list, joined, are the list
-pub joined-layers : (starts : List ℕ) (texts : List Text) → joined (top_layer starts texts ∷ layers_below starts texts) ≡ texts
-joined-layers [] texts = refl
-joined-layers (start ∷ starts) texts = ap (λ (below : List Text). below ++ drop start texts) (joined-layers starts (take start texts)) ∙ take-append-drop start texts
+pub joined_layers-of_list : (starts : List ℕ) (texts : List Text) → joined_layers (top_layer starts texts ∷ layers_below starts texts) ≡ texts
+joined_layers-of_list [] texts = refl
+joined_layers-of_list (start ∷ starts) texts = ap (λ (below : List Text). below ++ drop start texts) (joined_layers-of_list starts (take start texts)) ∙ take-append-drop start texts
 
 -- one layer for each start, over one more
 pub layers-count : (starts : List ℕ) (texts : List Text) → length (layers_below starts texts) ≡ length starts

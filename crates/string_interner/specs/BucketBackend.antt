@@ -40,8 +40,8 @@ abbrev pub byte_count : List Bucket → ℕ
 byte_count buckets = sum_by (λ bucket. length bucket.bytes) buckets
 
 -- the capacities that were asked for are together at most that of the first bucket, or four times the bytes that stand
-abbrev pub IsBounded : List Bucket → Type 0
-IsBounded buckets = total_capacity buckets ≤ max (bucket_at buckets 0).capacity (4 * byte_count buckets)
+abbrev pub AreBounded : List Bucket → Type 0
+AreBounded buckets = total_capacity buckets ≤ max (bucket_at buckets 0).capacity (4 * byte_count buckets)
 
 -- A text is put into the buckets: at the end of the head where the capacity of the head allows it. Else the head joins
 -- the older buckets, and the text begins a new head, whose capacity is the least power of two above both.
@@ -73,9 +73,9 @@ is_static (InBucket bucket span) = false
 is_static (Static text) = true
 
 -- the text of an entry
-abbrev pub text_of : List Bucket → InternedStr → Text
-text_of buckets (InBucket bucket span) = slice_range (bucket_at buckets bucket).bytes span.from span.to
-text_of buckets (Static text) = text.now
+abbrev pub interned_text : List Bucket → InternedStr → Text
+interned_text buckets (InBucket bucket span) = slice_range (bucket_at buckets bucket).bytes span.from span.to
+interned_text buckets (Static text) = text.now
 
 -- a part of a bucket, from one character to another
 pub record IsPart (buckets : List Bucket) (bucket from to : ℕ) : Type 0 where
@@ -90,9 +90,9 @@ IsEntry buckets (InBucket bucket span) = IsPart buckets bucket span.from span.to
 IsEntry buckets (Static text) = Unit {0}
 
 -- how many bytes of the buckets are those of an entry
-abbrev pub entry_len : InternedStr → ℕ
-entry_len (InBucket bucket span) = span.to - span.from
-entry_len (Static text) = 0
+abbrev pub interned_len : InternedStr → ℕ
+interned_len (InBucket bucket span) = span.to - span.from
+interned_len (Static text) = 0
 
 -- the entry names the text at the end of the head
 pub record IsLast (text : Text) (full : List Bucket) (head : Bucket) (entry : InternedStr) : Type 0 where
@@ -107,25 +107,25 @@ pub record IsTight (full : List Bucket) (head : Bucket) : Type 0 where
   pub newest : 0 < length full → head.capacity ≤ 2 * (byte_count full + length head.bytes) + 1
 
 -- What a `BucketBackend` keeps to. Bytes of the buckets may be those of no entry.
-pub record IsStored {S : Type 0} (symbol_of : ℕ → Option S) (full : List Bucket) (head : Bucket) (entries : List InternedStr) : Type 0 where
+pub record IsInBuckets {S : Type 0} (symbol_of : ℕ → Option S) (full : List Bucket) (head : Bucket) (entries : List InternedStr) : Type 0 where
   pub standing : All (IsEntry (buckets_of full head)) entries
-  pub shared : sum_by entry_len entries ≤ byte_count (buckets_of full head)
+  pub shared : sum_by interned_len entries ≤ byte_count (buckets_of full head)
   pub tight : IsTight full head
-  pub kept : IsKept symbol_of length (map (text_of (buckets_of full head)) entries)
+  pub kept : IsKept symbol_of length (map (interned_text (buckets_of full head)) entries)
 
 -- An entry is copied: a text that stands in a bucket is put at the end of this bucket, which was old and is now new,
 -- and a static text stays where it is.
 abbrev pub IsCopy : List Bucket → InternedStr → Bucket → Bucket → InternedStr → Type 0
 IsCopy buckets (InBucket bucket span) old new copy =
-    let text = text_of buckets (InBucket bucket span) in
+    let text = interned_text buckets (InBucket bucket span) in
     (new ≡ record old { bytes = old.bytes ++ text }) × IsLast text [] new copy
 IsCopy buckets (Static text) old new copy = (new ≡ old) × (copy ≡ Static text)
 
 -- the copies are the entries again, with the texts that stood in buckets put into this one in order
 pub record AreCopies (buckets : List Bucket) (entries copies : List InternedStr) (bucket : Bucket) : Type 0 where
   pub standing : All (IsEntry (bucket ∷ [])) copies
-  pub texts : map (text_of (bucket ∷ [])) copies ≡ map (text_of buckets) entries
+  pub texts : map (interned_text (bucket ∷ [])) copies ≡ map (interned_text buckets) entries
   pub statics : map is_static copies ≡ map is_static entries
-  pub bytes : bucket.bytes ≡ copied_bytes (map (text_of buckets) entries) (map is_static entries)
-  pub filled : length bucket.bytes ≡ sum_by entry_len entries
-  pub len : sum_by entry_len copies ≡ sum_by entry_len entries
+  pub bytes : bucket.bytes ≡ copied_bytes (map (interned_text buckets) entries) (map is_static entries)
+  pub filled : length bucket.bytes ≡ sum_by interned_len entries
+  pub len : sum_by interned_len copies ≡ sum_by interned_len entries

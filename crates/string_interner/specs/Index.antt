@@ -111,10 +111,13 @@ module _ {S : Type 0} (entry : S → Option Text) where
 abbrev pub FitsAll : {S : Type 0} → List (Option S) → Type 0
 FitsAll {S} slots = (entry : S → Option Text) (code : Text → ℕ) → Fits entry code slots
 
--- The slots grow from none to 8, or to twice as many, and all symbols are placed again.
+-- what a count of slots grows to: 8 from none, or twice as many
+abbrev pub GrowsTo : ℕ → ℕ → Type 0
+GrowsTo count more = ((count ≡ 0) × (more ≡ 8)) ⊎ ((0 < count) × (more ≡ 2 * count))
+
+-- the slots grow, and all symbols are placed again
 pub record Grows {S : Type 0} (old new : Indexed S) : Type 0 where
-  pub from_none : length old.slots ≡ 0 → length new.slots ≡ 8
-  pub doubled : 0 < length old.slots → length new.slots ≡ 2 * length old.slots
+  pub slots : GrowsTo (length old.slots) (length new.slots)
   pub put_back : new.put_back ≡ old.put_back + entry_count old
   pub greatest : new.greatest ≡ old.greatest
 

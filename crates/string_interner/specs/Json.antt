@@ -34,30 +34,30 @@ module _ {S : Type 0} (symbol_of : ℕ → Option S) where
   module _ (place : List Text → ℕ) where
     -- The elements, the first of which has this index, are read into the old list one after another, with this outcome:
     -- a string is interned, and the first refused element decides.
-    abbrev pub Reads : List Text → ℕ → Items → Result Interned JsonError → Type 0
-    Reads old index no_items outcome = IsOkAnd outcome (λ interner. interner.texts ≡ old)
-    Reads old index (item element rest) outcome = MatchOption (as_str element)
+    abbrev pub ReadsElements : List Text → ℕ → Items → Result Interned JsonError → Type 0
+    ReadsElements old index no_items outcome = IsOkAnd outcome (λ interner. interner.texts ≡ old)
+    ReadsElements old index (item element rest) outcome = MatchOption (as_str element)
         (outcome ≡ Err (NotAText index))
         (λ text. (interned : Result S InternError) × (mid : List Text) × Interns symbol_of place old text interned mid
-        × MatchResult interned (λ _. Reads mid (index + 1) rest outcome) (λ error. outcome ≡ Err (refused error)))
+        × MatchResult interned (λ _. ReadsElements mid (index + 1) rest outcome) (λ error. outcome ≡ Err (refused error)))
 
     -- The elements are read likewise behind the old list, which are the elements before them, each once: a string that
     -- is equal to one of those is refused, and any other is put last.
-    abbrev pub ReadsExactly : List Text → ℕ → Items → Result Interned JsonError → Type 0
-    ReadsExactly old index no_items outcome = IsOkAnd outcome (λ interner. interner.texts ≡ old)
-    ReadsExactly old index (item element rest) outcome = MatchOption (as_str element)
+    abbrev pub ReadsElementsExactly : List Text → ℕ → Items → Result Interned JsonError → Type 0
+    ReadsElementsExactly old index no_items outcome = IsOkAnd outcome (λ interner. interner.texts ≡ old)
+    ReadsElementsExactly old index (item element rest) outcome = MatchOption (as_str element)
         (outcome ≡ Err (NotAText index))
         (λ text. MatchOption (first old text)
         ((interned : Result S InternError) × (mid : List Text) × Appends symbol_of place old text interned mid
-        × MatchResult interned (λ _. ReadsExactly mid (index + 1) rest outcome) (λ error. outcome ≡ Err (refused error)))
+        × MatchResult interned (λ _. ReadsElementsExactly mid (index + 1) rest outcome) (λ error. outcome ≡ Err (refused error)))
         (λ _. outcome ≡ Err (Repeated index)))
 
     -- the elements of an array are read into the empty list, and what is no array is refused
     abbrev pub ReadsArray : Data → Result Interned JsonError → Type 0
-    ReadsArray value outcome = MatchOption (as_array value) (outcome ≡ Err NotAList) (λ elements. Reads [] 0 elements outcome)
+    ReadsArray value outcome = MatchOption (as_array value) (outcome ≡ Err NotAList) (λ elements. ReadsElements [] 0 elements outcome)
 
     abbrev pub ReadsArrayExactly : Data → Result Interned JsonError → Type 0
-    ReadsArrayExactly value outcome = MatchOption (as_array value) (outcome ≡ Err NotAList) (λ elements. ReadsExactly [] 0 elements outcome)
+    ReadsArrayExactly value outcome = MatchOption (as_array value) (outcome ≡ Err NotAList) (λ elements. ReadsElementsExactly [] 0 elements outcome)
 
 -- what may come of reading a list back: the list, or want of memory
 abbrev pub GivesBack : List Text → Result Interned JsonError → Type 0

@@ -3,6 +3,7 @@ pub mod Text
 pub mod Backend
 pub mod StringBackend
 pub mod BucketBackend
+pub mod CountLaws
 pub mod Spelling
 pub mod BufferBackend
 pub mod BufferLaws

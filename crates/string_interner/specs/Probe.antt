@@ -1,12 +1,12 @@
 -- What the steps of the index do to its slots.
 -- Cited by the private functions of `dedup` alone.
-use Rattle.std.specs.Prelude.{◌≡◌, ℕ, ◌<◌, ◌*◌, ◌%◌, ◌⊎◌, List, length, IfSome, slice_index_or, slice_set, Contains, Option, Some, None}
+use Rattle.std.specs.Prelude.{◌≡◌, ℕ, ◌<◌, ◌%◌, List, length, IfSome, slice_index_or, slice_set, Contains, Option, Some, None}
 use Rattle.string_interner.specs.Text.{Text}
 use Rattle.string_interner.specs.Slots.{symbols, filled_run, probed}
 use Rattle.string_interner.specs.Index.{Fits}
 
 -- the new slots are the old ones with the symbol in one that was empty, in the filled run from its home on
-pub record Puts {S : Type 0} (old new : List (Option S)) (home : ℕ) (symbol : S) : Type 0 where
+pub record FillsSlot {S : Type 0} (old new : List (Option S)) (home : ℕ) (symbol : S) : Type 0 where
   pub at : ℕ
   pub in_range : at < length old
   pub was_empty : slice_index_or old at None ≡ None
@@ -15,7 +15,7 @@ pub record Puts {S : Type 0} (old new : List (Option S)) (home : ℕ) (symbol : 
 
 -- a symbol with this home may be put there
 abbrev pub IsFree : {S : Type 0} → List (Option S) → ℕ → ℕ → Type 0
-IsFree {S} slots home at = (at < length slots) × ((symbol : S) → Puts slots (slice_set slots at (Some symbol)) home symbol)
+IsFree {S} slots home at = (at < length slots) × ((symbol : S) → FillsSlot slots (slice_set slots at (Some symbol)) home symbol)
 
 -- The symbol of the text may be put there: into the slot `at`, where one is known, or else where its code leads.
 pub record IsVacant {S : Type 0} (code : Text → ℕ) (slots : List (Option S)) (text : Text) (known_code : ℕ) (at : Option ℕ) : Type 0 where
@@ -28,7 +28,3 @@ pub record Rebuilt {S : Type 0} (entry : S → Option Text) (code : Text → ℕ
   pub count : length (symbols new) ≡ length (symbols old)
   pub to : (symbol : S) → Contains old (Some symbol) → Contains new (Some symbol)
   pub from : (symbol : S) → Contains new (Some symbol) → Contains old (Some symbol)
-
--- what a count of slots grows to: 8 from none, or twice as many
-abbrev pub GrowsTo : ℕ → ℕ → Type 0
-GrowsTo count more = ((count ≡ 0) × (more ≡ 8)) ⊎ ((0 < count) × (more ≡ 2 * count))

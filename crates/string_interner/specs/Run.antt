@@ -34,10 +34,10 @@ number_told (Some (Symbol n)) = Some n
 number_told _ = None
 
 -- the reply is a copy of the text, or memory for the copy was refused
-abbrev pub IsCopy : Text → Reply → Type 0
-IsCopy text (TextReply copy) = string_bytes copy ≡ text
-IsCopy text NoMemory = ⊤
-IsCopy text _ = ⊥
+abbrev pub CopyReply : Text → Reply → Type 0
+CopyReply text (TextReply copy) = string_bytes copy ≡ text
+CopyReply text NoMemory = ⊤
+CopyReply text _ = ⊥
 
 module _ {S : Type 0} (symbol_of : ℕ → Option S) (number : S → ℕ) (place : List Text → ℕ) (read : List Text → ℕ → Option Text) where
   -- what is read at a number that has a symbol
@@ -46,7 +46,7 @@ module _ {S : Type 0} (symbol_of : ℕ → Option S) (number : S → ℕ) (place
 
   -- the reply to a number: a copy of what is read there, or nothing
   abbrev pub NumberReply : List Text → ℕ → Reply → Type 0
-  NumberReply texts n reply = MatchOption (number_read texts n) (reply ≡ Nothing) (λ text. IsCopy text reply)
+  NumberReply texts n reply = MatchOption (number_read texts n) (reply ≡ Nothing) (λ text. CopyReply text reply)
 
   -- the text is interned, and the reply tells how that ended
   abbrev pub InternReply : List Text → Text → Reply → List Text → Type 0

@@ -25,13 +25,13 @@ abbrev pub layers : Scoped → List Layer
 layers scopes = scopes.top ∷ scopes.below
 
 -- the layers joined, from the bottom to the top
-abbrev pub joined : List Layer → List Text
-joined [] = []
-joined (top ∷ below) = joined below ++ top
+abbrev pub joined_layers : List Layer → List Text
+joined_layers [] = []
+joined_layers (top ∷ below) = joined_layers below ++ top
 
 -- the interner, whose list is the layers joined
 abbrev pub interned : Scoped → Interned
-interned scopes = record { texts = joined (layers scopes); buckets = scopes.buckets; room = scopes.room; slots = scopes.slots }
+interned scopes = record { texts = joined_layers (layers scopes); buckets = scopes.buckets; room = scopes.room; slots = scopes.slots }
 
 -- The scope is left, or there is none: the top layer goes, unless it is the only one.
 abbrev pub Leaves : List Layer → Bool → List Layer → Type 0

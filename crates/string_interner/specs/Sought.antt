@@ -7,8 +7,8 @@ use Rattle.string_interner.specs.Probe.{IsVacant}
 use Rattle.string_interner.specs.Interner.{known_symbol}
 use Rattle.string_interner.specs.declared.backend.InternError.{InternError}
 use Rattle.string_interner.specs.declared.backend.InternError.TheVariants.{NoSymbol, Memory}
-use Rattle.string_interner.specs.declared.interner.Sought.{Sought}
-use Rattle.string_interner.specs.declared.interner.Sought.TheVariants.{Known, New}
+use Rattle.string_interner.specs.declared.interner.seek.Sought.{Sought}
+use Rattle.string_interner.specs.declared.interner.seek.Sought.TheVariants.{Known, New}
 
 -- the index has room for the symbol of the text, which goes there
 pub record IsReady {S : Type 0} (code : Text → ℕ) (text : Text) (index : Indexed S) (known_code : ℕ) (at : Option ℕ) : Type 0 where

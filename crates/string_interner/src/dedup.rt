@@ -4,16 +4,14 @@ mod count;
 mod hasher;
 mod probe;
 mod slots;
-#[cfg(test)]
-mod tests;
 
 ghost use Rattle.std.specs.Prelude.{◌≡◌, ℕ, ◌+◌, ◌*◌, ◌<◌, ◌≤◌, ◌%◌, ◌^◌, length, [], IsTrue, IsNone, IsOk, IfOk, OnOk, OnErr, Ok, false, ◌↔◌};
 ghost use Rattle.string_interner.specs.Text.{IsDistinct};
 ghost use Rattle.string_interner.specs.Backend.{IsKept};
 ghost use Rattle.string_interner.specs.Entry.{entry_text};
 ghost use Rattle.string_interner.specs.Slots.{IsFilledRun, symbols};
-ghost use Rattle.string_interner.specs.Index.{entry_count, Fits, FitsAll, Grows, HasRoom, Inserts, IsAbsent, IsBounded, IsLeastFor, IsWhole, Refills, SameMap, look_up, text_of};
-ghost use Rattle.string_interner.specs.Probe.{GrowsTo, IsFree, IsVacant};
+ghost use Rattle.string_interner.specs.Index.{entry_count, Fits, FitsAll, Grows, GrowsTo, HasRoom, Inserts, IsAbsent, IsBounded, IsLeastFor, IsWhole, Refills, SameMap, look_up, text_of};
+ghost use Rattle.string_interner.specs.Probe.{IsFree, IsVacant};
 
 use crate::backend::Backend;
 use crate::symbol::Symbol;
@@ -329,3 +327,6 @@ impl<S: Symbol> Index<S> {
         place_all(&mut self.slots, hasher, backend);
     }
 }
+
+#[cfg(test)]
+mod tests;

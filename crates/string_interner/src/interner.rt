@@ -1,19 +1,20 @@
 //! An interner: each text once, with the symbol that stands for it.
 
 mod collect;
+mod seek;
 
 ghost use Rattle.std.specs.Prelude.{◌≡◌, ℕ, ◌+◌, ◌*◌, ◌≤◌, ◌&&◌, ◌↔◌, List, [], ◌∷◌, length, take, slice_get, Option, Some, IsTrue, IsSome, IsOk, IfOk, IsErrOf, OnOk, OnErr};
 ghost use Rattle.std.specs.Option.{option_copied};
 ghost use Rattle.std.specs.Cmp.{partial_equiv_from_equiv, on_equiv};
 ghost use Rattle.string_interner.specs.Text.{Text, IsDistinct, first, texts_eq, texts_eq-IsEquivalence};
 ghost use Rattle.string_interner.specs.Backend.{BeginsAt, IsPlace, IsKept};
-ghost use Rattle.string_interner.specs.Interner.{Interned, Interns, IsInterned, known_symbol};
+ghost use Rattle.string_interner.specs.Interner.{Interned, Interns, known_symbol};
 ghost use Rattle.string_interner.specs.Index.{IsLeastFor};
-ghost use Rattle.string_interner.specs.Sought.{Seeks};
 
 use crate::backend::{Backend, CopyBackend, InternError, Iter};
-use crate::dedup::{DefaultHashBuilder, Index, Looks, TextHasher, Vacancy};
+use crate::dedup::{DefaultHashBuilder, Index, Looks, TextHasher};
 use crate::symbol::Symbol;
+use seek::{Sought, seek};
 use std::alloc::{AllocError, Global};
 use std::marker::Model;
 
@@ -43,53 +44,6 @@ impl<B: Backend, H: TextHasher> Model for StringInterner<B, H> {
 
     ghost invariant = { λ i. IsInterned B.Symbol.symbol_of B.place B.Symbol.number (H.code i.hasher)
         (B.texts i.backend) i.index.slots };
-}
-
-/// What is known of a text before it is stored.
-#[derive(Drop)]
-enum Sought<S> {
-    /// Its symbol.
-    Known(S),
-    /// It is new, and this is where its symbol goes in the index, which has room for it.
-    New(Vacancy),
-}
-
-/// Looks for a text, and makes room for it in the index where it is new.
-///
-/// A new text is refused for want of a symbol before memory is asked for.
-#[inline]
-fn seek<B: Backend, H: TextHasher>(
-    backend: &B,
-    hasher: &H,
-    index: &mut Index<B::Symbol>,
-    text: &str,
-) -> Result<Sought<B::Symbol>, InternError>
-    requires { IsInterned B.Symbol.symbol_of B.place B.Symbol.number (H.code hasher.now) (B.texts backend.now)
-        index.old.slots }
-    ensures interned { IsInterned B.Symbol.symbol_of B.place B.Symbol.number (H.code hasher.now) (B.texts backend.now)
-        index.new.slots }
-    ensures seeks { Seeks B.Symbol.symbol_of B.place (H.code hasher.now) (B.texts backend.now) text.now index.old result
-        index.new }
-    ensures slots { length index.old.slots ≤ length index.new.slots }
-{
-    let code = hasher.hash_text(text);
-    let mut looks = Looks::new(backend);
-    let ended = index.seek(hasher, code, &mut looks, text);
-    if let Some(symbol) = ended.symbol {
-        return Ok(Sought::Known(symbol));
-    }
-    if backend.next_symbol().is_none() {
-        return Err(InternError::NoSymbol);
-    }
-    match index.reserve(hasher, backend) {
-        // The slots grew, and the free one is another now.
-        Ok(true) => Ok(Sought::New(Vacancy { code, at: None })),
-        Ok(false) => Ok(Sought::New(Vacancy {
-            code,
-            at: Some(ended.at),
-        })),
-        Err(error) => Err(InternError::Memory(error)),
-    }
 }
 
 impl<B: Backend, H: TextHasher + Default> StringInterner<B, H> {

@@ -1,10 +1,10 @@
 //! Commands to an interner, run in order, with a reply to each.
 
-ghost use Rattle.std.specs.Prelude.{◌≡◌, ℕ, [], slice_get, Option, Some, None, IfOk, OnErr};
+ghost use Rattle.std.specs.Prelude.{◌≡◌, [], slice_get, Option, Some, None, IfOk, OnErr};
 ghost use Rattle.std.specs.Option.{option_copied};
 ghost use Rattle.string_interner.specs.Collect.{texts_of};
 ghost use Rattle.string_interner.specs.ListAnswers.{AnswersAsAList};
-ghost use Rattle.string_interner.specs.Run.{refusal, intern_reply, number_told, IsCopy, number_read, NumberReply, ExtendReply, Step, Run};
+ghost use Rattle.string_interner.specs.Run.{refusal, intern_reply, number_told, CopyReply, number_read, NumberReply, ExtendReply, Step, Run};
 
 use crate::backend::{Backend, InternError};
 use crate::dedup::TextHasher;
@@ -96,7 +96,7 @@ fn extend_reply<B: Backend, H: TextHasher>(
 
 /// A copy of the text. Asks for memory once.
 fn copy_of(alloc: Global, text: &str) -> Reply
-    ensures { IsCopy text.now result }
+    ensures { CopyReply text.now result }
 {
     String::from_str(alloc, text).map_or(Reply::NoMemory, Reply::Text)
 }

@@ -3,7 +3,7 @@
 ghost use Rattle.std.specs.Prelude.{◌≡◌, ◌+◌, ◌*◌, ◌≤◌, ◌↔◌, [], ◌∷◌, ◌++◌, length, None, IsSome, IsErrOf, IsOk, OnOk, OnErr};
 ghost use Rattle.string_interner.specs.Text.{first};
 ghost use Rattle.string_interner.specs.Interner.{Interns, known_symbol};
-ghost use Rattle.string_interner.specs.Scopes.{layers, joined, interned, Leaves, LayerStep, LeavingGivesBack};
+ghost use Rattle.string_interner.specs.Scopes.{layers, joined_layers, interned, Leaves, LayerStep, LeavingGivesBack};
 
 use crate::backend::{Backend, InternError};
 use crate::dedup::{DefaultHashBuilder, TextHasher};
@@ -93,22 +93,22 @@ impl<B: Backend, H: TextHasher> Scopes<B, H> {
     ///
     /// Refuses as `StringInterner::get_or_intern` does. No layer is changed then.
     pub fn declare(&mut self, text: &str) -> Result<B::Symbol, InternError>
-        ensures interns { Interns B.Symbol.symbol_of B.place (joined (layers self.old)) text.now result
-            (joined (layers self.new)) }
+        ensures interns { Interns B.Symbol.symbol_of B.place (joined_layers (layers self.old)) text.now result
+            (joined_layers (layers self.new)) }
 
         // No layer but the top one changes, and that only by a new text at its end.
         ensures below { self.new.below ≡ self.old.below }
-        ensures new { first (joined (layers self.old)) text.now ≡ None
+        ensures new { first (joined_layers (layers self.old)) text.now ≡ None
             → OnOk result (self.new.top ≡ self.old.top ++ text.now ∷ []) }
-        ensures known { IsSome (first (joined (layers self.old)) text.now) → self.new ≡ self.old }
+        ensures known { IsSome (first (joined_layers (layers self.old)) text.now) → self.new ≡ self.old }
         ensures err { OnErr result (layers self.new ≡ layers self.old) }
         ensures step { LayerStep (layers self.old) (layers self.new) }
         ensures no_symbol { IsErrOf result InternError.NoSymbol → self.new ≡ self.old }
         ensures buckets { OnErr result (self.new.buckets ≡ self.old.buckets) }
 
         // Within the room of the backend and of the index, memory is not refused.
-        ensures granted { IsSome (B.Symbol.symbol_of (B.place (joined (layers self.old)))) → B.cost text.now ≤ self.old.room
-            → 4 * (length (joined (layers self.old)) + 1) ≤ 3 * self.old.slots → IsOk result }
+        ensures granted { IsSome (B.Symbol.symbol_of (B.place (joined_layers (layers self.old)))) → B.cost text.now ≤ self.old.room
+            → 4 * (length (joined_layers (layers self.old)) + 1) ≤ 3 * self.old.slots → IsOk result }
 
         // A text takes no more of the room than its cost, and a refused one takes nothing.
         ensures spent { OnOk result (self.old.room ≤ self.new.room + B.cost text.now) }
@@ -120,8 +120,8 @@ impl<B: Backend, H: TextHasher> Scopes<B, H> {
 
     /// The symbol of a text, which is looked for in all layers: some exactly where the text is known. Takes no memory.
     pub fn find(&self, text: &str) -> Option<B::Symbol>
-        ensures symbol { result ≡ known_symbol B.Symbol.symbol_of B.place (joined (layers self.now)) text.now }
-        ensures known { IsSome result ↔ IsSome (first (joined (layers self.now)) text.now) }
+        ensures symbol { result ≡ known_symbol B.Symbol.symbol_of B.place (joined_layers (layers self.now)) text.now }
+        ensures known { IsSome result ↔ IsSome (first (joined_layers (layers self.now)) text.now) }
     {
         self.interner.get(text)
     }

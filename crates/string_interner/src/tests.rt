@@ -2,10 +2,10 @@
 
 pub mod last;
 
-ghost use Rattle.std.specs.Prelude.{◌≡◌, ◌<◌, ◌+◌, ◌*◌, ◌%◌, ◌^◌, ℕ, length, slice_get, max};
+ghost use Rattle.std.specs.Prelude.{◌<◌, ◌+◌, ◌*◌, ◌%◌, ◌^◌, ℕ, length, slice_get, max};
 ghost use Rattle.std.proofs.Common.{rules, refl, lit≤};
 ghost use Rattle.string_interner.specs.Symbol.{number_below, number_below-some};
-ghost use Rattle.string_interner.specs.StringBackend.{length_grows, reads_at_length};
+ghost use Rattle.string_interner.specs.CountLaws.{length_grows, reads_at_length};
 ghost use Rattle.string_interner.specs.Samples.{half_of, half_of-some, halves_equal, halves_same};
 
 use crate::backend::{Backend, InternError, StringBackend};

@@ -1,44 +1,28 @@
 //! Texts in buckets that are never rewritten, and static texts where they are.
 
+mod buckets;
+mod copies;
 mod fixed_str;
+mod full_bucket;
 mod interned_str;
-#[cfg(test)]
-mod tests;
 
-ghost use Rattle.std.specs.Prelude.{◌≡◌, ◌+◌, ◌^◌, max, ◌<◌, ◌≤◌, ◌↔◌, [], ◌∷◌, ◌++◌, length, take, map, sum_by, slice_get, All, true, false, Some, IsSome, IsOk, IfOk, IfSome, OnOk, OnErr, refl};
-ghost use Rattle.std.specs.Int.{IsNextPowerOfTwo};
-ghost use Rattle.std.specs.Str.{IsUtf8};
+ghost use Rattle.std.specs.Prelude.{◌≡◌, ◌+◌, ◌^◌, max, ◌<◌, ◌≤◌, [], ◌∷◌, ◌++◌, length, take, map, slice_get, true, false, Some, IsSome, IfOk, OnOk, OnErr, refl};
 ghost use Rattle.std.specs.Cmp.{partial_equiv_from_equiv, on_equiv};
 ghost use Rattle.std.proofs.Common.{rules};
 ghost use Rattle.string_interner.specs.Backend.{IsKept, Appends, UsesRoom};
 ghost use Rattle.string_interner.specs.Text.{texts_eq, texts_eq-IsEquivalence};
-ghost use Rattle.string_interner.specs.StringBackend.{length_grows, reads_at_length};
-ghost use Rattle.string_interner.specs.BucketBackend.{BucketContents, empty_contents, buckets_of, bucket_at, byte_count, IsBounded, Puts, Stays, copied_bytes, text_of, IsEntry, entry_len, IsLast, IsCopy, AreCopies};
+ghost use Rattle.string_interner.specs.CountLaws.{length_grows, reads_at_length};
+ghost use Rattle.string_interner.specs.BucketBackend.{BucketContents, empty_contents, buckets_of, byte_count, AreBounded, Puts, Stays, copied_bytes, interned_text};
 
 use crate::backend::{Backend, CopyBackend, InternError, Iter};
 use crate::symbol::{DefaultSymbol, Symbol};
-use fixed_str::{FixedString, Span};
+use buckets::{entry, store};
+use copies::{copies_of, joint_capacity};
+use fixed_str::FixedString;
+use full_bucket::FullBucket;
 use interned_str::InternedStr;
 use std::alloc::{AllocError, Global};
 use std::marker::{Model, PhantomData};
-use std::mem;
-
-/// A bucket that takes no more texts.
-#[derive(Drop)]
-struct FullBucket {
-    text: String,
-    capacity: usize,
-}
-
-/// Contracts see the capacity that was asked for, and the bytes.
-impl Model for FullBucket {
-    ghost use Rattle.std.specs.String.{string_bytes};
-    ghost use Rattle.string_interner.specs.Backend.{Bucket};
-
-    ghost Value = { Bucket };
-
-    ghost view = { λ b. record { capacity = b.capacity; bytes = string_bytes b.text } };
-}
 
 /// Keeps the texts in buckets of bytes, and static texts where they are.
 ///
@@ -62,144 +46,19 @@ pub struct BucketBackend<S: Symbol = DefaultSymbol> {
 /// and the free entries.
 impl<S: Symbol> Model for BucketBackend<S> {
     ghost use Rattle.std.specs.Prelude.{◌-◌, min, length, map, vec_len, vec_capacity};
-    ghost use Rattle.string_interner.specs.BucketBackend.{BucketContents, buckets_of, text_of, is_static, IsStored};
+    ghost use Rattle.string_interner.specs.BucketBackend.{BucketContents, buckets_of, interned_text, is_static, IsInBuckets};
 
     ghost Value = { BucketContents };
 
     ghost view = { λ b. record {
-      texts = map (text_of (buckets_of b.full.items b.head)) b.entries.items;
+      texts = map (interned_text (buckets_of b.full.items b.head)) b.entries.items;
       statics = map is_static b.entries.items;
       full = b.full.items;
       head = b.head;
       room = min (b.head.capacity - length b.head.bytes) (vec_capacity b.entries - vec_len b.entries);
     } };
 
-    ghost invariant = { λ b. IsStored S.symbol_of b.full.items b.head b.entries.items };
-}
-
-/// What stands in a bucket: the older ones are counted first.
-#[inline]
-fn bucket_text<'a>(full: &'a [FullBucket], head: &'a FixedString, bucket: usize) -> &'a str
-    requires { bucket < length (buckets_of full.now head.now) }
-    ensures { result.now ≡ (bucket_at (buckets_of full.now head.now) bucket).bytes }
-{
-    match full.get(bucket) {
-        Some(older) => older.text.as_str(),
-        None => head.as_str(),
-    }
-}
-
-/// The text of an entry.
-#[inline]
-fn entry<'a>(full: &'a [FullBucket], head: &'a FixedString, interned: InternedStr) -> &'a str
-    requires { IsEntry (buckets_of full.now head.now) interned }
-    ensures { result.now ≡ text_of (buckets_of full.now head.now) interned }
-{
-    match interned {
-        InternedStr::InBucket { bucket, span } => {
-            let bytes = bucket_text(full, head, bucket);
-            &bytes[span.from..span.to]
-        }
-        InternedStr::Static(text) => text,
-    }
-}
-
-/// A new head that begins with a text, after a head of the capacity `before`; and where the text stands.
-///
-/// Its capacity is the least power of two above both `before` and the length of the text.
-fn new_head(alloc: Global, before: usize, text: &str) -> Result<(FixedString, Span), AllocError>
-    ensures bytes { IfOk result (λ made. made.0.bytes ≡ text.now) }
-    ensures capacity { IfOk result (λ made. IsNextPowerOfTwo (max before (length text.now) + 1) made.0.capacity) }
-    ensures span { IfOk result (λ made. made.1 ≡ record { from = 0; to = length text.now }) }
-{
-    let least = before.max(text.len()).checked_add(1).ok_or(AllocError)?;
-    let capacity = least.checked_next_power_of_two().ok_or(AllocError)?;
-    let mut head = FixedString::with_capacity(alloc, capacity)?;
-    let span = head.push_str(text)?.unwrap();
-    Ok((head, span))
-}
-
-/// Puts a text at the end of the head where its capacity allows it, and else into a new head.
-///
-/// Both growths come before anything is stored, so that a refusal leaves all as it was.
-fn store(
-    full: &mut Vec<FullBucket>,
-    head: &mut FixedString,
-    text: &str,
-) -> Result<InternedStr, AllocError>
-    ensures puts { OnOk result (Puts text.now full.old.items head.old full.new.items head.new) }
-    ensures last { IfOk result (IsLast text.now full.new.items head.new) }
-    ensures err { OnErr result ((full.new.items ≡ full.old.items) × (head.new ≡ head.old)) }
-    ensures granted { length head.old.bytes + length text.now ≤ head.old.capacity → IsOk result }
-{
-    if let Some(span) = head.push_str(text)? {
-        let bucket = full.len();
-        return Ok(InternedStr::InBucket { bucket, span });
-    }
-    full.reserve(1)?;
-    let (next, span) = new_head(*full.allocator(), head.capacity(), text)?;
-    let old = mem::replace(head, next);
-    let capacity = old.capacity();
-    let text = old.finish();
-    full.push_reserved(FullBucket { text, capacity });
-    let bucket = full.len();
-    Ok(InternedStr::InBucket { bucket, span })
-}
-
-/// The capacity of a head that takes what stands in all buckets, and keeps the room that the head has.
-fn joint_capacity(full: &[FullBucket], head: &FixedString) -> Option<usize>
-    ensures value { IfSome result (λ capacity. capacity ≡ head.now.capacity + byte_count full.now) }
-    ensures fits { IsSome result ↔ (head.now.capacity + byte_count full.now < 2 ^ 64) }
-{
-    let mut capacity = head.capacity();
-    for bucket in full {
-        capacity = capacity.checked_add(bucket.text.len())?;
-    }
-    Some(capacity)
-}
-
-/// An entry again, with its text copied to the end of a bucket. A static text stays where it is.
-fn copy_of(
-    interned: InternedStr,
-    full: &[FullBucket],
-    head: &FixedString,
-    bucket: &mut FixedString,
-) -> Result<InternedStr, AllocError>
-    requires entry { IsEntry (buckets_of full.now head.now) interned }
-    requires room { length bucket.old.bytes + entry_len interned ≤ bucket.old.capacity }
-    ensures { IfOk result (IsCopy (buckets_of full.now head.now) interned bucket.old bucket.new) }
-{
-    match interned {
-        InternedStr::InBucket { .. } => {
-            let text = entry(full, head, interned);
-            let span = bucket.push_str(text)?.unwrap();
-            Ok(InternedStr::InBucket { bucket: 0, span })
-        }
-        InternedStr::Static(text) => Ok(InternedStr::Static(text)),
-    }
-}
-
-/// The entries again, with the texts of all buckets copied into one of this capacity.
-fn copies_of(
-    alloc: Global,
-    entries: &[InternedStr],
-    full: &[FullBucket],
-    head: &FixedString,
-    capacity: usize,
-) -> Result<(Vec<InternedStr>, FixedString), AllocError>
-    requires entries { All (IsEntry (buckets_of full.now head.now)) entries.now }
-    requires utf8 { All IsUtf8 (map (text_of (buckets_of full.now head.now)) entries.now) }
-    requires room { sum_by entry_len entries.now ≤ capacity }
-    ensures capacity { IfOk result (λ made. made.1.capacity ≡ capacity) }
-    ensures copies { IfOk result (λ made. AreCopies (buckets_of full.now head.now) entries.now made.0.items made.1) }
-{
-    let mut copies = Vec::with_capacity(alloc, entries.len())?;
-    let mut bucket = FixedString::with_capacity(alloc, capacity)?;
-    for interned in entries {
-        let copy = copy_of(*interned, full, head, &mut bucket)?;
-        copies.push_reserved(copy);
-    }
-    Ok((copies, bucket))
+    ghost invariant = { λ b. IsInBuckets S.symbol_of b.full.items b.head b.entries.items };
 }
 
 impl<S: Symbol> BucketBackend<S> {
@@ -235,7 +94,7 @@ impl<S: Symbol> Backend for BucketBackend<S> {
     fn new(alloc: Global) -> Self
         ensures texts { result.texts ≡ [] }
         ensures empty { result ≡ empty_contents 0 result.room }
-        ensures bounded { IsBounded (buckets_of result.full result.head) }
+        ensures bounded { AreBounded (buckets_of result.full result.head) }
     {
         BucketBackend {
             entries: Vec::new(alloc),
@@ -250,7 +109,7 @@ impl<S: Symbol> Backend for BucketBackend<S> {
         ensures texts { IfOk result (λ backend. backend.texts ≡ []) }
         ensures room { IfOk result (λ backend. capacity ≤ backend.room) }
         ensures empty { IfOk result (λ backend. backend ≡ empty_contents capacity backend.room) }
-        ensures bounded { IfOk result (λ backend. IsBounded (buckets_of backend.full backend.head)) }
+        ensures bounded { IfOk result (λ backend. AreBounded (buckets_of backend.full backend.head)) }
     {
         Ok(BucketBackend {
             entries: Vec::with_capacity(alloc, capacity)?,
@@ -264,7 +123,7 @@ impl<S: Symbol> Backend for BucketBackend<S> {
         ensures value { result ≡ length self.now.texts }
         ensures kept { IsKept S.symbol_of length self.now.texts }
         ensures statics { length self.now.statics ≡ result }
-        ensures bounded { IsBounded (buckets_of self.now.full self.now.head) }
+        ensures bounded { AreBounded (buckets_of self.now.full self.now.head) }
     {
         self.entries.len()
     }
@@ -286,7 +145,7 @@ impl<S: Symbol> Backend for BucketBackend<S> {
         ensures statics { OnOk result (self.new.statics ≡ self.old.statics ++ false ∷ []) }
         ensures puts { OnOk result (Puts text.now self.old.full self.old.head self.new.full self.new.head) }
         ensures stays { Stays (buckets_of self.old.full self.old.head) (buckets_of self.new.full self.new.head) }
-        ensures bounded { IsBounded (buckets_of self.new.full self.new.head) }
+        ensures bounded { AreBounded (buckets_of self.new.full self.new.head) }
         ensures err { OnErr result (self.new ≡ record self.old { room = self.new.room }) }
     {
         let symbol = self.next_symbol().ok_or(InternError::NoSymbol)?;
@@ -310,7 +169,7 @@ impl<S: Symbol> Backend for BucketBackend<S> {
         ensures statics { OnOk result (self.new.statics ≡ self.old.statics ++ true ∷ []) }
         ensures full { self.new.full ≡ self.old.full }
         ensures head { self.new.head ≡ self.old.head }
-        ensures bounded { IsBounded (buckets_of self.new.full self.new.head) }
+        ensures bounded { AreBounded (buckets_of self.new.full self.new.head) }
         ensures err { OnErr result (self.new ≡ record self.old { room = self.new.room }) }
     {
         let symbol = self.next_symbol().ok_or(InternError::NoSymbol)?;
@@ -341,7 +200,7 @@ impl<S: Symbol> Backend for BucketBackend<S> {
         ensures texts { self.new.texts ≡ self.old.texts }
         ensures buckets { buckets_of self.new.full self.new.head ≡ buckets_of self.old.full self.old.head }
         ensures same { self.new ≡ record self.old { room = self.new.room } }
-        ensures bounded { IsBounded (buckets_of self.new.full self.new.head) }
+        ensures bounded { AreBounded (buckets_of self.new.full self.new.head) }
     {
         self.entries.shrink_to_fit();
         self.full.shrink_to_fit();
@@ -357,7 +216,7 @@ impl<S: Symbol> Backend for BucketBackend<S> {
         ensures statics { self.new.statics ≡ take len self.old.statics }
         ensures full { self.new.full ≡ self.old.full }
         ensures head { self.new.head ≡ self.old.head }
-        ensures bounded { IsBounded (buckets_of self.new.full self.new.head) }
+        ensures bounded { AreBounded (buckets_of self.new.full self.new.head) }
     {
         self.entries.truncate(len);
     }
@@ -384,7 +243,7 @@ impl<S: Symbol> BucketBackend<S> {
           capacity = self.now.head.capacity + byte_count self.now.full;
           bytes = copied_bytes self.now.texts self.now.statics;
         }) }
-        ensures bounded { IfOk result (λ copy. IsBounded (buckets_of copy.full copy.head)) }
+        ensures bounded { IfOk result (λ copy. AreBounded (buckets_of copy.full copy.head)) }
         ensures fits { OnOk result (self.now.head.capacity + byte_count self.now.full < 2 ^ 64) }
     {
         let alloc = *self.entries.allocator();
@@ -408,7 +267,7 @@ impl<S: Symbol> CopyBackend for BucketBackend<S> {
           capacity = self.now.head.capacity + byte_count self.now.full;
           bytes = copied_bytes self.now.texts self.now.statics;
         }) }
-        ensures bounded { IfOk result (λ copy. IsBounded (buckets_of copy.full copy.head)) }
+        ensures bounded { IfOk result (λ copy. AreBounded (buckets_of copy.full copy.head)) }
         ensures fits { OnOk result (self.now.head.capacity + byte_count self.now.full < 2 ^ 64) }
     {
         self.clone()
@@ -450,3 +309,6 @@ impl<S: Symbol> PartialEq for BucketBackend<S> {
 impl<S: Symbol> Eq for BucketBackend<S> {
     ghost laws = { on_equiv (λ (b : BucketContents). b.texts) texts_eq-IsEquivalence };
 }
+
+#[cfg(test)]
+mod tests;

@@ -1,14 +1,12 @@
 //! All texts in one buffer of bytes, each behind its length.
 
 mod spelling;
-#[cfg(test)]
-mod tests;
 
-ghost use Rattle.std.specs.Prelude.{◌≡◌, ℕ, ◌+◌, ◌*◌, ◌^◌, ◌<◌, ◌≤◌, ◌↔◌, List, [], ◌++◌, length, take, slice_get, Option, Some, IsSome, IsTrue, IfOk, OnOk, OnErr, refl};
+ghost use Rattle.std.specs.Prelude.{◌≡◌, ℕ, ◌+◌, ◌*◌, ◌^◌, ◌<◌, ◌≤◌, ◌↔◌, List, [], ◌++◌, length, take, slice_get, Option, Some, IsTrue, IfOk, OnOk, refl};
 ghost use Rattle.std.specs.Option.{option_copied};
 ghost use Rattle.std.specs.Cmp.{partial_equiv_from_equiv, on_equiv};
 ghost use Rattle.string_interner.specs.Text.{Text, texts_eq, texts_eq-IsEquivalence};
-ghost use Rattle.string_interner.specs.Backend.{Contents, BeginsAt, IsPlace, IsKept, Appends, UsesRoom};
+ghost use Rattle.string_interner.specs.Backend.{Contents, BeginsAt, IsKept};
 ghost use Rattle.string_interner.specs.Spelling.{digits, IsLeastCount};
 ghost use Rattle.string_interner.specs.BufferBackend.{entry_of, bytes_of, entry_len, place_of, Reads, read_front, read_at, HasEntryAt};
 ghost use Rattle.string_interner.specs.BufferLaws.{entry_len-positive, place_grows, reads_at_place};
@@ -54,7 +52,7 @@ impl<S: Symbol> Model for BufferBackend<S> {
 
 /// The text at the front, behind its length, where all of it is there and is UTF-8.
 #[inline]
-fn text_at(bytes: &[u8]) -> Option<&str>
+fn front_text(bytes: &[u8]) -> Option<&str>
     ensures { option_copied result ≡ read_front bytes.now }
 {
     let spelled = number_at(bytes)?;
@@ -177,7 +175,7 @@ impl<S: Symbol> Backend for BufferBackend<S> {
         ensures reads { (text : Text) → (option_copied result ≡ Some text)
             ↔ Reads (bytes_of self.now.texts) (S.number symbol) text }
     {
-        text_at(self.as_bytes().get(symbol.to_usize()..)?)
+        front_text(self.as_bytes().get(symbol.to_usize()..)?)
     }
 
     fn resolve_unchecked(&self, symbol: S) -> &str {
@@ -262,3 +260,6 @@ impl<S: Symbol> PartialEq for BufferBackend<S> {
 impl<S: Symbol> Eq for BufferBackend<S> {
     ghost laws = { on_equiv (λ (b : Contents). b.texts) texts_eq-IsEquivalence };
 }
+
+#[cfg(test)]
+mod tests;

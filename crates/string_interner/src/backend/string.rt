@@ -5,7 +5,8 @@ ghost use Rattle.std.specs.Cmp.{partial_equiv_from_equiv, on_equiv};
 ghost use Rattle.std.proofs.Common.{rules};
 ghost use Rattle.string_interner.specs.Backend.{Contents};
 ghost use Rattle.string_interner.specs.Text.{texts_eq, texts_eq-IsEquivalence};
-ghost use Rattle.string_interner.specs.StringBackend.{cut, start_at, IsCut, length_grows, reads_at_length};
+ghost use Rattle.string_interner.specs.StringBackend.{cut, start_at, IsCut};
+ghost use Rattle.string_interner.specs.CountLaws.{length_grows, reads_at_length};
 
 use crate::backend::{Backend, CopyBackend, InternError, Iter};
 use crate::symbol::{DefaultSymbol, Symbol};
@@ -25,10 +26,10 @@ pub struct StringBackend<S: Symbol = DefaultSymbol> {
 
 /// Contracts see the texts, and as room the lesser of the free bytes and five times the free ends.
 impl<S: Symbol> Model for StringBackend<S> {
-    ghost use Rattle.std.specs.Prelude.{ℕ, ◌-◌, ◌*◌, min, List, vec_len, vec_capacity};
+    ghost use Rattle.std.specs.Prelude.{◌-◌, ◌*◌, min, vec_len, vec_capacity};
     ghost use Rattle.std.specs.String.{string_bytes, string_len, string_capacity};
     ghost use Rattle.string_interner.specs.Backend.{Contents};
-    ghost use Rattle.string_interner.specs.StringBackend.{cut, IsStored};
+    ghost use Rattle.string_interner.specs.StringBackend.{cut, IsJoined};
 
     ghost Value = { Contents };
 
@@ -37,7 +38,7 @@ impl<S: Symbol> Model for StringBackend<S> {
       room = min (string_capacity b.joined - string_len b.joined) (5 * (vec_capacity b.ends - vec_len b.ends));
     } };
 
-    ghost invariant = { λ b. IsStored S.symbol_of (string_bytes b.joined) b.ends.items (cut 0 (string_bytes b.joined) b.ends.items) };
+    ghost invariant = { λ b. IsJoined S.symbol_of (string_bytes b.joined) b.ends.items (cut 0 (string_bytes b.joined) b.ends.items) };
 }
 
 /// Where the entry `index` begins: at the end of the one before it.

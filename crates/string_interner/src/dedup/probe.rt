@@ -3,10 +3,10 @@
 ghost use Rattle.std.specs.Prelude.{◌≡◌, ◌+◌, ◌*◌, ◌<◌, ◌≤◌, ◌%◌, ◌^◌, length, IsNone, IsSome, IfNone, IfOk, IfSome, OnSome, Contains, [], Some};
 ghost use Rattle.string_interner.specs.Entry.{entry_text};
 ghost use Rattle.string_interner.specs.Slots.{probed, filled_run, first_passing, symbols};
-ghost use Rattle.string_interner.specs.Index.{Fits, IsWhole, IsLeastFor, IsSlotCount, has_text};
+ghost use Rattle.string_interner.specs.Index.{Fits, GrowsTo, IsWhole, IsLeastFor, IsSlotCount, has_text};
 ghost use Rattle.string_interner.specs.Text.{IsDistinct};
 ghost use Rattle.string_interner.specs.Backend.{IsKept};
-ghost use Rattle.string_interner.specs.Probe.{GrowsTo, IsFree, Puts, Rebuilt};
+ghost use Rattle.string_interner.specs.Probe.{FillsSlot, IsFree, Rebuilt};
 
 use crate::backend::Backend;
 use crate::dedup::hasher::TextHasher;
@@ -80,7 +80,7 @@ pub fn probe<S: Symbol, B: Backend<Symbol = S>>(
 pub fn place<S: Symbol>(slots: &mut Slots<S>, code: u64, symbol: S)
     requires free { length (symbols slots.old) < length slots.old }
     requires count { IsSlotCount (length slots.old) }
-    ensures puts { Puts slots.old slots.new (code % length slots.old) symbol }
+    ensures puts { FillsSlot slots.old slots.new (code % length slots.old) symbol }
     ensures small { length slots.old < 2 ^ 64 }
 {
     let home = home_of(code, slots.len());
@@ -93,7 +93,7 @@ pub fn settle<S: Symbol>(slots: &mut Slots<S>, vacancy: Vacancy, symbol: S)
     requires free { length (symbols slots.old) < length slots.old }
     requires count { IsSlotCount (length slots.old) }
     requires vacant { IfSome vacancy.at (IsFree slots.old (vacancy.code % length slots.old)) }
-    ensures puts { Puts slots.old slots.new (vacancy.code % length slots.old) symbol }
+    ensures puts { FillsSlot slots.old slots.new (vacancy.code % length slots.old) symbol }
     ensures small { length slots.old < 2 ^ 64 }
 {
     match vacancy.at {

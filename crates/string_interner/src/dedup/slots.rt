@@ -4,7 +4,7 @@ ghost use Rattle.std.specs.Prelude.{◌≡◌, ◌+◌, ◌<◌, ◌^◌, length
 ghost use Rattle.string_interner.specs.Entry.{entry_text};
 ghost use Rattle.string_interner.specs.Slots.{symbols};
 ghost use Rattle.string_interner.specs.Index.{has_text};
-ghost use Rattle.string_interner.specs.Probe.{Puts};
+ghost use Rattle.string_interner.specs.Probe.{FillsSlot};
 
 use crate::backend::Backend;
 use crate::dedup::count::Count;
@@ -159,7 +159,7 @@ impl<S: Symbol> Slots<S> {
     pub fn put(&mut self, home: usize, symbol: S)
         requires home { home < length self.old }
         requires free { length (symbols self.old) < length self.old }
-        ensures { Puts self.old self.new home symbol }
+        ensures { FillsSlot self.old self.new home symbol }
     {
         let count = self.len();
         let mut at = home;

@@ -1,3 +1,4 @@
+use super::buckets::new_head;
 use super::*;
 use crate::interner::StringInterner;
 use crate::run::{Command, Reply, run};
@@ -11,8 +12,8 @@ fn shape<S: Symbol>(backend: &BucketBackend<S>) -> (usize, usize, usize, usize, 
     let mut capacities = backend.head.capacity();
     let mut bytes = backend.head.len();
     for bucket in &backend.full {
-        capacities = capacities.saturating_add(bucket.capacity);
-        bytes = bytes.saturating_add(bucket.text.len());
+        capacities = capacities.saturating_add(bucket.capacity());
+        bytes = bytes.saturating_add(bucket.as_str().len());
     }
     (
         backend.head.capacity(),

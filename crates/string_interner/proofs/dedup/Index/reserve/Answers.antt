@@ -1,7 +1,6 @@
 use Rattle.std.proofs.Common.{None, sym, ap, subst, ◌∙◌, length}
 use Rattle.std.proofs.lemmas.List.{length-replicate}
-use Rattle.string_interner.specs.Index.{IsSlotCount}
-use Rattle.string_interner.specs.Probe.{GrowsTo}
+use Rattle.string_interner.specs.Index.{GrowsTo, IsSlotCount}
 use Rattle.string_interner.proofs.Rebuilding.{symbols-replicate}
 use Rattle.string_interner.proofs.Growing.{IsSlotCount-grown}
 use Rattle.string_interner.proofs.dedup.Index.reserve.Goals as goal

@@ -1,6 +1,7 @@
 use Rattle.std.proofs.Common.{ap, subst}
 use Rattle.string_interner.specs.Entry.{entry_text}
-use Rattle.string_interner.specs.Probe.{GrowsTo, Rebuilt}
+use Rattle.string_interner.specs.Index.{GrowsTo}
+use Rattle.string_interner.specs.Probe.{Rebuilt}
 use Rattle.string_interner.proofs.Rebuilding.{Rebuilt-same}
 use Rattle.string_interner.proofs.Growing.{GrowsTo-more, IsSlotCount-grown}
 use Rattle.string_interner.proofs.dedup.Index.reserve_one.Goals as goal

@@ -1,6 +1,6 @@
 use Rattle.std.proofs.Common.{refl, ◌∙◌}
 use Rattle.string_interner.proofs.Indexing.{puts_at}
-use Rattle.string_interner.proofs.LookUp.{Puts-length}
+use Rattle.string_interner.proofs.LookUp.{FillsSlot-length}
 use Rattle.string_interner.proofs.Placing.{placed-start, placed-next, placed-end}
 use Rattle.string_interner.proofs.dedup.probe.place_all.Goals as goal
 
@@ -16,7 +16,7 @@ loop-symbol-preserved g c =
     let puts = puts_at _ _ _ _ _ c.hash_text.ensures c.place.ensures.puts in
     record {
       placed = placed-next g.S.Symbol.symbol_of g.S.Symbol.number g.B.Backend.place g.met.S.Symbol.numbered g.met.S.Symbol.injective g.met.B.Backend.grows (g.H.TextHasher.code c.args.hasher.now) (g.B.Backend.texts c.args.backend.now) c.requires.kept c.requires.distinct _ _ _ _ c.loop-symbol.slots c.place.new.slots c.in-Some.symbol c.in-Some.text.now inv.placed c.in-Some.ensures.steps puts;
-      size = Puts-length _ _ _ _ puts ∙ inv.size;
+      size = FillsSlot-length _ _ _ _ puts ∙ inv.size;
     }
 
 pub returns-clause-whole : goal.returns-clause-whole

@@ -2,7 +2,7 @@ use Rattle.string_interner.specs.Entry.{entry_text}
 use Rattle.std.proofs.Common.{◌≡◌, None, get_or, length, refl, sym, ap, ◌∙◌, arith}
 use Rattle.std.proofs.lemmas.List.{length-replicate}
 use Rattle.string_interner.proofs.Indexing.{puts_at}
-use Rattle.string_interner.proofs.LookUp.{Puts-length}
+use Rattle.string_interner.proofs.LookUp.{FillsSlot-length}
 use Rattle.string_interner.proofs.EntryTexts.{entry_text-IsPlace, text_of-resolved}
 use Rattle.string_interner.proofs.Rebuilding.{slot_entry, Rebuilt-start, skipped, placed_again, has_free}
 use Rattle.string_interner.proofs.dedup.probe.rebuilt.Goals as goal
@@ -29,7 +29,7 @@ loop-at-preserved g c =
     record {
       same = c.symbol_at.ensures.same ∙ inv.same;
       size = elim c.match-symbol_at.branch
-          [ in-Some w ↦ ap length w.bigger-is ∙ Puts-length _ _ _ _ w.place.ensures.puts ∙ inv.size | in_default w ↦ ap length w.bigger-is ∙ inv.size ];
+          [ in-Some w ↦ ap length w.bigger-is ∙ FillsSlot-length _ _ _ _ w.place.ensures.puts ∙ inv.size | in_default w ↦ ap length w.bigger-is ∙ inv.size ];
       rebuilt = elim c.match-symbol_at.branch [
         | in-Some w ↦ rw w.bigger-is (placed_again entry code slots c.requires.fits c.loop-at.at (omega arith) c.loop-at.bigger inv.rebuilt w.in-Some.symbol
             w.place.new.slots (sym slot ∙ w.in-Some.is) (puts_at _ _ _ _ _ (w.hash_text.ensures ∙ ap code (text_of-resolved g.S.Symbol.number _ _ w.in-Some.symbol _ (slot_entry entry code slots c.requires.fits c.loop-at.at (omega arith) w.in-Some.symbol (sym slot ∙ w.in-Some.is)) w.resolve_unchecked-text.ensures)) w.place.ensures.puts))

@@ -1,6 +1,6 @@
 use Rattle.std.proofs.Common.{refl}
-use Rattle.string_interner.proofs.Scopes.{joined-layers}
+use Rattle.string_interner.proofs.Scopes.{joined_layers-of_list}
 use Rattle.string_interner.proofs.scope.Scopes.interner.Goals as goal
 
 pub returns : goal.returns
-returns g c = rw (← c.self.view_is, joined-layers) refl
+returns g c = rw (← c.self.view_is, joined_layers-of_list) refl

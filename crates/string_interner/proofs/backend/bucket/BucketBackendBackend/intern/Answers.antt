@@ -1,12 +1,12 @@
 use Rattle.std.proofs.Common.{◌≡◌, ◌++◌, ◌∷◌, [], map, arith, rules, ap, ◌∙◌}
-use Rattle.string_interner.specs.BucketBackend.{BucketContents, buckets_of, text_of, IsStored}
+use Rattle.string_interner.specs.BucketBackend.{BucketContents, buckets_of, interned_text, IsInBuckets}
 use Rattle.string_interner.proofs.Buckets.{stored-puts, Stays-puts}
 use Rattle.string_interner.proofs.backend.bucket.BucketBackendBackend.intern.Goals as goal
 use Rattle.string_interner.proofs.backend.bucket.BucketBackendBackend.intern.Goals.{After-push_reserved}
 use Rattle.string_interner.proofs.backend.bucket.BucketBackendBackend.intern.Given.{Over}
 
 -- the text is stored
-stored : (g : Over) (c : After-push_reserved g) → (map (text_of (buckets_of c.store.new.full.items c.store.new.head)) c.push_reserved.new.self.items ≡ map (text_of (buckets_of c.self.inside.full.items c.self.inside.head)) c.self.inside.entries.items ++ c.args.text.now ∷ []) × IsStored g.S.Symbol.symbol_of c.store.new.full.items c.store.new.head c.push_reserved.new.self.items
+stored : (g : Over) (c : After-push_reserved g) → (map (interned_text (buckets_of c.store.new.full.items c.store.new.head)) c.push_reserved.new.self.items ≡ map (interned_text (buckets_of c.self.inside.full.items c.self.inside.head)) c.self.inside.entries.items ++ c.args.text.now ∷ []) × IsInBuckets g.S.Symbol.symbol_of c.store.new.full.items c.store.new.head c.push_reserved.new.self.items
 stored g c = stored-puts g.S.Symbol.symbol_of c.args.text.now _ _ _ _ c.in_ok-interned.interned _ _ c.self.invariant c.utf8.text (rw (ap (λ (b : BucketContents). b.texts) c.self.view_is) (search rules)) (omega (arith, c.push_reserved.new.self.small, c.push_reserved.new.self.ok.1, c.push_reserved.new.self.ok.0, c.push_reserved.ensures.len, c.self.inside.entries.ok.0)) (search rules) (search rules) (search rules)
 
 pub returns-in_err-interned-clause-kept : goal.returns-in_err-interned-clause-kept

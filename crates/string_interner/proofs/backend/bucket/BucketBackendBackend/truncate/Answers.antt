@@ -1,6 +1,6 @@
 use Rattle.std.proofs.Common.{map, take, sym, ap, ◌∙◌}
 use Rattle.std.proofs.lemmas.List.{take-map}
-use Rattle.string_interner.specs.BucketBackend.{BucketContents, buckets_of, text_of, is_static}
+use Rattle.string_interner.specs.BucketBackend.{BucketContents, buckets_of, interned_text, is_static}
 use Rattle.string_interner.proofs.Buckets.{stored-take}
 use Rattle.string_interner.proofs.backend.bucket.BucketBackendBackend.truncate.Goals as goal
 
@@ -9,7 +9,7 @@ invariant_of-self g c = stored-take g.S.Symbol.symbol_of _ _ _ _ c.args.len c.se
 
 pub returns-clause-texts : goal.returns-clause-texts
 returns-clause-texts g c =
-    let f = text_of (buckets_of c.self.inside.full.items c.self.inside.head) in
+    let f = interned_text (buckets_of c.self.inside.full.items c.self.inside.head) in
     ap (map f) c.truncate.ensures.items ∙ sym (take-map f c.args.len c.self.inside.entries.items) ∙ ap (λ (b : BucketContents). take c.args.len b.texts) c.self.view_is
 
 pub returns-clause-statics : goal.returns-clause-statics

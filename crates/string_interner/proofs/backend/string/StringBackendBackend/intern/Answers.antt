@@ -1,6 +1,6 @@
 use Rattle.std.proofs.Common.{◌≡◌, ◌++◌, ◌∷◌, [], arith, rules, ap, ◌∙◌}
 use Rattle.std.specs.String.{string_bytes}
-use Rattle.string_interner.specs.StringBackend.{cut, IsStored}
+use Rattle.string_interner.specs.StringBackend.{cut, IsJoined}
 use Rattle.string_interner.specs.Backend.{Contents}
 use Rattle.string_interner.proofs.Cuts.{stored-more}
 use Rattle.string_interner.proofs.backend.string.StringBackendBackend.intern.Goals as goal
@@ -8,7 +8,7 @@ use Rattle.string_interner.proofs.backend.string.StringBackendBackend.intern.Goa
 use Rattle.string_interner.proofs.backend.string.StringBackendBackend.intern.Given.{Over}
 
 -- the text is stored
-stored : (g : Over) (c : After-push_reserved g) → (cut 0 (string_bytes c.push_str.new.self) c.push_reserved.new.self.items ≡ cut 0 (string_bytes c.self.inside.joined) c.self.inside.ends.items ++ c.args.text.now ∷ []) × IsStored g.S.Symbol.symbol_of (string_bytes c.push_str.new.self) c.push_reserved.new.self.items (cut 0 (string_bytes c.push_str.new.self) c.push_reserved.new.self.items)
+stored : (g : Over) (c : After-push_reserved g) → (cut 0 (string_bytes c.push_str.new.self) c.push_reserved.new.self.items ≡ cut 0 (string_bytes c.self.inside.joined) c.self.inside.ends.items ++ c.args.text.now ∷ []) × IsJoined g.S.Symbol.symbol_of (string_bytes c.push_str.new.self) c.push_reserved.new.self.items (cut 0 (string_bytes c.push_str.new.self) c.push_reserved.new.self.items)
 stored g c = stored-more g.S.Symbol.symbol_of _ _ _ _ _ c.self.invariant c.utf8.text (rw (ap (λ (b : Contents). b.texts) c.self.view_is) (search rules)) (omega (arith, c.push_reserved.new.self.small, c.push_reserved.new.self.ok.1, c.push_reserved.new.self.ok.0, c.push_reserved.ensures.len, c.self.inside.ends.ok.0)) (search rules) (search rules)
 
 pub invariant_of-self-2 : goal.invariant_of-self-2

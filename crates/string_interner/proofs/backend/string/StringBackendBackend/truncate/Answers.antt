@@ -1,7 +1,7 @@
 use Rattle.std.proofs.Common.{◌≡◌, length, take, sym, ap, ◌∙◌, arith}
 use Rattle.std.specs.String.{string_bytes}
 use Rattle.std.proofs.lemmas.List.{take_all}
-use Rattle.string_interner.specs.StringBackend.{cut, IsStored}
+use Rattle.string_interner.specs.StringBackend.{cut, IsJoined}
 use Rattle.string_interner.specs.Backend.{Contents}
 use Rattle.string_interner.proofs.Cuts.{cut_length, start_boundary, stored-take}
 use Rattle.string_interner.proofs.backend.string.StringBackendBackend.truncate.Goals as goal
@@ -14,7 +14,7 @@ truncate-requires g c = λ _.
     rw (c.start_of.ensures, c.deref.ensures.value) (b.0, λ _. b.1)
 
 -- the first texts stay
-stored : (g : Over) (c : After-truncate-then-len g) → (cut 0 (string_bytes c.truncate.new.self) c.truncate-then-len.new.self.items ≡ take c.args.len (cut 0 (string_bytes c.self.inside.joined) c.self.inside.ends.items)) × IsStored g.S.Symbol.symbol_of (string_bytes c.truncate.new.self) c.truncate-then-len.new.self.items (cut 0 (string_bytes c.truncate.new.self) c.truncate-then-len.new.self.items)
+stored : (g : Over) (c : After-truncate-then-len g) → (cut 0 (string_bytes c.truncate.new.self) c.truncate-then-len.new.self.items ≡ take c.args.len (cut 0 (string_bytes c.self.inside.joined) c.self.inside.ends.items)) × IsJoined g.S.Symbol.symbol_of (string_bytes c.truncate.new.self) c.truncate-then-len.new.self.items (cut 0 (string_bytes c.truncate.new.self) c.truncate-then-len.new.self.items)
 stored g c = stored-take g.S.Symbol.symbol_of _ _ _ _ c.args.len c.self.invariant (omega (arith, c.if-len.true, c.len.ensures, c.self.inside.ends.ok.0)) (rw (← c.deref.ensures.value, ← c.start_of.ensures) c.truncate.ensures.bytes) c.truncate-then-len.ensures.items
 
 pub invariant_of-self : goal.invariant_of-self

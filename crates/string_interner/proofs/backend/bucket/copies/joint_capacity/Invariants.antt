@@ -1,6 +1,6 @@
 use Rattle.std.proofs.Common.{◌≡◌, ◌+◌, ◌<◌, ◌^◌, take}
 use Rattle.string_interner.specs.BucketBackend.{byte_count}
-use Rattle.string_interner.proofs.backend.bucket.joint_capacity.Given as goal
+use Rattle.string_interner.proofs.backend.bucket.copies.joint_capacity.Given as goal
 
 -- the sum so far, which fits
 abbrev pub invariant-loop-bucket : goal.invariant-loop-bucket

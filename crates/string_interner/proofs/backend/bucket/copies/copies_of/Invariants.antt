@@ -1,6 +1,6 @@
 use Rattle.std.proofs.Common.{◌≡◌, ◌+◌, ◌≤◌, length, take, vec_len, vec_capacity}
 use Rattle.string_interner.specs.BucketBackend.{buckets_of, AreCopies}
-use Rattle.string_interner.proofs.backend.bucket.copies_of.Given as goal
+use Rattle.string_interner.proofs.backend.bucket.copies.copies_of.Given as goal
 
 -- the entries so far were copied, and there is room for all
 abbrev pub invariant-loop-interned : goal.invariant-loop-interned

@@ -1,12 +1,12 @@
 use Rattle.std.proofs.Common.{◌∙◌, arith}
 use Rattle.std.proofs.lemmas.List.Sums.{sum_by_more_le}
-use Rattle.string_interner.specs.BucketBackend.{buckets_of, entry_len}
+use Rattle.string_interner.specs.BucketBackend.{buckets_of, interned_len}
 use Rattle.string_interner.specs.declared.backend.bucket.interned_str.InternedStr.TheVariants.{InBucket}
 use Rattle.string_interner.proofs.Buckets.{AreCopies-step}
-use Rattle.string_interner.proofs.backend.bucket.copies_of.Goals as goal
+use Rattle.string_interner.proofs.backend.bucket.copies.copies_of.Goals as goal
 
 pub copy_of-requires-clause-room : goal.copy_of-requires-clause-room
-copy_of-requires-clause-room c = omega (arith, c.loop-interned.invariant.capacity, c.loop-interned.invariant.copies.filled, c.requires.room, sum_by_more_le entry_len c.args.entries.now c.loop-interned.interned-index (InBucket 0 (record { from = 0; to = 0 })) c.loop-interned-test.true)
+copy_of-requires-clause-room c = omega (arith, c.loop-interned.invariant.capacity, c.loop-interned.invariant.copies.filled, c.requires.room, sum_by_more_le interned_len c.args.entries.now c.loop-interned.interned-index (InBucket 0 (record { from = 0; to = 0 })) c.loop-interned-test.true)
 
 pub loop-interned-preserved : goal.loop-interned-preserved
 loop-interned-preserved c =

@@ -1,7 +1,7 @@
 use Rattle.std.proofs.Common.{Ok, subst, ap, ◌∙◌, refl, rules}
 use Rattle.string_interner.specs.Index.{HasRoom}
 use Rattle.string_interner.proofs.Interning.{sought, sought_none}
-use Rattle.string_interner.proofs.interner.seek.Goals as goal
+use Rattle.string_interner.proofs.interner.seek.seek.Goals as goal
 
 pub returns-in-Some-clause-seeks : goal.returns-in-Some-clause-seeks
 returns-in-Some-clause-seeks g c = (sought g.B.Symbol.Symbol.symbol_of g.B.Symbol.Symbol.number g.B.Backend.place g.met.B.Symbol.Symbol.numbered g.met.B.Symbol.Symbol.injective g.met.B.Backend.grows _ _ _ c.requires _ _ c.args.text.now c.seek-ended.ensures.found (ap g.B.Backend.texts c.new-looks.ensures.backend) ∙ c.in-Some.is, refl)

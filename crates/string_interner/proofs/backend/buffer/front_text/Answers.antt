@@ -3,7 +3,7 @@ use Rattle.std.specs.Option.{option_copied}
 use Rattle.std.specs.Str.{IsValidUpTo, valid_up_to}
 use Rattle.string_interner.specs.declared.backend.buffer.spelling.Spelled.{Spelled}
 use Rattle.string_interner.proofs.BufferReads.{read_front-no_front, read_front-short, read_front-tested, after_spelled, text_spelled}
-use Rattle.string_interner.proofs.backend.buffer.text_at.Goals as goal
+use Rattle.string_interner.proofs.backend.buffer.front_text.Goals as goal
 
 pub returns-in_err-spelled : goal.returns-in_err-spelled
 returns-in_err-spelled c = rw c.from_residual.ensures (read_front-no_front c.args.bytes.now c.in_err-spelled.ensures)

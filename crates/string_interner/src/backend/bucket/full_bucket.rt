@@ -1,0 +1,49 @@
+//! A bucket that takes no more texts.
+
+ghost use Rattle.std.specs.Prelude.{◌≡◌};
+
+use crate::backend::bucket::fixed_str::FixedString;
+use std::marker::Model;
+
+/// A bucket that takes no more texts, with the capacity that it had.
+#[derive(Drop)]
+pub struct FullBucket {
+    text: String,
+    capacity: usize,
+}
+
+/// Contracts see the capacity that was asked for, and the bytes.
+impl Model for FullBucket {
+    ghost use Rattle.std.specs.String.{string_bytes};
+    ghost use Rattle.string_interner.specs.Backend.{Bucket};
+
+    ghost Value = { Bucket };
+
+    ghost view = { λ b. record { capacity = b.capacity; bytes = string_bytes b.text } };
+}
+
+impl FullBucket {
+    /// A bucket as it stands.
+    pub fn new(bucket: FixedString) -> Self
+        ensures { result ≡ bucket }
+    {
+        let capacity = bucket.capacity();
+        let text = bucket.finish();
+        FullBucket { text, capacity }
+    }
+
+    /// The capacity in bytes that was asked for.
+    pub fn capacity(&self) -> usize
+        ensures { result ≡ self.now.capacity }
+    {
+        self.capacity
+    }
+
+    /// What stands in the bucket.
+    #[inline]
+    pub fn as_str(&self) -> &str
+        ensures { result.now ≡ self.now.bytes }
+    {
+        self.text.as_str()
+    }
+}
