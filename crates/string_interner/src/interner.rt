@@ -198,10 +198,13 @@ impl<B: Backend, H: TextHasher> StringInterner<B, H> {
         }
     }
 
-    /// Gives back memory of the backend that no text needs, where that can be had. As many slots stay.
+    /// Gives back memory of the backend that no text needs, where that can be had, and all of its room where there is no
+    /// text. As many slots stay.
     pub fn shrink_to_fit(&mut self)
         ensures texts { self.new.texts ≡ self.old.texts }
         ensures buckets { self.new.buckets ≡ self.old.buckets }
+        ensures room { self.new.room ≤ self.old.room }
+        ensures frees { self.old.texts ≡ [] → self.new.room ≡ 0 }
         ensures slots { self.new.slots ≡ self.old.slots }
     {
         self.backend.shrink_to_fit();

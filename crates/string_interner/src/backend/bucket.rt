@@ -199,6 +199,8 @@ impl<S: Symbol> Backend for BucketBackend<S> {
     fn shrink_to_fit(&mut self)
         ensures texts { self.new.texts ≡ self.old.texts }
         ensures buckets { buckets_of self.new.full self.new.head ≡ buckets_of self.old.full self.old.head }
+        ensures room { self.new.room ≤ self.old.room }
+        ensures frees { self.old.texts ≡ [] → self.new.room ≡ 0 }
         ensures same { self.new ≡ record self.old { room = self.new.room } }
         ensures bounded { AreBounded (buckets_of self.new.full self.new.head) }
     {
