@@ -87,7 +87,7 @@ fn commands_of(alloc: Global, text: &str) -> Result<Vec<Command<'_>>, Fault>
     let mut commands = Vec::with_capacity(alloc, lines(text).count()).map_err(|_| Fault::Memory)?;
     for line in lines(text) {
         let command = line::command(line).unwrap();
-        commands.push(command).map_err(|_| Fault::Memory)?;
+        commands.push_reserved(command);
     }
     Ok(commands)
 }

@@ -313,6 +313,19 @@ impl<S: Symbol> Index<S> {
         self.greatest = self.greatest.max(self.len);
     }
 
+    /// Adds the symbol of every entry of the backend to an index without entries, as `refill` does.
+    pub(crate) fn fill<H: TextHasher, B: Backend<Symbol = S>>(&mut self, hasher: &H, backend: &B)
+        requires empty { entry_count self.old ≡ 0 }
+        requires distinct { IsDistinct (B.texts backend.now) }
+        requires room { 4 * length (B.texts backend.now) ≤ 3 * length self.old.slots }
+        ensures { Refills (entry_text S.number B.place (B.texts backend.now)) (H.code hasher.now) self.old self.new
+            (length (B.texts backend.now)) }
+    {
+        self.len = backend.count();
+        self.greatest = self.greatest.max(self.len);
+        place_all(&mut self.slots, hasher, backend);
+    }
+
     /// Empties all slots, and adds the symbol of every entry of the backend, whose texts are distinct and at most three
     /// quarters of the slots. Takes no memory, and no doubling happens in it.
     pub fn refill<H: TextHasher, B: Backend<Symbol = S>>(&mut self, hasher: &H, backend: &B)
@@ -322,9 +335,8 @@ impl<S: Symbol> Index<S> {
             (length (B.texts backend.now)) }
     {
         self.slots.clear();
-        self.len = backend.count();
-        self.greatest = self.greatest.max(self.len);
-        place_all(&mut self.slots, hasher, backend);
+        self.len = 0;
+        self.fill(hasher, backend);
     }
 }
 

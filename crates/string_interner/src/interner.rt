@@ -264,7 +264,7 @@ impl<B: CopyBackend + Drop, H: TextHasher + Clone + Drop> StringInterner<B, H> {
         let hasher = self.hasher.clone()?;
         let mut index = Index::with_capacity(self.index.allocator(), self.len())?;
         let backend = self.backend.try_copy()?;
-        index.refill(&hasher, &backend);
+        index.fill(&hasher, &backend);
         Ok(StringInterner {
             backend,
             hasher,
