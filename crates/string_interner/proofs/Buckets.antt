@@ -59,9 +59,6 @@ Stays-grow old new grow = record {
 same_bucket : (b : Bucket) → GetsText b b
 same_bucket b = record { capacity = refl; more = []; bytes = sym (append-nil b.bytes); utf8 = IsUtf8-nil }
 
-grow-refl : (buckets : List Bucket) → Grow buckets buckets
-grow-refl buckets = record { count = omega arith; each = λ k h. same_bucket (bucket_at buckets k) }
-
 -- the last bucket got a text
 grow-head : (full : List Bucket) (head new : Bucket) (text : Text) → IsUtf8 text → new ≡ record head { bytes = head.bytes ++ text } → Grow (buckets_of full head) (buckets_of full new)
 grow-head full head new text utf8 is = rw is (record {
@@ -98,9 +95,6 @@ grow-puts text full head new_full new_head utf8 puts =
 
 pub Stays-puts : (text : Text) (full : List Bucket) (head : Bucket) (new_full : List Bucket) (new_head : Bucket) → IsUtf8 text → Puts text full head new_full new_head → Stays (buckets_of full head) (buckets_of new_full new_head)
 Stays-puts text full head new_full new_head utf8 puts = Stays-grow _ _ (grow-puts text full head new_full new_head utf8 puts)
-
-pub Stays-refl : (buckets : List Bucket) → Stays buckets buckets
-Stays-refl buckets = Stays-grow buckets buckets (grow-refl buckets)
 
 -- ---- entries in buckets that grow
 

@@ -34,10 +34,6 @@ ends_of-push from (x ∷ xs) t =
     let e : from + length x + length (joined xs) + length t ≡ from + length (x ++ joined xs) + length t = simp length-append (omega arith) in
     rw (ends_of-push (from + length x) xs t, e) refl
 
-pub length-ends_of : (from : ℕ) (xs : List Text) → length (ends_of from xs) ≡ length xs
-length-ends_of from [] = refl
-length-ends_of from (x ∷ xs) = ap (λ n. suc n) (length-ends_of (from + length x) xs)
-
 pub joined-IsUtf8 : (xs : List Text) → All IsUtf8 xs → IsUtf8 (joined xs)
 joined-IsUtf8 [] u = IsUtf8-nil
 joined-IsUtf8 (x ∷ xs) u = IsUtf8-append x (joined xs) (All-head IsUtf8 x xs u) (joined-IsUtf8 xs (All-tail IsUtf8 x xs u))

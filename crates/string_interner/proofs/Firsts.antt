@@ -17,13 +17,6 @@ first_within xs t i h = (position-Some (λ x. bytes_eq x t) xs i [] h).0
 pub first_is : (xs : List Text) (t : Text) (i : ℕ) → first xs t ≡ Some i → get_or xs i [] ≡ t
 first_is xs t i h = (bytes_eq-Decides (get_or xs i []) t).0 (position-Some (λ x. bytes_eq x t) xs i [] h).1
 
--- none stands before the first
-pub first_at : (xs : List Text) (t : Text) (i : ℕ) → i < length xs → ((k : ℕ) → k < i → bytes_eq (get_or xs k []) t ≡ false) → bytes_eq (get_or xs i []) t ≡ true → first xs t ≡ Some i
-first_at xs t i h before at =
-    let e : position_or_len (λ x. bytes_eq x t) xs ≡ i = position_or_len_is (λ x. bytes_eq x t) xs i [] (omega arith) before (λ _. at) in
-    let b : nat_lt i (length xs) ≡ true = grind (arith, nat_tests) in
-    rw (e, b) refl
-
 -- a text that is no entry is new
 pub first_new : (xs : List Text) (t : Text) → ((k : ℕ) → k < length xs → bytes_eq (get_or xs k []) t ≡ false) → first xs t ≡ None
 first_new xs t before =

@@ -101,16 +101,6 @@ module _ {S : Type 0} (symbol_of : ℕ → Option S) (number : S → ℕ) (place
       → IsPlaced symbol_of number place code texts behind' ahead' new
   placed-next behind ahead behind' ahead' slots new s t p e puts = step p.done p.todo behind' ahead' slots new s t p.all p.interned (sym p.same ∙ e) puts
 
-  nonempty : (done todo behind ahead : List Text) (o : Option S) (t : Text) → entries symbol_of place done todo ≡ (o, t) ∷ entries symbol_of place behind ahead → 0 < length todo
-  nonempty done [] behind ahead o t e = absurd (cc)
-  nonempty done (u ∷ us) behind ahead o t e = omega arith
-
-  -- while an entry is ahead, not all are in the slots
-  pub placed-fewer : (behind ahead behind' ahead' : List Text) (slots : List (Option S)) (o : Option S) (t : Text) → IsPlaced symbol_of number place code texts behind ahead slots
-      → entries symbol_of place behind ahead ≡ (o, t) ∷ entries symbol_of place behind' ahead' → length (symbols slots) < length texts
-  placed-fewer behind ahead behind' ahead' slots o t p e =
-      let a = nonempty p.done p.todo behind' ahead' o t (sym p.same ∙ e) in let b = p.interned.count in let c = ap length p.all ∙ length-append p.done p.todo in omega arith
-
   finished : (done todo : List Text) (slots : List (Option S)) → texts ≡ done ++ todo → IsInterned symbol_of place number code done slots
       → entries symbol_of place done todo ≡ [] → IsInterned symbol_of place number code texts slots
   finished done [] slots all is e = rw (all ∙ append-nil done) is

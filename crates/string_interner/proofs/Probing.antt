@@ -1,5 +1,5 @@
 use Rattle.std.proofs.Common.{◌≡◌, ℕ, ◌+◌, ◌-◌, ◌<◌, ◌≤◌, ◌⊎◌, Bool, true, false, cond, List, ◌∷◌, Option, Some, None, length, get_or, take, drop, refl, sym, ap, ◌∙◌, inl, inr, arith}
-use Rattle.std.proofs.lemmas.List.{drop_more, drop_all, length-append, length-take-le, length-drop, get_or_append_left, get_or-append_right, get_or-take, get_or-drop}
+use Rattle.std.proofs.lemmas.List.{drop_more, length-append, length-take-le, length-drop, get_or_append_left, get_or-append_right, get_or-take, get_or-drop}
 use Rattle.string_interner.specs.Slots.{probed, filled_run, first_passing}
 
 module _ {S : Type 0} where
@@ -72,8 +72,3 @@ module _ {S : Type 0} where
           found = w.found ∙ ap (λ xs. first_passing test (filled_run xs)) r ∙ ap (λ b. cond b (Some s) (first_passing test more)) t;
           run = omega arith;
         }
-
-    pub Walked-all : length slots ≤ i → (first_passing test (filled_run (probed slots home)) ≡ None)
-    Walked-all k =
-        let m : length (probed slots home) ≤ i = omega (arith, length-probe slots home (omega arith)) in
-        w.found ∙ ap (λ xs. first_passing test (filled_run xs)) (drop_all i (probed slots home) m)

@@ -1,6 +1,6 @@
 -- Symbols put one after another into empty slots.
-use Rattle.std.proofs.Common.{◌≡◌, ℕ, zero, suc, ◌+◌, ◌<◌, ◌≤◌, ◌%◌, List, [], ◌∷◌, ◌++◌, Option, Some, None, length, get_or, take, replicate, refl, sym, ap, subst, ◌∙◌, inl, inr, arith}
-use Rattle.std.proofs.lemmas.List.{take_more, take_all, length-append, length-take-le, get_or-take}
+use Rattle.std.proofs.Common.{◌≡◌, ℕ, zero, suc, ◌+◌, ◌<◌, ◌%◌, List, [], ◌∷◌, ◌++◌, Option, Some, None, length, get_or, take, replicate, refl, sym, ap, subst, ◌∙◌, inl, inr, arith}
+use Rattle.std.proofs.lemmas.List.{take_more, length-append, length-take-le, get_or-take}
 use Rattle.std.proofs.lemmas.List.Elements.{Contains-get_or, Contains-append_left, Contains-push, Contains-push_cases}
 use Rattle.std.specs.List.{Contains}
 use Rattle.std.specs.Option.{IsSome, option_and_then}
@@ -102,9 +102,6 @@ module _ {S : Type 0} (entry : S → Option Text) (code : Text → ℕ) where
     pub has_free : length slots < length new → length (symbols new) < length new
     has_free more =
         let a = r.count in let b = length-symbols (take i slots) in let c = length-take-le i slots (let m = l in omega arith) in omega arith
-
-  pub Rebuilt-all : (slots new : List (Option S)) (i : ℕ) → length slots ≤ i → Rebuilt entry code (take i slots) new → Rebuilt entry code slots new
-  Rebuilt-all slots new i l r = subst (λ (xs : List (Option S)). Rebuilt entry code xs new) (take_all i slots l) r
 
   pub Rebuilt-same : (old new : List (Option S)) → Fits entry code old → Rebuilt entry code old new → SameMap entry old new
   Rebuilt-same old new fits r q =
