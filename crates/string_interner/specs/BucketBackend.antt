@@ -56,7 +56,7 @@ pub record StaysIn (old new : Bucket) : Type 0 where
   pub more : List ℕ
   pub bytes : new.bytes ≡ old.bytes ++ more
 
--- no byte that stood in a bucket was changed or moved
+-- each byte that stood in a bucket stands where it stood
 pub record Stays (old new : List Bucket) : Type 0 where
   pub count : length old ≤ length new
   pub each : (k : ℕ) → k < length old → StaysIn (bucket_at old k) (bucket_at new k)

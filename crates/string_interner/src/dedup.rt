@@ -69,7 +69,7 @@ impl<S: Symbol> Index<S> {
     }
 
     /// No entries, and the least allowed count of slots that has room for `capacity` of them: none for 0, and else a
-    /// power of two from 8 on, of which `capacity` is at most three quarters.
+    /// power of two from 8 on, of which `capacity` is at most three quarters: 8 for 6 entries, and 16 for 7.
     ///
     /// Refuses only where memory was refused or that count does not fit a `usize`.
     pub fn with_capacity(alloc: Global, capacity: usize) -> Result<Self, AllocError>

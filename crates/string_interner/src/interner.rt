@@ -21,6 +21,14 @@ use std::marker::Model;
 /// A list of distinct texts over a backend, each found by its text and by its symbol.
 ///
 /// A text is found by an index of the entries by their texts, which is right under every hasher.
+///
+/// ```
+/// let mut names = <DefaultStringInterner>::new(alloc);
+/// let width = names.get_or_intern("width")?;
+/// let same = names.get_or_intern("width")? == width; // true
+/// let text = names.resolve(width); // Some("width")
+/// let unknown = names.get("height"); // None
+/// ```
 #[derive(Drop)]
 pub struct StringInterner<B: Backend, H: TextHasher = DefaultHashBuilder> {
     backend: B,

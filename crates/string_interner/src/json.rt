@@ -70,7 +70,8 @@ impl<B: Backend, H: TextHasher> StringInterner<B, H> {
 impl<B: Backend + Drop, H: TextHasher + Default + Drop> StringInterner<B, H> {
     /// An interner of the texts of an array of JSON strings, under the hasher's default.
     ///
-    /// It starts empty and interns element after element, so that repeats fold into one text.
+    /// It starts empty and interns element after element, so that repeats fold into one text: `["a", "b", "a"]` is read
+    /// as the texts a and b.
     /// Refuses a value that is not an array with `NotAList`. Else the first refused element decides: with `NotAText`
     /// where it is not a string, and as `get_or_intern` refuses where it is.
     pub fn from_json(alloc: Global, value: &Value) -> Result<Self, JsonError>
@@ -93,7 +94,7 @@ impl<B: Backend + Drop, H: TextHasher + Default + Drop> StringInterner<B, H> {
     /// is then what `to_json` gives.
     ///
     /// Reads and refuses as `from_json` does, but folds no repeats: a string that is equal to an earlier element is
-    /// refused with `Repeated`, before a symbol or memory is asked for it.
+    /// refused with `Repeated`, before a symbol or memory is asked for it: `["a", "b", "a"]` at the index 2.
     pub fn from_json_exact(alloc: Global, value: &Value) -> Result<Self, JsonError>
         ensures reads { ReadsArrayExactly B.Symbol.symbol_of B.place (view value.now) result }
         ensures form { IfOk result (λ interner. view value.now ≡ json_of_texts interner.texts) }

@@ -177,6 +177,9 @@ fn step<B: Backend, H: TextHasher>(
 /// the commands, told by the places of the entries; so all backends answer alike.
 ///
 /// Room for all replies is taken first, in one growth. Where that is refused, nothing ran.
+///
+/// On an empty interner over strings `Intern("a")`, `Intern("b")`, `Intern("a")`, `Resolve(1)` and `Len` are replied by
+/// `Symbol(0)`, `Symbol(1)`, `Symbol(0)`, `Text("b")` and `Len(2)`.
 pub fn run<B: Backend, H: TextHasher>(
     alloc: Global,
     interner: &mut StringInterner<B, H>,

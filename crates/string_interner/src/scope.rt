@@ -107,7 +107,8 @@ impl<B: Backend, H: TextHasher> Scopes<B, H> {
         ensures buckets { OnErr result (self.new.buckets ≡ self.old.buckets) }
 
         // Within the room of the backend and of the index, memory is not refused.
-        ensures granted { IsSome (B.Symbol.symbol_of (B.place (joined_layers (layers self.old)))) → B.cost text.now ≤ self.old.room
+        ensures granted { IsSome (B.Symbol.symbol_of (B.place (joined_layers (layers self.old))))
+            → B.cost text.now ≤ self.old.room
             → 4 * (length (joined_layers (layers self.old)) + 1) ≤ 3 * self.old.slots → IsOk result }
 
         // A text takes no more of the room than its cost, and a refused one takes nothing.

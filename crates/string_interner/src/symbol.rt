@@ -1,6 +1,7 @@
 //! Symbols: what stands for a text. A symbol is known by its number.
 //!
-//! The symbol types here have all numbers below a limit. Each tests the number before it casts it.
+//! The symbol types here have all numbers below a limit. Each tests the number before it casts it: 70,000 has a symbol
+//! in [`SymbolU32`], and none in [`SymbolU16`].
 
 ghost use Rattle.std.specs.Prelude.{◌≡◌, ℕ, ◌^◌, ◌<◌, ◌-◌, ◌↔◌, Option, Some, IsTrue};
 ghost use Rattle.std.proofs.Common.{rules, lit≤};

@@ -34,6 +34,8 @@ use std::marker::{Model, PhantomData};
 /// head, of the least power of two above both the capacity of the old head and the length of the text: the rule of the
 /// Rust crate string-interner. A capacity is what was asked for, whatever more was granted. All capacities together are
 /// at most that of the first bucket or four times the bytes that stand in buckets.
+///
+/// So from `new` on `"abc"` begins a head of the capacity 4, and `"de"`, for which one byte is left, one of 8.
 #[derive(Drop)]
 pub struct BucketBackend<S: Symbol = DefaultSymbol> {
     entries: Vec<InternedStr>,

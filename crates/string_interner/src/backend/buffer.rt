@@ -26,6 +26,8 @@ use std::marker::{Model, PhantomData};
 /// and bit 7 is set on every digit but the last. A length has no more digits than it needs, and at least one, so long
 /// spellings start at the length 128. The format is that of the crate string-interner, widely known as LEB128.
 ///
+/// So `"ab"` and then `"c"` lie as the bytes 2, 97, 98, 1, 99, and their symbols have the numbers 0 and 3.
+///
 /// The number of an entry is the offset of its first byte. So the numbers have gaps, and a symbol type runs out of them
 /// by bytes and not by texts. Interning is a copy to the end, and may move what stands. Resolving reads the length and
 /// makes the slice; since any number may be asked for, it also tests that the text is UTF-8, in time by its length.
