@@ -1,9 +1,10 @@
 -- The arithmetic of growth.
-use Rattle.std.proofs.Common.{◌≡◌, ℕ, suc, ◌+◌, ◌-◌, ◌*◌, ◌^◌, ◌<◌, ◌≤◌, ◌%◌, max, bit_and, inl, inr, arith, subst, sym, length}
+use Rattle.std.proofs.Common.{◌≡◌, ℕ, suc, ◌+◌, ◌-◌, ◌*◌, ◌^◌, ◌<◌, ◌≤◌, ◌%◌, max, bit_and, ◌⊎◌, inl, inr, arith, refl, subst, sym, length}
 use Rattle.std.proofs.Math.Nat.{pow-succ'}
 use Rattle.std.proofs.lemmas.Nat.{and_mask}
 use Rattle.std.proofs.Math.Pow.{pow_mono}
 use Rattle.std.proofs.lemmas.Bool.{cases_lt}
+use Rattle.string_interner.specs.Interner.{GrowsIfFull}
 use Rattle.string_interner.specs.Index.{Indexed, GrowsTo, IsSlotCount, IsSound, HasRoom, entry_count}
 
 pub IsSlotCount-grown : (count more : ℕ) → IsSlotCount count → GrowsTo count more → IsSlotCount more
@@ -107,3 +108,15 @@ count_small count (inr p) l =
 pub GrowsTo-more : (count more : ℕ) → GrowsTo count more → count < more
 GrowsTo-more count more (inl a) = let x = a.0 in let y = a.1 in omega arith
 GrowsTo-more count more (inr a) = let x = a.0 in let y = a.1 in omega arith
+
+-- the slots stay as they are
+pub GrowsIfFull-same : (len count : ℕ) → GrowsIfFull len count count
+GrowsIfFull-same len count = record { allowed = λ h. refl; grown = inl refl }
+
+-- there are no fewer slots than before
+pub GrowsIfFull-more : (len old new : ℕ) → GrowsIfFull len old new → old ≤ new
+GrowsIfFull-more len old new h = more h.grown
+  where
+    more : (new ≡ old) ⊎ GrowsTo old new → old ≤ new
+    more (inl e) = omega arith
+    more (inr g) = let m = GrowsTo-more old new g in omega arith

@@ -8,7 +8,7 @@ ghost use Rattle.std.specs.Option.{option_copied};
 ghost use Rattle.std.specs.Cmp.{partial_equiv_from_equiv, on_equiv};
 ghost use Rattle.string_interner.specs.Text.{Text, IsDistinct, first, texts_eq, texts_eq-IsEquivalence};
 ghost use Rattle.string_interner.specs.Backend.{BeginsAt, IsPlace, IsKept};
-ghost use Rattle.string_interner.specs.Interner.{Interned, Interns, known_symbol};
+ghost use Rattle.string_interner.specs.Interner.{GrowsIfFull, Interned, Interns, known_symbol};
 ghost use Rattle.string_interner.specs.Index.{IsLeastFor};
 
 use crate::backend::{Backend, CopyBackend, InternError, Iter};
@@ -165,7 +165,7 @@ impl<B: Backend, H: TextHasher> StringInterner<B, H> {
         // A text takes no more of the room than its cost, and a refused one takes nothing.
         ensures spent { OnOk result (self.old.room ≤ self.new.room + B.cost text.now) }
         ensures unspent { OnErr result (self.old.room ≤ self.new.room) }
-        ensures slots { self.old.slots ≤ self.new.slots }
+        ensures slots { GrowsIfFull (length self.old.texts) self.old.slots self.new.slots }
     {
         match seek(&self.backend, &self.hasher, &mut self.index, text)? {
             Sought::Known(symbol) => Ok(symbol),
@@ -193,7 +193,7 @@ impl<B: Backend, H: TextHasher> StringInterner<B, H> {
         // A text takes no more of the room than its cost, and a refused one takes nothing.
         ensures spent { OnOk result (self.old.room ≤ self.new.room + B.cost text.now) }
         ensures unspent { OnErr result (self.old.room ≤ self.new.room) }
-        ensures slots { self.old.slots ≤ self.new.slots }
+        ensures slots { GrowsIfFull (length self.old.texts) self.old.slots self.new.slots }
     {
         match seek(&self.backend, &self.hasher, &mut self.index, text)? {
             Sought::Known(symbol) => Ok(symbol),

@@ -2,7 +2,7 @@
 
 ghost use Rattle.std.specs.Prelude.{◌≡◌, ◌+◌, ◌*◌, ◌≤◌, ◌↔◌, [], ◌∷◌, ◌++◌, length, None, IsSome, IsErrOf, IsOk, OnOk, OnErr};
 ghost use Rattle.string_interner.specs.Text.{first};
-ghost use Rattle.string_interner.specs.Interner.{Interns, known_symbol};
+ghost use Rattle.string_interner.specs.Interner.{GrowsIfFull, Interns, known_symbol};
 ghost use Rattle.string_interner.specs.Scopes.{layers, joined_layers, interned, Leaves, LayerStep, LeavingGivesBack};
 
 use crate::backend::{Backend, InternError};
@@ -114,7 +114,7 @@ impl<B: Backend, H: TextHasher> Scopes<B, H> {
         // A text takes no more of the room than its cost, and a refused one takes nothing.
         ensures spent { OnOk result (self.old.room ≤ self.new.room + B.cost text.now) }
         ensures unspent { OnErr result (self.old.room ≤ self.new.room) }
-        ensures slots { self.old.slots ≤ self.new.slots }
+        ensures slots { GrowsIfFull (length (joined_layers (layers self.old))) self.old.slots self.new.slots }
     {
         self.interner.get_or_intern(text)
     }

@@ -1,7 +1,7 @@
 //! Looking for a text before it is stored.
 
-ghost use Rattle.std.specs.Prelude.{◌≤◌, length};
-ghost use Rattle.string_interner.specs.Interner.{IsInterned};
+ghost use Rattle.std.specs.Prelude.{length};
+ghost use Rattle.string_interner.specs.Interner.{GrowsIfFull, IsInterned};
 ghost use Rattle.string_interner.specs.Sought.{Seeks};
 
 use crate::backend::{Backend, InternError};
@@ -32,7 +32,7 @@ pub fn seek<B: Backend, H: TextHasher>(
         index.new.slots }
     ensures seeks { Seeks B.Symbol.symbol_of B.place (H.code hasher.now) (B.texts backend.now) text.now index.old result
         index.new }
-    ensures slots { length index.old.slots ≤ length index.new.slots }
+    ensures slots { GrowsIfFull (length (B.texts backend.now)) (length index.old.slots) (length index.new.slots) }
 {
     let code = hasher.hash_text(text);
     let mut looks = Looks::new(backend);
