@@ -8,8 +8,8 @@ use Rattle.intern.specs.declared.serve.Choice.{Choice}
 use Rattle.intern.specs.declared.serve.Choice.TheVariants.{String as StringChoice, Bucket, Buffer}
 
 -- the arguments are exactly one word, which is this backend's
-abbrev pub Name : List (String Global) → Choice → Type 0
-Name (word ∷ []) StringChoice = string_bytes word ≡ codes "string"
-Name (word ∷ []) Bucket = string_bytes word ≡ codes "bucket"
-Name (word ∷ []) Buffer = string_bytes word ≡ codes "buffer"
-Name _ _ = ⊥
+abbrev pub Names : List (String Global) → Choice → Type 0
+Names (word ∷ []) StringChoice = string_bytes word ≡ codes "string"
+Names (word ∷ []) Bucket = string_bytes word ≡ codes "bucket"
+Names (word ∷ []) Buffer = string_bytes word ≡ codes "buffer"
+Names _ _ = ⊥

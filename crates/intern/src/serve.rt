@@ -4,7 +4,7 @@ ghost use Rattle.std.specs.Prelude.{◌≡◌, ℕ, List, [], ◌+◌, ◌<◌, 
 ghost use Rattle.std.specs.List.{AllZip};
 ghost use Rattle.std.specs.Str.Iter.{split_has_more, split_terminator_parts, split_terminator_pattern, split_text};
 ghost use Rattle.std.specs.Io.KnownBytes.{Appends};
-ghost use Rattle.intern.specs.Arguments.{Name};
+ghost use Rattle.intern.specs.Arguments.{Names};
 ghost use Rattle.intern.specs.Fault.{IsReadFault, IsLineFault};
 ghost use Rattle.intern.specs.Line.{States, reply_line};
 ghost use Rattle.intern.specs.Lines.{IsFirstBad, IsFirstBadLine, IsStated, lines_of};
@@ -22,9 +22,6 @@ use string_interner::StringInterner;
 use string_interner::backend::{Backend, BucketBackend, BufferBackend, StringBackend};
 use string_interner::run::{Command, Reply, run};
 
-#[cfg(test)]
-mod tests;
-
 /// Which backend the interner keeps its texts in.
 #[derive(Clone, Copy)]
 enum Choice {
@@ -35,8 +32,8 @@ enum Choice {
 
 /// The backend that the arguments name, if they are one known word.
 fn chosen(arguments: &[String]) -> Option<Choice>
-    ensures named { IfSome result (Name arguments.now) }
-    ensures unnamed { IsNone result → (choice : Choice) → ¬ (Name arguments.now choice) }
+    ensures named { IfSome result (Names arguments.now) }
+    ensures unnamed { IsNone result → (choice : Choice) → ¬ (Names arguments.now choice) }
 {
     match arguments {
         [word] if word.as_str() == "string" => Some(Choice::String),
@@ -141,14 +138,14 @@ pub fn serve<R: Read, W: Write>(
     input: &mut R,
     output: &mut W,
 ) -> Result<(), Fault>
-    ensures usage { IsErrOf result Fault.Usage ↔ ((choice : Choice) → ¬ (Name arguments.now choice)) }
+    ensures usage { IsErrOf result Fault.Usage ↔ ((choice : Choice) → ¬ (Names arguments.now choice)) }
 
     // Wrong arguments are told before any input is read.
     ensures untouched { IsErrOf result Fault.Usage → input.new ≡ input.old }
 
     // Of a reader whose bytes are known: what a bad line and a whole answer say of them.
     ensures bad_line { (n : ℕ) → IsErrOf result (Fault.BadLine n) → IfSome (R.remaining input.old) (λ bytes. IsFirstBadLine (lines_of bytes) n) }
-    ensures answered { OnOk result (IfSome (R.remaining input.old) (λ bytes. (choice : Choice) × Name arguments.now choice
+    ensures answered { OnOk result (IfSome (R.remaining input.old) (λ bytes. (choice : Choice) × Names arguments.now choice
         × Answers choice bytes (W.contents output.old) (W.contents output.new))) }
 
     ensures output { IsErrOf result Fault.Output → IfSome (R.remaining input.old) (λ bytes. All IsStated (lines_of bytes)) }
@@ -162,3 +159,6 @@ pub fn serve<R: Read, W: Write>(
     let replies = replies_of(alloc, choice, &commands)?;
     write_replies(output, &replies)
 }
+
+#[cfg(test)]
+mod tests;

@@ -11,7 +11,7 @@ use Rattle.string_interner.specs.Slots.{symbols, filled_run, probed, first_passi
 -- what contracts see of an index
 pub record Indexed (S : Type 0) : Type 0 where
   pub slots : List (Option S)
-  -- how many symbols doublings placed again, since it was made
+  -- how many symbols doublings put back, since it was made
   pub put_back : ℕ
   -- the greatest number of entries that it had, since it was made
   pub greatest : ℕ
@@ -115,7 +115,7 @@ FitsAll {S} slots = (entry : S → Option Text) (code : Text → ℕ) → Fits e
 abbrev pub GrowsTo : ℕ → ℕ → Type 0
 GrowsTo count more = ((count ≡ 0) × (more ≡ 8)) ⊎ ((0 < count) × (more ≡ 2 * count))
 
--- the slots grow, and all symbols are placed again
+-- the slots grow, and all symbols are put back
 pub record Grows {S : Type 0} (old new : Indexed S) : Type 0 where
   pub slots : GrowsTo (length old.slots) (length new.slots)
   pub put_back : new.put_back ≡ old.put_back + entry_count old

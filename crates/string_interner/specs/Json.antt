@@ -56,6 +56,7 @@ module _ {S : Type 0} (symbol_of : ℕ → Option S) where
     abbrev pub ReadsArray : Data → Result Interned JsonError → Type 0
     ReadsArray value outcome = MatchOption (as_array value) (outcome ≡ Err NotAList) (λ elements. ReadsElements [] 0 elements outcome)
 
+    -- the same, where no string may be equal to an earlier one
     abbrev pub ReadsArrayExactly : Data → Result Interned JsonError → Type 0
     ReadsArrayExactly value outcome = MatchOption (as_array value) (outcome ≡ Err NotAList) (λ elements. ReadsElementsExactly [] 0 elements outcome)
 

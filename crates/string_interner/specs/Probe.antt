@@ -1,5 +1,5 @@
 -- What the steps of the index do to its slots.
--- Cited by the private functions of `dedup` alone.
+-- Cited by the private functions of `dedup`, and by `Sought`.
 use Rattle.std.specs.Prelude.{◌≡◌, ℕ, ◌<◌, ◌%◌, List, length, IfSome, slice_index_or, slice_set, Contains, Option, Some, None}
 use Rattle.string_interner.specs.Text.{Text}
 use Rattle.string_interner.specs.Slots.{symbols, filled_run, probed}

@@ -9,6 +9,7 @@ unfoldable pub spell_within : ℕ → ℕ → List ℕ
 spell_within zero n = n ∷ []
 spell_within (suc more) n = if nat_lt n 128 then n ∷ [] else (128 + n % 128) ∷ spell_within more (n / 128)
 
+-- a number spelled: after the first it has `n` digits at most
 unfoldable pub spell : ℕ → List ℕ
 spell n = spell_within n n
 

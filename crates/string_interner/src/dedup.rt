@@ -1,6 +1,7 @@
 //! Finding the symbol of a text: hashers, and the index of a backend's entries by their texts.
 
 mod count;
+mod growing;
 mod hasher;
 mod probe;
 mod slots;
@@ -15,9 +16,10 @@ ghost use Rattle.string_interner.specs.Probe.{IsFree, IsVacant};
 
 use crate::backend::Backend;
 use crate::symbol::Symbol;
+use growing::{least_count, next_count, put_all, rebuilt};
 pub use hasher::{DefaultHashBuilder, FixedState, TextHasher};
 pub(crate) use probe::Vacancy;
-use probe::{Ended, home_of, least_count, next_count, place_all, probe, rebuilt, settle};
+use probe::{Ended, home_of, probe, settle};
 pub use slots::Looks;
 use slots::Slots;
 use std::alloc::{AllocError, Global};
@@ -30,7 +32,7 @@ use std::marker::Model;
 /// one look more than there are filled slots in that run. At most three quarters of the slots are filled.
 ///
 /// Its calls take a backend and a hasher that it *fits*: its symbols are of that backend's entries, with distinct
-/// texts, and were placed under that hasher. Without entries it fits every backend and hasher.
+/// texts, and were put into slots under that hasher. Without entries it fits every backend and hasher.
 #[derive(Drop)]
 pub struct Index<S: Symbol> {
     slots: Slots<S>,
@@ -40,7 +42,7 @@ pub struct Index<S: Symbol> {
     alloc: Global,
 }
 
-/// Contracts see the slots, how many symbols doublings placed again, and the greatest number of entries so far.
+/// Contracts see the slots, how many symbols doublings put back, and the greatest number of entries so far.
 impl<S: Symbol> Model for Index<S> {
     ghost use Rattle.string_interner.specs.Index.{Indexed, IsSound};
 
@@ -114,7 +116,7 @@ impl<S: Symbol> Index<S> {
         self.slots.len()
     }
 
-    /// How many symbols doublings placed again, since the index was made.
+    /// How many symbols doublings put back, since the index was made.
     pub fn put_back(&self) -> usize
         ensures value { result ≡ self.now.put_back }
         ensures bounded { IsBounded self.now }
@@ -198,7 +200,7 @@ impl<S: Symbol> Index<S> {
         self.len < count - count / 4
     }
 
-    /// Takes bigger slots in which all symbols were placed again.
+    /// Takes bigger slots into which all symbols were put back.
     fn grow(&mut self, bigger: Slots<S>)
         requires full { ¬ HasRoom self.old }
         requires count { GrowsTo (length self.old.slots) (length bigger) }
@@ -212,7 +214,7 @@ impl<S: Symbol> Index<S> {
     }
 
     /// Makes room for one more entry: does nothing where one more is allowed, and else grows from no slots to 8, or
-    /// to twice as many, placing the symbols again by the codes of their texts.
+    /// to twice as many, putting the symbols back by the codes of their texts.
     ///
     /// Refuses only where memory was refused or the count of slots does not fit a `usize`. All is then as it was.
     pub fn reserve_one<H: TextHasher, B: Backend<Symbol = S>>(
@@ -240,7 +242,7 @@ impl<S: Symbol> Index<S> {
     }
 
     /// Makes room as `reserve_one` does, in an index that has every entry of the backend, and tells whether the slots
-    /// grew. The symbols are placed again in the order of the entries, whose texts are then read in sequence.
+    /// grew. The symbols are put back in the order of the entries, whose texts are then read in sequence.
     pub(crate) fn reserve<H: TextHasher, B: Backend<Symbol = S>>(
         &mut self,
         hasher: &H,
@@ -265,7 +267,7 @@ impl<S: Symbol> Index<S> {
         }
         let count = next_count(self.slots.len()).ok_or(AllocError)?;
         let mut bigger = Slots::empty(self.alloc, count)?;
-        place_all(&mut bigger, hasher, backend);
+        put_all(&mut bigger, hasher, backend);
         self.grow(bigger);
         Ok(true)
     }
@@ -323,7 +325,7 @@ impl<S: Symbol> Index<S> {
     {
         self.len = backend.count();
         self.greatest = self.greatest.max(self.len);
-        place_all(&mut self.slots, hasher, backend);
+        put_all(&mut self.slots, hasher, backend);
     }
 
     /// Empties all slots, and adds the symbol of every entry of the backend, whose texts are distinct and at most three

@@ -221,7 +221,7 @@ impl<B: Backend, H: TextHasher> StringInterner<B, H> {
     /// Keeps the first `len` texts with their symbols, and drops the others, which are then new again. Changes nothing
     /// where there are not more than that.
     ///
-    /// Takes no memory, and gives none back. Costs a placing of each kept text in the index.
+    /// Takes no memory, and gives none back. Costs putting each kept text into the index.
     pub fn truncate(&mut self, len: usize)
         ensures texts { self.new.texts ≡ take len self.old.texts }
         ensures same { length self.old.texts ≤ len → self.new ≡ self.old }

@@ -72,6 +72,7 @@ impl<B: Backend + Drop, H: TextHasher + Default + Drop> StringInterner<B, H> {
     ///
     /// It starts empty and interns element after element, so that repeats fold into one text: `["a", "b", "a"]` is read
     /// as the texts a and b.
+    ///
     /// Refuses a value that is not an array with `NotAList`. Else the first refused element decides: with `NotAText`
     /// where it is not a string, and as `get_or_intern` refuses where it is.
     pub fn from_json(alloc: Global, value: &Value) -> Result<Self, JsonError>

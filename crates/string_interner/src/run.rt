@@ -95,14 +95,14 @@ fn extend_reply<B: Backend, H: TextHasher>(
 }
 
 /// A copy of the text. Asks for memory once.
-fn copy_of(alloc: Global, text: &str) -> Reply
+fn copy_reply(alloc: Global, text: &str) -> Reply
     ensures { CopyReply text.now result }
 {
     String::from_str(alloc, text).map_or(Reply::NoMemory, Reply::Text)
 }
 
 /// The number that the reply `k` told, if it told one.
-fn number_at(earlier: &[Reply], k: usize) -> Option<usize>
+fn number_told(earlier: &[Reply], k: usize) -> Option<usize>
     ensures { result ≡ number_told (slice_get earlier.now k) }
 {
     match earlier.get(k) {
@@ -112,7 +112,7 @@ fn number_at(earlier: &[Reply], k: usize) -> Option<usize>
 }
 
 /// What is read at a number that has a symbol.
-fn read_at<B: Backend, H: TextHasher>(interner: &StringInterner<B, H>, n: usize) -> Option<&str>
+fn number_read<B: Backend, H: TextHasher>(interner: &StringInterner<B, H>, n: usize) -> Option<&str>
     ensures { option_copied result ≡ number_read B.Symbol.symbol_of B.Symbol.number B.place B.read interner.now.texts n }
 {
     interner.resolve(B::Symbol::try_from_usize(n)?)
@@ -126,8 +126,8 @@ fn number_reply<B: Backend, H: TextHasher>(
 ) -> Reply
     ensures { NumberReply B.Symbol.symbol_of B.Symbol.number B.place B.read interner.now.texts n result }
 {
-    match read_at(interner, n) {
-        Some(text) => copy_of(alloc, text),
+    match number_read(interner, n) {
+        Some(text) => copy_reply(alloc, text),
         None => Reply::Nothing,
     }
 }
@@ -149,7 +149,7 @@ fn step<B: Backend, H: TextHasher>(
             Some(symbol) => Reply::Symbol(symbol.to_usize()),
             None => Reply::Nothing,
         },
-        Command::Resolve(k) => match number_at(earlier, *k) {
+        Command::Resolve(k) => match number_told(earlier, *k) {
             Some(n) => number_reply(alloc, interner, n),
             None => Reply::NoReply,
         },

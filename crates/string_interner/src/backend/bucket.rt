@@ -16,7 +16,7 @@ ghost use Rattle.string_interner.specs.BucketBackend.{BucketContents, empty_cont
 
 use crate::backend::{Backend, CopyBackend, InternError, Iter};
 use crate::symbol::{DefaultSymbol, Symbol};
-use buckets::{entry, store};
+use buckets::{interned_text, store};
 use copies::{copies_of, joint_capacity};
 use fixed_str::FixedString;
 use full_bucket::FullBucket;
@@ -71,7 +71,7 @@ impl<S: Symbol> BucketBackend<S> {
         ensures text { slice_get self.now.texts index ≡ Some result.now }
         ensures kept { IsKept S.symbol_of length self.now.texts }
     {
-        entry(&self.full, &self.head, self.entries[index])
+        interned_text(&self.full, &self.head, self.entries[index])
     }
 }
 
@@ -198,6 +198,8 @@ impl<S: Symbol> Backend for BucketBackend<S> {
         (S::try_from_usize(at).unwrap(), text, at + 1)
     }
 
+    /// Gives back free places in the lists of entries and of older buckets. The buckets stay as they are, with the free
+    /// bytes of the head and the bytes of dropped texts.
     fn shrink_to_fit(&mut self)
         ensures texts { self.new.texts ≡ self.old.texts }
         ensures buckets { buckets_of self.new.full self.new.head ≡ buckets_of self.old.full self.old.head }

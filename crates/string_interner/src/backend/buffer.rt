@@ -64,7 +64,7 @@ fn front_text(bytes: &[u8]) -> Option<&str>
 
 /// The text of the entry that begins at a place, and the place after it.
 #[inline]
-fn entry(bytes: &[u8], at: usize) -> (&str, usize)
+fn text_and_next(bytes: &[u8], at: usize) -> (&str, usize)
     requires { HasEntryAt bytes.now at }
     ensures text { (texts : List Text) (i : ℕ) → bytes.now ≡ bytes_of texts → BeginsAt place_of texts at i
         → slice_get texts i ≡ Some result.0.now }
@@ -75,7 +75,7 @@ fn entry(bytes: &[u8], at: usize) -> (&str, usize)
     let spelled = number_at(front).unwrap();
     let body = &front[spelled.len..];
     let text = &body[..spelled.number];
-    // What was interned is UTF-8, so it is not tested again.
+    // What was interned is UTF-8, which the unsafe call asks and the contract proves, so it is not tested again.
     (
         unsafe { str::from_utf8_unchecked(text) },
         at + spelled.len + spelled.number,
@@ -104,7 +104,7 @@ impl<S: Symbol> BufferBackend<S> {
         let bytes = self.as_bytes();
         let mut at = 0;
         for _entry in 0..index {
-            at = entry(bytes, at).1;
+            at = text_and_next(bytes, at).1;
         }
         at
     }
@@ -181,11 +181,11 @@ impl<S: Symbol> Backend for BufferBackend<S> {
     }
 
     fn resolve_unchecked(&self, symbol: S) -> &str {
-        entry(self.as_bytes(), symbol.to_usize()).0
+        text_and_next(self.as_bytes(), symbol.to_usize()).0
     }
 
     fn entry_at(&self, at: usize) -> (S, &str, usize) {
-        let (text, next) = entry(self.as_bytes(), at);
+        let (text, next) = text_and_next(self.as_bytes(), at);
         (S::try_from_usize(at).unwrap(), text, next)
     }
 

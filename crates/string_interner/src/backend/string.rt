@@ -43,7 +43,7 @@ impl<S: Symbol> Model for StringBackend<S> {
 
 /// Where the entry `index` begins: at the end of the one before it.
 #[inline]
-fn start_of(ends: &[usize], index: usize) -> usize
+fn start_at(ends: &[usize], index: usize) -> usize
     requires { index ≤ length ends.now }
     ensures { result ≡ start_at ends.now index }
 {
@@ -52,12 +52,12 @@ fn start_of(ends: &[usize], index: usize) -> usize
 
 /// The text of the entry `index`.
 #[inline]
-fn entry<'a>(joined: &'a str, ends: &[usize], index: usize) -> &'a str
+fn text_at<'a>(joined: &'a str, ends: &[usize], index: usize) -> &'a str
     requires parts { IsCut joined.now ends.now (cut 0 joined.now ends.now) }
     requires within { index < length ends.now }
     ensures { slice_get (cut 0 joined.now ends.now) index ≡ Some result.now }
 {
-    &joined[start_of(ends, index)..ends[index]]
+    &joined[start_at(ends, index)..ends[index]]
 }
 
 #[tactic(auto, using(crate::proofs::Cuts::cut_length))]
@@ -121,18 +121,18 @@ impl<S: Symbol> Backend for StringBackend<S> {
     fn resolve(&self, symbol: S) -> Option<&str> {
         let index = symbol.to_usize();
         if index < self.ends.len() {
-            Some(entry(self.joined.as_str(), &self.ends, index))
+            Some(text_at(self.joined.as_str(), &self.ends, index))
         } else {
             None
         }
     }
 
     fn resolve_unchecked(&self, symbol: S) -> &str {
-        entry(self.joined.as_str(), &self.ends, symbol.to_usize())
+        text_at(self.joined.as_str(), &self.ends, symbol.to_usize())
     }
 
     fn entry_at(&self, at: usize) -> (S, &str, usize) {
-        let text = entry(self.joined.as_str(), &self.ends, at);
+        let text = text_at(self.joined.as_str(), &self.ends, at);
         (S::try_from_usize(at).unwrap(), text, at + 1)
     }
 
@@ -143,7 +143,7 @@ impl<S: Symbol> Backend for StringBackend<S> {
 
     fn truncate(&mut self, len: usize) {
         if len < self.ends.len() {
-            self.joined.truncate(start_of(&self.ends, len));
+            self.joined.truncate(start_at(&self.ends, len));
             self.ends.truncate(len);
         }
     }

@@ -1,7 +1,7 @@
 use Rattle.std.proofs.Common.{◌≡◌, ℕ, List, [], ◌∷◌, All, Option, Some, None, Result, Ok, Err, IfSome, OnOk, subst, string_bytes, rules}
 use Rattle.std.specs.List.{AllZip}
 use Rattle.std.proofs.lemmas.List.Elements.{All-cons, All-nil}
-use Rattle.intern.specs.Arguments.{Name}
+use Rattle.intern.specs.Arguments.{Names}
 use Rattle.intern.specs.Fault.{IsLineFault}
 use Rattle.intern.specs.declared.serve.Choice.{Choice}
 use Rattle.intern.specs.Line.{States}
@@ -43,7 +43,7 @@ returns-clause-answered g c =
     let ran = c.in_ok-replies.ensures.ran in
     let ran_on = rw c.deref-2.ensures.value at ran.1 in
     OnOk-map c.write_replies.result
-    (λ told. IfSome-input (λ bytes. (choice : Choice) × Name c.args.arguments.now choice × Answers choice bytes (g.W.Write.contents c.args.output.now) (g.W.Write.contents c.write_replies.new.output))
+    (λ told. IfSome-input (λ bytes. (choice : Choice) × Names c.args.arguments.now choice × Answers choice bytes (g.W.Write.contents c.args.output.now) (g.W.Write.contents c.write_replies.new.output))
     (g.R.Read.remaining c.args.input.now) (string_bytes c.in_ok-text.text) c.in_ok-text.ensures.whole
     (c.in_ok-choice.choice, search rules, record { commands = c.in_ok-commands.commands.items; replies = c.in_ok-replies.replies.items; texts = ran.0; stated = stated; ran = ran_on; written = rw c.deref-3.ensures.value at told }))
     c.write_replies.ensures.written

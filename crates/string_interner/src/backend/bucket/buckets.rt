@@ -24,7 +24,11 @@ fn bucket_text<'a>(full: &'a [FullBucket], head: &'a FixedString, bucket: usize)
 
 /// The text of an entry.
 #[inline]
-pub fn entry<'a>(full: &'a [FullBucket], head: &'a FixedString, interned: InternedStr) -> &'a str
+pub fn interned_text<'a>(
+    full: &'a [FullBucket],
+    head: &'a FixedString,
+    interned: InternedStr,
+) -> &'a str
     requires { IsEntry (buckets_of full.now head.now) interned }
     ensures { result.now ≡ interned_text (buckets_of full.now head.now) interned }
 {

@@ -4,7 +4,7 @@ ghost use Rattle.std.specs.Prelude.{◌≡◌, ◌+◌, ◌^◌, ◌<◌, ◌≤
 ghost use Rattle.std.specs.Str.{IsUtf8};
 ghost use Rattle.string_interner.specs.BucketBackend.{buckets_of, byte_count, interned_text, interned_len, IsEntry, IsCopy, AreCopies};
 
-use crate::backend::bucket::buckets::entry;
+use crate::backend::bucket::buckets::interned_text;
 use crate::backend::bucket::fixed_str::FixedString;
 use crate::backend::bucket::full_bucket::FullBucket;
 use crate::backend::bucket::interned_str::InternedStr;
@@ -35,7 +35,7 @@ fn copy_of(
 {
     match interned {
         InternedStr::InBucket { .. } => {
-            let text = entry(full, head, interned);
+            let text = interned_text(full, head, interned);
             let span = bucket.push_str(text)?.unwrap();
             Ok(InternedStr::InBucket { bucket: 0, span })
         }

@@ -32,7 +32,7 @@ impl FullBucket {
         FullBucket { text, capacity }
     }
 
-    /// The capacity in bytes that was asked for.
+    /// The capacity in bytes that was asked for. Contracts and tests alone ask for it.
     pub fn capacity(&self) -> usize
         ensures { result ≡ self.now.capacity }
     {

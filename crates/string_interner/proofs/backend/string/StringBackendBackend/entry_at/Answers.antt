@@ -3,8 +3,8 @@ use Rattle.string_interner.specs.Backend.{Contents}
 use Rattle.string_interner.proofs.Cuts.{cut_length, place_within, symbol_at}
 use Rattle.string_interner.proofs.backend.string.StringBackendBackend.entry_at.Goals as goal
 
-pub entry-text-requires-clause-within : goal.entry-text-requires-clause-within
-entry-text-requires-clause-within g c =
+pub text_at-text-requires-clause-within : goal.text_at-text-requires-clause-within
+text_at-text-requires-clause-within g c =
     let n : length c.args.self.now.texts ≡ length c.self.inside.ends.items = ap (λ (b : Contents). length b.texts) (sym c.self.view_is) ∙ cut_length 0 _ _ in
     rw c.deref.ensures.value (omega (arith, place_within _ _ c.requires))
 

@@ -8,8 +8,8 @@ use Rattle.string_interner.specs.Text.{Text}
 use Rattle.string_interner.specs.Backend.{BeginsAt}
 use Rattle.string_interner.specs.BufferBackend.{bytes_of, place_of}
 use Rattle.string_interner.proofs.BufferReads.{place_within, some_there, IsEntryRead, entry_has, entry_read}
-use Rattle.string_interner.proofs.backend.buffer.entry.Goals as goal
-use Rattle.string_interner.proofs.backend.buffer.entry.Goals.{After-unwrap-spelled}
+use Rattle.string_interner.proofs.backend.buffer.text_and_next.Goals as goal
+use Rattle.string_interner.proofs.backend.buffer.text_and_next.Goals.{After-unwrap-spelled}
 
 pub slice_bounds-front-count : goal.slice_bounds-front-count
 slice_bounds-front-count c = place_within c.args.bytes.now c.requires.texts c.args.at c.requires.place.0 c.requires.bytes_are c.requires.place.1

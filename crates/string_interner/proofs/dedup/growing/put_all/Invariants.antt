@@ -1,6 +1,6 @@
 use Rattle.std.proofs.Common.{◌≡◌, length}
 use Rattle.string_interner.proofs.Placing.{IsPlaced}
-use Rattle.string_interner.proofs.dedup.probe.place_all.Given as goal
+use Rattle.string_interner.proofs.dedup.growing.put_all.Given as goal
 
 -- the entries so far are in the slots
 abbrev pub invariant-loop-symbol : goal.invariant-loop-symbol

@@ -2,7 +2,7 @@ use Rattle.std.proofs.Common.{refl, ◌∙◌}
 use Rattle.string_interner.proofs.Indexing.{puts_at}
 use Rattle.string_interner.proofs.LookUp.{FillsSlot-length}
 use Rattle.string_interner.proofs.Placing.{placed-start, placed-next, placed-end}
-use Rattle.string_interner.proofs.dedup.probe.place_all.Goals as goal
+use Rattle.string_interner.proofs.dedup.growing.put_all.Goals as goal
 
 pub loop-symbol-init : goal.loop-symbol-init
 loop-symbol-init g c = record {
@@ -13,9 +13,9 @@ loop-symbol-init g c = record {
 pub loop-symbol-preserved : goal.loop-symbol-preserved
 loop-symbol-preserved g c =
     let inv = c.loop-symbol.invariant in
-    let puts = puts_at _ _ _ _ _ c.hash_text.ensures c.place.ensures.puts in
+    let puts = puts_at _ _ _ _ _ c.hash_text.ensures c.put_by_code.ensures.puts in
     record {
-      placed = placed-next g.S.Symbol.symbol_of g.S.Symbol.number g.B.Backend.place g.met.S.Symbol.numbered g.met.S.Symbol.injective g.met.B.Backend.grows (g.H.TextHasher.code c.args.hasher.now) (g.B.Backend.texts c.args.backend.now) c.requires.kept c.requires.distinct _ _ _ _ c.loop-symbol.slots c.place.new.slots c.in-Some.symbol c.in-Some.text.now inv.placed c.in-Some.ensures.steps puts;
+      placed = placed-next g.S.Symbol.symbol_of g.S.Symbol.number g.B.Backend.place g.met.S.Symbol.numbered g.met.S.Symbol.injective g.met.B.Backend.grows (g.H.TextHasher.code c.args.hasher.now) (g.B.Backend.texts c.args.backend.now) c.requires.kept c.requires.distinct _ _ _ _ c.loop-symbol.slots c.put_by_code.new.slots c.in-Some.symbol c.in-Some.text.now inv.placed c.in-Some.ensures.steps puts;
       size = FillsSlot-length _ _ _ _ puts ∙ inv.size;
     }
 

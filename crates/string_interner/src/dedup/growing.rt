@@ -1,0 +1,92 @@
+//! How many slots there are, and putting all symbols back into new ones.
+
+ghost use Rattle.std.specs.Prelude.{◌≡◌, ◌*◌, ◌<◌, ◌≤◌, ◌^◌, length, IfNone, IfOk, IfSome, OnSome, [], Some};
+ghost use Rattle.string_interner.specs.Entry.{entry_text};
+ghost use Rattle.string_interner.specs.Slots.{symbols};
+ghost use Rattle.string_interner.specs.Index.{Fits, GrowsTo, IsWhole, IsLeastFor, IsSlotCount};
+ghost use Rattle.string_interner.specs.Text.{IsDistinct};
+ghost use Rattle.string_interner.specs.Backend.{IsKept};
+ghost use Rattle.string_interner.specs.Probe.{Rebuilt};
+
+use crate::backend::Backend;
+use crate::dedup::hasher::TextHasher;
+use crate::dedup::probe::put_by_code;
+use crate::dedup::slots::Slots;
+use crate::symbol::Symbol;
+use std::alloc::{AllocError, Global};
+
+/// More slots, with the symbols of these put back by the codes of their texts.
+///
+/// Borrows the slots as one who may change them, since a reading through a shared reference is a look.
+pub fn rebuilt<S: Symbol, H: TextHasher, B: Backend<Symbol = S>>(
+    slots: &mut Slots<S>,
+    count: usize,
+    hasher: &H,
+    backend: &B,
+    alloc: Global,
+) -> Result<Slots<S>, AllocError>
+    requires fits { Fits (entry_text S.number B.place (B.texts backend.now)) (H.code hasher.now) slots.old }
+    requires more { length slots.old < count }
+    requires count { IsSlotCount count }
+    ensures same { slots.new ≡ slots.old }
+    ensures made { IfOk result (λ bigger. Rebuilt (entry_text S.number B.place (B.texts backend.now))
+        (H.code hasher.now) slots.old bigger) }
+    ensures count { IfOk result (λ bigger. length bigger ≡ count) }
+{
+    let mut bigger = Slots::empty(alloc, count)?;
+    for at in 0..slots.len() {
+        if let Some(symbol) = slots.symbol_at(at) {
+            let text = backend.resolve_unchecked(symbol);
+            put_by_code(&mut bigger, hasher.hash_text(text), symbol);
+        }
+    }
+    Ok(bigger)
+}
+
+/// Puts the symbol of each entry of a backend into slots that are empty, in the order of the entries.
+pub fn put_all<S: Symbol, H: TextHasher, B: Backend<Symbol = S>>(
+    slots: &mut Slots<S>,
+    hasher: &H,
+    backend: &B,
+)
+    requires kept { IsKept S.symbol_of B.place (B.texts backend.now) }
+    requires distinct { IsDistinct (B.texts backend.now) }
+    requires empty { symbols slots.old ≡ [] }
+    requires room { 4 * length (B.texts backend.now) ≤ 3 * length slots.old }
+    requires count { IsSlotCount (length slots.old) }
+    ensures whole { IsWhole (entry_text S.number B.place (B.texts backend.now)) (H.code hasher.now) slots.new }
+    ensures entries { length (symbols slots.new) ≡ length (B.texts backend.now) }
+    ensures count { length slots.new ≡ length slots.old }
+{
+    for (symbol, text) in backend.iter() {
+        put_by_code(slots, hasher.hash_text(text), symbol);
+    }
+}
+
+/// The count of slots after so many, where it fits a `usize`: 8 after none, and else twice as many.
+pub fn next_count(count: usize) -> Option<usize>
+    ensures some { IfSome result (GrowsTo count) }
+    ensures none { IfNone result (2 ^ 63 ≤ count) }
+{
+    if count == 0 {
+        Some(8)
+    } else {
+        count.checked_mul(2)
+    }
+}
+
+/// The least allowed count of slots that has room for so many entries, where it fits a `usize`.
+pub fn least_count(capacity: usize) -> Option<usize>
+    ensures least { IfSome result (IsLeastFor capacity) }
+    ensures fits { OnSome result (4 * capacity ≤ 3 * 2 ^ 63) }
+    ensures none { IfNone result (3 * 2 ^ 63 < 4 * capacity) }
+{
+    if capacity == 0 {
+        return Some(0);
+    }
+    let mut count: usize = 8;
+    while capacity > count - count / 4 {
+        count = count.checked_mul(2)?;
+    }
+    Some(count)
+}
