@@ -6,6 +6,7 @@ use Rattle.std.specs.Iterator.{Drains, YieldsThen}
 use Rattle.std.specs.List.{sum_by}
 use Rattle.std.specs.Option.{option_map_or}
 use Rattle.string_interner.specs.Text.{Text, first}
+use Rattle.string_interner.specs.Index.{Holds}
 use Rattle.string_interner.specs.Interner.{Interned, Interns}
 use Rattle.string_interner.specs.declared.backend.InternError.{InternError}
 use Rattle.string_interner.specs.declared.backend.InternError.TheVariants.{NoSymbol, Memory}
@@ -41,7 +42,7 @@ module _ {S : Type 0} (symbol_of : ℕ → Option S) (place : List Text → ℕ)
     -- The texts fit the room of the backend and of the index: those that are fresh.
     pub record HasRoomFor (interner : Interned) (texts : List Text) : Type 0 where
       pub backend : sum_by cost (fresh interner.texts texts) ≤ interner.room
-      pub index : 4 * (length interner.texts + length (fresh interner.texts texts)) ≤ 3 * interner.slots
+      pub index : Holds interner.slots (length interner.texts + length (fresh interner.texts texts))
 
     -- The texts are interned. They take no more of the room than the fresh ones cost.
     pub record TakesIn (old : Interned) (texts : List Text) (new : Interned) : Type 0 where

@@ -20,9 +20,13 @@ pub record Indexed (S : Type 0) : Type 0 where
 abbrev pub entry_count : {S : Type 0} → Indexed S → ℕ
 entry_count index = length (symbols index.slots)
 
--- one more entry is allowed: at most three quarters of the slots are filled
+-- so many slots hold so many entries: at most three quarters of the slots are filled
+abbrev pub Holds : ℕ → ℕ → Type 0
+Holds slots entries = 4 * entries ≤ 3 * slots
+
+-- one more entry is allowed
 abbrev pub HasRoom : {S : Type 0} → Indexed S → Type 0
-HasRoom index = 4 * (entry_count index + 1) ≤ 3 * length index.slots
+HasRoom index = Holds (length index.slots) (entry_count index + 1)
 
 -- an allowed count of slots: none, or a power of two from 8 on
 abbrev pub IsSlotCount : ℕ → Type 0
@@ -31,13 +35,13 @@ IsSlotCount n = (n ≡ 0) ⊎ ((k : ℕ) × (n ≡ 8 * 2 ^ k))
 -- the least allowed count of slots that has room for this many entries
 pub record IsLeastFor (capacity n : ℕ) : Type 0 where
   pub allowed : IsSlotCount n
-  pub room : 4 * capacity ≤ 3 * n
-  pub least : (m : ℕ) → IsSlotCount m → 4 * capacity ≤ 3 * m → n ≤ m
+  pub room : Holds n capacity
+  pub least : (m : ℕ) → IsSlotCount m → Holds m capacity → n ≤ m
 
 -- what is so at all times
 pub record IsBounded {S : Type 0} (index : Indexed S) : Type 0 where
   pub allowed : IsSlotCount (length index.slots)
-  pub load : 4 * entry_count index ≤ 3 * length index.slots
+  pub load : Holds (length index.slots) (entry_count index)
   pub put_back : index.put_back ≤ 2 * index.greatest
   pub greatest : entry_count index ≤ index.greatest
 

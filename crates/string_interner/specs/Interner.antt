@@ -1,11 +1,11 @@
 -- What is said of every interner: a list of distinct texts, each with its symbol, and interning a text.
 -- Cited by `StringInterner` and by all that stands on it.
-use Rattle.std.specs.Prelude.{◌≡◌, ℕ, ◌+◌, ◌*◌, ◌≤◌, ◌⊎◌, List, length, take, Option, Some, MatchOption, IsOkAnd, Result, option_and_then}
+use Rattle.std.specs.Prelude.{◌≡◌, ℕ, ◌+◌, ◌⊎◌, List, length, take, Option, Some, MatchOption, IsOkAnd, Result, option_and_then}
 use Rattle.string_interner.specs.Text.{Text, IsDistinct, first}
 use Rattle.string_interner.specs.Backend.{Bucket, IsKept, Appends}
 use Rattle.string_interner.specs.Entry.{entry_text}
 use Rattle.string_interner.specs.Slots.{symbols}
-use Rattle.string_interner.specs.Index.{GrowsTo, IsWhole}
+use Rattle.string_interner.specs.Index.{GrowsTo, Holds, IsWhole}
 use Rattle.string_interner.specs.declared.backend.InternError.{InternError}
 
 -- what contracts see of an interner
@@ -20,7 +20,7 @@ pub record Interned : Type 0 where
 -- How many slots there are once a text was interned in a list of this length: as many where one more entry was allowed,
 -- and else as many or more, as slots grow.
 pub record GrowsIfFull (len old new : ℕ) : Type 0 where
-  pub allowed : 4 * (len + 1) ≤ 3 * old → new ≡ old
+  pub allowed : Holds old (len + 1) → new ≡ old
   pub grown : (new ≡ old) ⊎ GrowsTo old new
 
 module _ {S : Type 0} (symbol_of : ℕ → Option S) (place : List Text → ℕ) where

@@ -11,7 +11,7 @@ ghost use Rattle.string_interner.specs.Text.{IsDistinct};
 ghost use Rattle.string_interner.specs.Backend.{IsKept};
 ghost use Rattle.string_interner.specs.Entry.{entry_text};
 ghost use Rattle.string_interner.specs.Slots.{IsFilledRun, symbols};
-ghost use Rattle.string_interner.specs.Index.{entry_count, Fits, FitsAll, Grows, GrowsTo, HasRoom, Inserts, IsAbsent, IsBounded, IsLeastFor, IsWhole, Refills, SameMap, look_up, text_of};
+ghost use Rattle.string_interner.specs.Index.{entry_count, Fits, FitsAll, Grows, GrowsTo, HasRoom, Holds, Inserts, IsAbsent, IsBounded, IsLeastFor, IsWhole, Refills, SameMap, look_up, text_of};
 ghost use Rattle.string_interner.specs.Probe.{IsFree, IsVacant};
 
 use crate::backend::Backend;
@@ -80,7 +80,7 @@ impl<S: Symbol> Index<S> {
         ensures put_back { IfOk result (λ index. index.put_back ≡ 0) }
         ensures greatest { IfOk result (λ index. index.greatest ≡ 0) }
         ensures fits { IfOk result (λ index. FitsAll index.slots) }
-        ensures fits_usize { OnOk result (4 * capacity ≤ 3 * 2 ^ 63) }
+        ensures fits_usize { OnOk result (Holds (2 ^ 63) capacity) }
     {
         let count = least_count(capacity).ok_or(AllocError)?;
         Ok(Index {
@@ -319,7 +319,7 @@ impl<S: Symbol> Index<S> {
     pub(crate) fn fill<H: TextHasher, B: Backend<Symbol = S>>(&mut self, hasher: &H, backend: &B)
         requires empty { entry_count self.old ≡ 0 }
         requires distinct { IsDistinct (B.texts backend.now) }
-        requires room { 4 * length (B.texts backend.now) ≤ 3 * length self.old.slots }
+        requires room { Holds (length self.old.slots) (length (B.texts backend.now)) }
         ensures { Refills (entry_text S.number B.place (B.texts backend.now)) (H.code hasher.now) self.old self.new
             (length (B.texts backend.now)) }
     {
@@ -332,7 +332,7 @@ impl<S: Symbol> Index<S> {
     /// quarters of the slots. Takes no memory, and no doubling happens in it.
     pub fn refill<H: TextHasher, B: Backend<Symbol = S>>(&mut self, hasher: &H, backend: &B)
         requires distinct { IsDistinct (B.texts backend.now) }
-        requires room { 4 * length (B.texts backend.now) ≤ 3 * length self.old.slots }
+        requires room { Holds (length self.old.slots) (length (B.texts backend.now)) }
         ensures { Refills (entry_text S.number B.place (B.texts backend.now)) (H.code hasher.now) self.old self.new
             (length (B.texts backend.now)) }
     {

@@ -9,7 +9,7 @@ ghost use Rattle.std.specs.Cmp.{partial_equiv_from_equiv, on_equiv};
 ghost use Rattle.string_interner.specs.Text.{Text, IsDistinct, first, texts_eq, texts_eq-IsEquivalence};
 ghost use Rattle.string_interner.specs.Backend.{BeginsAt, IsPlace, IsKept};
 ghost use Rattle.string_interner.specs.Interner.{GrowsIfFull, Interned, Interns, known_symbol};
-ghost use Rattle.string_interner.specs.Index.{IsLeastFor};
+ghost use Rattle.string_interner.specs.Index.{Holds, IsLeastFor};
 
 use crate::backend::{Backend, CopyBackend, InternError, Iter};
 use crate::dedup::{DefaultHashBuilder, Index, Looks, TextHasher};
@@ -160,7 +160,7 @@ impl<B: Backend, H: TextHasher> StringInterner<B, H> {
 
         // Within the room of the backend and of the index, memory is not refused.
         ensures granted { IsSome (B.Symbol.symbol_of (B.place self.old.texts)) → B.cost text.now ≤ self.old.room
-            → 4 * (length self.old.texts + 1) ≤ 3 * self.old.slots → IsOk result }
+            → Holds self.old.slots (length self.old.texts + 1) → IsOk result }
 
         // A text takes no more of the room than its cost, and a refused one takes nothing.
         ensures spent { OnOk result (self.old.room ≤ self.new.room + B.cost text.now) }
@@ -188,7 +188,7 @@ impl<B: Backend, H: TextHasher> StringInterner<B, H> {
 
         // Within the room of the backend and of the index, memory is not refused.
         ensures granted { IsSome (B.Symbol.symbol_of (B.place self.old.texts)) → B.cost text.now ≤ self.old.room
-            → 4 * (length self.old.texts + 1) ≤ 3 * self.old.slots → IsOk result }
+            → Holds self.old.slots (length self.old.texts + 1) → IsOk result }
 
         // A text takes no more of the room than its cost, and a refused one takes nothing.
         ensures spent { OnOk result (self.old.room ≤ self.new.room + B.cost text.now) }

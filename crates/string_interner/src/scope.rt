@@ -2,6 +2,7 @@
 
 ghost use Rattle.std.specs.Prelude.{◌≡◌, ◌+◌, ◌*◌, ◌≤◌, ◌↔◌, [], ◌∷◌, ◌++◌, length, None, IsSome, IsErrOf, IsOk, OnOk, OnErr};
 ghost use Rattle.string_interner.specs.Text.{first};
+ghost use Rattle.string_interner.specs.Index.{Holds};
 ghost use Rattle.string_interner.specs.Interner.{GrowsIfFull, Interns, known_symbol};
 ghost use Rattle.string_interner.specs.Scopes.{layers, joined_layers, interned, Leaves, LayerStep, LeavingGivesBack};
 
@@ -109,7 +110,7 @@ impl<B: Backend, H: TextHasher> Scopes<B, H> {
         // Within the room of the backend and of the index, memory is not refused.
         ensures granted { IsSome (B.Symbol.symbol_of (B.place (joined_layers (layers self.old))))
             → B.cost text.now ≤ self.old.room
-            → 4 * (length (joined_layers (layers self.old)) + 1) ≤ 3 * self.old.slots → IsOk result }
+            → Holds self.old.slots (length (joined_layers (layers self.old)) + 1) → IsOk result }
 
         // A text takes no more of the room than its cost, and a refused one takes nothing.
         ensures spent { OnOk result (self.old.room ≤ self.new.room + B.cost text.now) }

@@ -3,7 +3,7 @@
 ghost use Rattle.std.specs.Prelude.{◌≡◌, ◌*◌, ◌<◌, ◌≤◌, ◌^◌, length, IfNone, IfOk, IfSome, OnSome, [], Some};
 ghost use Rattle.string_interner.specs.Entry.{entry_text};
 ghost use Rattle.string_interner.specs.Slots.{symbols};
-ghost use Rattle.string_interner.specs.Index.{Fits, GrowsTo, IsWhole, IsLeastFor, IsSlotCount};
+ghost use Rattle.string_interner.specs.Index.{Fits, GrowsTo, Holds, IsWhole, IsLeastFor, IsSlotCount};
 ghost use Rattle.string_interner.specs.Text.{IsDistinct};
 ghost use Rattle.string_interner.specs.Backend.{IsKept};
 ghost use Rattle.string_interner.specs.Probe.{Rebuilt};
@@ -52,7 +52,7 @@ pub fn put_all<S: Symbol, H: TextHasher, B: Backend<Symbol = S>>(
     requires kept { IsKept S.symbol_of B.place (B.texts backend.now) }
     requires distinct { IsDistinct (B.texts backend.now) }
     requires empty { symbols slots.old ≡ [] }
-    requires room { 4 * length (B.texts backend.now) ≤ 3 * length slots.old }
+    requires room { Holds (length slots.old) (length (B.texts backend.now)) }
     requires count { IsSlotCount (length slots.old) }
     ensures whole { IsWhole (entry_text S.number B.place (B.texts backend.now)) (H.code hasher.now) slots.new }
     ensures entries { length (symbols slots.new) ≡ length (B.texts backend.now) }
@@ -78,7 +78,7 @@ pub fn next_count(count: usize) -> Option<usize>
 /// The least allowed count of slots that has room for so many entries, where it fits a `usize`.
 pub fn least_count(capacity: usize) -> Option<usize>
     ensures least { IfSome result (IsLeastFor capacity) }
-    ensures fits { OnSome result (4 * capacity ≤ 3 * 2 ^ 63) }
+    ensures fits { OnSome result (Holds (2 ^ 63) capacity) }
     ensures none { IfNone result (3 * 2 ^ 63 < 4 * capacity) }
 {
     if capacity == 0 {
