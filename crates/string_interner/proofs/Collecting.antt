@@ -76,7 +76,7 @@ module _ {S : Type 0} (symbol_of : ℕ → Option S) (place : List Text → ℕ)
 
     -- one more text goes in
     taken-more : (old mid new : Interned) (texts : List Text) (text : Text) (symbol : S) → TakesIn symbol_of place cost old texts mid → Interns symbol_of place mid.texts text (Ok symbol) new.texts
-        → (IsSome (first mid.texts text) → new ≡ mid) → mid.room ≤ new.room + cost text → mid.slots ≤ new.slots → TakesIn symbol_of place cost old (texts ++ text ∷ []) new
+        → (IsSome (first mid.texts text) → new ≡ mid) → mid.room ≤ new.room + cost text → mid.slot_count ≤ new.slot_count → TakesIn symbol_of place cost old (texts ++ text ∷ []) new
     taken-more old mid new texts text symbol taken i known spent slots = record {
       interned = all-more old.texts texts mid.texts text symbol new.texts taken.interned i;
       spent = omega (arith, taken.spent, cost-more old.texts mid.texts texts text taken.interned, spent-fresh mid new text known spent);
@@ -85,13 +85,13 @@ module _ {S : Type 0} (symbol_of : ℕ → Option S) (place : List Text → ℕ)
 
     -- the same, of the item of an iteration
     pub item-taken : (old mid new : Interned) (items : List (Bor Text)) (item : Bor Text) (symbol : S) → TakesIn symbol_of place cost old (texts_of items) mid → Interns symbol_of place mid.texts item.now (Ok symbol) new.texts
-        → (IsSome (first mid.texts item.now) → new ≡ mid) → mid.room ≤ new.room + cost item.now → mid.slots ≤ new.slots → TakesIn symbol_of place cost old (texts_of (items ++ item ∷ [])) new
+        → (IsSome (first mid.texts item.now) → new ≡ mid) → mid.room ≤ new.room + cost item.now → mid.slot_count ≤ new.slot_count → TakesIn symbol_of place cost old (texts_of (items ++ item ∷ [])) new
     item-taken old mid new items item symbol taken i known spent slots = subst (λ (ts : List Text). TakesIn symbol_of place cost old ts new) (sym (map_push (λ (b : Bor Text). b.now) items item))
         (taken-more old mid new (texts_of items) item.now symbol taken i known spent slots)
 
     -- a refused text leaves what went in
     pub refused-taken : (old mid new : Interned) (texts : List Text) (text : Text) (error : InternError) → TakesIn symbol_of place cost old texts mid → Interns symbol_of place mid.texts text (Err error) new.texts
-        → mid.room ≤ new.room → mid.slots ≤ new.slots → TakesIn symbol_of place cost old texts new
+        → mid.room ≤ new.room → mid.slot_count ≤ new.slot_count → TakesIn symbol_of place cost old texts new
     refused-taken old mid new texts text error taken i unspent slots = record {
       interned = rw (refused-keeps symbol_of place mid.texts new.texts text error i) taken.interned;
       spent = omega (arith, taken.spent, unspent);
@@ -109,7 +109,7 @@ module _ {S : Type 0} (symbol_of : ℕ → Option S) (place : List Text → ℕ)
 
     -- a text that does not fit is refused
     pub stopped : (old mid new : Interned) (texts : List Text) (text : Text) (error : InternError) → TakesIn symbol_of place cost old texts mid → Interns symbol_of place mid.texts text (Err error) new.texts
-        → (IsSome (symbol_of (place mid.texts)) → cost text ≤ mid.room → 4 * (length mid.texts + 1) ≤ 3 * mid.slots → IsOk {T = S} {E = InternError} (Err error)) → StopsAt symbol_of place cost old texts text error new
+        → (IsSome (symbol_of (place mid.texts)) → cost text ≤ mid.room → 4 * (length mid.texts + 1) ≤ 3 * mid.slot_count → IsOk {T = S} {E = InternError} (Err error)) → StopsAt symbol_of place cost old texts text error new
     stopped old mid new texts text error taken i granted = record {
       refuses = (let same = refused-keeps symbol_of place mid.texts new.texts text error i in subst (λ (xs : List Text). Interns symbol_of place xs text (Err error) new.texts) (sym same) i);
       beyond = λ m fits.
@@ -124,7 +124,7 @@ module _ {S : Type 0} (symbol_of : ℕ → Option S) (place : List Text → ℕ)
     -- an extension that a refused item ended
     pub extends-refused : {I W : Type 0} (becomes : I → W → Type 0) (steps : W → Option (Bor Text) → W → Type 0) (iter : I) (walk rest : W) (items : List (Bor Text)) (item : Bor Text) (old mid new : Interned) (error : InternError) (outcome : Result (Unit {0}) InternError)
         → becomes iter walk → YieldsThen steps walk items (Some item) rest → outcome ≡ Err error → TakesIn symbol_of place cost old (texts_of items) mid → Interns symbol_of place mid.texts item.now (Err error) new.texts
-        → (IsSome (symbol_of (place mid.texts)) → cost item.now ≤ mid.room → 4 * (length mid.texts + 1) ≤ 3 * mid.slots → IsOk {T = S} {E = InternError} (Err error)) → mid.room ≤ new.room → mid.slots ≤ new.slots → Extends symbol_of place cost becomes steps iter old outcome new
+        → (IsSome (symbol_of (place mid.texts)) → cost item.now ≤ mid.room → 4 * (length mid.texts + 1) ≤ 3 * mid.slot_count → IsOk {T = S} {E = InternError} (Err error)) → mid.room ≤ new.room → mid.slot_count ≤ new.slot_count → Extends symbol_of place cost becomes steps iter old outcome new
     extends-refused becomes steps iter walk rest items item old mid new error outcome b y e taken i granted unspent slots = rw e (
       walk,
       items,

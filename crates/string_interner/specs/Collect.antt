@@ -42,13 +42,13 @@ module _ {S : Type 0} (symbol_of : ℕ → Option S) (place : List Text → ℕ)
     -- The texts fit the room of the backend and of the index: those that are fresh.
     pub record HasRoomFor (interner : Interned) (texts : List Text) : Type 0 where
       pub backend : sum_by cost (fresh interner.texts texts) ≤ interner.room
-      pub index : Holds interner.slots (length interner.texts + length (fresh interner.texts texts))
+      pub index : Holds interner.slot_count (length interner.texts + length (fresh interner.texts texts))
 
     -- The texts are interned. They take no more of the room than the fresh ones cost.
     pub record TakesIn (old : Interned) (texts : List Text) (new : Interned) : Type 0 where
       pub interned : InternsAll old.texts texts new.texts
       pub spent : old.room ≤ new.room + sum_by cost (fresh old.texts texts)
-      pub slots : old.slots ≤ new.slots
+      pub slots : old.slot_count ≤ new.slot_count
 
     -- After the texts went in, the next one is refused so: for memory only where they and it do not fit the old room.
     pub record StopsAt (old : Interned) (texts : List Text) (refused : Text) (error : InternError) (new : Interned) : Type 0 where
@@ -65,6 +65,6 @@ module _ {S : Type 0} (symbol_of : ℕ → Option S) (place : List Text → ℕ)
 
     -- An interner that has no texts and no slots is extended by the items. Where one is refused, no interner is made.
     abbrev pub Collects : {I W : Type 0} → (I → W → Type 0) → (W → Option (Bor Text) → W → Type 0) → I → Result Interned InternError → Type 0
-    Collects becomes steps iter outcome = (empty : Interned) × (empty.texts ≡ []) × (empty.slots ≡ 0) × MatchResult outcome
+    Collects becomes steps iter outcome = (empty : Interned) × (empty.texts ≡ []) × (empty.slot_count ≡ 0) × MatchResult outcome
         (λ made. Extends becomes steps iter empty (Ok tt) made)
         (λ error. (front : Interned) × Extends becomes steps iter empty (Err error) front)

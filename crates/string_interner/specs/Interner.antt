@@ -15,7 +15,7 @@ pub record Interned : Type 0 where
   -- what the backend takes without asking for memory, as costs of texts
   pub room : ℕ
   -- how many slots the index has
-  pub slots : ℕ
+  pub slot_count : ℕ
 
 -- How many slots there are once a text was interned in a list of this length: as many where one more entry was allowed,
 -- and else as many or more, as slots grow.

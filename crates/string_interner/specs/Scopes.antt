@@ -18,7 +18,7 @@ pub record Scoped : Type 0 where
   pub below : List Layer
   pub buckets : List Bucket
   pub room : ℕ
-  pub slots : ℕ
+  pub slot_count : ℕ
 
 -- the whole stack, the top layer first
 abbrev pub layers : Scoped → List Layer
@@ -31,7 +31,7 @@ joined_layers (top ∷ below) = joined_layers below ++ top
 
 -- the interner, whose list is the layers joined
 abbrev pub interned : Scoped → Interned
-interned scopes = record { texts = joined_layers (layers scopes); buckets = scopes.buckets; room = scopes.room; slots = scopes.slots }
+interned scopes = record { texts = joined_layers (layers scopes); buckets = scopes.buckets; room = scopes.room; slot_count = scopes.slot_count }
 
 -- The scope is left, or there is none: the top layer goes, unless it is the only one.
 abbrev pub Leaves : List Layer → Bool → List Layer → Type 0

@@ -47,7 +47,7 @@ impl<B: Backend, H: TextHasher> Model for StringInterner<B, H> {
       texts = B.texts i.backend;
       buckets = B.buckets i.backend;
       room = B.room i.backend;
-      slots = length i.index.slots;
+      slot_count = length i.index.slots;
     } };
 
     ghost invariant = { λ i. IsInterned B.Symbol.symbol_of B.place B.Symbol.number (H.code i.hasher)
@@ -58,7 +58,7 @@ impl<B: Backend, H: TextHasher + Default> StringInterner<B, H> {
     /// No texts, under the hasher's default. Takes no memory.
     pub fn new(alloc: Global) -> Self
         ensures texts { result.texts ≡ [] }
-        ensures slots { result.slots ≡ 0 }
+        ensures slots { result.slot_count ≡ 0 }
     {
         StringInterner::with_hasher(alloc, H::default())
     }
@@ -71,7 +71,7 @@ impl<B: Backend, H: TextHasher + Default + Drop> StringInterner<B, H> {
     pub fn with_capacity(alloc: Global, capacity: usize) -> Result<Self, AllocError>
         ensures texts { IfOk result (λ interner. interner.texts ≡ []) }
         ensures room { IfOk result (λ interner. B.grant capacity ≤ interner.room) }
-        ensures slots { IfOk result (λ interner. IsLeastFor capacity interner.slots) }
+        ensures slots { IfOk result (λ interner. IsLeastFor capacity interner.slot_count) }
     {
         StringInterner::with_capacity_and_hasher(alloc, capacity, H::default())
     }
@@ -88,7 +88,7 @@ impl<B: Backend, H: TextHasher + Drop> StringInterner<B, H> {
     ) -> Result<Self, AllocError>
         ensures texts { IfOk result (λ interner. interner.texts ≡ []) }
         ensures room { IfOk result (λ interner. B.grant capacity ≤ interner.room) }
-        ensures slots { IfOk result (λ interner. IsLeastFor capacity interner.slots) }
+        ensures slots { IfOk result (λ interner. IsLeastFor capacity interner.slot_count) }
     {
         let index = Index::with_capacity(alloc, capacity)?;
         let backend = B::with_capacity(alloc, capacity)?;
@@ -104,7 +104,7 @@ impl<B: Backend, H: TextHasher> StringInterner<B, H> {
     /// No texts, under this hasher. Takes no memory.
     pub fn with_hasher(alloc: Global, hasher: H) -> Self
         ensures texts { result.texts ≡ [] }
-        ensures slots { result.slots ≡ 0 }
+        ensures slots { result.slot_count ≡ 0 }
     {
         StringInterner {
             backend: B::new(alloc),
@@ -160,12 +160,12 @@ impl<B: Backend, H: TextHasher> StringInterner<B, H> {
 
         // Within the room of the backend and of the index, memory is not refused.
         ensures granted { IsSome (B.Symbol.symbol_of (B.place self.old.texts)) → B.cost text.now ≤ self.old.room
-            → Holds self.old.slots (length self.old.texts + 1) → IsOk result }
+            → Holds self.old.slot_count (length self.old.texts + 1) → IsOk result }
 
         // A text takes no more of the room than its cost, and a refused one takes nothing.
         ensures spent { OnOk result (self.old.room ≤ self.new.room + B.cost text.now) }
         ensures unspent { OnErr result (self.old.room ≤ self.new.room) }
-        ensures slots { GrowsIfFull (length self.old.texts) self.old.slots self.new.slots }
+        ensures slots { GrowsIfFull (length self.old.texts) self.old.slot_count self.new.slot_count }
     {
         match seek(&self.backend, &self.hasher, &mut self.index, text)? {
             Sought::Known(symbol) => Ok(symbol),
@@ -188,12 +188,12 @@ impl<B: Backend, H: TextHasher> StringInterner<B, H> {
 
         // Within the room of the backend and of the index, memory is not refused.
         ensures granted { IsSome (B.Symbol.symbol_of (B.place self.old.texts)) → B.cost text.now ≤ self.old.room
-            → Holds self.old.slots (length self.old.texts + 1) → IsOk result }
+            → Holds self.old.slot_count (length self.old.texts + 1) → IsOk result }
 
         // A text takes no more of the room than its cost, and a refused one takes nothing.
         ensures spent { OnOk result (self.old.room ≤ self.new.room + B.cost text.now) }
         ensures unspent { OnErr result (self.old.room ≤ self.new.room) }
-        ensures slots { GrowsIfFull (length self.old.texts) self.old.slots self.new.slots }
+        ensures slots { GrowsIfFull (length self.old.texts) self.old.slot_count self.new.slot_count }
     {
         match seek(&self.backend, &self.hasher, &mut self.index, text)? {
             Sought::Known(symbol) => Ok(symbol),
@@ -213,7 +213,7 @@ impl<B: Backend, H: TextHasher> StringInterner<B, H> {
         ensures buckets { self.new.buckets ≡ self.old.buckets }
         ensures room { self.new.room ≤ self.old.room }
         ensures frees { self.old.texts ≡ [] → self.new.room ≡ 0 }
-        ensures slots { self.new.slots ≡ self.old.slots }
+        ensures slots { self.new.slot_count ≡ self.old.slot_count }
     {
         self.backend.shrink_to_fit();
     }
@@ -227,7 +227,7 @@ impl<B: Backend, H: TextHasher> StringInterner<B, H> {
         ensures same { length self.old.texts ≤ len → self.new ≡ self.old }
         ensures buckets { self.new.buckets ≡ self.old.buckets }
         ensures room { self.old.room ≤ self.new.room }
-        ensures slots { self.new.slots ≡ self.old.slots }
+        ensures slots { self.new.slot_count ≡ self.old.slot_count }
     {
         if len < self.backend.count() {
             self.index.keeps();
@@ -267,7 +267,7 @@ impl<B: CopyBackend + Drop, H: TextHasher + Clone + Drop> StringInterner<B, H> {
     /// Refuses only where memory was refused or a size does not fit a `usize`.
     pub fn clone(&self) -> Result<Self, AllocError>
         ensures texts { IfOk result (λ copy. copy.texts ≡ self.now.texts) }
-        ensures slots { IfOk result (λ copy. IsLeastFor (length self.now.texts) copy.slots) }
+        ensures slots { IfOk result (λ copy. IsLeastFor (length self.now.texts) copy.slot_count) }
     {
         let hasher = self.hasher.clone()?;
         let mut index = Index::with_capacity(self.index.allocator(), self.len())?;

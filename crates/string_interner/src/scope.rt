@@ -37,7 +37,7 @@ impl<B: Backend, H: TextHasher> Model for Scopes<B, H> {
       below = layers_below (reverse s.starts.items) s.interner.texts;
       buckets = s.interner.buckets;
       room = s.interner.room;
-      slots = s.interner.slots;
+      slot_count = s.interner.slot_count;
     } };
 
     ghost invariant = { λ s. AreStarts (reverse s.starts.items) (length s.interner.texts) };
@@ -79,7 +79,7 @@ impl<B: Backend, H: TextHasher> Scopes<B, H> {
         ensures step { LayerStep (layers self.old) (layers self.new) }
         ensures buckets { self.new.buckets ≡ self.old.buckets }
         ensures room { self.old.room ≤ self.new.room }
-        ensures slots { self.new.slots ≡ self.old.slots }
+        ensures slots { self.new.slot_count ≡ self.old.slot_count }
     {
         match self.starts.pop() {
             Some(start) => {
@@ -110,12 +110,12 @@ impl<B: Backend, H: TextHasher> Scopes<B, H> {
         // Within the room of the backend and of the index, memory is not refused.
         ensures granted { IsSome (B.Symbol.symbol_of (B.place (joined_layers (layers self.old))))
             → B.cost text.now ≤ self.old.room
-            → Holds self.old.slots (length (joined_layers (layers self.old)) + 1) → IsOk result }
+            → Holds self.old.slot_count (length (joined_layers (layers self.old)) + 1) → IsOk result }
 
         // A text takes no more of the room than its cost, and a refused one takes nothing.
         ensures spent { OnOk result (self.old.room ≤ self.new.room + B.cost text.now) }
         ensures unspent { OnErr result (self.old.room ≤ self.new.room) }
-        ensures slots { GrowsIfFull (length (joined_layers (layers self.old))) self.old.slots self.new.slots }
+        ensures slots { GrowsIfFull (length (joined_layers (layers self.old))) self.old.slot_count self.new.slot_count }
     {
         self.interner.get_or_intern(text)
     }
