@@ -6,7 +6,7 @@ use Rattle.std.specs.List.{Contains}
 use Rattle.std.specs.Option.{IsSome, option_and_then, option_map_or}
 use Rattle.std.specs.Str.{bytes_eq}
 use Rattle.string_interner.specs.Slots.{probed, symbols, filled_run, first_passing}
-use Rattle.string_interner.specs.Index.{Fits, has_text, look_up, run_of, text_in}
+use Rattle.string_interner.specs.Index.{Fits, has_text, look_up, filled_run_of, text_in}
 use Rattle.string_interner.specs.Probe.{FillsSlot}
 use Rattle.string_interner.proofs.Probing.{get_or-probe}
 use Rattle.string_interner.specs.Text.{Text}
@@ -85,9 +85,9 @@ module _ {S : Type 0} (entry : S → Option Text) where
         let q : s ≡ u = cc in q
 
     -- the filled run of a text has its symbol, if any slot has
-    pub Fits-find : (t : Text) → first_passing (has_text entry t) (run_of code slots t) ≡ look_up entry slots t
+    pub Fits-find : (t : Text) → first_passing (has_text entry t) (filled_run_of code slots t) ≡ look_up entry slots t
     Fits-find t =
-        same_first (has_text entry t) (run_of code slots t) (symbols slots)
+        same_first (has_text entry t) (filled_run_of code slots t) (symbols slots)
         (λ s e h. Contains-symbols slots s (Contains-turned slots (code t % length slots) (Some s) (run-in (probed slots (code t % length slots)) s h)))
         (λ s e h. fits.placed s t (symbols-in slots s h) (entry_from_has t s e))
         (Fits-one t)
@@ -162,7 +162,7 @@ module _ {S : Type 0} (old new : List (Option S)) (home : ℕ) (symbol : S) (p :
       entries = λ s h. elim (FillsSlot-cases s h) as (λ _. IsSome (entry s))
           [ inl e ↦ (let q : entry s ≡ Some t = ap entry (sym e) ∙ is in rw q refl) | inr o ↦ fits.entries s o ];
       distinct = distinct;
-      placed = λ s u h r. elim (FillsSlot-cases s h) as (λ _. Contains (run_of code new u) s) [
+      placed = λ s u h r. elim (FillsSlot-cases s h) as (λ _. Contains (filled_run_of code new u) s) [
         | inl e ↦ (let q : Some u ≡ Some t = sym r ∙ ap entry (sym e) ∙ is in let v : u ≡ t = cc in
             let w : home ≡ code u % length new = at_home ∙ ap (λ n. code t % n) (sym FillsSlot-length) ∙ ap (λ x. code x % length new) (sym v) in
             subst (Runs s) w (subst (λ (x : S). Runs x home) e p.placed))

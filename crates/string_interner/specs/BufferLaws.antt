@@ -13,7 +13,7 @@ use Rattle.std.proofs.lemmas.Option.{slice_get-get_or}
 use Rattle.std.proofs.lemmas.Str.{is_utf8-from_IsUtf8}
 use Rattle.string_interner.specs.Text.{Text}
 use Rattle.string_interner.specs.Backend.{IsKept}
-use Rattle.string_interner.specs.Spelling.{spell_within, spell, digits, IsLeastCount, IsChain, value, front_len, front_value, after_front}
+use Rattle.string_interner.specs.Spelling.{spell_within, spell, digits, IsLeastDigitCount, IsChain, value, front_len, front_value, after_front}
 use Rattle.string_interner.specs.BufferBackend.{entry_of, bytes_of, entry_len, place_of, read_front, read_at}
 
 -- Spelling a number.
@@ -89,7 +89,7 @@ digits-least_large n large ih (suc (suc k)) one h =
     let below : n / 128 < 128 ^ suc k = omega arith in
     omega (arith, digits-large n large, ih (suc k) (omega arith) below)
 
-pub digits-least_count : (n : ℕ) → IsLeastCount n (digits n)
+pub digits-least_count : (n : ℕ) → IsLeastDigitCount n (digits n)
 digits-least_count n = record {
   positive = digits-positive n;
   enough = by_digits (λ n. n < 128 ^ digits n) (λ n small. rw (digits-small n small) (omega arith)) digits-enough_large n;

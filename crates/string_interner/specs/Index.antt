@@ -33,7 +33,7 @@ abbrev pub IsSlotCount : ℕ → Type 0
 IsSlotCount n = (n ≡ 0) ⊎ ((k : ℕ) × (n ≡ 8 * 2 ^ k))
 
 -- the least allowed count of slots that has room for this many entries
-pub record IsLeastFor (capacity n : ℕ) : Type 0 where
+pub record IsLeastSlotCount (capacity n : ℕ) : Type 0 where
   pub allowed : IsSlotCount n
   pub room : Holds n capacity
   pub least : (m : ℕ) → IsSlotCount m → Holds m capacity → n ≤ m
@@ -53,8 +53,8 @@ pub record IsSound {S : Type 0} (index : Indexed S) (len : ℕ) : Type 0 where
   pub put_back : 4 * index.put_back ≤ 3 * length index.slots
 
 -- the symbols from a text's home on, up to the first empty slot
-abbrev pub run_of : {S : Type 0} → (Text → ℕ) → List (Option S) → Text → List S
-run_of code slots text = filled_run (probed slots (code text % length slots))
+abbrev pub filled_run_of : {S : Type 0} → (Text → ℕ) → List (Option S) → Text → List S
+filled_run_of code slots text = filled_run (probed slots (code text % length slots))
 
 module _ {S : Type 0} (entry : S → Option Text) where
   -- whether the symbol's entry has this text
@@ -95,7 +95,7 @@ module _ {S : Type 0} (entry : S → Option Text) where
       -- no two slots have one text
       pub distinct : (j k : ℕ) (text : Text) → text_in slots j ≡ Some text → text_in slots k ≡ Some text → j ≡ k
       -- each symbol is in the filled run of its text
-      pub placed : (symbol : S) (text : Text) → Contains slots (Some symbol) → entry symbol ≡ Some text → Contains (run_of code slots text) symbol
+      pub placed : (symbol : S) (text : Text) → Contains slots (Some symbol) → entry symbol ≡ Some text → Contains (filled_run_of code slots text) symbol
 
     -- the symbol is added, and nothing else changes but the counts of entries
     pub record Inserts (old new : Indexed S) (symbol : S) : Type 0 where

@@ -18,7 +18,7 @@ unfoldable pub digits : ℕ → ℕ
 digits n = length (spell n)
 
 -- the least count of digits, from one on, that is enough for a number
-pub record IsLeastCount (n count : ℕ) : Type 0 where
+pub record IsLeastDigitCount (n count : ℕ) : Type 0 where
   pub positive : 1 ≤ count
   pub enough : n < 128 ^ count
   pub least : (k : ℕ) → 1 ≤ k → n < 128 ^ k → count ≤ k

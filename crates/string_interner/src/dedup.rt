@@ -11,12 +11,12 @@ ghost use Rattle.string_interner.specs.Text.{IsDistinct};
 ghost use Rattle.string_interner.specs.Backend.{IsKept};
 ghost use Rattle.string_interner.specs.Entry.{entry_text};
 ghost use Rattle.string_interner.specs.Slots.{IsFilledRun, symbols};
-ghost use Rattle.string_interner.specs.Index.{entry_count, Fits, FitsAll, Grows, GrowsTo, HasRoom, Holds, Inserts, IsAbsent, IsBounded, IsLeastFor, IsWhole, Refills, SameMap, look_up, text_of};
+ghost use Rattle.string_interner.specs.Index.{entry_count, Fits, FitsAll, Grows, GrowsTo, HasRoom, Holds, Inserts, IsAbsent, IsBounded, IsLeastSlotCount, IsWhole, Refills, SameMap, look_up, text_of};
 ghost use Rattle.string_interner.specs.Probe.{IsFree, IsVacant};
 
 use crate::backend::Backend;
 use crate::symbol::Symbol;
-use growing::{least_count, next_count, put_all, rebuilt};
+use growing::{least_slot_count, next_slot_count, put_all, rebuilt};
 pub use hasher::{DefaultHashBuilder, FixedState, TextHasher};
 pub(crate) use probe::Vacancy;
 use probe::{Ended, home_of, probe, settle};
@@ -75,14 +75,14 @@ impl<S: Symbol> Index<S> {
     ///
     /// Refuses only where memory was refused or that count does not fit a `usize`.
     pub fn with_capacity(alloc: Global, capacity: usize) -> Result<Self, AllocError>
-        ensures slots { IfOk result (λ index. IsLeastFor capacity (length index.slots)) }
+        ensures slots { IfOk result (λ index. IsLeastSlotCount capacity (length index.slots)) }
         ensures count { IfOk result (λ index. entry_count index ≡ 0) }
         ensures put_back { IfOk result (λ index. index.put_back ≡ 0) }
         ensures greatest { IfOk result (λ index. index.greatest ≡ 0) }
         ensures fits { IfOk result (λ index. FitsAll index.slots) }
         ensures fits_usize { OnOk result (Holds (2 ^ 63) capacity) }
     {
-        let count = least_count(capacity).ok_or(AllocError)?;
+        let count = least_slot_count(capacity).ok_or(AllocError)?;
         Ok(Index {
             slots: Slots::empty(alloc, count)?,
             len: 0,
@@ -234,7 +234,7 @@ impl<S: Symbol> Index<S> {
         if self.has_room() {
             return Ok(());
         }
-        let count = next_count(self.slots.len()).ok_or(AllocError)?;
+        let count = next_slot_count(self.slots.len()).ok_or(AllocError)?;
         // The bigger slots are built first, so that a refusal leaves all as it was.
         let bigger = rebuilt(&mut self.slots, count, hasher, backend, self.alloc)?;
         self.grow(bigger);
@@ -265,7 +265,7 @@ impl<S: Symbol> Index<S> {
         if self.has_room() {
             return Ok(false);
         }
-        let count = next_count(self.slots.len()).ok_or(AllocError)?;
+        let count = next_slot_count(self.slots.len()).ok_or(AllocError)?;
         let mut bigger = Slots::empty(self.alloc, count)?;
         put_all(&mut bigger, hasher, backend);
         self.grow(bigger);

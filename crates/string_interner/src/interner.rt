@@ -9,7 +9,7 @@ ghost use Rattle.std.specs.Cmp.{partial_equiv_from_equiv, on_equiv};
 ghost use Rattle.string_interner.specs.Text.{Text, IsDistinct, first, texts_eq, texts_eq-IsEquivalence};
 ghost use Rattle.string_interner.specs.Backend.{BeginsAt, IsPlace, IsKept};
 ghost use Rattle.string_interner.specs.Interner.{GrowsIfFull, Interned, Interns, known_symbol};
-ghost use Rattle.string_interner.specs.Index.{Holds, IsLeastFor};
+ghost use Rattle.string_interner.specs.Index.{Holds, IsLeastSlotCount};
 
 use crate::backend::{Backend, CopyBackend, InternError, Iter};
 use crate::dedup::{DefaultHashBuilder, Index, Looks, TextHasher};
@@ -71,7 +71,7 @@ impl<B: Backend, H: TextHasher + Default + Drop> StringInterner<B, H> {
     pub fn with_capacity(alloc: Global, capacity: usize) -> Result<Self, AllocError>
         ensures texts { IfOk result (λ interner. interner.texts ≡ []) }
         ensures room { IfOk result (λ interner. B.grant capacity ≤ interner.room) }
-        ensures slots { IfOk result (λ interner. IsLeastFor capacity interner.slot_count) }
+        ensures slots { IfOk result (λ interner. IsLeastSlotCount capacity interner.slot_count) }
     {
         StringInterner::with_capacity_and_hasher(alloc, capacity, H::default())
     }
@@ -88,7 +88,7 @@ impl<B: Backend, H: TextHasher + Drop> StringInterner<B, H> {
     ) -> Result<Self, AllocError>
         ensures texts { IfOk result (λ interner. interner.texts ≡ []) }
         ensures room { IfOk result (λ interner. B.grant capacity ≤ interner.room) }
-        ensures slots { IfOk result (λ interner. IsLeastFor capacity interner.slot_count) }
+        ensures slots { IfOk result (λ interner. IsLeastSlotCount capacity interner.slot_count) }
     {
         let index = Index::with_capacity(alloc, capacity)?;
         let backend = B::with_capacity(alloc, capacity)?;
@@ -267,7 +267,7 @@ impl<B: CopyBackend + Drop, H: TextHasher + Clone + Drop> StringInterner<B, H> {
     /// Refuses only where memory was refused or a size does not fit a `usize`.
     pub fn clone(&self) -> Result<Self, AllocError>
         ensures texts { IfOk result (λ copy. copy.texts ≡ self.now.texts) }
-        ensures slots { IfOk result (λ copy. IsLeastFor (length self.now.texts) copy.slot_count) }
+        ensures slots { IfOk result (λ copy. IsLeastSlotCount (length self.now.texts) copy.slot_count) }
     {
         let hasher = self.hasher.clone()?;
         let mut index = Index::with_capacity(self.index.allocator(), self.len())?;

@@ -7,7 +7,7 @@ ghost use Rattle.std.specs.Option.{option_copied};
 ghost use Rattle.std.specs.Cmp.{partial_equiv_from_equiv, on_equiv};
 ghost use Rattle.string_interner.specs.Text.{Text, texts_eq, texts_eq-IsEquivalence};
 ghost use Rattle.string_interner.specs.Backend.{Contents, BeginsAt, IsKept};
-ghost use Rattle.string_interner.specs.Spelling.{digits, IsLeastCount};
+ghost use Rattle.string_interner.specs.Spelling.{digits, IsLeastDigitCount};
 ghost use Rattle.string_interner.specs.BufferBackend.{entry_of, bytes_of, entry_len, place_of, Reads, read_front, read_at, HasEntryAt};
 ghost use Rattle.string_interner.specs.BufferLaws.{entry_len-positive, place_grows, reads_at_place};
 
@@ -91,7 +91,7 @@ impl<S: Symbol> BufferBackend<S> {
         ensures kept { IsKept S.symbol_of place_of self.now.texts }
 
         // A length has no more digits than it needs.
-        ensures lengths { (n : ℕ) → IsLeastCount n (digits n) }
+        ensures lengths { (n : ℕ) → IsLeastDigitCount n (digits n) }
     {
         &self.bytes
     }

@@ -3,7 +3,7 @@
 ghost use Rattle.std.specs.Prelude.{◌≡◌, ◌*◌, ◌<◌, ◌≤◌, ◌^◌, length, IfNone, IfOk, IfSome, OnSome, [], Some};
 ghost use Rattle.string_interner.specs.Entry.{entry_text};
 ghost use Rattle.string_interner.specs.Slots.{symbols};
-ghost use Rattle.string_interner.specs.Index.{Fits, GrowsTo, Holds, IsWhole, IsLeastFor, IsSlotCount};
+ghost use Rattle.string_interner.specs.Index.{Fits, GrowsTo, Holds, IsWhole, IsLeastSlotCount, IsSlotCount};
 ghost use Rattle.string_interner.specs.Text.{IsDistinct};
 ghost use Rattle.string_interner.specs.Backend.{IsKept};
 ghost use Rattle.string_interner.specs.Probe.{Rebuilt};
@@ -64,7 +64,7 @@ pub fn put_all<S: Symbol, H: TextHasher, B: Backend<Symbol = S>>(
 }
 
 /// The count of slots after so many, where it fits a `usize`: 8 after none, and else twice as many.
-pub fn next_count(count: usize) -> Option<usize>
+pub fn next_slot_count(count: usize) -> Option<usize>
     ensures some { IfSome result (GrowsTo count) }
     ensures none { IfNone result (2 ^ 63 ≤ count) }
 {
@@ -76,8 +76,8 @@ pub fn next_count(count: usize) -> Option<usize>
 }
 
 /// The least allowed count of slots that has room for so many entries, where it fits a `usize`.
-pub fn least_count(capacity: usize) -> Option<usize>
-    ensures least { IfSome result (IsLeastFor capacity) }
+pub fn least_slot_count(capacity: usize) -> Option<usize>
+    ensures least { IfSome result (IsLeastSlotCount capacity) }
     ensures fits { OnSome result (Holds (2 ^ 63) capacity) }
     ensures none { IfNone result (3 * 2 ^ 63 < 4 * capacity) }
 {

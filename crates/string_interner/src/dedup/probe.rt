@@ -93,7 +93,7 @@ pub fn settle<S: Symbol>(slots: &mut Slots<S>, vacancy: Vacancy, symbol: S)
     ensures small { length slots.old < 2 ^ 64 }
 {
     match vacancy.at {
-        Some(at) => slots.fill(at, symbol),
+        Some(at) => slots.set(at, symbol),
         None => put_by_code(slots, vacancy.code, symbol),
     }
 }

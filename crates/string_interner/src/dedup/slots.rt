@@ -139,7 +139,7 @@ impl<S: Symbol> Slots<S> {
 
     /// Puts the symbol into this slot.
     #[inline(always)]
-    pub fn fill(&mut self, at: usize, symbol: S)
+    pub fn set(&mut self, at: usize, symbol: S)
         requires { at < length self.old }
         ensures set { self.new ≡ slice_set self.old at (Some symbol) }
         ensures small { length self.old < 2 ^ 64 }
@@ -165,7 +165,7 @@ impl<S: Symbol> Slots<S> {
         let mut at = home;
         for _step in 0..count {
             if self.symbol_at(at).is_none() {
-                self.fill(at, symbol);
+                self.set(at, symbol);
                 return;
             }
             at = if at + 1 < count { at + 1 } else { 0 };

@@ -10,4 +10,4 @@ put_all-requires-clause-empty g c = rw c.in_ok-bigger.ensures (symbols-replicate
 
 pub put_all-requires-clause-count : goal.put_all-requires-clause-count
 put_all-requires-clause-count g c = subst IsSlotCount (sym (ap length c.in_ok-bigger.ensures ∙ length-replicate c.in_ok-count.count None))
-    (IsSlotCount-grown _ _ c.self.invariant.bounded.allowed (subst (λ n. GrowsTo n c.in_ok-count.count) c.len.ensures (rw c.in_ok-count.ensures.ok_part at c.next_count.ensures.some)))
+    (IsSlotCount-grown _ _ c.self.invariant.bounded.allowed (subst (λ n. GrowsTo n c.in_ok-count.count) c.len.ensures (rw c.in_ok-count.ensures.ok_part at c.next_slot_count.ensures.some)))

@@ -14,8 +14,8 @@ returns-clause-same g c =
 
 pub rebuilt-requires-clause-count : goal.rebuilt-requires-clause-count
 rebuilt-requires-clause-count g c = IsSlotCount-grown _ _ c.self.invariant.bounded.allowed
-    (subst (λ n. GrowsTo n c.in_ok-count.count) c.len.ensures (rw c.in_ok-count.ensures.ok_part at c.next_count.ensures.some))
+    (subst (λ n. GrowsTo n c.in_ok-count.count) c.len.ensures (rw c.in_ok-count.ensures.ok_part at c.next_slot_count.ensures.some))
 
 pub rebuilt-requires-clause-more : goal.rebuilt-requires-clause-more
 rebuilt-requires-clause-more g c = GrowsTo-more _ _
-    (subst (λ n. GrowsTo n c.in_ok-count.count) c.len.ensures (rw c.in_ok-count.ensures.ok_part at c.next_count.ensures.some))
+    (subst (λ n. GrowsTo n c.in_ok-count.count) c.len.ensures (rw c.in_ok-count.ensures.ok_part at c.next_slot_count.ensures.some))

@@ -12,7 +12,7 @@ pub invariant_of-result : goal.invariant_of-result
 invariant_of-result g c =
     let e = ap (λ xs. length (symbols xs)) c.in_ok-empty.ensures ∙ no_symbols g.row.S.Denot c.in_ok-count.count in
     let n : length c.in_ok-empty.field-0 ≡ c.in_ok-count.count = ap length c.in_ok-empty.ensures ∙ length-replicate c.in_ok-count.count None in
-    let least = rw c.in_ok-count.ensures.ok_part at c.least_count.ensures.least in
+    let least = rw c.in_ok-count.ensures.ok_part at c.least_slot_count.ensures.least in
     record {
       counted = omega arith;
       bounded = record { allowed = subst IsSlotCount (sym n) least.allowed; load = omega arith; put_back = omega arith; greatest = omega arith };

@@ -9,7 +9,7 @@ returns-then-is_none g c =
     let inv = c.loop-step.invariant in let slots = c.args.self.now in
     let n : c.len-count.result ≡ length slots = c.len-count.ensures in
     let e = ap (λ xs. get_or xs c.loop-step.at None) (sym inv.same) ∙ sym c.symbol_at.ensures.symbol ∙ empty_from c.symbol_at.result c.if-is_none.ensures in
-    rw (c.fill.ensures.set, c.symbol_at.ensures.same, inv.same) (puts_at slots _ c.requires.home _ _ _ inv.walked (omega arith) e)
+    rw (c.set.ensures.set, c.symbol_at.ensures.same, inv.same) (puts_at slots _ c.requires.home _ _ _ inv.walked (omega arith) e)
 
 pub loop-step-preserved : goal.loop-step-preserved
 loop-step-preserved g c =

@@ -1,6 +1,6 @@
 use Rattle.std.proofs.Common.{ℕ, ◌≡◌, ◌<◌, ◌≤◌, ◌*◌, ◌-◌, ◌^◌}
 use Rattle.string_interner.specs.Index.{IsSlotCount}
-use Rattle.string_interner.proofs.dedup.growing.least_count.Given as goal
+use Rattle.string_interner.proofs.dedup.growing.least_slot_count.Given as goal
 
 abbrev pub invariant-loop-count : goal.invariant-loop-count
 invariant-loop-count l = record {
