@@ -1,3 +1,4 @@
+-- Texts that are joined and cut at their ends: where each begins and ends, and what one more or fewer text does.
 use Rattle.std.proofs.Common.{add-one, suc, zero, ◌≡◌, ℕ, ◌+◌, ◌-◌, ◌<◌, ◌≤◌, ◌^◌, List, [], ◌∷◌, ◌++◌, length, take, drop, refl, sym, ap, ◌∙◌, arith, All, Option, Some, IsSome, get_or}
 use Rattle.std.specs.Prelude.{slice_get, slice_range}
 use Rattle.std.specs.Str.{IsUtf8, IsCharBoundary}

@@ -1,3 +1,4 @@
+-- What a walk over the entries of a list yields, and where it ends.
 use Rattle.std.proofs.Common.{ℕ, Bor, None, Bool, true, false, ◌≡◌, ◌<◌, ◌+◌, List, [], ◌∷◌, ◌++◌, length, take, drop, Option, Some, map, refl, sym, ap, ◌∙◌}
 use Rattle.std.specs.Prelude.{slice_get, is_some, not}
 use Rattle.std.specs.Iterator.{YieldsFirstBy}

@@ -1,3 +1,4 @@
+-- Two lists are equal exactly where what they lie in is.
 use Rattle.std.proofs.Common.{ℕ, ◌≡◌, ◌∙◌, List, refl, sym, ap, Bool, true, false}
 use Rattle.std.specs.Prelude.{◌&&◌}
 use Rattle.std.specs.Bool.{Decides}

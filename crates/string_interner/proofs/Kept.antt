@@ -1,3 +1,4 @@
+-- What a backend keeps to holds of one more text.
 use Rattle.std.proofs.Common.{ℕ, ◌<◌, ◌≤◌, ◌^◌, List, [], ◌∷◌, ◌++◌, length, take, arith, Option, IsSome, below_more}
 use Rattle.std.specs.Str.{IsUtf8}
 use Rattle.std.proofs.lemmas.List.{length_push, take-append-le, take_all}

@@ -8,7 +8,7 @@ pub mod Entries
 pub mod EntryTexts
 pub mod Equal
 pub mod FilledRuns
-pub mod Filling
+pub mod SlotSymbols
 pub mod Firsts
 pub mod Fronts
 pub mod Growing

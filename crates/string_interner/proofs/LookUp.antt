@@ -1,3 +1,4 @@
+-- The map from text to symbol that slots hold, before and after a symbol is put into one.
 use Rattle.std.proofs.Common.{◌≡◌, ℕ, zero, suc, ◌+◌, ◌-◌, ◌<◌, ◌%◌, ◌≢◌, ◌⊎◌, Bool, true, false, cond, List, [], ◌∷◌, Option, Some, None, length, get_or, set, refl, sym, ap, subst, ◌∙◌, inl, inr, arith}
 use Rattle.std.proofs.lemmas.List.{length-set, get_or-set_same, get_or-set_other, get_or_default}
 use Rattle.std.proofs.lemmas.Bool.{cases_eq, cases_lt}
@@ -10,7 +11,7 @@ use Rattle.string_interner.specs.Index.{Fits, has_text, look_up, filled_run_of, 
 use Rattle.string_interner.specs.Probe.{FillsSlot}
 use Rattle.string_interner.proofs.Probing.{get_or-probe}
 use Rattle.string_interner.specs.Text.{Text}
-use Rattle.string_interner.proofs.Filling.{here, there, none, head_or_tail, set_cases, set_here, set_there, Contains-symbols, symbols-in, run-in, run-set, symbols-set, probe-set, Contains-turned}
+use Rattle.string_interner.proofs.SlotSymbols.{here, there, none, head_or_tail, set_cases, set_here, set_there, Contains-symbols, symbols-in, run-in, run-set, symbols-set, probe-set, Contains-turned}
 
 module _ {S : Type 0} (test : S → Bool) where
   -- what is known of the first that passes

@@ -13,7 +13,7 @@ use Rattle.string_interner.specs.Slots.{symbols}
 use Rattle.string_interner.specs.Index.{Fits, Indexed}
 use Rattle.string_interner.specs.Probe.{FillsSlot}
 use Rattle.string_interner.specs.Interner.{IsInterned}
-use Rattle.string_interner.proofs.Filling.{none, Contains-symbols}
+use Rattle.string_interner.proofs.SlotSymbols.{none, Contains-symbols}
 use Rattle.string_interner.proofs.Firsts.{first_new}
 use Rattle.string_interner.proofs.Fronts.{kept-front}
 use Rattle.string_interner.proofs.Indexing.{inserted}

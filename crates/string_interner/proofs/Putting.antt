@@ -6,7 +6,7 @@ use Rattle.std.specs.Option.{is_some}
 use Rattle.string_interner.specs.Slots.{probed, symbols, filled_run}
 use Rattle.string_interner.specs.Probe.{IsFree, FillsSlot}
 use Rattle.string_interner.proofs.Probing.{Walked, Walked-empty, Walked-more, length-probe}
-use Rattle.string_interner.proofs.Filling.{run-set_end, probe-set, run_within}
+use Rattle.string_interner.proofs.SlotSymbols.{run-set_end, probe-set, run_within}
 
 module _ {S : Type 0} (slots : List (Option S)) (home : ℕ) (h : home < length slots) where
   abbrev pub On : ℕ → ℕ → Type 0

@@ -7,7 +7,7 @@ use Rattle.std.specs.Option.{IsSome, option_and_then}
 use Rattle.string_interner.specs.Slots.{symbols, first_passing}
 use Rattle.string_interner.specs.Index.{Fits, SameMap, has_text, look_up, text_in, text_of}
 use Rattle.string_interner.specs.Probe.{FillsSlot, Rebuilt}
-use Rattle.string_interner.proofs.Filling.{none, head_or_tail, Contains-symbols, symbols-in, symbols-append, length-symbols}
+use Rattle.string_interner.proofs.SlotSymbols.{none, head_or_tail, Contains-symbols, symbols-in, symbols-append, length-symbols}
 use Rattle.string_interner.proofs.LookUp.{FirstIs, first_is, same_first, entry_from_has, text_in-from, at_slot, Fits-one, FillsSlot-fits, FillsSlot-symbols, FillsSlot-cases, FillsSlot-here, FillsSlot-there}
 use Rattle.string_interner.specs.Text.{Text}
 use Rattle.string_interner.proofs.Indexing.{text_of_is}

@@ -8,7 +8,7 @@ use Rattle.std.specs.Option.{IsSome, option_and_then, option_map_or}
 use Rattle.std.specs.Str.{bytes_eq}
 use Rattle.string_interner.specs.Slots.{symbols, first_passing}
 use Rattle.string_interner.specs.Index.{Fits, has_text, look_up, text_in}
-use Rattle.string_interner.proofs.Filling.{here, there, symbols-in}
+use Rattle.string_interner.proofs.SlotSymbols.{here, there, symbols-in}
 use Rattle.string_interner.specs.Text.{Text}
 
 module _ {S : Type 0} where

@@ -2,7 +2,7 @@ use Rattle.string_interner.specs.Entry.{entry_text}
 use Rattle.std.proofs.Common.{◌≡◌, ◌<◌, ◌%◌, arith, ap, ◌∙◌, length}
 use Rattle.string_interner.specs.Slots.{probed, filled_run, first_passing, symbols}
 use Rattle.string_interner.specs.Index.{has_text}
-use Rattle.string_interner.proofs.Filling.{run_within}
+use Rattle.string_interner.proofs.SlotSymbols.{run_within}
 use Rattle.string_interner.proofs.LookUp.{Fits-find}
 use Rattle.string_interner.proofs.FilledRuns.{run-le}
 use Rattle.string_interner.proofs.dedup.Index.seek.Goals as goal

@@ -1,3 +1,4 @@
+-- What a list contains once it is turned or set in one place, and which symbols stand in slots.
 use Rattle.std.proofs.Common.{◌≡◌, ℕ, zero, suc, ◌+◌, ◌-◌, ◌<◌, ◌≤◌, ◌≢◌, ◌⊎◌, List, [], ◌∷◌, ◌++◌, Option, Some, None, length, get_or, set, take, drop, refl, sym, ap, subst, ◌∙◌, inl, inr, arith}
 use Rattle.std.proofs.lemmas.List.{take-append-drop, length-append, length-drop, length-set, get_or-set_same, drop-set-add, drop-set-lt, take-set-le, set-append_left, set-append_right}
 use Rattle.std.proofs.Math.Seq.{take-set-lt}
