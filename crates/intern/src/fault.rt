@@ -8,14 +8,19 @@ use thiserror::Error;
 /// Why the program failed. Its text is the message for standard error.
 #[derive(Debug, Drop, Error)]
 pub enum Fault {
+    /// The arguments are not one word that names a backend.
     #[error("usage: intern string|bucket|buffer")]
     Usage,
+    /// Reading failed, or the input is not UTF-8.
     #[error("cannot read input")]
     Input,
+    /// The line with this number, counted from 1, is the first that states no command.
     #[error("bad line {0}")]
     BadLine(usize),
+    /// Memory was refused for the input, the commands or the replies.
     #[error("out of memory")]
     Memory,
+    /// Writing failed.
     #[error("cannot write output")]
     Output,
 }
