@@ -33,11 +33,10 @@ list_answer texts earlier (Intern t) = entry (unwrap_or (first texts t.now) (len
 list_answer texts earlier (InternStatic t) = entry (unwrap_or (first texts t.now) (length texts))
 list_answer texts earlier (Get t) = option_map_or entry (first texts t.now) nothing
 list_answer texts earlier (Resolve k) = option_map_or text (option_and_then (slice_get texts) (index_told (slice_get earlier k))) no_reply
--- (not asked of: `KeepsToTexts`)
+-- nothing is said of lists of commands that have this one or `Truncate`: `KeepsToTexts`
 list_answer texts earlier (Number n) = nothing
 list_answer texts earlier Len = count (length texts)
 list_answer texts earlier Shrink = done
--- (not asked of)
 list_answer texts earlier (Truncate len) = done
 list_answer texts earlier (Extend ts) = done
 

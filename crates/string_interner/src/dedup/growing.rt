@@ -1,4 +1,4 @@
-//! How many slots there are, and putting all symbols back into new ones.
+//! How many slots an index is to have, and putting all symbols into slots that are empty.
 
 ghost use Rattle.std.specs.Prelude.{◌≡◌, ◌*◌, ◌<◌, ◌≤◌, ◌^◌, length, IfNone, IfOk, IfSome, OnSome, [], Some};
 ghost use Rattle.string_interner.specs.Entry.{entry_text};
