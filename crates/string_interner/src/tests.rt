@@ -14,14 +14,27 @@ use crate::interner::StringInterner;
 use crate::symbol::{Symbol, SymbolU32};
 use std::alloc::{AllocError, Global};
 use std::cell::Cell;
+use std::fmt::Debug;
 use std::io;
 use std::marker::Model;
+use std::process::Abort;
 use std::test::Fail;
+
+/// The test fails, and shows both values, where they are not equal. Each `assert_eq!` is a branch of its own to the
+/// prover, which takes it a second or more, and a call of this a third of that.
+pub fn assert_equal<T: Debug + PartialEq + Drop>(rt: &impl Abort, found: T, wanted: T) {
+    assert_eq!(rt; found, wanted);
+}
 
 /// Says that a call was refused memory and left all as it should. The gate refuses the first request of a test for
 /// memory, then the second, and so on, and counts these lines: it stops where there is none.
 pub fn tell_refused(rt: &impl Print, call: &str) -> io::Result<()> {
     println!(rt; "refused: {call}")
+}
+
+/// Says so of a call over a backend.
+pub fn tell_refused_over(rt: &impl Print, call: &str, backend: &str) -> io::Result<()> {
+    println!(rt; "refused: {call} over {backend}")
 }
 
 /// Asks for memory once, at the end of a test. A call that asks again for what it was refused, or that hides a refusal,
@@ -33,18 +46,24 @@ pub fn ask_last(rt: &(impl Print + AllocGlobal)) -> io::Result<()> {
     }
 }
 
+/// A new interner of the texts, or the refusal that met one.
+fn collected<B: Backend + Drop>(
+    alloc: Global,
+    texts: &[&str],
+) -> Result<StringInterner<B>, InternError> {
+    StringInterner::from_iter(alloc, texts.iter().copied())
+}
+
 /// An interner of the texts, for a test of what can be done with it.
 pub fn made_of<B: Backend + Drop>(
     rt: &(impl Print + AllocGlobal),
     texts: &[&str],
 ) -> Result<StringInterner<B>, Fail> {
-    match StringInterner::from_iter(rt.alloc(), texts.iter().copied()) {
-        Ok(made) => Ok(made),
-        Err(_) => {
-            tell_refused(rt, "the set-up of a test")?;
-            Ok(StringInterner::from_iter(rt.alloc(), texts.iter().copied())?)
-        }
+    if let Ok(made) = collected(rt.alloc(), texts) {
+        return Ok(made);
     }
+    tell_refused(rt, "the set-up of a test")?;
+    Ok(collected(rt.alloc(), texts)?)
 }
 
 /// A hasher that gives all texts one code.

@@ -7,10 +7,11 @@ use super::probe::home_of;
 use super::{FixedState, Index, Looks, TextHasher};
 use crate::backend::{Backend, InternError, StringBackend};
 use crate::symbol::{Symbol, SymbolU32};
-use crate::tests::{ByteCount, Constant, ask_last, tell_refused};
+use crate::tests::{ByteCount, Constant, ask_last, assert_equal, tell_refused};
 use std::alloc::{AllocError, Global};
 use std::marker::Model;
 use std::mem::size_of;
+use std::process::Abort;
 use std::test::Fail;
 
 /// A backend of distinct texts with an index of them, by the public calls alone.
@@ -95,16 +96,52 @@ impl<B: Backend + Drop, H: TextHasher + Drop> Filled<B, H> {
     }
 }
 
+/// Adds the decimal numbers below a count, as texts.
+fn add_numbers<B: Backend, H: TextHasher>(
+    alloc: Global,
+    filled: &mut Filled<B, H>,
+    count: usize,
+) -> Result<(), Fail> {
+    for number in 0..count {
+        let _ = filled.add(&format!(in alloc; "{number}")?)?;
+    }
+    Ok(())
+}
+
 /// The decimal numbers below a count, added as texts under a hasher that gives all one code.
 fn with_numbers(
     alloc: Global,
     count: usize,
 ) -> Result<Filled<StringBackend<SymbolU32>, Constant>, Fail> {
     let mut filled = Filled::new(alloc, Constant);
-    for number in 0..count {
-        let _ = filled.add(&format!(in alloc; "{number}")?)?;
-    }
+    add_numbers(alloc, &mut filled, count)?;
     Ok(filled)
+}
+
+/// The number of a symbol, where there is one.
+fn number_of<S: Symbol>(symbol: Option<S>) -> Option<usize> {
+    Some(symbol?.to_usize())
+}
+
+/// Each text is found by its number, or not at all where it has none.
+fn assert_finds<B: Backend, H: TextHasher>(
+    rt: &impl Abort,
+    filled: &Filled<B, H>,
+    numbers: &[(&str, Option<usize>)],
+) {
+    for (text, number) in numbers {
+        let found = number_of(filled.find(text));
+        assert_eq!(rt; found, *number, "of {text}");
+    }
+}
+
+/// How many slots there are, how many entries were put back as these grew, and how many there were at the most.
+fn counts<B: Backend, H: TextHasher>(filled: &Filled<B, H>) -> (usize, usize, usize) {
+    (
+        filled.index.slots(),
+        filled.index.put_back(),
+        filled.index.greatest(),
+    )
 }
 
 #[test]
@@ -120,9 +157,10 @@ fn codes_are_those_of_fnv_1a(rt: HostRuntime) {
 
 #[test]
 fn looks_take_no_bytes(rt: HostRuntime) {
-    assert_eq!(rt;
+    assert_equal(
+        &rt,
         size_of::<Looks<'static, StringBackend<SymbolU32>>>(),
-        size_of::<&StringBackend<SymbolU32>>()
+        size_of::<&StringBackend<SymbolU32>>(),
     );
 }
 
@@ -138,11 +176,15 @@ fn slots_grow_as_entries_come(rt: HostRuntime) -> Result<(), Fail> {
         (24, 32, 18),
         (25, 64, 42),
     ] {
-        let filled = with_numbers(rt.alloc(), entries)?;
-        assert_eq!(rt; filled.index.slots(), slots, "with {entries} entries");
-        assert_eq!(rt; filled.index.put_back(), put_back, "with {entries} entries");
+        let found = counts(&with_numbers(rt.alloc(), entries)?);
+        assert_equal(&rt, found, (slots, put_back, entries));
     }
     Ok(())
+}
+
+/// No room is had for so many entries.
+fn assert_refuses_capacity(rt: &(impl Abort + AllocGlobal), capacity: usize) {
+    assert!(rt; Index::<SymbolU32>::with_capacity(rt.alloc(), capacity).is_err());
 }
 
 #[test]
@@ -160,77 +202,117 @@ fn a_capacity_has_the_least_slots(rt: HostRuntime) -> Result<(), Fail> {
         (49, 128),
     ] {
         let index = Index::<SymbolU32>::with_capacity(rt.alloc(), capacity)?;
-        assert_eq!(rt; index.slots(), slots, "for {capacity}");
-        assert_eq!(rt; index.put_back(), 0);
+        let found = (index.slots(), index.put_back());
+        assert_eq!(rt; found, (slots, 0), "for {capacity}");
     }
-    for capacity in [1 << 63, usize::MAX] {
-        assert!(rt; Index::<SymbolU32>::with_capacity(rt.alloc(), capacity).is_err());
+    assert_refuses_capacity(&rt, 1 << 63);
+    assert_refuses_capacity(&rt, usize::MAX);
+    Ok(())
+}
+
+/// The decimal numbers below 13 are found, and no more of the first 26 are.
+fn assert_finds_thirteen<B: Backend, H: TextHasher>(
+    rt: &(impl Abort + AllocGlobal),
+    filled: &Filled<B, H>,
+) -> Result<(), Fail> {
+    for number in 0..26 {
+        let text = format!(in rt.alloc(); "{number}")?;
+        let wanted = if number < 13 { Some(number) } else { None };
+        assert_finds(rt, filled, &[(&text, wanted)]);
     }
     Ok(())
 }
 
 #[test]
 fn one_code_finds_each_text_and_no_other(rt: HostRuntime) -> Result<(), Fail> {
-    let filled = with_numbers(rt.alloc(), 13)?;
-    for number in 0..26 {
-        let text = format!(in rt.alloc(); "{number}")?;
-        let found = filled.find(&text).map(|symbol| symbol.to_usize());
-        assert_eq!(rt; found, if number < 13 { Some(number) } else { None });
+    assert_finds_thirteen(&rt, &with_numbers(rt.alloc(), 13)?)
+}
+
+/// Adds the texts, one after another.
+fn add_all<B: Backend, H: TextHasher>(
+    filled: &mut Filled<B, H>,
+    places: &[(&str, usize)],
+) -> Result<(), InternError> {
+    for (text, _) in places {
+        let _ = filled.add(text)?;
     }
+    Ok(())
+}
+
+/// The probe for each text ends at this slot.
+fn assert_ends_at<B: Backend, H: TextHasher>(
+    rt: &impl Abort,
+    filled: &Filled<B, H>,
+    places: &[(&str, usize)],
+) {
+    for (text, slot) in places {
+        assert_equal(rt, (*text, filled.ends_at(text)), (*text, *slot));
+    }
+}
+
+/// A text that was not added has this home of eight slots, and its probe passes as many filled ones.
+fn assert_passes<B: Backend>(
+    rt: &impl Abort,
+    filled: &Filled<B, ByteCount>,
+    text: &str,
+    wanted: (usize, usize),
+) {
+    let home = home_of(ByteCount.hash_text(text), 8);
+    let run = filled.ends_at(text).wrapping_sub(home) % 8;
+    assert_equal(rt, (text, (home, run)), (text, wanted));
+    assert!(rt; filled.find(text).is_none());
+}
+
+/// Adds six texts of one home, which fill the last of eight slots and round the end five more, and looks for others.
+fn assert_probes_go_round_the_end<B: Backend>(
+    rt: &impl Abort,
+    filled: &mut Filled<B, ByteCount>,
+) -> Result<(), Fail> {
+    let places = [
+        ("aaaaaaa", 7),
+        ("bbbbbbb", 0),
+        ("ccccccc", 1),
+        ("ddddddd", 2),
+        ("eeeeeee", 3),
+        ("fffffff", 4),
+    ];
+    add_all(filled, &places)?;
+    assert_ends_at(rt, filled, &places);
+    assert_passes(rt, filled, "ggggggg", (7, 6));
+    assert_passes(rt, filled, "", (0, 5));
+    assert_passes(rt, filled, "ggggg", (5, 0));
+    assert_passes(rt, filled, "ggggggggggggggg", (7, 6));
     Ok(())
 }
 
 #[test]
 fn probes_go_round_the_end(rt: HostRuntime) -> Result<(), Fail> {
-    let mut filled = Filled::<StringBackend<SymbolU32>, ByteCount>::new(rt.alloc(), ByteCount);
-    let texts = [
-        "aaaaaaa", "bbbbbbb", "ccccccc", "ddddddd", "eeeeeee", "fffffff",
-    ];
-    for text in texts {
-        let _ = filled.add(text)?;
-    }
-    for (text, slot) in texts.iter().zip([7, 0, 1, 2, 3, 4]) {
-        assert_eq!(rt; filled.ends_at(text), slot, "of {text}");
-    }
-    for (text, home, run) in [
-        ("ggggggg", 7, 6),
-        ("", 0, 5),
-        ("ggggg", 5, 0),
-        ("ggggggggggggggg", 7, 6),
-    ] {
-        assert_eq!(rt; home_of(ByteCount.hash_text(text), 8), home, "of {text}");
-        assert_eq!(rt;
-            filled.ends_at(text).wrapping_sub(home) % 8,
-            run,
-            "of {text}"
-        );
-        assert!(rt; filled.find(text).is_none());
-    }
+    assert_probes_go_round_the_end::<StringBackend<SymbolU32>>(
+        &rt,
+        &mut Filled::new(rt.alloc(), ByteCount),
+    )
+}
+
+/// Thirteen texts give way to the first two of them: slots and counts stay, and the third number is free.
+fn assert_refills(
+    rt: &(impl Abort + AllocGlobal),
+    filled: &mut Filled<StringBackend<SymbolU32>, Constant>,
+) -> Result<(), Fail> {
+    assert_equal(rt, filled.index.greatest(), 13);
+    assert!(rt; filled.take_texts(with_numbers(rt.alloc(), 2)?));
+    assert_equal(rt, counts(filled), (32, 18, 13));
+    assert_finds(
+        rt,
+        filled,
+        &[("0", Some(0)), ("1", Some(1)), ("2", None), ("12", None)],
+    );
+    assert_equal(rt, filled.add("12")?.to_usize(), 2);
     Ok(())
 }
 
 #[test]
 fn a_refill_keeps_slots_and_counts(rt: HostRuntime) -> Result<(), Fail> {
-    let mut filled = with_numbers(rt.alloc(), 13)?;
-    assert_eq!(rt; filled.index.greatest(), 13);
-    assert!(rt; filled.take_texts(with_numbers(rt.alloc(), 2)?));
-    assert_eq!(rt;
-        (
-            filled.index.slots(),
-            filled.index.put_back(),
-            filled.index.greatest()
-        ),
-        (32, 18, 13)
-    );
-    for (text, number) in [("0", Some(0)), ("1", Some(1)), ("2", None), ("12", None)] {
-        assert_eq!(rt;
-            filled.find(text).map(|symbol| symbol.to_usize()),
-            number,
-            "of {text}"
-        );
-    }
-    assert_eq!(rt; filled.add("12")?.to_usize(), 2);
-    Ok(())
+    assert_refills(&rt, &mut with_numbers(rt.alloc(), 13)?)
 }
 
 #[test]
@@ -242,46 +324,86 @@ fn memory_for_a_capacity(rt: HostRuntime) -> Result<(), Fail> {
             Index::with_capacity(rt.alloc(), 13)?
         }
     };
-    assert_eq!(rt; index.slots(), 32);
+    assert_equal(&rt, index.slots(), 32);
     ask_last(&rt).map_err(Fail::from)
+}
+
+/// Adds a text. The backend may be refused memory, which is told, and no matter of the index.
+fn add_or_tell<B: Backend, H: TextHasher>(
+    rt: &impl Print,
+    filled: &mut Filled<B, H>,
+    text: &str,
+) -> Result<(), Fail> {
+    if filled.add(text).is_err() {
+        tell_refused(rt, "the set-up of a test")?;
+        let _ = filled.add(text)?;
+    }
+    Ok(())
+}
+
+/// The first texts of these, as many as there are, are found by their places, and the others are not.
+fn assert_finds_first<B: Backend, H: TextHasher>(
+    rt: &impl Abort,
+    filled: &Filled<B, H>,
+    texts: &[&str],
+    count: usize,
+) {
+    for (place, text) in texts.iter().enumerate() {
+        let wanted = if place < count { Some(place) } else { None };
+        assert_finds(rt, filled, &[(text, wanted)]);
+    }
+}
+
+/// Makes room for one more text than these first ones. Where that is refused, all stays, and it is asked for again.
+fn reserve_or_tell<B: Backend, H: TextHasher>(
+    rt: &(impl Abort + Print),
+    filled: &mut Filled<B, H>,
+    texts: &[&str],
+    count: usize,
+) -> Result<(), Fail> {
+    let before = counts(filled);
+    if filled.reserve().is_ok() {
+        return Ok(());
+    }
+    assert_equal(rt, counts(filled), before);
+    assert_finds_first(rt, filled, texts, count);
+    tell_refused(rt, "reserve_one of Index")?;
+    filled.reserve().map_err(Fail::from)
+}
+
+/// Makes room for each of seven texts before it is added.
+fn assert_reserves<B: Backend, H: TextHasher>(
+    rt: &(impl Abort + Print + AllocGlobal),
+    filled: &mut Filled<B, H>,
+) -> Result<(), Fail> {
+    let texts = ["0", "1", "2", "3", "4", "5", "6"];
+    for (count, text) in texts.iter().enumerate() {
+        reserve_or_tell(rt, filled, &texts, count)?;
+        add_or_tell(rt, filled, text)?;
+    }
+    assert_equal(rt, (filled.index.slots(), filled.index.put_back()), (16, 6));
+    assert_finds_first(rt, filled, &texts, texts.len());
+    ask_last(rt).map_err(Fail::from)
 }
 
 #[test]
 fn memory_for_one_more(rt: HostRuntime) -> Result<(), Fail> {
-    let texts = ["0", "1", "2", "3", "4", "5", "6"];
-    let mut filled = Filled::<StringBackend<SymbolU32>, Constant>::new(rt.alloc(), Constant);
-    for (number, text) in texts.iter().enumerate() {
-        let before = (filled.index.slots(), filled.index.put_back());
-        if filled.reserve().is_err() {
-            assert_eq!(rt; (filled.index.slots(), filled.index.put_back()), before);
-            for (earlier, known) in texts.iter().enumerate() {
-                let found = filled.find(known).map(|symbol| symbol.to_usize());
-                assert_eq!(rt;
-                    found,
-                    if earlier < number {
-                        Some(earlier)
-                    } else {
-                        None
-                    }
-                );
-            }
-            tell_refused(&rt, "reserve_one of Index")?;
-            filled.reserve()?;
-        }
-        // The backend may be refused too, which is no matter of the index.
-        if filled.add(text).is_err() {
-            tell_refused(&rt, "the set-up of a test")?;
-            let _ = filled.add(text)?;
-        }
+    assert_reserves::<StringBackend<SymbolU32>, Constant>(
+        &rt,
+        &mut Filled::new(rt.alloc(), Constant),
+    )
+}
+
+/// Adds the texts, where a refused one is told and added again.
+fn add_all_or_tell<B: Backend, H: TextHasher>(
+    rt: &impl Print,
+    filled: &mut Filled<B, H>,
+    texts: &[&str],
+) -> Result<(), Fail> {
+    for text in texts {
+        add_or_tell(rt, filled, text)?;
     }
-    assert_eq!(rt; (filled.index.slots(), filled.index.put_back()), (16, 6));
-    for (number, text) in texts.iter().enumerate() {
-        assert_eq!(rt;
-            filled.find(text).map(|symbol| symbol.to_usize()),
-            Some(number)
-        );
-    }
-    ask_last(&rt).map_err(Fail::from)
+    Ok(())
 }
 
 /// A backend of the texts with an index of them, where a refused set-up is told and made again.
@@ -290,33 +412,30 @@ fn filled_or_told(
     texts: &[&str],
 ) -> Result<Filled<StringBackend<SymbolU32>, Constant>, Fail> {
     let mut filled = Filled::new(rt.alloc(), Constant);
-    for text in texts {
-        if filled.add(text).is_err() {
-            tell_refused(rt, "the set-up of a test")?;
-            let _ = filled.add(text)?;
-        }
-    }
+    add_all_or_tell(rt, &mut filled, texts)?;
     Ok(filled)
+}
+
+/// An index of three texts that stands is asked for room, and takes the two texts of another.
+fn assert_stands(
+    rt: &(impl Abort + Print + AllocGlobal),
+    filled: &mut Filled<StringBackend<SymbolU32>, Constant>,
+    other: Filled<StringBackend<SymbolU32>, Constant>,
+) -> Result<(), Fail> {
+    assert_equal(rt, filled.reserve(), Ok(()));
+    assert!(rt; filled.take_texts(other));
+    assert_finds(rt, filled, &[("a", Some(1)), ("d", Some(0)), ("b", None)]);
+    assert_equal(rt, counts(filled), (8, 0, 3));
+    ask_last(rt).map_err(Fail::from)
 }
 
 /// Passes whichever request for memory is refused: an index that stands is asked and filled anew without any.
 #[test]
 fn memory_is_not_asked_for_by_an_index_that_stands(rt: HostRuntime) -> Result<(), Fail> {
-    let mut filled = filled_or_told(&rt, &["a", "b", "c"])?;
-    let other = filled_or_told(&rt, &["d", "a"])?;
-    assert_eq!(rt; Index::<SymbolU32>::new(rt.alloc()).slots(), 0);
-    filled.reserve()?;
-    assert!(rt; filled.take_texts(other));
-    assert_eq!(rt; filled.find("a").map(|symbol| symbol.to_usize()), Some(1));
-    assert_eq!(rt; filled.find("d").map(|symbol| symbol.to_usize()), Some(0));
-    assert!(rt; filled.find("b").is_none());
-    assert_eq!(rt;
-        (
-            filled.index.slots(),
-            filled.index.put_back(),
-            filled.index.greatest()
-        ),
-        (8, 0, 3)
-    );
-    ask_last(&rt).map_err(Fail::from)
+    assert_equal(&rt, Index::<SymbolU32>::new(rt.alloc()).slots(), 0);
+    assert_stands(
+        &rt,
+        &mut filled_or_told(&rt, &["a", "b", "c"])?,
+        filled_or_told(&rt, &["d", "a"])?,
+    )
 }

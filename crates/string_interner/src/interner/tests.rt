@@ -9,7 +9,7 @@ use crate::DefaultStringInterner;
 use crate::backend::{BucketBackend, BufferBackend, StringBackend};
 use crate::dedup::FixedState;
 use crate::symbol::DefaultSymbol;
-use crate::tests::{Bit, Constant, Counting, Even};
+use crate::tests::{Bit, Constant, Counting, Even, assert_equal};
 use std::alloc::AllocError;
 use std::process::Abort;
 use std::test::Fail;
@@ -26,45 +26,119 @@ impl<B: Backend, H: TextHasher> StringInterner<B, H> {
     }
 }
 
-/// The numbers that texts answer, one after another, in an interner over a backend that is known by its bound alone.
-fn numbers<B: Backend, H: TextHasher>(
-    alloc: Global,
+/// Interns the texts one after another, in an interner over a backend that is known by its bound alone.
+fn intern_all<B: Backend, H: TextHasher>(
     interner: &mut StringInterner<B, H>,
     texts: &[&str],
-) -> Result<Vec<usize>, Fail> {
-    let mut numbers = Vec::with_capacity(alloc, texts.len())?;
+) -> Result<(), InternError> {
     for text in texts {
-        numbers.push(interner.get_or_intern(text)?.to_usize())?;
+        interner.get_or_intern(text)?;
     }
-    Ok(numbers)
+    Ok(())
+}
+
+/// The number of a symbol, where there is one.
+pub(crate) fn number_of<S: Symbol>(symbol: Option<S>) -> Option<usize> {
+    Some(symbol?.to_usize())
+}
+
+/// The number of a symbol that was answered, or why there is none.
+fn number_answered<S: Symbol>(answer: Result<S, InternError>) -> Result<usize, InternError> {
+    Ok(answer?.to_usize())
+}
+
+/// Each text, interned one after another, answers its number, or is refused for want of a symbol where it has none.
+pub(crate) fn assert_answers<B: Backend, H: TextHasher>(
+    rt: &impl Abort,
+    interner: &mut StringInterner<B, H>,
+    answers: &[(&str, Option<usize>)],
+) {
+    for (text, number) in answers {
+        let answer = number_answered(interner.get_or_intern(text));
+        assert_eq!(rt; answer, number.ok_or(InternError::NoSymbol), "{text}");
+    }
+}
+
+/// Each text is known by its number, or not at all where it has none.
+pub(crate) fn assert_finds<B: Backend, H: TextHasher>(
+    rt: &impl Abort,
+    interner: &StringInterner<B, H>,
+    numbers: &[(&str, Option<usize>)],
+) {
+    for (text, number) in numbers {
+        let found = number_of(interner.get(text));
+        assert_eq!(rt; found, *number, "{text}");
+    }
+}
+
+/// The texts of an interner are the first of these, in this order, and each is found.
+pub(crate) fn assert_front<B: Backend, H: TextHasher>(
+    rt: &impl Abort,
+    interner: &StringInterner<B, H>,
+    texts: &[&str],
+) {
+    let mut wanted = texts.iter().copied();
+    for (symbol, found) in interner {
+        let is_found = interner.get(found) == Some(symbol);
+        assert_equal(rt, (wanted.next(), is_found), (Some(found), true));
+    }
+}
+
+/// The texts of an interner are these, in this order, and each is found.
+pub(crate) fn assert_list<B: Backend>(
+    rt: &impl Abort,
+    interner: &StringInterner<B>,
+    texts: &[&str],
+) {
+    assert_equal(rt, interner.len(), texts.len());
+    assert_front(rt, interner, texts);
+}
+
+/// A new interner is empty, and has one symbol for all texts that are equal.
+fn assert_equal_texts_have_one_symbol<B: Backend>(
+    rt: &impl Abort,
+    interner: &mut StringInterner<B>,
+) {
+    assert!(rt; interner.is_empty());
+    assert_answers(
+        rt,
+        interner,
+        &[
+            ("Elephant", Some(0)),
+            ("Tiger", Some(1)),
+            ("Horse", Some(2)),
+            ("Tiger", Some(1)),
+        ],
+    );
+    assert_equal(rt, interner.len(), 3);
+    assert!(rt; !interner.is_empty());
 }
 
 #[test]
-fn equal_texts_have_one_symbol(rt: HostRuntime) -> Result<(), Fail> {
-    let mut interner = StringInterner::<StringBackend>::new(rt.alloc());
-    assert!(rt; interner.is_empty());
-    let texts = ["Elephant", "Tiger", "Horse", "Tiger"];
-    assert_eq!(rt;
-        numbers(rt.alloc(), &mut interner, &texts)?.as_slice(),
-        [0, 1, 2, 1].as_slice()
+fn equal_texts_have_one_symbol(rt: HostRuntime) {
+    assert_equal_texts_have_one_symbol(&rt, &mut StringInterner::<StringBackend>::new(rt.alloc()));
+}
+
+/// The empty text has a symbol of its own, and is read by it.
+fn assert_the_empty_text_is_a_text(
+    rt: &impl Abort,
+    interner: &mut DefaultStringInterner,
+) -> Result<(), Fail> {
+    assert_answers(
+        rt,
+        interner,
+        &[("", Some(0)), ("a", Some(1)), ("", Some(0))],
     );
-    assert_eq!(rt; interner.len(), 3);
-    assert!(rt; !interner.is_empty());
+    for (number, text) in [(0, Some("")), (1, Some("a")), (2, None)] {
+        let symbol = DefaultSymbol::try_from_usize(number).ok_or("a small number")?;
+        assert_equal(rt, interner.resolve(symbol), text);
+    }
     Ok(())
 }
 
 #[test]
 fn the_empty_text_is_a_text(rt: HostRuntime) -> Result<(), Fail> {
-    let mut interner = <DefaultStringInterner>::new(rt.alloc());
-    assert_eq!(rt;
-        numbers(rt.alloc(), &mut interner, &["", "a", ""])?.as_slice(),
-        [0, 1, 0].as_slice()
-    );
-    for (number, text) in [(0, Some("")), (1, Some("a")), (2, None)] {
-        let symbol = DefaultSymbol::try_from_usize(number).ok_or("a small number")?;
-        assert_eq!(rt; interner.resolve(symbol), text);
-    }
-    Ok(())
+    assert_the_empty_text_is_a_text(&rt, &mut StringInterner::new(rt.alloc()))
 }
 
 /// The text of a symbol that was just answered, through the bound and with no test.
@@ -76,53 +150,45 @@ fn read_back<'i, B: Backend, H: TextHasher>(
     Ok(interner.resolve_unchecked(symbol))
 }
 
+/// Each text is read back by the symbol that it was answered.
+fn assert_reads_back<B: Backend>(
+    rt: &impl Abort,
+    interner: &mut StringInterner<B>,
+    texts: &[&str],
+) -> Result<(), Fail> {
+    for text in texts {
+        assert_equal(rt, read_back(interner, text)?, *text);
+    }
+    Ok(())
+}
+
 #[test]
 fn an_answered_symbol_needs_no_test(rt: HostRuntime) -> Result<(), Fail> {
-    let mut interner = StringInterner::<Counting>::new(rt.alloc());
-    for text in ["Tiger", "", "Horse", "Tiger"] {
-        assert_eq!(rt; read_back(&mut interner, text)?, text);
-    }
-    Ok(())
+    assert_reads_back(
+        &rt,
+        &mut StringInterner::<Counting>::new(rt.alloc()),
+        &["Tiger", "", "Horse", "Tiger"],
+    )
+}
+
+/// After the first text the next place is odd, and stays so: every new text is refused.
+fn assert_refuses_at_a_gap<B: Backend>(rt: &impl Abort, interner: &mut StringInterner<B>) {
+    assert_answers(rt, interner, &[("a", Some(0)), ("b", None)]);
+    assert_equal(rt, interner.len(), 1);
+    assert_answers(rt, interner, &[("a", Some(0))]);
 }
 
 #[test]
-fn a_symbol_type_with_gaps_refuses(rt: HostRuntime) -> Result<(), Fail> {
-    let mut interner = StringInterner::<StringBackend<Even>>::new(rt.alloc());
-    assert_eq!(rt;
-        numbers(rt.alloc(), &mut interner, &["a"])?.as_slice(),
-        [0].as_slice()
-    );
-    assert_eq!(rt; interner.get_or_intern("b"), Err(InternError::NoSymbol));
-    assert_eq!(rt; interner.len(), 1);
-    assert_eq!(rt;
-        numbers(rt.alloc(), &mut interner, &["a"])?.as_slice(),
-        [0].as_slice()
-    );
-    Ok(())
-}
-
-/// Each text is answered its number, or refused for want of a symbol where there is none.
-fn assert_answers<B: Backend + Drop>(
-    rt: &(impl Abort + AllocGlobal),
-    answers: &[(&str, Option<usize>)],
-) {
-    let mut interner = StringInterner::<B>::new(rt.alloc());
-    for (text, number) in answers {
-        match interner.get_or_intern(text) {
-            Ok(symbol) => assert_eq!(rt; Some(symbol.to_usize()), *number, "{text}"),
-            Err(error) => {
-                assert_eq!(rt; error, InternError::NoSymbol, "{text}");
-                assert_eq!(rt; *number, None, "{text}");
-            }
-        }
-    }
+fn a_symbol_type_with_gaps_refuses(rt: HostRuntime) {
+    assert_refuses_at_a_gap::<StringBackend<Even>>(&rt, &mut StringInterner::new(rt.alloc()));
 }
 
 #[test]
 fn places_that_a_symbol_type_lacks(rt: HostRuntime) {
     // After `cc` the next place is 7, which is odd.
-    assert_answers::<BufferBackend<Even>>(
+    assert_answers(
         &rt,
+        &mut StringInterner::<BufferBackend<Even>>::new(rt.alloc()),
         &[
             ("a", Some(0)),
             ("b", Some(2)),
@@ -134,10 +200,15 @@ fn places_that_a_symbol_type_lacks(rt: HostRuntime) {
         ],
     );
     // After `a` the next place is 2.
-    assert_answers::<BufferBackend<Bit>>(&rt, &[("a", Some(0)), ("b", None), ("a", Some(0))]);
-    // After the empty text the next place is 1, and after `a` it is 3.
-    assert_answers::<BufferBackend<Bit>>(
+    assert_answers(
         &rt,
+        &mut StringInterner::<BufferBackend<Bit>>::new(rt.alloc()),
+        &[("a", Some(0)), ("b", None), ("a", Some(0))],
+    );
+    // After the empty text the next place is 1, and after `a` it is 3.
+    assert_answers(
+        &rt,
+        &mut StringInterner::<BufferBackend<Bit>>::new(rt.alloc()),
         &[
             ("", Some(0)),
             ("a", Some(1)),
@@ -149,26 +220,35 @@ fn places_that_a_symbol_type_lacks(rt: HostRuntime) {
 }
 
 #[test]
-fn a_backend_of_a_caller(rt: HostRuntime) -> Result<(), Fail> {
-    let mut interner = StringInterner::<Counting>::new(rt.alloc());
-    assert_eq!(rt;
-        numbers(rt.alloc(), &mut interner, &["a", "b", "c", "b"])?.as_slice(),
-        [0, 1, 2, 1].as_slice()
+fn a_backend_of_a_caller(rt: HostRuntime) {
+    assert_answers(
+        &rt,
+        &mut StringInterner::<Counting>::new(rt.alloc()),
+        &[
+            ("a", Some(0)),
+            ("b", Some(1)),
+            ("c", Some(2)),
+            ("b", Some(1)),
+        ],
     );
+}
+
+/// Of a new interner: a text is known once it was interned, and no other is.
+fn assert_finds_known_texts_alone<B: Backend>(
+    rt: &impl Abort,
+    interner: &mut StringInterner<B>,
+) -> Result<(), Fail> {
+    assert_finds(rt, interner, &[("a", None)]);
+    assert_answers(rt, interner, &[("a", Some(0)), ("b", Some(1))]);
+    assert_finds(rt, interner, &[("a", Some(0)), ("b", Some(1)), ("c", None)]);
+    let b = interner.get("b").ok_or("a known text")?;
+    assert_equal(rt, interner.resolve(b), Some("b"));
     Ok(())
 }
 
 #[test]
 fn finds_known_texts_alone(rt: HostRuntime) -> Result<(), Fail> {
-    let mut interner = StringInterner::<Counting>::new(rt.alloc());
-    assert_eq!(rt; interner.get("a"), None);
-    let a = interner.get_or_intern("a")?;
-    let b = interner.get_or_intern("b")?;
-    assert_eq!(rt; interner.get("a"), Some(a));
-    assert_eq!(rt; interner.get("b"), Some(b));
-    assert_eq!(rt; interner.get("c"), None);
-    assert_eq!(rt; interner.resolve(b), Some("b"));
-    Ok(())
+    assert_finds_known_texts_alone::<Counting>(&rt, &mut StringInterner::new(rt.alloc()))
 }
 
 /// The texts of an interner, by a `for` loop: proved to be its list.
@@ -185,39 +265,93 @@ fn texts_of<'i, B: Backend, H: TextHasher>(
     Ok(texts)
 }
 
+/// As many entries are ahead of a walk, and the next one has a symbol of this number and this text.
+fn assert_next<B: Backend>(
+    rt: &impl Abort,
+    walk: &mut Iter<'_, B>,
+    left: usize,
+    number: usize,
+    text: &str,
+) {
+    assert_equal(rt, walk.len(), left);
+    assert_equal(rt, walk.size_hint(), (left, Some(left)));
+    match walk.next() {
+        Some((symbol, found)) => {
+            assert_equal(rt, symbol.to_usize(), number);
+            assert_equal(rt, found, text);
+        }
+        None => assert!(rt; false, "{text} is missing"),
+    }
+}
+
+/// A walk yields these texts by symbols of these numbers and no more, and tells at each step how many are left.
+pub(crate) fn assert_walk<B: Backend>(
+    rt: &impl Abort,
+    interner: &StringInterner<B>,
+    entries: &[(usize, &str)],
+) {
+    let mut walk = interner.iter();
+    for (index, (number, text)) in entries.iter().enumerate() {
+        let left = entries.len().wrapping_sub(index);
+        assert_next(rt, &mut walk, left, *number, text);
+    }
+    assert_equal(rt, walk.len(), 0);
+    assert_equal(rt, walk.size_hint(), (0, Some(0)));
+    assert!(rt; walk.next().is_none());
+}
+
+/// Interns five texts, one of them twice, and walks over them in both ways.
+fn assert_walks_in_order(
+    rt: &(impl Abort + AllocGlobal),
+    interner: &mut StringInterner<StringBackend>,
+) -> Result<(), Fail> {
+    intern_all(interner, &["Earth", "Water", "Earth", "Fire", "Air"])?;
+    assert_walk(
+        rt,
+        interner,
+        &[(0, "Earth"), (1, "Water"), (2, "Fire"), (3, "Air")],
+    );
+    let texts = texts_of(rt.alloc(), interner)?;
+    let wanted = ["Earth", "Water", "Fire", "Air"];
+    assert_equal(rt, texts.as_slice(), wanted.as_slice());
+    Ok(())
+}
+
 #[test]
 fn walks_in_order_of_first_interning(rt: HostRuntime) -> Result<(), Fail> {
-    let mut interner = StringInterner::<StringBackend>::new(rt.alloc());
-    numbers(
-        rt.alloc(),
-        &mut interner,
-        &["Earth", "Water", "Earth", "Fire", "Air"],
-    )?;
-    let wanted = ["Earth", "Water", "Fire", "Air"];
-    assert_eq!(rt;
-        texts_of(rt.alloc(), &interner)?.as_slice(),
-        wanted.as_slice()
-    );
-    let mut entries = interner.iter();
-    for (number, text, left) in [
-        (0, "Earth", 3),
-        (1, "Water", 2),
-        (2, "Fire", 1),
-        (3, "Air", 0),
-    ] {
-        assert_eq!(rt; entries.len(), left + 1);
-        match entries.next() {
-            Some((symbol, found)) => {
-                assert_eq!(rt; symbol.to_usize(), number);
-                assert_eq!(rt; found, text);
-            }
-            None => assert!(rt; false, "{text} is missing"),
-        }
-        assert_eq!(rt; entries.len(), left);
-    }
-    assert!(rt; entries.next().is_none());
-    assert_eq!(rt; entries.size_hint(), (0, Some(0)));
+    assert_walks_in_order(&rt, &mut StringInterner::new(rt.alloc()))
+}
+
+/// Two new interners are equal, when they have interned a list each, exactly where this is wanted.
+fn assert_equal_where_wanted<B: Backend>(
+    rt: &impl Abort,
+    left: &mut StringInterner<B>,
+    one: &[&str],
+    right: &mut StringInterner<B>,
+    other: &[&str],
+    wanted: bool,
+) -> Result<(), InternError> {
+    intern_all(left, one)?;
+    intern_all(right, other)?;
+    assert_equal(rt, (one, other, *left == *right), (one, other, wanted));
     Ok(())
+}
+
+/// The interners of two lists are equal exactly where this is wanted.
+fn assert_lists_equal_where_wanted<B: Backend + Drop>(
+    rt: &(impl Abort + AllocGlobal),
+    one: &[&str],
+    other: &[&str],
+    wanted: bool,
+) -> Result<(), InternError> {
+    assert_equal_where_wanted::<B>(
+        rt,
+        &mut StringInterner::new(rt.alloc()),
+        one,
+        &mut StringInterner::new(rt.alloc()),
+        other,
+        wanted,
+    )
 }
 
 #[test]
@@ -225,65 +359,79 @@ fn equal_exactly_for_equal_lists(rt: HostRuntime) -> Result<(), Fail> {
     let lists = [["a", "b"], ["b", "a"], ["a", "a"], ["a", "ab"]];
     for (i, one) in lists.iter().enumerate() {
         for (k, other) in lists.iter().enumerate() {
-            let mut left = StringInterner::<Counting>::new(rt.alloc());
-            let mut right = StringInterner::<Counting>::new(rt.alloc());
-            numbers(rt.alloc(), &mut left, one)?;
-            numbers(rt.alloc(), &mut right, other)?;
-            assert_eq!(rt; left == right, i == k, "{one:?} and {other:?}");
+            assert_lists_equal_where_wanted::<Counting>(&rt, one, other, i == k)?;
         }
     }
     Ok(())
 }
 
-#[test]
-fn room_is_granted_and_kept(rt: HostRuntime) -> Result<(), Fail> {
-    let mut interner = StringInterner::<StringBackend>::with_capacity(rt.alloc(), 2)?;
-    assert_eq!(rt; interner.index.slots(), 8);
-    let texts = ["Tiger", "Horse", "Tiger"];
-    assert_eq!(rt;
-        numbers(rt.alloc(), &mut interner, &texts)?.as_slice(),
-        [0, 1, 0].as_slice()
-    );
+/// An interner that was made for two texts takes them, and has both when it was shrunk.
+fn assert_keeps_two_texts<B: Backend>(rt: &impl Abort, interner: &mut StringInterner<B>) {
+    let answers = [("Tiger", Some(0)), ("Horse", Some(1)), ("Tiger", Some(0))];
+    assert_equal(rt, interner.index.slots(), 8);
+    assert_answers(rt, interner, &answers);
     interner.shrink_to_fit();
-    assert_eq!(rt;
-        numbers(rt.alloc(), &mut interner, &texts)?.as_slice(),
-        [0, 1, 0].as_slice()
-    );
-    assert_eq!(rt; interner.len(), 2);
-    Ok(())
+    assert_answers(rt, interner, &answers);
+    assert_equal(rt, interner.len(), 2);
 }
 
 #[test]
-fn capacities_that_do_not_fit(rt: HostRuntime) {
-    let most = 18446744073709551615;
-    assert!(rt; StringInterner::<StringBackend>::with_capacity(rt.alloc(), most).is_err());
-    assert!(rt; StringInterner::<BucketBackend>::with_capacity(rt.alloc(), most).is_err());
-    assert!(rt; StringInterner::<BufferBackend>::with_capacity(rt.alloc(), most).is_err());
-    let made = StringInterner::<StringBackend, Constant>::with_capacity_and_hasher(
-        rt.alloc(),
-        most,
-        Constant,
+fn room_is_granted_and_kept(rt: HostRuntime) -> Result<(), Fail> {
+    assert_keeps_two_texts::<StringBackend>(
+        &rt,
+        &mut StringInterner::with_capacity(rt.alloc(), 2)?,
     );
+    Ok(())
+}
+
+/// Both makers refuse room for as many texts as a `usize` counts.
+fn assert_refuses_the_greatest_capacity<B: Backend + Drop>(rt: &(impl Abort + AllocGlobal)) {
+    let most = 18446744073709551615;
+    assert!(rt; StringInterner::<B>::with_capacity(rt.alloc(), most).is_err());
+    let made = StringInterner::<B, Constant>::with_capacity_and_hasher(rt.alloc(), most, Constant);
     assert!(rt; made.is_err());
 }
 
 #[test]
-fn a_clone_is_equal_and_its_own(rt: HostRuntime) -> Result<(), Fail> {
-    let mut interner = StringInterner::<BufferBackend>::with_hasher(rt.alloc(), FixedState);
-    numbers(rt.alloc(), &mut interner, &["Tiger", "Horse"])?;
-    let mut copy = interner.clone()?;
-    assert!(rt; copy == interner);
-    for (text, number) in [("Tiger", Some(0)), ("Horse", Some(6)), ("Bear", None)] {
-        assert_eq!(rt;
-            copy.get(text).map(|symbol| symbol.to_usize()),
-            number,
-            "{text}"
-        );
-    }
-    assert_eq!(rt; copy.get_or_intern("Bear")?.to_usize(), 12);
-    assert!(rt; copy != interner);
-    assert_eq!(rt; interner.get("Bear"), None);
+fn capacities_that_do_not_fit(rt: HostRuntime) {
+    assert_refuses_the_greatest_capacity::<StringBackend>(&rt);
+    assert_refuses_the_greatest_capacity::<BucketBackend>(&rt);
+    assert_refuses_the_greatest_capacity::<BufferBackend>(&rt);
+}
+
+/// A clone is equal to its interner of two texts, until it takes one that is new to it alone.
+fn assert_equal_and_its_own<B: Backend>(
+    rt: &impl Abort,
+    interner: &StringInterner<B>,
+    copy: &mut StringInterner<B>,
+) {
+    assert!(rt; *copy == *interner);
+    assert_finds(
+        rt,
+        copy,
+        &[("Tiger", Some(0)), ("Horse", Some(6)), ("Bear", None)],
+    );
+    assert_answers(rt, copy, &[("Bear", Some(12))]);
+    assert!(rt; *copy != *interner);
+    assert_finds(rt, interner, &[("Bear", None)]);
+}
+
+/// Interns two texts, and clones the interner.
+fn assert_clones<B: CopyBackend + Drop>(
+    rt: &impl Abort,
+    interner: &mut StringInterner<B>,
+) -> Result<(), Fail> {
+    intern_all(interner, &["Tiger", "Horse"])?;
+    assert_equal_and_its_own(rt, interner, &mut interner.clone()?);
     Ok(())
+}
+
+#[test]
+fn a_clone_is_equal_and_its_own(rt: HostRuntime) -> Result<(), Fail> {
+    assert_clones::<BufferBackend>(
+        &rt,
+        &mut StringInterner::with_hasher(rt.alloc(), FixedState),
+    )
 }
 
 #[test]
@@ -292,43 +440,79 @@ fn messages_of_refusals(rt: HostRuntime) -> Result<(), Fail> {
         (InternError::NoSymbol, "no symbol is left"),
         (InternError::Memory(AllocError), "out of memory"),
     ] {
-        assert_eq!(rt; error.to_string(rt.alloc())?.as_str(), message);
+        assert_equal(&rt, error.to_string(rt.alloc())?.as_str(), message);
     }
     Ok(())
 }
 
-#[test]
-fn dropped_texts_are_new_again(rt: HostRuntime) -> Result<(), Fail> {
-    let mut interner = StringInterner::<StringBackend<Bit>>::new(rt.alloc());
-    interner.extend(["a", "b"].iter().copied())?;
-    assert_eq!(rt; interner.get_or_intern("c"), Err(InternError::NoSymbol));
+/// Takes both symbols that there are, drops a text, and gives its symbol to another one.
+fn assert_dropped_texts_are_new_again(
+    rt: &impl Abort,
+    interner: &mut StringInterner<StringBackend<Bit>>,
+) {
+    assert_answers(rt, interner, &[("a", Some(0)), ("b", Some(1)), ("c", None)]);
     interner.truncate(1);
-    assert!(rt; interner.get("b").is_none());
-    assert_eq!(rt; interner.get_or_intern("c")?.to_usize(), 1);
+    assert_finds(rt, interner, &[("b", None)]);
+    assert_answers(rt, interner, &[("c", Some(1))]);
     interner.truncate(5);
-    assert_eq!(rt; interner.len(), 2);
+    assert_equal(rt, interner.len(), 2);
+}
+
+#[test]
+fn dropped_texts_are_new_again(rt: HostRuntime) {
+    assert_dropped_texts_are_new_again(&rt, &mut StringInterner::new(rt.alloc()));
+}
+
+/// A text is new, and is known once it was interned.
+fn assert_new<B: Backend, H: TextHasher>(
+    rt: &impl Abort,
+    interner: &mut StringInterner<B, H>,
+    text: &str,
+) -> Result<(), Fail> {
+    assert!(rt; interner.get(text).is_none(), "{text}");
+    let symbol = interner.get_or_intern(text)?;
+    assert!(rt; interner.get(text) == Some(symbol), "{text}");
+    Ok(())
+}
+
+/// The decimal number, as a text, is new, and is known once it was interned.
+fn intern_number<B: Backend, H: TextHasher>(
+    rt: &(impl Abort + AllocGlobal),
+    interner: &mut StringInterner<B, H>,
+    number: usize,
+) -> Result<(), Fail> {
+    let text = format!(in rt.alloc(); "{number}")?;
+    assert_new(rt, interner, &text)
+}
+
+/// Keeps two texts of thirteen: as many slots as the thirteen had, and as many put back and counted at the most.
+fn assert_truncating_keeps_slots_and_counts(
+    rt: &(impl Abort + AllocGlobal),
+    interner: &mut DefaultStringInterner,
+) -> Result<(), Fail> {
+    for number in 0..13 {
+        intern_number(rt, interner, number)?;
+    }
+    interner.truncate(2);
+    assert_equal(rt, interner.len(), 2);
+    assert_equal(
+        rt,
+        (
+            interner.index.slots(),
+            interner.index.greatest(),
+            interner.index.put_back(),
+        ),
+        (32, 13, 18),
+    );
+    assert_finds(
+        rt,
+        interner,
+        &[("0", Some(0)), ("1", Some(1)), ("2", None), ("12", None)],
+    );
     Ok(())
 }
 
 #[test]
 fn truncating_keeps_slots_and_counts(rt: HostRuntime) -> Result<(), Fail> {
-    let mut interner = <DefaultStringInterner>::new(rt.alloc());
-    for number in 0..13 {
-        interner.get_or_intern(&format!(in rt.alloc(); "{number}")?)?;
-    }
-    interner.truncate(2);
-    assert_eq!(rt; interner.len(), 2);
-    assert_eq!(rt;
-        (
-            interner.index.slots(),
-            interner.index.greatest(),
-            interner.index.put_back()
-        ),
-        (32, 13, 18)
-    );
-    for (text, number) in [("0", Some(0)), ("1", Some(1)), ("2", None), ("12", None)] {
-        let found = interner.get(text).map(|symbol| symbol.to_usize());
-        assert_eq!(rt; found, number, "of {text}");
-    }
-    Ok(())
+    assert_truncating_keeps_slots_and_counts(&rt, &mut StringInterner::new(rt.alloc()))
 }

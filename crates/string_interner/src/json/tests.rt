@@ -9,8 +9,9 @@ use super::*;
 use crate::DefaultStringInterner;
 use crate::backend::{BucketBackend, BufferBackend, StringBackend};
 use crate::symbol::{SymbolU16, SymbolU32, SymbolUsize};
-use crate::tests::Counting;
+use crate::tests::{Counting, assert_equal};
 use std::marker::Model;
+use std::process::Abort;
 use std::test::Fail;
 
 /// A symbol type with the numbers 0 and 1 alone.
@@ -74,37 +75,62 @@ fn parsed(alloc: Global, json: &str) -> Result<Value, serde_json::Error> {
     }
 }
 
-/// How many texts an interner over the backend reads from a JSON text.
-fn count_read<B: Backend + Drop>(
-    alloc: Global,
+/// An interner over the backend reads this many texts from a JSON text, or refuses it so.
+fn assert_read<B: Backend + Drop>(
+    rt: &(impl Abort + AllocGlobal),
     json: &str,
-) -> Result<Result<usize, JsonError>, Fail> {
-    let value = parsed(alloc, json)?;
-    match StringInterner::<B>::from_json(alloc, &value) {
-        Ok(interner) => Ok(Ok(interner.len())),
-        Err(error) => Ok(Err(error)),
-    }
+    wanted: Result<usize, JsonError>,
+) -> Result<(), Fail> {
+    let value = parsed(rt.alloc(), json)?;
+    let count = match StringInterner::<B>::from_json(rt.alloc(), &value) {
+        Ok(interner) => Ok(interner.len()),
+        Err(error) => Err(error),
+    };
+    assert_eq!(rt; count, wanted, "{json}");
+    Ok(())
 }
 
-/// How many texts an interner over the backend reads exactly from a JSON text.
-fn count_read_exactly<B: Backend + Drop>(
-    alloc: Global,
+/// The same, by reading exactly.
+fn assert_read_exactly<B: Backend + Drop>(
+    rt: &(impl Abort + AllocGlobal),
     json: &str,
-) -> Result<Result<usize, JsonError>, Fail> {
-    let value = parsed(alloc, json)?;
-    match StringInterner::<B>::from_json_exact(alloc, &value) {
-        Ok(interner) => Ok(Ok(interner.len())),
-        Err(error) => Ok(Err(error)),
-    }
+    wanted: Result<usize, JsonError>,
+) -> Result<(), Fail> {
+    let value = parsed(rt.alloc(), json)?;
+    let count = match StringInterner::<B>::from_json_exact(rt.alloc(), &value) {
+        Ok(interner) => Ok(interner.len()),
+        Err(error) => Err(error),
+    };
+    assert_eq!(rt; count, wanted, "{json}");
+    Ok(())
 }
 
-/// The number of the symbol that is read from a JSON text.
-fn number_in<S: Symbol>(alloc: Global, json: &str) -> Result<Result<usize, JsonError>, Fail> {
-    let value = parsed(alloc, json)?;
-    match symbol_from_json::<S>(&value) {
-        Ok(symbol) => Ok(Ok(symbol.to_usize())),
-        Err(error) => Ok(Err(error)),
-    }
+/// The number of the symbol that is read from a JSON text is this, or the text is refused so.
+fn assert_number<S: Symbol>(
+    rt: &(impl Abort + AllocGlobal),
+    json: &str,
+    wanted: Result<usize, JsonError>,
+) -> Result<(), Fail> {
+    let value = parsed(rt.alloc(), json)?;
+    let number = match symbol_from_json::<S>(&value) {
+        Ok(symbol) => Ok(symbol.to_usize()),
+        Err(error) => Err(error),
+    };
+    assert_eq!(rt; number, wanted, "{json}");
+    Ok(())
+}
+
+/// Interns the texts into a new interner, which is written as this JSON text.
+fn assert_written(
+    rt: &(impl Abort + AllocGlobal),
+    interner: &mut DefaultStringInterner,
+    texts: &[&str],
+    json: &str,
+) -> Result<(), Fail> {
+    fill(interner, texts)?;
+    let written = interner.to_json(rt.alloc())?.to_string(rt.alloc())?;
+    assert_equal(rt, written.as_str(), json);
+    Ok(())
 }
 
 #[test]
@@ -117,9 +143,7 @@ fn writes_the_texts_in_order(rt: HostRuntime) -> Result<(), Fail> {
         (["a\"b", "\n", "é"], "[\"a\\\"b\",\"\\n\",\"é\"]"),
     ] {
         let mut interner = <DefaultStringInterner>::new(rt.alloc());
-        fill(&mut interner, &texts)?;
-        let written = interner.to_json(rt.alloc())?.to_string(rt.alloc())?;
-        assert_eq!(rt; written.as_str(), json);
+        assert_written(&rt, &mut interner, &texts, json)?;
     }
     Ok(())
 }
@@ -139,12 +163,8 @@ fn reads_arrays_of_strings_alone(rt: HostRuntime) -> Result<(), Fail> {
         ("[[]]", Err(JsonError::NotAText { index: 0 })),
         ("[\"a\",{}]", Err(JsonError::NotAText { index: 1 })),
     ] {
-        assert_eq!(rt;
-            count_read::<StringBackend>(rt.alloc(), json)?,
-            wanted,
-            "{json}"
-        );
-        assert_eq!(rt; count_read::<Counting>(rt.alloc(), json)?, wanted, "{json}");
+        assert_read::<StringBackend>(&rt, json, wanted)?;
+        assert_read::<Counting>(&rt, json, wanted)?;
     }
     Ok(())
 }
@@ -159,11 +179,7 @@ fn the_first_refused_element_decides(rt: HostRuntime) -> Result<(), Fail> {
             Err(JsonError::NotAText { index: 3 }),
         ),
     ] {
-        assert_eq!(rt;
-            count_read::<StringBackend<Two>>(rt.alloc(), json)?,
-            wanted,
-            "{json}"
-        );
+        assert_read::<StringBackend<Two>>(&rt, json, wanted)?;
     }
     Ok(())
 }
@@ -177,38 +193,31 @@ fn reads_exactly_what_has_no_repeats(rt: HostRuntime) -> Result<(), Fail> {
         ("{}", Err(JsonError::NotAList)),
         ("[]", Ok(0)),
     ] {
-        assert_eq!(rt;
-            count_read_exactly::<StringBackend>(rt.alloc(), json)?,
-            wanted,
-            "{json}"
-        );
-        assert_eq!(rt;
-            count_read_exactly::<BucketBackend>(rt.alloc(), json)?,
-            wanted,
-            "{json}"
-        );
-        assert_eq!(rt;
-            count_read_exactly::<BufferBackend>(rt.alloc(), json)?,
-            wanted,
-            "{json}"
-        );
+        assert_read_exactly::<StringBackend>(&rt, json, wanted)?;
+        assert_read_exactly::<BucketBackend>(&rt, json, wanted)?;
+        assert_read_exactly::<BufferBackend>(&rt, json, wanted)?;
     }
-    assert_eq!(rt;
-        count_read_exactly::<StringBackend<Two>>(rt.alloc(), "[\"a\",\"b\",\"c\",\"a\"]")?,
-        Err(JsonError::NoSymbol)
-    );
+    assert_read_exactly::<StringBackend<Two>>(
+        &rt,
+        "[\"a\",\"b\",\"c\",\"a\"]",
+        Err(JsonError::NoSymbol),
+    )?;
     Ok(())
+}
+
+/// An interner of the animals, in their order.
+fn assert_animals(rt: &impl Abort, interner: &DefaultStringInterner) {
+    assert_equal(rt, interner.len(), 3);
+    for (number, text) in [(0, "Elephant"), (1, "Tiger"), (2, "Horse")] {
+        let found = interner.get(text).map(|symbol| symbol.to_usize());
+        assert_eq!(rt; found, Some(number), "{text}");
+    }
 }
 
 #[test]
 fn reads_texts_in_order(rt: HostRuntime) -> Result<(), Fail> {
     let value = parsed(rt.alloc(), "[\"Elephant\",\"Tiger\",\"Tiger\",\"Horse\"]")?;
-    let interner = <DefaultStringInterner>::from_json(rt.alloc(), &value)?;
-    assert_eq!(rt; interner.len(), 3);
-    for (number, text) in [(0, "Elephant"), (1, "Tiger"), (2, "Horse")] {
-        let found = interner.get(text).map(|symbol| symbol.to_usize());
-        assert_eq!(rt; found, Some(number), "{text}");
-    }
+    assert_animals(&rt, &StringInterner::from_json(rt.alloc(), &value)?);
     Ok(())
 }
 
@@ -234,35 +243,69 @@ fn read_back_exactly<B: Backend + Drop, H: TextHasher + Default + Drop>(
     StringInterner::from_json_exact(alloc, &value)
 }
 
+/// What is written of the interner is read back exactly.
+fn assert_read_back_exactly<B: Backend + Drop>(
+    rt: &(impl Abort + AllocGlobal),
+    interner: &StringInterner<B>,
+) -> Result<(), Fail> {
+    assert!(rt; read_back_exactly(rt.alloc(), interner)? == *interner);
+    Ok(())
+}
+
 #[test]
 fn what_was_written_is_read_back_exactly(rt: HostRuntime) -> Result<(), Fail> {
     let mut interner = StringInterner::<Counting>::new(rt.alloc());
     fill(&mut interner, &["b", "", "a", "é"])?;
-    assert!(rt; read_back_exactly(rt.alloc(), &interner)? == interner);
+    assert_read_back_exactly(&rt, &interner)
+}
+
+/// Two interners of one list, each text with one symbol in both, and then one that has a text more.
+fn assert_equal_until_filled<B: Backend>(
+    rt: &impl Abort,
+    interner: &StringInterner<B>,
+    back: &mut StringInterner<B>,
+) -> Result<(), Fail> {
+    assert!(rt; *back == *interner);
+    for (symbol, text) in interner {
+        assert!(rt; back.get(text) == Some(symbol), "{text}");
+    }
+    fill(back, &["c"])?;
+    assert!(rt; *back != *interner);
     Ok(())
+}
+
+/// What is written of the interner is read back.
+fn assert_read_back<B: Backend + Drop>(
+    rt: &(impl Abort + AllocGlobal),
+    interner: &StringInterner<B>,
+) -> Result<(), Fail> {
+    assert_equal_until_filled(rt, interner, &mut read_back(rt.alloc(), interner)?)
 }
 
 #[test]
 fn what_was_written_is_read_back(rt: HostRuntime) -> Result<(), Fail> {
     let mut interner = StringInterner::<Counting>::new(rt.alloc());
     fill(&mut interner, &["b", "", "a", "é"])?;
-    let mut back = read_back(rt.alloc(), &interner)?;
-    assert!(rt; back == interner);
-    for (symbol, text) in &interner {
-        assert_eq!(rt; back.get(text), Some(symbol));
-    }
-    fill(&mut back, &["c"])?;
-    assert!(rt; back != interner);
+    assert_read_back(&rt, &interner)
+}
+
+/// The symbol with this number is written as this JSON text.
+fn assert_number_written(
+    rt: &(impl Abort + AllocGlobal),
+    number: usize,
+    json: &str,
+) -> Result<(), Fail> {
+    let symbol = SymbolU16::try_from_usize(number).ok_or("a small number")?;
+    let written = symbol_to_json(rt.alloc(), symbol)?.to_string(rt.alloc())?;
+    assert_equal(rt, written.as_str(), json);
     Ok(())
 }
 
 #[test]
 fn a_symbol_is_its_number(rt: HostRuntime) -> Result<(), Fail> {
     for (number, json) in [(0, "0"), (65534, "65534")] {
-        let symbol = SymbolU16::try_from_usize(number).ok_or("a small number")?;
-        let written = symbol_to_json(rt.alloc(), symbol)?.to_string(rt.alloc())?;
-        assert_eq!(rt; written.as_str(), json);
-        assert_eq!(rt; number_in::<SymbolU16>(rt.alloc(), json)?, Ok(number));
+        assert_number_written(&rt, number, json)?;
+        assert_number::<SymbolU16>(&rt, json, Ok(number))?;
     }
     for (json, wanted) in [
         ("65535", JsonError::NoSymbol),
@@ -271,11 +314,7 @@ fn a_symbol_is_its_number(rt: HostRuntime) -> Result<(), Fail> {
         ("null", JsonError::NotANumber),
         ("[]", JsonError::NotANumber),
     ] {
-        assert_eq!(rt;
-            number_in::<SymbolU16>(rt.alloc(), json)?,
-            Err(wanted),
-            "{json}"
-        );
+        assert_number::<SymbolU16>(&rt, json, Err(wanted))?;
     }
     Ok(())
 }
@@ -283,18 +322,9 @@ fn a_symbol_is_its_number(rt: HostRuntime) -> Result<(), Fail> {
 #[test]
 fn the_last_number_of_a_usize(rt: HostRuntime) -> Result<(), Fail> {
     let json = "18446744073709551615";
-    assert_eq!(rt;
-        number_in::<SymbolU32>(rt.alloc(), json)?,
-        Err(JsonError::NoSymbol)
-    );
-    assert_eq!(rt;
-        number_in::<SymbolUsize>(rt.alloc(), json)?,
-        Err(JsonError::NoSymbol)
-    );
-    assert_eq!(rt;
-        number_in::<usize>(rt.alloc(), json)?,
-        Ok(18446744073709551615)
-    );
+    assert_number::<SymbolU32>(&rt, json, Err(JsonError::NoSymbol))?;
+    assert_number::<SymbolUsize>(&rt, json, Err(JsonError::NoSymbol))?;
+    assert_number::<usize>(&rt, json, Ok(18446744073709551615))?;
     Ok(())
 }
 
@@ -311,7 +341,7 @@ fn messages_of_refusals(rt: HostRuntime) -> Result<(), Fail> {
         (JsonError::Repeated { index: 2 }, "element 2 is repeated"),
         (JsonError::NotANumber, "not a number"),
     ] {
-        assert_eq!(rt; error.to_string(rt.alloc())?.as_str(), message);
+        assert_equal(&rt, error.to_string(rt.alloc())?.as_str(), message);
     }
     Ok(())
 }

@@ -2,9 +2,9 @@ ghost use Rattle.std.specs.Prelude.{◌<◌};
 
 use super::*;
 use crate::DefaultStringInterner;
-use crate::backend::{BucketBackend, BufferBackend, StringBackend};
+use crate::backend::{BucketBackend, BufferBackend, DefaultBackend, StringBackend};
 use crate::symbol::Symbol;
-use crate::tests::{Bit, Counting, ask_last};
+use crate::tests::{Bit, Counting, ask_last, assert_equal, tell_refused_over};
 use std::process::Abort;
 use std::test::Fail;
 
@@ -58,29 +58,27 @@ fn call_on<B: Backend, H: TextHasher>(scopes: &mut Scopes<B, H>, call: Call) -> 
     }
 }
 
-/// The answers to the calls, one after another, of scopes over an interner that has these texts.
-fn answers<B: Backend + Drop>(
-    alloc: Global,
-    texts: &[&str],
+/// Each call is answered as wanted, one after another.
+fn assert_answered<B: Backend, H: TextHasher>(
+    rt: &impl Abort,
+    scopes: &mut Scopes<B, H>,
     calls: &[(Call, Outcome)],
-) -> Result<Vec<Outcome>, Fail> {
-    let mut interner = StringInterner::<B>::new(alloc);
-    interner.extend(texts.iter().copied())?;
-    let mut scopes = Scopes::new(alloc, interner);
-    let mut answers = Vec::with_capacity(alloc, calls.len())?;
-    for (call, _) in calls {
-        answers.push(call_on(&mut scopes, *call))?;
+) {
+    for (call, wanted) in calls {
+        assert_equal(rt, call_on(scopes, *call), *wanted);
     }
-    Ok(answers)
 }
 
-/// What is wanted of the calls.
-fn wanted(alloc: Global, calls: &[(Call, Outcome)]) -> Result<Vec<Outcome>, Fail> {
-    let mut answers = Vec::with_capacity(alloc, calls.len())?;
-    for (_, answer) in calls {
-        answers.push(*answer)?;
-    }
-    Ok(answers)
+/// The same, of scopes over an interner that has these texts.
+fn assert_answers<B: Backend + Drop>(
+    rt: &(impl Abort + AllocGlobal),
+    texts: &[&str],
+    calls: &[(Call, Outcome)],
+) -> Result<(), Fail> {
+    let mut interner = StringInterner::<B>::new(rt.alloc());
+    interner.extend(texts.iter().copied())?;
+    assert_answered(rt, &mut Scopes::new(rt.alloc(), interner), calls);
+    Ok(())
 }
 
 /// One scope in another, over an interner that has `x`. Places of texts of one letter are this far apart.
@@ -105,20 +103,15 @@ fn nested(step: usize) -> [(Call, Outcome); 12]
 
 #[test]
 fn a_scope_that_is_left_is_forgotten(rt: HostRuntime) -> Result<(), Fail> {
-    let calls = nested(1);
-    let told = wanted(rt.alloc(), &calls)?;
-    assert_eq!(rt; answers::<StringBackend>(rt.alloc(), &["x"], &calls)?, told);
-    assert_eq!(rt; answers::<BucketBackend>(rt.alloc(), &["x"], &calls)?, told);
-    assert_eq!(rt; answers::<Counting>(rt.alloc(), &["x"], &calls)?, told);
+    assert_answers::<StringBackend>(&rt, &["x"], &nested(1))?;
+    assert_answers::<BucketBackend>(&rt, &["x"], &nested(1))?;
+    assert_answers::<Counting>(&rt, &["x"], &nested(1))?;
     // In a byte buffer a text of one letter takes two bytes.
-    let calls = nested(2);
-    let told = wanted(rt.alloc(), &calls)?;
-    assert_eq!(rt; answers::<BufferBackend>(rt.alloc(), &["x"], &calls)?, told);
-    Ok(())
+    assert_answers::<BufferBackend>(&rt, &["x"], &nested(2))
 }
 
-#[test]
-fn a_symbol_that_was_forgotten_is_there_again(rt: HostRuntime) -> Result<(), Fail> {
+/// Scopes over an interner with two symbols, both of which are given and taken back.
+fn assert_given_again<B: Backend + Drop>(rt: &(impl Abort + AllocGlobal)) -> Result<(), Fail> {
     let calls = [
         (Call::Enter, Outcome::Entered),
         (Call::Declare("a"), Outcome::Symbol(0)),
@@ -128,80 +121,109 @@ fn a_symbol_that_was_forgotten_is_there_again(rt: HostRuntime) -> Result<(), Fai
         (Call::Declare("c"), Outcome::Symbol(0)),
         (Call::Depth, Outcome::Count(0)),
     ];
-    let told = wanted(rt.alloc(), &calls)?;
-    assert_eq!(rt;
-        answers::<StringBackend<Bit>>(rt.alloc(), &[], &calls)?,
-        told
-    );
-    assert_eq!(rt;
-        answers::<BucketBackend<Bit>>(rt.alloc(), &[], &calls)?,
-        told
-    );
-    Ok(())
+    assert_answers::<B>(rt, &[], &calls)
+}
+
+#[test]
+fn a_symbol_that_was_forgotten_is_there_again(rt: HostRuntime) -> Result<(), Fail> {
+    assert_given_again::<StringBackend<Bit>>(&rt)?;
+    assert_given_again::<BucketBackend<Bit>>(&rt)
 }
 
 /// The names of a small program, block by block: `let width; { let height; { width; height; } let width; } height;`.
-#[test]
-fn names_of_nested_blocks(rt: HostRuntime) -> Result<(), Fail> {
-    let mut names = Scopes::new(rt.alloc(), <DefaultStringInterner>::new(rt.alloc()));
+fn assert_names_of_blocks(rt: &impl Abort, names: &mut Scopes<DefaultBackend>) -> Result<(), Fail> {
     let width = names.declare("width")?;
     names.enter()?;
     let height = names.declare("height")?;
     names.enter()?;
     // An inner block sees the names of the outer ones.
-    assert_eq!(rt; names.find("width"), Some(width));
-    assert_eq!(rt; names.find("height"), Some(height));
-    assert_eq!(rt; names.depth(), 2);
+    assert_equal(rt, names.find("width"), Some(width));
+    assert_equal(rt, names.find("height"), Some(height));
+    assert_equal(rt, names.depth(), 2);
     assert!(rt; names.leave());
     // A name that an outer block has already keeps its symbol.
-    assert_eq!(rt; names.declare("width")?, width);
+    assert_equal(rt, names.declare("width")?, width);
     assert!(rt; names.leave());
     // At the end of a block its names are forgotten.
-    assert_eq!(rt; names.find("height"), None);
-    assert_eq!(rt; names.interner().len(), 1);
+    assert_equal(rt, names.find("height"), None);
+    assert_equal(rt, names.interner().len(), 1);
     assert!(rt; !names.leave());
+    Ok(())
+}
+
+#[test]
+fn names_of_nested_blocks(rt: HostRuntime) -> Result<(), Fail> {
+    let interner = <DefaultStringInterner>::new(rt.alloc());
+    assert_names_of_blocks(&rt, &mut Scopes::new(rt.alloc(), interner))
+}
+
+/// Opens a scope, where a refusal opens none.
+fn enter_in_turn<B: Backend, H: TextHasher>(
+    rt: &(impl Abort + Print),
+    scopes: &mut Scopes<B, H>,
+    backend: &str,
+) -> Result<(), Fail> {
+    if let Err(AllocError) = scopes.enter() {
+        assert_equal(rt, scopes.depth(), 0);
+        assert_equal(rt, scopes.interner().len(), 0);
+        tell_refused_over(rt, "enter of Scopes", backend)?;
+        scopes.enter()?;
+    }
+    assert_equal(rt, scopes.depth(), 1);
+    Ok(())
+}
+
+/// Declares the first text, where a refusal leaves none.
+fn declare_in_turn<B: Backend, H: TextHasher>(
+    rt: &(impl Abort + Print),
+    scopes: &mut Scopes<B, H>,
+    backend: &str,
+) -> Result<(), Fail> {
+    if let Err(error) = scopes.declare("Tiger") {
+        assert_equal(rt, error, InternError::Memory(AllocError));
+        assert_equal(rt, scopes.interner().len(), 0);
+        assert_equal(rt, scopes.depth(), 1);
+        tell_refused_over(rt, "declare of Scopes", backend)?;
+        assert_equal(rt, scopes.declare("Tiger")?.to_usize(), 0);
+    }
+    assert!(rt; scopes.find("Tiger").is_some());
     Ok(())
 }
 
 /// Opens a scope, declares a text in it and leaves it, over a backend whose calls have this name. Passes whichever
 /// request for memory is refused: leaving makes none.
-fn scope_in_turn<B: Backend + Drop>(
+fn scope_in_turn<B: Backend, H: TextHasher>(
     rt: &(impl Abort + Print + AllocGlobal),
+    scopes: &mut Scopes<B, H>,
     backend: &str,
 ) -> Result<(), Fail> {
-    let mut scopes = Scopes::new(rt.alloc(), StringInterner::<B>::new(rt.alloc()));
-    if let Err(AllocError) = scopes.enter() {
-        assert_eq!(rt; scopes.depth(), 0);
-        assert_eq!(rt; scopes.interner().len(), 0);
-        println!(rt; "refused: enter of Scopes over {backend}")?;
-        scopes.enter()?;
-    }
-    assert_eq!(rt; scopes.depth(), 1);
-    if let Err(error) = scopes.declare("Tiger") {
-        assert_eq!(rt; error, InternError::Memory(AllocError));
-        assert_eq!(rt; scopes.interner().len(), 0);
-        assert_eq!(rt; scopes.depth(), 1);
-        println!(rt; "refused: declare of Scopes over {backend}")?;
-        assert_eq!(rt; scopes.declare("Tiger")?.to_usize(), 0);
-    }
-    assert!(rt; scopes.find("Tiger").is_some());
+    enter_in_turn(rt, scopes, backend)?;
+    declare_in_turn(rt, scopes, backend)?;
     assert!(rt; scopes.leave());
     assert!(rt; scopes.find("Tiger").is_none());
     assert!(rt; !scopes.leave());
     ask_last(rt).map_err(Fail::from)
 }
 
+fn new_scope_in_turn<B: Backend + Drop>(
+    rt: &(impl Abort + Print + AllocGlobal),
+    backend: &str,
+) -> Result<(), Fail> {
+    let interner = StringInterner::<B>::new(rt.alloc());
+    scope_in_turn(rt, &mut Scopes::new(rt.alloc(), interner), backend)
+}
+
 #[test]
 fn memory_of_scopes_over_strings(rt: HostRuntime) -> Result<(), Fail> {
-    scope_in_turn::<StringBackend>(&rt, "StringBackend")
+    new_scope_in_turn::<StringBackend>(&rt, "StringBackend")
 }
 
 #[test]
 fn memory_of_scopes_over_buckets(rt: HostRuntime) -> Result<(), Fail> {
-    scope_in_turn::<BucketBackend>(&rt, "BucketBackend")
+    new_scope_in_turn::<BucketBackend>(&rt, "BucketBackend")
 }
 
 #[test]
 fn memory_of_scopes_over_buffers(rt: HostRuntime) -> Result<(), Fail> {
-    scope_in_turn::<BufferBackend>(&rt, "BufferBackend")
+    new_scope_in_turn::<BufferBackend>(&rt, "BufferBackend")
 }

@@ -6,6 +6,7 @@ use super::*;
 use crate::interner::StringInterner;
 use crate::run::{Command, Reply, run};
 use crate::symbol::SymbolU16;
+use crate::tests::assert_equal;
 use crate::tests::last::assert_refuses;
 use std::process::Abort;
 use std::test::Fail;
@@ -19,13 +20,34 @@ fn letters(alloc: Global, count: usize) -> Result<String, AllocError> {
     Ok(text)
 }
 
-/// The texts in a buffer, which answers their numbers.
-fn numbers<B: Backend>(alloc: Global, backend: &mut B, texts: &[&str]) -> Result<Vec<usize>, Fail> {
-    let mut numbers = Vec::with_capacity(alloc, texts.len())?;
-    for text in texts {
-        numbers.push(backend.intern(text)?.to_usize())?;
+/// Each text, put last, gets the number of its place.
+fn assert_places(
+    rt: &impl Abort,
+    backend: &mut BufferBackend,
+    entries: &[(usize, &str)],
+) -> Result<(), Fail> {
+    for (place, text) in entries {
+        assert_equal(rt, backend.intern(text)?.to_usize(), *place);
     }
-    Ok(numbers)
+    Ok(())
+}
+
+/// A number is spelled by these bytes, and read from them, but from no front of them.
+fn assert_spelled(
+    rt: &(impl Abort + Alloc<A = Global>),
+    number: usize,
+    bytes: &[u8],
+) -> Result<(), Fail> {
+    let mut buffer = Vec::with_capacity(rt.alloc(), digit_count(number))?;
+    push_number(&mut buffer, number);
+    assert_equal(rt, (number, buffer.as_slice()), (number, bytes));
+    let read = number_at(bytes).map(|read| (read.number, read.len));
+    assert_equal(rt, read, Some((number, bytes.len())));
+    for len in 0..bytes.len() {
+        let is_read = number_at(&bytes[..len]).is_some();
+        assert_equal(rt, (number, len, is_read), (number, len, false));
+    }
+    Ok(())
 }
 
 #[test]
@@ -44,43 +66,54 @@ fn lengths_in_base_128(rt: HostRuntime) -> Result<(), Fail> {
         (usize::MAX, b"\xFF\xFF\xFF\xFF\xFF\xFF\xFF\xFF\xFF\x01"),
     ];
     for (number, bytes) in vectors {
-        let mut buffer = Vec::with_capacity(rt.alloc(), digit_count(number))?;
-        push_number(&mut buffer, number);
-        assert_eq!(rt; buffer.as_slice(), bytes, "{number}");
-        let read = number_at(bytes).map(|read| (read.number, read.len));
-        assert_eq!(rt; read, Some((number, bytes.len())));
-        // No front of a spelling is a spelling.
-        for len in 0..bytes.len() {
-            assert!(rt;
-                number_at(&bytes[..len]).is_none(),
-                "{len} bytes of {number}"
-            );
-        }
+        assert_spelled(&rt, number, bytes)?;
     }
+    Ok(())
+}
+
+/// Each text, put last, gets the number of its place, and these are all the bytes then.
+fn assert_stands(
+    rt: &impl Abort,
+    backend: &mut BufferBackend,
+    entries: &[(usize, &str)],
+    bytes: &[u8],
+) -> Result<(), Fail> {
+    assert_places(rt, backend, entries)?;
+    assert_equal(rt, backend.as_bytes(), bytes);
+    assert_equal(rt, backend.count(), entries.len());
+    let next = backend.next_symbol().map(|symbol| symbol.to_usize());
+    assert_equal(rt, next, Some(bytes.len()));
     Ok(())
 }
 
 #[test]
 fn texts_stand_behind_their_lengths(rt: HostRuntime) -> Result<(), Fail> {
-    let animals = ["Tiger", "Horse"];
-    let vectors: [(&[&str], &[usize], &[u8]); 3] = [
-        (&animals, &[0, 6], b"\x05Tiger\x05Horse"),
-        (&["a\x01", ""], &[0, 3], b"\x02a\x01\x00"),
-        (&["", "a", ""], &[0, 1, 3], b"\x00\x01a\x00"),
+    let vectors: [(&[(usize, &str)], &[u8]); 3] = [
+        (&[(0, "Tiger"), (6, "Horse")], b"\x05Tiger\x05Horse"),
+        (&[(0, "a\x01"), (3, "")], b"\x02a\x01\x00"),
+        (&[(0, ""), (1, "a"), (3, "")], b"\x00\x01a\x00"),
     ];
-    for (texts, places, bytes) in vectors {
-        let mut backend = BufferBackend::<DefaultSymbol>::new(rt.alloc());
-        assert_eq!(rt;
-            numbers(rt.alloc(), &mut backend, texts)?.as_slice(),
-            places
-        );
-        assert_eq!(rt; backend.as_bytes(), bytes);
-        assert_eq!(rt; backend.count(), texts.len());
-        assert_eq!(rt;
-            backend.next_symbol().map(|symbol| symbol.to_usize()),
-            Some(bytes.len())
-        );
+    for (entries, bytes) in vectors {
+        let mut backend = BufferBackend::new(rt.alloc());
+        assert_stands(&rt, &mut backend, entries, bytes)?;
     }
+    Ok(())
+}
+
+/// A long text stands behind this length, and another one after it at this place.
+fn assert_stands_long(
+    rt: &impl Abort,
+    backend: &mut BufferBackend,
+    text: &str,
+    length: &[u8],
+    place: usize,
+) -> Result<(), Fail> {
+    assert_places(rt, backend, &[(0, text), (place, "x")])?;
+    let starts = backend.as_bytes().starts_with(length);
+    assert_equal(rt, (text.len(), starts), (text.len(), true));
+    assert_equal(rt, backend.as_bytes().len(), place.wrapping_add(2));
+    assert_equal(rt, read(backend, 0), Some(text));
+    assert_equal(rt, read(backend, place), Some("x"));
     Ok(())
 }
 
@@ -94,17 +127,8 @@ fn long_lengths_start_at_128(rt: HostRuntime) -> Result<(), Fail> {
     ];
     for (count, length, place) in vectors {
         let text = letters(rt.alloc(), count)?;
-        let mut backend = BufferBackend::<DefaultSymbol>::new(rt.alloc());
-        assert_eq!(rt;
-            numbers(rt.alloc(), &mut backend, &[text.as_str(), "x"])?.as_slice(),
-            [0, place].as_slice()
-        );
-        assert!(rt; backend.as_bytes().starts_with(length), "{count}");
-        assert_eq!(rt; backend.as_bytes().len(), place + 2);
-        for (number, text) in [(0, text.as_str()), (place, "x")] {
-            let symbol = DefaultSymbol::try_from_usize(number).ok_or("a small number")?;
-            assert_eq!(rt; backend.resolve(symbol), Some(text));
-        }
+        let mut backend = BufferBackend::new(rt.alloc());
+        assert_stands_long(&rt, &mut backend, &text, length, place)?;
     }
     Ok(())
 }
@@ -112,6 +136,49 @@ fn long_lengths_start_at_128(rt: HostRuntime) -> Result<(), Fail> {
 /// What is read from a number on.
 fn read(backend: &BufferBackend, number: usize) -> Option<&str> {
     backend.resolve(DefaultSymbol::try_from_usize(number)?)
+}
+
+/// Each text, put last, is read at its symbol.
+fn assert_interns(
+    rt: &impl Abort,
+    backend: &mut BufferBackend,
+    texts: &[&str],
+) -> Result<(), Fail> {
+    for text in texts {
+        let symbol = backend.intern(text)?;
+        assert_equal(rt, backend.resolve(symbol), Some(*text));
+    }
+    Ok(())
+}
+
+/// These numbers are answered so by a buffer of these bytes.
+fn assert_answers(
+    rt: &impl Abort,
+    backend: &BufferBackend,
+    bytes: &[u8],
+    answers: &[(usize, Option<&str>)],
+) {
+    for (number, answer) in answers {
+        assert_equal(
+            rt,
+            (*number, bytes, read(backend, *number)),
+            (*number, bytes, *answer),
+        );
+    }
+}
+
+/// No number past these bytes is answered by a text.
+fn assert_ends(rt: &impl Abort, backend: &BufferBackend, bytes: &[u8]) {
+    for number in 0..21 {
+        let is_read = read(backend, number).is_some();
+        let is_past = number >= bytes.len();
+        assert_equal(
+            rt,
+            (number, bytes, is_read && is_past),
+            (number, bytes, false),
+        );
+    }
+    assert_equal(rt, read(backend, 4294967294), None);
 }
 
 /// The texts stand so in a buffer, and these numbers are answered so.
@@ -122,42 +189,43 @@ fn assert_reads(
     answers: &[(usize, Option<&str>)],
 ) -> Result<(), Fail> {
     let mut backend = BufferBackend::new(rt.alloc());
-    for text in texts {
-        let symbol = backend.intern(text)?;
-        assert_eq!(rt; backend.resolve(symbol), Some(*text));
-    }
-    assert_eq!(rt; backend.as_bytes(), bytes);
-    for (number, answer) in answers {
-        assert_eq!(rt; read(&backend, *number), *answer, "{number} in {bytes:?}");
-    }
-    for number in 0..21 {
-        let answer = read(&backend, number);
-        assert!(rt;
-            number < bytes.len() || answer.is_none(),
-            "{number} in {bytes:?}"
-        );
-    }
-    assert_eq!(rt; read(&backend, 4294967294), None);
-    numbers_of_a_run(rt, texts, answers)
+    assert_interns(rt, &mut backend, texts)?;
+    assert_equal(rt, backend.as_bytes(), bytes);
+    assert_answers(rt, &backend, bytes, answers);
+    assert_ends(rt, &backend, bytes);
+    assert_runs(rt, &mut StringInterner::new(rt.alloc()), texts, answers)
 }
 
-/// The same by a run, on an interner of the texts.
-fn numbers_of_a_run(
+/// A number is answered so by a run.
+fn assert_reply(
     rt: &(impl Abort + Alloc<A = Global>),
+    interner: &mut StringInterner<BufferBackend>,
+    number: usize,
+    answer: Option<&str>,
+) -> Result<(), Fail> {
+    let wanted = match answer {
+        Some(text) => Reply::Text(String::from_str(rt.alloc(), text)?),
+        None => Reply::Nothing,
+    };
+    let replies = run(rt.alloc(), interner, &[Command::Number(number)])?;
+    assert_equal(
+        rt,
+        (number, replies.as_slice()),
+        (number, [wanted].as_slice()),
+    );
+    Ok(())
+}
+
+/// The numbers are answered so by runs, on an interner of the texts.
+fn assert_runs(
+    rt: &(impl Abort + Alloc<A = Global>),
+    interner: &mut StringInterner<BufferBackend>,
     texts: &[&str],
     answers: &[(usize, Option<&str>)],
 ) -> Result<(), Fail> {
-    let mut interner = StringInterner::<BufferBackend>::new(rt.alloc());
-    for text in texts {
-        interner.get_or_intern(text)?;
-    }
+    interner.extend(texts.iter().copied())?;
     for (number, answer) in answers {
-        let replies = run(rt.alloc(), &mut interner, &[Command::Number(*number)])?;
-        let wanted = match answer {
-            Some(text) => Reply::Text(String::from_str(rt.alloc(), text)?),
-            None => Reply::Nothing,
-        };
-        assert_eq!(rt; replies.as_slice(), [wanted].as_slice(), "at {number}");
+        assert_reply(rt, interner, *number, *answer)?;
     }
     Ok(())
 }
@@ -200,26 +268,54 @@ fn any_number_is_read_or_gives_nothing(rt: HostRuntime) -> Result<(), Fail> {
     )
 }
 
+/// Of all texts the interner knows this one, and one more, which takes the last place.
+fn assert_last_place_is_taken(
+    rt: &impl Abort,
+    interner: &mut StringInterner<BufferBackend<SymbolU16>>,
+    long: &str,
+) -> Result<(), Fail> {
+    assert_equal(rt, interner.get_or_intern(long)?.to_usize(), 0);
+    assert_equal(rt, interner.get_or_intern("b")?.to_usize(), 65534);
+    assert_equal(rt, interner.get_or_intern("c"), Err(InternError::NoSymbol));
+    assert_refuses(rt, interner, &["c", "", "a", "bb"]);
+    assert_equal(rt, interner.get_or_intern("b")?.to_usize(), 65534);
+    assert_equal(rt, interner.get_or_intern(long)?.to_usize(), 0);
+    assert_equal(rt, interner.len(), 2);
+    assert_equal(rt, interner.backend().as_bytes().len(), 65536);
+    Ok(())
+}
+
+/// An interner puts last in its buffer what is new.
+fn assert_interner_stands(
+    rt: &impl Abort,
+    interner: &mut StringInterner<BufferBackend>,
+) -> Result<(), Fail> {
+    for (number, text) in [(0, "Tiger"), (6, "Horse"), (0, "Tiger")] {
+        assert_equal(rt, interner.get_or_intern(text)?.to_usize(), number);
+    }
+    let bytes = interner.backend().as_bytes();
+    assert_equal(rt, bytes, b"\x05Tiger\x05Horse".as_slice());
+    Ok(())
+}
+
 #[test]
 fn an_interner_ends_at_the_last_place(rt: HostRuntime) -> Result<(), Fail> {
-    let mut interner = StringInterner::<BufferBackend<SymbolU16>>::new(rt.alloc());
     let long = letters(rt.alloc(), 65531)?;
-    assert_eq!(rt; interner.get_or_intern(&long)?.to_usize(), 0);
-    assert_eq!(rt; interner.get_or_intern("b")?.to_usize(), 65534);
-    assert_eq!(rt; interner.get_or_intern("c"), Err(InternError::NoSymbol));
-    assert_refuses(&rt, &mut interner, &["c", "", "a", "bb"]);
-    assert_eq!(rt; interner.get_or_intern("b")?.to_usize(), 65534);
-    assert_eq!(rt; interner.get_or_intern(&long)?.to_usize(), 0);
-    assert_eq!(rt; interner.len(), 2);
-    assert_eq!(rt; interner.backend().as_bytes().len(), 65536);
-    let mut interner = StringInterner::<BufferBackend>::new(rt.alloc());
-    for (number, text) in [(0, "Tiger"), (6, "Horse"), (0, "Tiger")] {
-        assert_eq!(rt; interner.get_or_intern(text)?.to_usize(), number);
-    }
-    assert_eq!(rt;
-        interner.backend().as_bytes(),
-        b"\x05Tiger\x05Horse".as_slice()
-    );
+    assert_last_place_is_taken(&rt, &mut StringInterner::new(rt.alloc()), &long)?;
+    assert_interner_stands(&rt, &mut StringInterner::new(rt.alloc()))
+}
+
+/// The interner knows this text alone, which takes all places, and this many bytes with its length.
+fn assert_takes_all_places(
+    rt: &impl Abort,
+    interner: &mut StringInterner<BufferBackend<SymbolU16>>,
+    long: &str,
+    len: usize,
+) -> Result<(), Fail> {
+    assert_equal(rt, interner.get_or_intern(long)?.to_usize(), 0);
+    assert_refuses(rt, interner, &["b", "", "a"]);
+    assert_equal(rt, interner.get_or_intern(long)?.to_usize(), 0);
+    assert_equal(rt, interner.backend().as_bytes().len(), len);
     Ok(())
 }
 
@@ -228,12 +324,32 @@ fn an_interner_ends_at_the_last_place(rt: HostRuntime) -> Result<(), Fail> {
 fn one_long_text_takes_all_places(rt: HostRuntime) -> Result<(), Fail> {
     for count in [65532, 65533] {
         let long = letters(rt.alloc(), count)?;
-        let mut interner = StringInterner::<BufferBackend<SymbolU16>>::new(rt.alloc());
-        assert_eq!(rt; interner.get_or_intern(&long)?.to_usize(), 0);
-        assert_refuses(&rt, &mut interner, &["b", "", "a"]);
-        assert_eq!(rt; interner.get_or_intern(&long)?.to_usize(), 0);
-        assert_eq!(rt; interner.backend().as_bytes().len(), count + 3);
+        let mut interner = StringInterner::new(rt.alloc());
+        assert_takes_all_places(&rt, &mut interner, &long, count + 3)?;
     }
+    Ok(())
+}
+
+/// A text takes all places, or all but the last, which another text takes then. No further text has a symbol.
+fn assert_last_place(
+    rt: &impl Abort,
+    backend: &mut BufferBackend<SymbolU16>,
+    text: &str,
+    has_symbol: bool,
+) -> Result<(), Fail> {
+    assert_equal(rt, backend.intern(text)?.to_usize(), 0);
+    let digits: [u8; 3] = [(text.len() % 128) as u8 + 128, 255, 3];
+    let starts = backend.as_bytes().starts_with(&digits);
+    assert_equal(rt, (text.len(), starts), (text.len(), true));
+    if has_symbol {
+        let symbol = backend.intern("b")?;
+        assert_equal(rt, symbol.to_usize(), 65534);
+        assert_equal(rt, backend.resolve(symbol), Some("b"));
+    }
+    let before = (backend.count(), backend.as_bytes().len());
+    assert_equal(rt, backend.next_symbol(), None);
+    assert_equal(rt, backend.intern("c"), Err(InternError::NoSymbol));
+    assert_equal(rt, (backend.count(), backend.as_bytes().len()), before);
     Ok(())
 }
 
@@ -242,52 +358,49 @@ fn the_last_place_of_two_bytes(rt: HostRuntime) -> Result<(), Fail> {
     // How many letters stand first, and whether another text has a symbol.
     for (count, has_symbol) in [(65531, true), (65532, false), (65533, false)] {
         let text = letters(rt.alloc(), count)?;
-        let mut backend = BufferBackend::<SymbolU16>::new(rt.alloc());
-        assert_eq!(rt; backend.intern(text.as_str())?.to_usize(), 0);
-        let digits: [u8; 3] = [(count % 128) as u8 + 128, 255, 3];
-        assert!(rt; backend.as_bytes().starts_with(&digits), "{count}");
-        if has_symbol {
-            let symbol = backend.intern("b")?;
-            assert_eq!(rt; symbol.to_usize(), 65534);
-            assert_eq!(rt; backend.resolve(symbol), Some("b"));
+        let mut backend = BufferBackend::new(rt.alloc());
+        assert_last_place(&rt, &mut backend, &text, has_symbol)?;
+    }
+    Ok(())
+}
+
+/// A walk gives these texts with their places, and says before each how many are left.
+fn assert_walk(rt: &impl Abort, backend: &BufferBackend, entries: &[(usize, usize, &str)]) {
+    let mut walk = backend.into_iter();
+    for (left, place, text) in entries {
+        assert_equal(rt, walk.len(), *left);
+        match walk.next() {
+            Some((symbol, read)) => {
+                assert_equal(rt, (symbol.to_usize(), read), (*place, *text));
+            }
+            None => assert_equal(rt, None, Some(*text)),
         }
-        let entries = backend.count();
-        let len = backend.as_bytes().len();
-        assert_eq!(rt; backend.next_symbol(), None);
-        assert_eq!(rt; backend.intern("c"), Err(InternError::NoSymbol));
-        assert_eq!(rt; backend.count(), entries);
-        assert_eq!(rt; backend.as_bytes().len(), len);
+    }
+    assert_equal(rt, walk.len(), 0);
+    assert!(rt; walk.next().is_none());
+    assert_equal(rt, backend.iter().len(), entries.len());
+}
+
+/// Puts texts last.
+fn put_all(backend: &mut BufferBackend, texts: &[&str]) -> Result<(), InternError> {
+    for text in texts {
+        backend.intern(text)?;
     }
     Ok(())
 }
 
 #[test]
 fn walks_over_the_entries(rt: HostRuntime) -> Result<(), Fail> {
-    let mut backend = BufferBackend::<DefaultSymbol>::new(rt.alloc());
-    let elements = [
+    let entries = [
         (4, 0, "Earth"),
         (3, 6, "Water"),
         (2, 12, "Fire"),
         (1, 17, "Air"),
     ];
-    for (_, _, text) in elements {
-        backend.intern(text)?;
-    }
-    assert_eq!(rt; backend.as_bytes().len(), 21);
-    let mut walk = (&backend).into_iter();
-    for (left, place, text) in elements {
-        assert_eq!(rt; walk.len(), left);
-        match walk.next() {
-            Some((symbol, read)) => {
-                assert_eq!(rt; symbol.to_usize(), place);
-                assert_eq!(rt; read, text);
-            }
-            None => assert!(rt; false, "the walk ended before {text}"),
-        }
-    }
-    assert_eq!(rt; walk.len(), 0);
-    assert!(rt; walk.next().is_none());
-    assert_eq!(rt; backend.iter().len(), 4);
+    let mut backend = BufferBackend::new(rt.alloc());
+    put_all(&mut backend, &["Earth", "Water", "Fire", "Air"])?;
+    assert_equal(&rt, backend.as_bytes().len(), 21);
+    assert_walk(&rt, &backend, &entries);
     Ok(())
 }
 
@@ -301,14 +414,23 @@ fn entry_of_new<'b>(
     Ok((backend.resolve_unchecked(symbol), read, next))
 }
 
-#[test]
-fn an_answered_symbol_needs_no_test(rt: HostRuntime) -> Result<(), Fail> {
-    let mut backend = BufferBackend::new(rt.alloc());
-    for (text, next) in [("Tiger", 6), ("", 7), ("é", 10), ("Tiger", 16)] {
-        let entry = entry_of_new(&mut backend, text)?;
-        assert_eq!(rt; entry, (text, text, next));
+/// Each text is read at once where it is put last, and this is the place after it.
+fn assert_entries_of_new(
+    rt: &impl Abort,
+    backend: &mut BufferBackend,
+    entries: &[(&'static str, usize)],
+) -> Result<(), Fail> {
+    for (text, next) in entries {
+        let entry = entry_of_new(backend, text)?;
+        assert_equal(rt, entry, (*text, *text, *next));
     }
     Ok(())
+}
+
+#[test]
+fn an_answered_symbol_needs_no_test(rt: HostRuntime) -> Result<(), Fail> {
+    let entries = [("Tiger", 6), ("", 7), ("é", 10), ("Tiger", 16)];
+    assert_entries_of_new(&rt, &mut BufferBackend::new(rt.alloc()), &entries)
 }
 
 /// A copy through the bound.
@@ -316,23 +438,60 @@ fn copied<B: CopyBackend>(backend: &B) -> Result<B, AllocError> {
     backend.try_copy()
 }
 
+/// A backend of the texts is equal to the other where the numbers of their lists are.
+fn assert_compares(
+    rt: &(impl Abort + Alloc<A = Global>),
+    one: &BufferBackend,
+    texts: &[&str],
+    numbers: (usize, usize),
+) -> Result<(), Fail> {
+    let mut other = BufferBackend::with_capacity(rt.alloc(), 9)?;
+    put_all(&mut other, texts)?;
+    assert_equal(
+        rt,
+        (numbers, *one == other),
+        (numbers, numbers.0 == numbers.1),
+    );
+    Ok(())
+}
+
+/// A backend of these texts is equal to the one of the list with this number alone.
+fn assert_equal_to_one(
+    rt: &(impl Abort + Alloc<A = Global>),
+    one: &mut BufferBackend,
+    texts: &[&str],
+    number: usize,
+    lists: &[&[&str]],
+) -> Result<(), Fail> {
+    put_all(one, texts)?;
+    for (other, texts) in lists.iter().enumerate() {
+        assert_compares(rt, one, texts, (number, other))?;
+    }
+    Ok(())
+}
+
+/// A text that is put last in a copy is not put in what was copied, which has so many texts.
+fn assert_its_own(
+    rt: &impl Abort,
+    one: &BufferBackend,
+    copy: &mut BufferBackend,
+    count: usize,
+) -> Result<(), Fail> {
+    assert!(rt; *copy == *one);
+    assert!(rt; copied(one)? == *one);
+    copy.intern("more")?;
+    assert!(rt; *copy != *one);
+    assert_equal(rt, one.count(), count);
+    Ok(())
+}
+
 #[test]
 fn equal_lists_are_equal(rt: HostRuntime) -> Result<(), Fail> {
     let lists: [&[&str]; 5] = [&[], &["a"], &["a", "a"], &["aa"], &["a\u{1}a"]];
-    for (i, list) in lists.iter().enumerate() {
-        let mut one = BufferBackend::<DefaultSymbol>::new(rt.alloc());
-        numbers(rt.alloc(), &mut one, list)?;
-        for (j, other_list) in lists.iter().enumerate() {
-            let mut other = BufferBackend::with_capacity(rt.alloc(), 9)?;
-            numbers(rt.alloc(), &mut other, other_list)?;
-            assert_eq!(rt; one == other, i == j, "{i} and {j}");
-        }
-        let mut copy = one.clone()?;
-        assert!(rt; copy == one);
-        assert!(rt; copied(&one)? == one);
-        copy.intern("more")?;
-        assert!(rt; copy != one);
-        assert_eq!(rt; one.count(), list.len());
+    for (number, texts) in lists.iter().enumerate() {
+        let mut one = BufferBackend::new(rt.alloc());
+        assert_equal_to_one(&rt, &mut one, texts, number, &lists)?;
+        assert_its_own(&rt, &one, &mut one.clone()?, texts.len())?;
     }
     Ok(())
 }
@@ -341,6 +500,6 @@ fn equal_lists_are_equal(rt: HostRuntime) -> Result<(), Fail> {
 fn capacities_that_do_not_fit(rt: HostRuntime) {
     for capacity in [1418980313362273202, usize::MAX] {
         let made = BufferBackend::<DefaultSymbol>::with_capacity(rt.alloc(), capacity);
-        assert_eq!(rt; made.err(), Some(AllocError), "{capacity}");
+        assert_equal(&rt, (capacity, made.err()), (capacity, Some(AllocError)));
     }
 }

@@ -1,94 +1,143 @@
 use super::*;
 use crate::symbol::SymbolU16;
-use crate::tests::{Even, ask_last, tell_refused};
+use crate::tests::{Even, ask_last, assert_equal, tell_refused};
 use std::alloc::AllocError;
+use std::process::Abort;
 use std::test::Fail;
+
+/// Each text, put last, gets the next number, and is read at its symbol.
+fn assert_interns(
+    rt: &impl Abort,
+    backend: &mut StringBackend,
+    texts: &[&str],
+) -> Result<(), Fail> {
+    for (number, text) in texts.iter().enumerate() {
+        let next = backend.next_symbol().map(|symbol| symbol.to_usize());
+        assert_equal(rt, next, Some(number));
+        let symbol = backend.intern(text)?;
+        assert_equal(rt, symbol.to_usize(), number);
+        assert_equal(rt, backend.resolve(symbol), Some(*text));
+    }
+    Ok(())
+}
 
 #[test]
 fn repeats_are_put_last(rt: HostRuntime) -> Result<(), Fail> {
-    let mut backend = StringBackend::<DefaultSymbol>::new(rt.alloc());
-    assert_eq!(rt; backend.count(), 0);
-    for (number, text) in [(0, "a"), (1, ""), (2, "é"), (3, "a")] {
-        assert_eq!(rt;
-            backend.next_symbol().map(|symbol| symbol.to_usize()),
-            Some(number)
-        );
-        let symbol = backend.intern(text)?;
-        assert_eq!(rt; symbol.to_usize(), number);
-        assert_eq!(rt; backend.resolve(symbol), Some(text));
+    let mut backend = StringBackend::new(rt.alloc());
+    assert_equal(&rt, backend.count(), 0);
+    assert_interns(&rt, &mut backend, &["a", "", "é", "a"])?;
+    assert_equal(&rt, backend.count(), 4);
+    assert_equal(&rt, backend.joined.as_str(), "aéa");
+    Ok(())
+}
+
+/// Nothing is read at a number.
+fn assert_no_text(rt: &impl Abort, backend: &StringBackend, number: usize) -> Result<(), Fail> {
+    let symbol = DefaultSymbol::try_from_usize(number).ok_or("a number of four bytes")?;
+    assert_equal(rt, (number, backend.resolve(symbol)), (number, None));
+    Ok(())
+}
+
+/// Nothing is read where there is no text, at these numbers, and the first text is read at its symbol.
+fn assert_no_text_before_the_first(
+    rt: &impl Abort,
+    backend: &mut StringBackend,
+    numbers: &[usize],
+) -> Result<(), Fail> {
+    for number in numbers {
+        assert_no_text(rt, backend, *number)?;
     }
-    assert_eq!(rt; backend.count(), 4);
-    assert_eq!(rt; backend.joined.as_str(), "aéa");
+    let symbol = backend.intern("a")?;
+    assert_equal(rt, backend.resolve(symbol), Some("a"));
     Ok(())
 }
 
 #[test]
 fn numbers_from_the_count_on_read_nothing(rt: HostRuntime) -> Result<(), Fail> {
-    let mut backend = StringBackend::<DefaultSymbol>::new(rt.alloc());
-    for number in [0, 1, 4294967294] {
-        let symbol = DefaultSymbol::try_from_usize(number).ok_or("a number of four bytes")?;
-        assert_eq!(rt; backend.resolve(symbol), None, "{number}");
+    let mut backend = StringBackend::new(rt.alloc());
+    assert_no_text_before_the_first(&rt, &mut backend, &[0, 1, 4294967294])
+}
+
+/// The first text has a symbol. The next place has none, so that no other text is put last.
+fn assert_one_symbol(rt: &impl Abort, backend: &mut StringBackend<Even>) -> Result<(), Fail> {
+    backend.intern("a")?;
+    assert_equal(rt, backend.next_symbol(), None);
+    for _ in 0..2 {
+        assert_equal(rt, backend.intern("b"), Err(InternError::NoSymbol));
+        assert_equal(rt, (backend.count(), backend.joined.as_str()), (1, "a"));
     }
-    let symbol = backend.intern("a")?;
-    assert_eq!(rt; backend.resolve(symbol), Some("a"));
     Ok(())
 }
 
 #[test]
 fn no_symbol_leaves_all(rt: HostRuntime) -> Result<(), Fail> {
-    let mut backend = StringBackend::<Even>::new(rt.alloc());
-    backend.intern("a")?;
-    assert_eq!(rt; backend.next_symbol(), None);
-    for _ in 0..2 {
-        assert_eq!(rt; backend.intern("b"), Err(InternError::NoSymbol));
-        assert_eq!(rt; backend.count(), 1);
-        assert_eq!(rt; backend.joined.as_str(), "a");
+    assert_one_symbol(&rt, &mut StringBackend::new(rt.alloc()))
+}
+
+/// A walk gives the one text twice.
+fn assert_walks_twice(rt: &impl Abort, backend: &StringBackend) {
+    let mut number = 0;
+    for (symbol, text) in backend {
+        assert_equal(rt, (symbol.to_usize(), text), (number, "a"));
+        number = symbol.to_usize().saturating_add(1);
     }
+    assert_equal(rt, number, 2);
+    assert_equal(rt, backend.iter().len(), 2);
+}
+
+/// A text that is there twice makes a list that is unequal to the one where it is once.
+fn assert_repeats_count(
+    rt: &impl Abort,
+    twice: &mut StringBackend,
+    once: &mut StringBackend,
+) -> Result<(), Fail> {
+    twice.intern("a")?;
+    once.intern("a")?;
+    assert!(rt; *twice == *once);
+    twice.intern("a")?;
+    assert_walks_twice(rt, twice);
+    assert!(rt; *twice != *once);
     Ok(())
 }
 
 #[test]
 fn walks_over_repeats(rt: HostRuntime) -> Result<(), Fail> {
-    let mut twice = StringBackend::<DefaultSymbol>::new(rt.alloc());
-    twice.intern("a")?;
-    let mut once = StringBackend::<DefaultSymbol>::new(rt.alloc());
-    once.intern("a")?;
-    assert!(rt; twice == once);
-    twice.intern("a")?;
-    let mut number = 0;
-    for (symbol, text) in &twice {
-        assert_eq!(rt; symbol.to_usize(), number);
-        assert_eq!(rt; text, "a");
-        number = symbol.to_usize().saturating_add(1);
+    let mut twice = StringBackend::new(rt.alloc());
+    assert_repeats_count(&rt, &mut twice, &mut StringBackend::new(rt.alloc()))
+}
+
+/// Puts texts last.
+fn put_all(backend: &mut StringBackend, texts: &[&str]) -> Result<(), InternError> {
+    for text in texts {
+        backend.intern(text)?;
     }
-    assert_eq!(rt; number, 2);
-    assert_eq!(rt; twice.iter().len(), 2);
-    assert!(rt; twice != once);
     Ok(())
 }
 
 #[test]
 fn equal_bytes_cut_apart_are_unequal(rt: HostRuntime) -> Result<(), Fail> {
-    let mut left = StringBackend::<DefaultSymbol>::new(rt.alloc());
-    let mut right = StringBackend::<DefaultSymbol>::new(rt.alloc());
-    for (one, other) in [("ab", "a"), ("c", "bc")] {
-        left.intern(one)?;
-        right.intern(other)?;
-    }
+    let mut left = StringBackend::new(rt.alloc());
+    put_all(&mut left, &["ab", "c"])?;
+    let mut right = StringBackend::new(rt.alloc());
+    put_all(&mut right, &["a", "bc"])?;
     assert!(rt; left != right);
+    Ok(())
+}
+
+/// The empty text is put last as many times as there are symbols of two bytes, and not once more.
+fn assert_last_symbol(rt: &impl Abort, backend: &mut StringBackend<SymbolU16>) -> Result<(), Fail> {
+    for number in 0..65535 {
+        assert_equal(rt, backend.intern("")?.to_usize(), number);
+    }
+    assert_equal(rt, backend.intern(""), Err(InternError::NoSymbol));
+    assert_equal(rt, backend.count(), 65535);
+    assert_equal(rt, backend.next_symbol(), None);
     Ok(())
 }
 
 #[test]
 fn the_last_symbol_of_two_bytes(rt: HostRuntime) -> Result<(), Fail> {
-    let mut backend = StringBackend::<SymbolU16>::new(rt.alloc());
-    for number in 0..65535 {
-        assert_eq!(rt; backend.intern("")?.to_usize(), number);
-    }
-    assert_eq!(rt; backend.intern(""), Err(InternError::NoSymbol));
-    assert_eq!(rt; backend.count(), 65535);
-    assert_eq!(rt; backend.next_symbol(), None);
-    Ok(())
+    assert_last_symbol(&rt, &mut StringBackend::new(rt.alloc()))
 }
 
 #[test]
@@ -99,119 +148,159 @@ fn capacities_that_do_not_fit(rt: HostRuntime) {
     }
 }
 
+/// A text that is put last in a copy is not put in what was copied.
+fn assert_its_own(
+    rt: &impl Abort,
+    backend: &StringBackend,
+    copy: &mut StringBackend,
+) -> Result<(), Fail> {
+    assert!(rt; *copy == *backend);
+    assert_equal(rt, copy.intern_static("Bear")?.to_usize(), 2);
+    assert!(rt; *copy != *backend);
+    assert_equal(rt, backend.count(), 2);
+    Ok(())
+}
+
 #[test]
 fn a_copy_is_equal_and_its_own(rt: HostRuntime) -> Result<(), Fail> {
-    let mut backend = StringBackend::<DefaultSymbol>::with_capacity(rt.alloc(), 2)?;
-    for text in ["Tiger", "Horse"] {
-        backend.intern(text)?;
-    }
+    let mut backend = StringBackend::with_capacity(rt.alloc(), 2)?;
+    put_all(&mut backend, &["Tiger", "Horse"])?;
     backend.shrink_to_fit();
-    let mut copy = backend.try_copy()?;
-    assert!(rt; copy == backend);
-    assert_eq!(rt; copy.intern_static("Bear")?.to_usize(), 2);
-    assert!(rt; copy != backend);
-    assert_eq!(rt; backend.count(), 2);
-    Ok(())
+    assert_its_own(&rt, &backend, &mut backend.try_copy()?)
+}
+
+/// A backend of a capacity, asked for again where that was refused memory.
+fn made<S: Symbol>(
+    rt: &(impl Print + AllocGlobal),
+    capacity: usize,
+    call: &str,
+) -> Result<StringBackend<S>, Fail> {
+    match StringBackend::with_capacity(rt.alloc(), capacity) {
+        Ok(made) => Ok(made),
+        Err(AllocError) => {
+            tell_refused(rt, call)?;
+            Ok(StringBackend::with_capacity(rt.alloc(), capacity)?)
+        }
+    }
+}
+
+/// A copy, asked for again where that was refused memory, which leaves all.
+fn copy_in_turn(rt: &(impl Abort + Print), backend: &StringBackend) -> Result<StringBackend, Fail> {
+    match backend.clone() {
+        Ok(copy) => Ok(copy),
+        Err(AllocError) => {
+            assert_equal(rt, backend.joined.as_str(), "TigerHorse");
+            tell_refused(rt, "clone of StringBackend")?;
+            Ok(backend.clone()?)
+        }
+    }
 }
 
 /// Passes whichever request for memory is refused: within the room that was granted none is asked for.
 #[test]
 fn memory_of_makers_and_copies(rt: HostRuntime) -> Result<(), Fail> {
-    let mut backend = match StringBackend::<DefaultSymbol>::with_capacity(rt.alloc(), 2) {
-        Ok(backend) => backend,
-        Err(AllocError) => {
-            tell_refused(&rt, "with_capacity of StringBackend")?;
-            StringBackend::with_capacity(rt.alloc(), 2)?
-        }
-    };
-    for (number, text) in [(0, "Tiger"), (1, "Horse")] {
-        assert_eq!(rt; backend.intern(text)?.to_usize(), number);
-    }
-    let copy = match backend.clone() {
-        Ok(copy) => copy,
-        Err(AllocError) => {
-            assert_eq!(rt; backend.joined.as_str(), "TigerHorse");
-            tell_refused(&rt, "clone of StringBackend")?;
-            backend.clone()?
-        }
-    };
+    let mut backend = made(&rt, 2, "with_capacity of StringBackend")?;
+    assert_interns(&rt, &mut backend, &["Tiger", "Horse"])?;
+    let copy = copy_in_turn(&rt, &backend)?;
     assert!(rt; copy == backend);
     ask_last(&rt).map_err(Fail::from)
+}
+
+/// Puts texts last, each again where that was refused memory, which leaves all.
+fn intern_in_turn(
+    rt: &(impl Abort + Print),
+    backend: &mut StringBackend,
+    texts: &[&str],
+) -> Result<(), Fail> {
+    for text in texts {
+        let before = (backend.count(), backend.joined.len());
+        if let Err(error) = backend.intern(text) {
+            assert_equal(rt, error, InternError::Memory(AllocError));
+            assert_equal(rt, (backend.count(), backend.joined.len()), before);
+            tell_refused(rt, "intern of StringBackend")?;
+            backend.intern(text)?;
+        }
+    }
+    Ok(())
 }
 
 /// Passes whichever request for memory is refused.
 #[test]
 fn memory_of_intern(rt: HostRuntime) -> Result<(), Fail> {
-    let mut backend = StringBackend::<DefaultSymbol>::new(rt.alloc());
-    for text in ["Tiger", "Horse"] {
-        let count = backend.count();
-        let bytes = backend.joined.len();
-        if let Err(error) = backend.intern(text) {
-            assert_eq!(rt; error, InternError::Memory(AllocError));
-            assert_eq!(rt; backend.count(), count);
-            assert_eq!(rt; backend.joined.len(), bytes);
-            tell_refused(&rt, "intern of StringBackend")?;
-            backend.intern(text)?;
+    let mut backend = StringBackend::new(rt.alloc());
+    intern_in_turn(&rt, &mut backend, &["Tiger", "Horse"])?;
+    assert_equal(&rt, backend.count(), 2);
+    assert_equal(&rt, backend.joined.as_str(), "TigerHorse");
+    ask_last(&rt).map_err(Fail::from)
+}
+
+/// Puts static texts last, each behind so many texts of so many bytes, and again where that was refused memory, which
+/// leaves all.
+fn intern_static_in_turn(
+    rt: &(impl Abort + Print),
+    backend: &mut StringBackend,
+    steps: &[(usize, usize, &'static str)],
+) -> Result<(), Fail> {
+    for (count, bytes, text) in steps {
+        if let Err(error) = backend.intern_static(text) {
+            assert_equal(rt, error, InternError::Memory(AllocError));
+            assert_equal(rt, backend.count(), *count);
+            assert_equal(rt, backend.joined.len(), *bytes);
+            tell_refused(rt, "intern_static of StringBackend")?;
+            assert_equal(rt, backend.intern_static(text)?.to_usize(), *count);
         }
     }
-    assert_eq!(rt; backend.count(), 2);
-    assert_eq!(rt; backend.joined.as_str(), "TigerHorse");
-    ask_last(&rt).map_err(Fail::from)
+    Ok(())
 }
 
 /// Passes whichever request for memory is refused.
 #[test]
 fn memory_of_intern_static(rt: HostRuntime) -> Result<(), Fail> {
-    let mut backend = StringBackend::<DefaultSymbol>::new(rt.alloc());
-    for (index, text) in [(0, "Tiger"), (1, "Horse")] {
-        if let Err(error) = backend.intern_static(text) {
-            assert_eq!(rt; error, InternError::Memory(AllocError));
-            assert_eq!(rt; backend.count(), index);
-            assert_eq!(rt; backend.joined.len(), 5 * index);
-            tell_refused(&rt, "intern_static of StringBackend")?;
-            assert_eq!(rt; backend.intern_static(text)?.to_usize(), index);
-        }
-    }
-    assert_eq!(rt; backend.joined.as_str(), "TigerHorse");
+    let mut backend = StringBackend::new(rt.alloc());
+    intern_static_in_turn(&rt, &mut backend, &[(0, 0, "Tiger"), (1, 5, "Horse")])?;
+    assert_equal(&rt, backend.joined.as_str(), "TigerHorse");
     ask_last(&rt).map_err(Fail::from)
+}
+
+/// Uses up all the symbols of two bytes, within the room.
+fn use_all_symbols(backend: &mut StringBackend<SymbolU16>) -> Result<(), InternError> {
+    for _ in 0..65535 {
+        backend.intern("abcde")?;
+    }
+    Ok(())
+}
+
+/// No text has a symbol, and all stays.
+fn assert_no_symbol(rt: &impl Abort, backend: &mut StringBackend<SymbolU16>) {
+    for text in ["", "a longer one"] {
+        assert_equal(rt, backend.intern(text), Err(InternError::NoSymbol));
+        assert_equal(rt, backend.intern_static(text), Err(InternError::NoSymbol));
+        assert_equal(rt, backend.count(), 65535);
+        assert_equal(rt, backend.joined.len(), 327675);
+    }
 }
 
 /// A backend whose room is used up by all the symbols of two bytes.
 #[test]
 fn memory_is_not_asked_for_without_a_symbol(rt: HostRuntime) -> Result<(), Fail> {
-    let mut backend = match StringBackend::<SymbolU16>::with_capacity(rt.alloc(), 65535) {
-        Ok(backend) => backend,
-        Err(AllocError) => {
-            tell_refused(&rt, "the set-up of a test")?;
-            StringBackend::with_capacity(rt.alloc(), 65535)?
-        }
-    };
-    for _ in 0..65535 {
-        backend.intern("abcde")?;
-    }
-    for text in ["", "a longer one"] {
-        assert_eq!(rt; backend.intern(text), Err(InternError::NoSymbol));
-        assert_eq!(rt; backend.intern_static(text), Err(InternError::NoSymbol));
-        assert_eq!(rt; backend.count(), 65535);
-        assert_eq!(rt; backend.joined.len(), 327675);
-    }
+    let mut backend = made(&rt, 65535, "the set-up of a test")?;
+    use_all_symbols(&mut backend)?;
+    assert_no_symbol(&rt, &mut backend);
     ask_last(&rt).map_err(Fail::from)
+}
+
+/// Shrinking leaves the text that was put last within the room.
+fn assert_shrinks(rt: &impl Abort, backend: &mut StringBackend) -> Result<(), Fail> {
+    let symbol = backend.intern("Tiger")?;
+    backend.shrink_to_fit();
+    assert_equal(rt, backend.count(), 1);
+    assert_equal(rt, backend.resolve(symbol), Some("Tiger"));
+    assert_equal(rt, backend.joined.as_str(), "Tiger");
+    Ok(())
 }
 
 /// Passes whichever request for memory is refused, as that of shrinking, which is not seen.
 #[test]
 fn memory_of_shrinking(rt: HostRuntime) -> Result<(), Fail> {
-    let mut backend = match StringBackend::<DefaultSymbol>::with_capacity(rt.alloc(), 9) {
-        Ok(backend) => backend,
-        Err(AllocError) => {
-            tell_refused(&rt, "the set-up of a test")?;
-            StringBackend::with_capacity(rt.alloc(), 9)?
-        }
-    };
-    let symbol = backend.intern("Tiger")?;
-    backend.shrink_to_fit();
-    assert_eq!(rt; backend.count(), 1);
-    assert_eq!(rt; backend.resolve(symbol), Some("Tiger"));
-    assert_eq!(rt; backend.joined.as_str(), "Tiger");
-    Ok(())
+    assert_shrinks(&rt, &mut made(&rt, 9, "the set-up of a test")?)
 }

@@ -1,117 +1,124 @@
 use super::*;
 use crate::DefaultStringInterner;
 use crate::backend::{Backend, BucketBackend, BufferBackend, StringBackend};
-use crate::symbol::Symbol;
-use crate::tests::{Bit, ask_last, tell_refused};
+use crate::interner::tests::{
+    assert_answers, assert_finds, assert_front, assert_list, assert_walk, number_of,
+};
+use crate::tests::{Bit, ask_last, assert_equal, tell_refused};
 use std::alloc::AllocError;
 use std::process::Abort;
 use std::test::Fail;
 
-#[test]
-fn extends_up_to_the_first_refused_text(rt: HostRuntime) -> Result<(), Fail> {
-    let mut interner = StringInterner::<StringBackend<Bit>>::new(rt.alloc());
+/// Takes two texts, which are as many as there are symbols, and refuses the third.
+fn assert_extends_up_to_the_refused_text(
+    rt: &impl Abort,
+    interner: &mut StringInterner<StringBackend<Bit>>,
+) {
     let texts = ["a", "b", "a", "c", "b"];
-    assert_eq!(rt;
+    assert_equal(
+        rt,
         interner.extend(texts.iter().copied()),
-        Err(InternError::NoSymbol)
+        Err(InternError::NoSymbol),
     );
-    assert_eq!(rt; interner.len(), 2);
-    assert_eq!(rt; interner.get_or_intern("b")?.to_usize(), 1);
-    assert_eq!(rt; interner.get_or_intern("d"), Err(InternError::NoSymbol));
+    assert_equal(rt, interner.len(), 2);
+    assert_answers(rt, interner, &[("b", Some(1)), ("d", None)]);
+}
+
+#[test]
+fn extends_up_to_the_first_refused_text(rt: HostRuntime) {
+    assert_extends_up_to_the_refused_text(&rt, &mut StringInterner::new(rt.alloc()));
+}
+
+/// Takes the new texts, behind the known one.
+fn assert_extends_by_all_texts<B: Backend>(
+    rt: &impl Abort,
+    interner: &mut StringInterner<B>,
+) -> Result<(), Fail> {
+    interner.get_or_intern("Horse")?;
+    interner.extend(["Tiger", "Horse", "Bear"].iter().copied())?;
+    assert_answers(
+        rt,
+        interner,
+        &[("Horse", Some(0)), ("Tiger", Some(1)), ("Bear", Some(2))],
+    );
+    assert_equal(rt, interner.len(), 3);
     Ok(())
 }
 
 #[test]
 fn extends_by_all_texts(rt: HostRuntime) -> Result<(), Fail> {
-    let mut interner = StringInterner::<StringBackend>::new(rt.alloc());
-    interner.get_or_intern("Horse")?;
-    interner.extend(["Tiger", "Horse", "Bear"].iter().copied())?;
-    for (number, text) in [(0, "Horse"), (1, "Tiger"), (2, "Bear")] {
-        assert_eq!(rt; interner.get_or_intern(text)?.to_usize(), number);
-    }
-    assert_eq!(rt; interner.len(), 3);
-    Ok(())
+    assert_extends_by_all_texts::<StringBackend>(&rt, &mut StringInterner::new(rt.alloc()))
 }
 
 #[test]
 fn is_made_of_the_elements(rt: HostRuntime) -> Result<(), Fail> {
     let texts = ["Earth", "Water", "Fire", "Air"];
-    let interner = <DefaultStringInterner>::from_iter(rt.alloc(), texts.iter().copied())?;
-    let mut entries = interner.iter();
-    for (number, text, left) in [
-        (0, "Earth", 4),
-        (1, "Water", 3),
-        (2, "Fire", 2),
-        (3, "Air", 1),
-    ] {
-        assert_eq!(rt; entries.len(), left);
-        assert_eq!(rt; entries.size_hint(), (left, Some(left)));
-        match entries.next() {
-            Some((symbol, found)) => {
-                assert_eq!(rt; symbol.to_usize(), number);
-                assert_eq!(rt; found, text);
-            }
-            None => assert!(rt; false, "{text} is missing"),
-        }
-    }
-    assert_eq!(rt; entries.len(), 0);
-    assert!(rt; entries.next().is_none());
+    assert_walk(
+        &rt,
+        &<DefaultStringInterner>::from_iter(rt.alloc(), texts.iter().copied())?,
+        &[(0, "Earth"), (1, "Water"), (2, "Fire"), (3, "Air")],
+    );
     Ok(())
+}
+
+/// Takes three texts, for which it has room.
+fn assert_extends_within_the_room(
+    rt: &(impl Abort + Print + AllocGlobal),
+    interner: &mut StringInterner<BufferBackend>,
+) -> Result<(), Fail> {
+    interner.extend(["Tiger", "Horse", "Tiger", "Bear"].iter().copied())?;
+    assert_finds(
+        rt,
+        interner,
+        &[("Tiger", Some(0)), ("Horse", Some(6)), ("Bear", Some(12))],
+    );
+    let next = interner.backend().next_symbol();
+    assert_equal(rt, number_of(next), Some(17));
+    ask_last(rt).map_err(Fail::from)
 }
 
 /// Passes whichever request for memory is refused: within the room that was granted none is asked for.
 #[test]
 fn memory_within_the_room(rt: HostRuntime) -> Result<(), Fail> {
-    let Ok(mut interner) = StringInterner::<BufferBackend>::with_capacity(rt.alloc(), 3) else {
-        return tell_refused(&rt, "the set-up of a test").map_err(Fail::from);
-    };
+    match StringInterner::with_capacity(rt.alloc(), 3) {
+        Ok(mut interner) => assert_extends_within_the_room(&rt, &mut interner),
+        Err(AllocError) => tell_refused(&rt, "the set-up of a test").map_err(Fail::from),
+    }
+}
+
+/// Where it was refused memory on its way to three texts, it has fewer of them, and finds no other.
+fn assert_has_fewer_than_three<B: Backend>(rt: &impl Abort, interner: &StringInterner<B>) {
+    let stayed = interner.len();
+    assert!(rt; stayed < 3);
+    assert_front(rt, interner, &["Tiger", "Horse", "Bear"]);
+    for (i, text) in [(0, "Tiger"), (1, "Horse"), (2, "Bear")] {
+        assert_eq!(rt; interner.get(text).is_some(), i < stayed, "{text}");
+    }
+}
+
+/// Takes three texts. The texts before a refused one stay, and none comes after it.
+fn assert_extends<B: Backend>(
+    rt: &(impl Abort + Print + AllocGlobal),
+    interner: &mut StringInterner<B>,
+    call: &str,
+) -> Result<(), Fail> {
     let texts = ["Tiger", "Horse", "Tiger", "Bear"];
-    interner.extend(texts.iter().copied())?;
-    for (text, number) in [("Tiger", 0), ("Horse", 6), ("Bear", 12)] {
-        assert_eq!(rt;
-            interner.get(text).map(|symbol| symbol.to_usize()),
-            Some(number),
-            "{text}"
-        );
+    if let Err(error) = interner.extend(texts.iter().copied()) {
+        assert_equal(rt, error, InternError::Memory(AllocError));
+        assert_has_fewer_than_three(rt, interner);
+        tell_refused(rt, call)?;
+        interner.extend(texts.iter().copied())?;
     }
-    assert_eq!(rt;
-        interner
-            .backend()
-            .next_symbol()
-            .map(|symbol| symbol.to_usize()),
-        Some(17)
-    );
-    ask_last(&rt).map_err(Fail::from)
+    assert_list(rt, interner, &["Tiger", "Horse", "Bear"]);
+    ask_last(rt).map_err(Fail::from)
 }
 
-/// The texts of an interner are the first of these, in this order.
-fn assert_front<B: Backend>(rt: &impl Abort, interner: &StringInterner<B>, texts: &[&str]) {
-    for (index, (_, found)) in interner.iter().enumerate() {
-        assert_eq!(rt; texts.get(index).copied(), Some(found));
-    }
-}
-
-/// Passes whichever request for memory is refused: the texts before the refused one stay, and none comes after it.
+/// Passes whichever request for memory is refused.
 fn extend_in_turn<B: Backend + Drop>(
     rt: &(impl Abort + Print + AllocGlobal),
     call: &str,
 ) -> Result<(), Fail> {
-    let texts = ["Tiger", "Horse", "Tiger", "Bear"];
-    let mut interner = StringInterner::<B>::new(rt.alloc());
-    if let Err(error) = interner.extend(texts.iter().copied()) {
-        assert_eq!(rt; error, InternError::Memory(AllocError));
-        let stayed = interner.len();
-        assert!(rt; stayed < 3);
-        assert_front(rt, &interner, &["Tiger", "Horse", "Bear"]);
-        for (i, text) in [(0, "Tiger"), (1, "Horse"), (2, "Bear")] {
-            assert_eq!(rt; interner.get(text).is_some(), i < stayed, "{text}");
-        }
-        tell_refused(rt, call)?;
-        interner.extend(texts.iter().copied())?;
-    }
-    assert_eq!(rt; interner.len(), 3);
-    assert_front(rt, &interner, &["Tiger", "Horse", "Bear"]);
-    ask_last(rt).map_err(Fail::from)
+    assert_extends(rt, &mut StringInterner::<B>::new(rt.alloc()), call)
 }
 
 #[test]
@@ -129,22 +136,32 @@ fn memory_of_extend_over_buffers(rt: HostRuntime) -> Result<(), Fail> {
     extend_in_turn::<BufferBackend>(&rt, "extend over BufferBackend")
 }
 
+/// Two texts, one of them twice.
+fn from_three_texts<B: Backend + Drop>(alloc: Global) -> Result<StringInterner<B>, InternError> {
+    StringInterner::from_iter(alloc, ["Tiger", "Horse", "Tiger"].iter().copied())
+}
+
+/// An interner of two texts.
+fn collected<B: Backend + Drop>(
+    rt: &(impl Abort + Print + AllocGlobal),
+    call: &str,
+) -> Result<StringInterner<B>, Fail> {
+    match from_three_texts(rt.alloc()) {
+        Ok(made) => Ok(made),
+        Err(error) => {
+            assert_equal(rt, error, InternError::Memory(AllocError));
+            tell_refused(rt, call)?;
+            from_three_texts(rt.alloc()).map_err(Fail::from)
+        }
+    }
+}
+
 /// Passes whichever request for memory is refused.
 fn from_iter_in_turn<B: Backend + Drop>(
     rt: &(impl Abort + Print + AllocGlobal),
     call: &str,
 ) -> Result<(), Fail> {
-    let texts = ["Tiger", "Horse", "Tiger"];
-    let made = match StringInterner::<B>::from_iter(rt.alloc(), texts.iter().copied()) {
-        Ok(made) => made,
-        Err(error) => {
-            assert_eq!(rt; error, InternError::Memory(AllocError));
-            tell_refused(rt, call)?;
-            StringInterner::<B>::from_iter(rt.alloc(), texts.iter().copied())?
-        }
-    };
-    assert_eq!(rt; made.len(), 2);
-    assert_front(rt, &made, &["Tiger", "Horse"]);
+    assert_list(rt, &collected::<B>(rt, call)?, &["Tiger", "Horse"]);
     ask_last(rt).map_err(Fail::from)
 }
 

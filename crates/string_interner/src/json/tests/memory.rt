@@ -1,29 +1,52 @@
 //! Refused memory. Each test passes whichever one request is refused.
 
 use super::*;
-use crate::tests::{ask_last, made_of, tell_refused};
-use std::process::Abort;
+use crate::tests::{ask_last, assert_equal, made_of, tell_refused};
+
+/// A JSON list of these texts, and no more.
+fn assert_list(rt: &impl Abort, value: &Value, texts: &[&str]) {
+    for (i, text) in texts.iter().enumerate() {
+        assert_equal(rt, value.get(i).and_then(Value::as_str), Some(*text));
+    }
+    assert!(rt; value.get(texts.len()).is_none());
+}
+
+/// An interner of these texts, and no more.
+fn assert_texts<B: Backend>(rt: &impl Abort, interner: &StringInterner<B>, texts: &[&str]) {
+    assert_equal(rt, interner.len(), texts.len());
+    for text in texts {
+        assert!(rt; interner.get(text).is_some(), "{text}");
+    }
+}
+
+/// Whether writing was refused.
+fn to_json_is_refused<B: Backend>(
+    rt: &(impl Abort + Print + AllocGlobal),
+    interner: &StringInterner<B>,
+    call: &str,
+) -> Result<bool, Fail> {
+    match interner.to_json(rt.alloc()) {
+        Ok(value) => {
+            assert_list(rt, &value, &["Tiger", "Horse"]);
+            Ok(false)
+        }
+        Err(AllocError) => {
+            tell_refused(rt, call)?;
+            Ok(true)
+        }
+    }
+}
 
 /// Passes whichever request for memory is refused.
 fn to_json_in_turn<B: Backend + Drop>(
     rt: &(impl Abort + Print + AllocGlobal),
     call: &str,
 ) -> Result<(), Fail> {
-    let texts = ["Tiger", "Horse"];
-    let interner = made_of::<B>(rt, &texts)?;
-    let value = match interner.to_json(rt.alloc()) {
-        Ok(value) => value,
-        Err(AllocError) => {
-            tell_refused(rt, call)?;
-            interner.to_json(rt.alloc())?
-        }
-    };
-    assert_eq!(rt; interner.len(), 2);
-    for (i, text) in texts.iter().enumerate() {
-        assert_eq!(rt; value.get(i).and_then(Value::as_str), Some(*text));
-        assert!(rt; interner.get(text).is_some(), "{text}");
+    let interner = made_of::<B>(rt, &["Tiger", "Horse"])?;
+    if to_json_is_refused(rt, &interner, call)? {
+        assert!(rt; !to_json_is_refused(rt, &interner, call)?);
     }
-    assert!(rt; value.get(2).is_none());
+    assert_texts(rt, &interner, &["Tiger", "Horse"]);
     ask_last(rt).map_err(Fail::from)
 }
 
@@ -55,34 +78,55 @@ fn read_in<B: Backend + Drop>(
     }
 }
 
+/// Whether reading was refused.
+fn read_is_refused<B: Backend + Drop>(
+    rt: &(impl Abort + Print + AllocGlobal),
+    value: &Value,
+    call: &str,
+    is_exact: bool,
+) -> Result<bool, Fail> {
+    match read_in::<B>(rt.alloc(), value, is_exact) {
+        Ok(interner) => {
+            assert_texts(rt, &interner, &["Horse", "Tiger"]);
+            assert_reads_back(rt, &interner);
+            Ok(false)
+        }
+        Err(error) => {
+            assert_equal(rt, error, JsonError::Memory(AllocError));
+            tell_refused(rt, call)?;
+            Ok(true)
+        }
+    }
+}
+
+/// Each text that is walked over has its symbol.
+fn assert_reads_back<B: Backend>(rt: &impl Abort, interner: &StringInterner<B>) {
+    for (symbol, text) in interner {
+        assert!(rt; interner.get(text) == Some(symbol), "{text}");
+    }
+}
+
+/// The value of a JSON text, where a refusal is told.
+fn value_in(rt: &(impl Print + AllocGlobal), json: &str) -> Result<Value, Fail> {
+    match Value::from_str(rt.alloc(), json) {
+        Ok(value) => Ok(value),
+        Err(_) => {
+            tell_refused(rt, "the set-up of a test")?;
+            Ok(Value::from_str(rt.alloc(), json)?)
+        }
+    }
+}
+
 /// Passes whichever request for memory is refused.
 fn from_json_in_turn<B: Backend + Drop>(
     rt: &(impl Abort + Print + AllocGlobal),
     call: &str,
     is_exact: bool,
 ) -> Result<(), Fail> {
-    let json = "[\"Tiger\",\"Horse\"]";
-    let value = match Value::from_str(rt.alloc(), json) {
-        Ok(value) => value,
-        Err(_) => {
-            tell_refused(rt, "the set-up of a test")?;
-            Value::from_str(rt.alloc(), json)?
-        }
-    };
-    let interner = match read_in::<B>(rt.alloc(), &value, is_exact) {
-        Ok(interner) => interner,
-        Err(error) => {
-            assert_eq!(rt; error, JsonError::Memory(AllocError));
-            tell_refused(rt, call)?;
-            read_in::<B>(rt.alloc(), &value, is_exact)?
-        }
-    };
-    assert_eq!(rt; interner.len(), 2);
-    for (symbol, text) in &interner {
-        assert!(rt; interner.get(text) == Some(symbol), "{text}");
+    let value = value_in(rt, "[\"Tiger\",\"Horse\"]")?;
+    if read_is_refused::<B>(rt, &value, call, is_exact)? {
+        assert!(rt; !read_is_refused::<B>(rt, &value, call, is_exact)?);
     }
-    assert!(rt; interner.get("Horse").is_some());
-    assert!(rt; interner.get("Tiger").is_some());
     ask_last(rt).map_err(Fail::from)
 }
 
@@ -120,8 +164,12 @@ fn memory_of_from_json_exact_over_buffers(rt: HostRuntime) -> Result<(), Fail> {
 #[test]
 fn memory_is_not_asked_for_by_a_symbol(rt: HostRuntime) -> Result<(), Fail> {
     let value = symbol_to_json(rt.alloc(), 7usize)?;
-    assert_eq!(rt; value.as_u64(), Some(7));
-    assert_eq!(rt; symbol_from_json::<usize>(&value)?, 7);
-    assert_eq!(rt; symbol_from_json::<Two>(&value), Err(JsonError::NoSymbol));
+    assert_equal(&rt, value.as_u64(), Some(7));
+    assert_equal(&rt, symbol_from_json::<usize>(&value)?, 7);
+    assert_equal(
+        &rt,
+        symbol_from_json::<Two>(&value),
+        Err(JsonError::NoSymbol),
+    );
     ask_last(&rt).map_err(Fail::from)
 }

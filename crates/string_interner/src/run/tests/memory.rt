@@ -1,85 +1,102 @@
 //! Refused memory. Each test passes whichever one request is refused.
 
 use super::*;
-use crate::tests::{ask_last, made_of, tell_refused};
+use crate::tests::{ask_last, assert_equal, made_of, tell_refused, tell_refused_over};
 
-/// Passes whichever request for memory is refused: nothing ran where it was that of the replies, and else the first
-/// text alone is refused, which the second one is not.
-fn tigers_in_turn<B: Backend + Drop>(
+/// Two texts that are equal, and their count.
+const TIGERS: [Command<'static>; 3] = [
+    Command::Intern("Tiger"),
+    Command::Intern("Tiger"),
+    Command::Len,
+];
+
+/// Whether a run was refused memory: nothing ran where that of the replies was refused, and else the first text alone.
+fn tigers_are_refused<B: Backend>(
     rt: &(impl Abort + Print + AllocGlobal),
+    interner: &mut StringInterner<B>,
     backend: &str,
-) -> Result<(), Fail> {
-    let commands = [
-        Command::Intern("Tiger"),
-        Command::Intern("Tiger"),
-        Command::Len,
-    ];
-    let ample = [Reply::Symbol(0), Reply::Symbol(0), Reply::Len(1)];
-    let first_refused = [Reply::NoMemory, Reply::Symbol(0), Reply::Len(1)];
-    let mut interner = StringInterner::<B>::new(rt.alloc());
-    let is_refused = match run(rt.alloc(), &mut interner, &commands) {
+) -> Result<bool, Fail> {
+    match run(rt.alloc(), interner, &TIGERS) {
         Err(AllocError) => {
             assert!(rt; interner.is_empty(), "nothing ran");
-            println!(rt; "refused: run over {backend}, its replies")?;
-            true
+            tell_refused_over(rt, "run, its replies,", backend)?;
+            Ok(true)
         }
-        Ok(replies) if replies.as_slice() == first_refused.as_slice() => {
-            println!(rt; "refused: run over {backend}, its first text")?;
-            true
-        }
-        Ok(replies) => {
-            assert_eq!(rt; replies.as_slice(), ample.as_slice());
-            false
-        }
-    };
-    if is_refused {
-        let replies = run(rt.alloc(), &mut interner, &commands)?;
-        assert_eq!(rt; replies.as_slice(), ample.as_slice());
+        Ok(replies) => first_is_refused(rt, &replies, backend),
     }
-    assert_eq!(rt; interner.len(), 1);
+}
+
+fn first_is_refused(
+    rt: &(impl Abort + Print),
+    replies: &[Reply],
+    backend: &str,
+) -> Result<bool, Fail> {
+    if replies.first() == Some(&Reply::NoMemory) {
+        tell_refused_over(rt, "run, its first text,", backend)?;
+        let wanted = [Told::NoMemory, Told::Symbol(0), Told::Len(1)];
+        assert_told(rt, replies, &wanted);
+        return Ok(true);
+    }
+    let wanted = [Told::Symbol(0), Told::Symbol(0), Told::Len(1)];
+    assert_told(rt, replies, &wanted);
+    Ok(false)
+}
+
+/// Passes whichever request for memory is refused.
+fn assert_tigers<B: Backend>(
+    rt: &(impl Abort + Print + AllocGlobal),
+    interner: &mut StringInterner<B>,
+    backend: &str,
+) -> Result<(), Fail> {
+    if tigers_are_refused(rt, interner, backend)? {
+        assert!(rt; !tigers_are_refused(rt, interner, backend)?);
+    }
+    assert_equal(rt, interner.len(), 1);
     ask_last(rt).map_err(Fail::from)
 }
 
 #[test]
 fn memory_of_run_over_strings(rt: HostRuntime) -> Result<(), Fail> {
-    tigers_in_turn::<StringBackend>(&rt, "StringBackend")
+    let mut interner = StringInterner::<StringBackend>::new(rt.alloc());
+    assert_tigers(&rt, &mut interner, "StringBackend")
 }
 
 #[test]
 fn memory_of_run_over_buckets(rt: HostRuntime) -> Result<(), Fail> {
-    tigers_in_turn::<BucketBackend>(&rt, "BucketBackend")
+    let mut interner = StringInterner::<BucketBackend>::new(rt.alloc());
+    assert_tigers(&rt, &mut interner, "BucketBackend")
 }
 
 #[test]
 fn memory_of_run_over_buffers(rt: HostRuntime) -> Result<(), Fail> {
-    tigers_in_turn::<BufferBackend>(&rt, "BufferBackend")
+    let mut interner = StringInterner::<BufferBackend>::new(rt.alloc());
+    assert_tigers(&rt, &mut interner, "BufferBackend")
 }
 
-/// Passes whichever request for memory is refused: the copy of a text is refused for its own reply alone.
+/// Two copies of a text and the count: where a copy was refused, for its own reply alone.
+fn assert_copies(rt: &(impl Abort + Print), replies: &[Reply], text: &str) -> Result<(), Fail> {
+    let copy = Told::Text(text);
+    if replies.first() == Some(&Reply::NoMemory) {
+        assert_told(rt, replies, &[Told::NoMemory, copy, Told::Len(1)]);
+        return tell_refused(rt, "run, the copy of a text").map_err(Fail::from);
+    }
+    if replies.get(1) == Some(&Reply::NoMemory) {
+        assert_told(rt, replies, &[copy, Told::NoMemory, Told::Len(1)]);
+        return tell_refused(rt, "run, the copy of a text").map_err(Fail::from);
+    }
+    assert_told(rt, replies, &[copy, copy, Told::Len(1)]);
+    Ok(())
+}
+
+/// Passes whichever request for memory is refused.
 #[test]
 fn memory_of_copies(rt: HostRuntime) -> Result<(), Fail> {
-    let Ok(wanted) = String::from_str(rt.alloc(), "Tiger") else {
-        return tell_refused(&rt, "the set-up of a test").map_err(Fail::from);
-    };
-    let wanted = Reply::Text(wanted);
     let mut interner = made_of::<StringBackend>(&rt, &["Tiger"])?;
     let commands = [Command::Number(0), Command::Number(0), Command::Len];
-    let Ok(replies) = run(rt.alloc(), &mut interner, &commands) else {
-        return tell_refused(&rt, "run, its replies").map_err(Fail::from);
-    };
-    assert_eq!(rt; replies.len(), 3);
-    assert_eq!(rt; replies[2], Reply::Len(1));
-    for reply in &replies[..2] {
-        if *reply == Reply::NoMemory {
-            tell_refused(&rt, "run, the copy of a text")?;
-        } else {
-            assert_eq!(rt; *reply, wanted);
-        }
+    match run(rt.alloc(), &mut interner, &commands) {
+        Ok(replies) => assert_copies(&rt, &replies, "Tiger")?,
+        Err(AllocError) => tell_refused(&rt, "run, its replies")?,
     }
-    assert!(rt;
-        replies[0] == wanted || replies[1] == wanted,
-        "one copy alone was refused"
-    );
     ask_last(&rt).map_err(Fail::from)
 }
 
@@ -87,7 +104,6 @@ fn memory_of_copies(rt: HostRuntime) -> Result<(), Fail> {
 /// known, for what is not there and for a text that has no symbol.
 #[test]
 fn memory_is_not_asked_for_by_a_run(rt: HostRuntime) -> Result<(), Fail> {
-    let mut interner = made_of::<StringBackend<Bit>>(&rt, &["a", "b"])?;
     let commands = [
         Command::Intern("a"),
         Command::InternStatic("b"),
@@ -102,25 +118,25 @@ fn memory_is_not_asked_for_by_a_run(rt: HostRuntime) -> Result<(), Fail> {
         Command::Len,
     ];
     let wanted = [
-        Reply::Symbol(0),
-        Reply::Symbol(1),
-        Reply::Symbol(1),
-        Reply::Nothing,
-        Reply::NoReply,
-        Reply::Nothing,
-        Reply::NoSymbol,
-        Reply::NoSymbol,
-        Reply::NoSymbol,
-        Reply::Done,
-        Reply::Len(2),
+        Told::Symbol(0),
+        Told::Symbol(1),
+        Told::Symbol(1),
+        Told::Nothing,
+        Told::NoReply,
+        Told::Nothing,
+        Told::NoSymbol,
+        Told::NoSymbol,
+        Told::NoSymbol,
+        Told::Done,
+        Told::Len(2),
     ];
-    let replies = match run(rt.alloc(), &mut interner, &commands) {
-        Ok(replies) => replies,
+    let mut interner = made_of::<StringBackend<Bit>>(&rt, &["a", "b"])?;
+    match run(rt.alloc(), &mut interner, &commands) {
+        Ok(replies) => assert_told(&rt, &replies, &wanted),
         Err(AllocError) => {
             tell_refused(&rt, "run, its replies")?;
-            run(rt.alloc(), &mut interner, &commands)?
+            assert_replies(&rt, &mut interner, &commands, &wanted)?;
         }
-    };
-    assert_eq!(rt; replies.as_slice(), wanted.as_slice());
+    }
     ask_last(&rt).map_err(Fail::from)
 }
