@@ -328,4 +328,4 @@ impl<B: Backend, H: TextHasher> Eq for StringInterner<B, H> {
 }
 
 #[cfg(test)]
-mod tests;
+pub(crate) mod tests;

@@ -46,8 +46,36 @@ pub fn ask_last(rt: &(impl Print + AllocGlobal)) -> io::Result<()> {
     }
 }
 
+/// A backend of a capacity, asked for again where that was refused memory.
+pub fn made<B: Backend + Drop>(
+    rt: &(impl Print + AllocGlobal),
+    capacity: usize,
+    call: &str,
+) -> Result<B, Fail> {
+    match B::with_capacity(rt.alloc(), capacity) {
+        Ok(made) => Ok(made),
+        Err(AllocError) => {
+            tell_refused(rt, call)?;
+            Ok(B::with_capacity(rt.alloc(), capacity)?)
+        }
+    }
+}
+
+/// Puts texts last.
+pub fn put_all<B: Backend>(backend: &mut B, texts: &[&str]) -> Result<(), InternError> {
+    for text in texts {
+        backend.intern(text)?;
+    }
+    Ok(())
+}
+
+/// The number of a symbol, where there is one.
+pub fn number_of<S: Symbol>(symbol: Option<S>) -> Option<usize> {
+    Some(symbol?.to_usize())
+}
+
 /// A new interner of the texts, or the refusal that met one.
-fn collected<B: Backend + Drop>(
+pub fn collected<B: Backend + Drop>(
     alloc: Global,
     texts: &[&str],
 ) -> Result<StringInterner<B>, InternError> {

@@ -7,7 +7,7 @@ use super::probe::home_of;
 use super::{FixedState, Index, Looks, TextHasher};
 use crate::backend::{Backend, InternError, StringBackend};
 use crate::symbol::{Symbol, SymbolU32};
-use crate::tests::{ByteCount, Constant, ask_last, assert_equal, tell_refused};
+use crate::tests::{ByteCount, Constant, ask_last, assert_equal, number_of, tell_refused};
 use std::alloc::{AllocError, Global};
 use std::marker::Model;
 use std::mem::size_of;
@@ -116,11 +116,6 @@ fn with_numbers(
     let mut filled = Filled::new(alloc, Constant);
     add_numbers(alloc, &mut filled, count)?;
     Ok(filled)
-}
-
-/// The number of a symbol, where there is one.
-fn number_of<S: Symbol>(symbol: Option<S>) -> Option<usize> {
-    Some(symbol?.to_usize())
 }
 
 /// Each text is found by its number, or not at all where it has none.
@@ -250,7 +245,8 @@ fn assert_ends_at<B: Backend, H: TextHasher>(
     }
 }
 
-/// A text that was not added has this home of eight slots, and its probe passes as many filled ones.
+/// A text that was not added has this home of eight slots, and its probe passes this many filled ones: first the home
+/// that is wanted, then the count.
 fn assert_passes<B: Backend>(
     rt: &impl Abort,
     filled: &Filled<B, ByteCount>,

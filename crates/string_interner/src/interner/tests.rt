@@ -9,7 +9,7 @@ use crate::DefaultStringInterner;
 use crate::backend::{BucketBackend, BufferBackend, StringBackend};
 use crate::dedup::FixedState;
 use crate::symbol::DefaultSymbol;
-use crate::tests::{Bit, Constant, Counting, Even, assert_equal};
+use crate::tests::{Bit, Constant, Counting, Even, assert_equal, number_of};
 use std::alloc::AllocError;
 use std::process::Abort;
 use std::test::Fail;
@@ -35,11 +35,6 @@ fn intern_all<B: Backend, H: TextHasher>(
         interner.get_or_intern(text)?;
     }
     Ok(())
-}
-
-/// The number of a symbol, where there is one.
-pub(crate) fn number_of<S: Symbol>(symbol: Option<S>) -> Option<usize> {
-    Some(symbol?.to_usize())
 }
 
 /// The number of a symbol that was answered, or why there is none.
@@ -298,9 +293,10 @@ pub(crate) fn assert_walk<B: Backend>(
     assert_equal(rt, walk.len(), 0);
     assert_equal(rt, walk.size_hint(), (0, Some(0)));
     assert!(rt; walk.next().is_none());
+    assert_equal(rt, walk.size_hint(), (0, Some(0)));
 }
 
-/// Interns five texts, one of them twice, and walks over them in both ways.
+/// Interns four texts, one of them twice, and walks over them in both ways.
 fn assert_walks_in_order(
     rt: &(impl Abort + AllocGlobal),
     interner: &mut StringInterner<StringBackend>,
@@ -476,7 +472,7 @@ fn assert_new<B: Backend, H: TextHasher>(
 }
 
 /// The decimal number, as a text, is new, and is known once it was interned.
-fn intern_number<B: Backend, H: TextHasher>(
+fn assert_new_number<B: Backend, H: TextHasher>(
     rt: &(impl Abort + AllocGlobal),
     interner: &mut StringInterner<B, H>,
     number: usize,
@@ -491,7 +487,7 @@ fn assert_truncating_keeps_slots_and_counts(
     interner: &mut DefaultStringInterner,
 ) -> Result<(), Fail> {
     for number in 0..13 {
-        intern_number(rt, interner, number)?;
+        assert_new_number(rt, interner, number)?;
     }
     interner.truncate(2);
     assert_equal(rt, interner.len(), 2);

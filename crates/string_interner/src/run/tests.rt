@@ -19,6 +19,7 @@ enum Told<'t> {
     NoReply,
 }
 
+/// A reply, by a borrowed text.
 fn borrowed(reply: &Reply) -> Told<'_> {
     match reply {
         Reply::Symbol(number) => Told::Symbol(*number),

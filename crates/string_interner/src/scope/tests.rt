@@ -191,7 +191,7 @@ fn declare_in_turn<B: Backend, H: TextHasher>(
 }
 
 /// Opens a scope, declares a text in it and leaves it, over a backend whose calls have this name. Passes whichever
-/// request for memory is refused: leaving makes none.
+/// request for memory is refused, and asks last: leaving makes no request.
 fn scope_in_turn<B: Backend, H: TextHasher>(
     rt: &(impl Abort + Print + AllocGlobal),
     scopes: &mut Scopes<B, H>,
@@ -205,6 +205,7 @@ fn scope_in_turn<B: Backend, H: TextHasher>(
     ask_last(rt).map_err(Fail::from)
 }
 
+/// The same, on scopes over a new interner.
 fn new_scope_in_turn<B: Backend + Drop>(
     rt: &(impl Abort + Print + AllocGlobal),
     backend: &str,

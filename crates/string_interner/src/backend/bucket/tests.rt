@@ -5,8 +5,8 @@ use super::*;
 use crate::interner::StringInterner;
 use crate::run::{Command, Reply, run};
 use crate::symbol::SymbolU16;
-use crate::tests::assert_equal;
 use crate::tests::last::{NEW_TEXTS, assert_refuses, with_all_symbols};
+use crate::tests::{assert_equal, put_all};
 use std::process::Abort;
 use std::test::Fail;
 
@@ -79,7 +79,7 @@ fn assert_copied(
     Ok(())
 }
 
-/// A run on an empty interner puts a static text last once, and copies it to no bucket.
+/// A run on an empty interner puts a static text last once.
 fn assert_static_run(
     rt: &(impl Abort + Alloc<A = Global>),
     interner: &mut StringInterner<BucketBackend>,
@@ -277,14 +277,6 @@ fn keep(backend: &mut BucketBackend, texts: &[&'static str]) -> Result<(), Inter
     Ok(())
 }
 
-/// Puts copies of texts last.
-fn copy_in(backend: &mut BucketBackend, texts: &[&str]) -> Result<(), InternError> {
-    for text in texts {
-        backend.intern(text)?;
-    }
-    Ok(())
-}
-
 /// A backend of the static texts is equal to the other where that is wanted. The numbers tell which lists these are.
 fn assert_compares(
     rt: &(impl Abort + Alloc<A = Global>),
@@ -310,7 +302,7 @@ fn assert_equal_to_one(
     number: usize,
     lists: &[&'static [&'static str]],
 ) -> Result<(), Fail> {
-    copy_in(copied, texts)?;
+    put_all(copied, texts)?;
     for (other, texts) in lists.iter().enumerate() {
         assert_compares(rt, copied, texts, (number, other))?;
     }
@@ -375,7 +367,7 @@ fn sizes_that_do_not_fit_are_refused(rt: HostRuntime) {
 
 /// Dropped texts leave their bytes in the buckets, and none in a copy.
 fn assert_bytes_stay(rt: &impl Abort, backend: &mut BucketBackend) -> Result<(), Fail> {
-    copy_in(backend, &["a", "bc", "de"])?;
+    put_all(backend, &["a", "bc", "de"])?;
     backend.truncate(1);
     assert_equal(rt, backend.count(), 1);
     assert_equal(rt, shape(backend), (4, 4, 2, 6, 5));

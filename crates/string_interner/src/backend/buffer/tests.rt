@@ -6,8 +6,8 @@ use super::*;
 use crate::interner::StringInterner;
 use crate::run::{Command, Reply, run};
 use crate::symbol::SymbolU16;
-use crate::tests::assert_equal;
 use crate::tests::last::assert_refuses;
+use crate::tests::{assert_equal, put_all};
 use std::process::Abort;
 use std::test::Fail;
 
@@ -379,14 +379,6 @@ fn assert_walk(rt: &impl Abort, backend: &BufferBackend, entries: &[(usize, usiz
     assert_equal(rt, walk.len(), 0);
     assert!(rt; walk.next().is_none());
     assert_equal(rt, backend.iter().len(), entries.len());
-}
-
-/// Puts texts last.
-fn put_all(backend: &mut BufferBackend, texts: &[&str]) -> Result<(), InternError> {
-    for text in texts {
-        backend.intern(text)?;
-    }
-    Ok(())
 }
 
 #[test]

@@ -1,6 +1,6 @@
 use super::*;
 use crate::symbol::SymbolU16;
-use crate::tests::{Even, ask_last, assert_equal, tell_refused};
+use crate::tests::{Even, ask_last, assert_equal, made, put_all, tell_refused};
 use std::alloc::AllocError;
 use std::process::Abort;
 use std::test::Fail;
@@ -106,17 +106,9 @@ fn walks_over_repeats(rt: HostRuntime) -> Result<(), Fail> {
     assert_repeats_count(&rt, &mut twice, &mut StringBackend::new(rt.alloc()))
 }
 
-/// Puts texts last.
-fn put_all(backend: &mut StringBackend, texts: &[&str]) -> Result<(), InternError> {
-    for text in texts {
-        backend.intern(text)?;
-    }
-    Ok(())
-}
-
 #[test]
 fn equal_bytes_cut_apart_are_unequal(rt: HostRuntime) -> Result<(), Fail> {
-    let mut left = StringBackend::new(rt.alloc());
+    let mut left = StringBackend::<DefaultSymbol>::new(rt.alloc());
     put_all(&mut left, &["ab", "c"])?;
     let mut right = StringBackend::new(rt.alloc());
     put_all(&mut right, &["a", "bc"])?;
@@ -169,22 +161,7 @@ fn a_copy_is_equal_and_its_own(rt: HostRuntime) -> Result<(), Fail> {
     assert_its_own(&rt, &backend, &mut backend.try_copy()?)
 }
 
-/// A backend of a capacity, asked for again where that was refused memory.
-fn made<S: Symbol>(
-    rt: &(impl Print + AllocGlobal),
-    capacity: usize,
-    call: &str,
-) -> Result<StringBackend<S>, Fail> {
-    match StringBackend::with_capacity(rt.alloc(), capacity) {
-        Ok(made) => Ok(made),
-        Err(AllocError) => {
-            tell_refused(rt, call)?;
-            Ok(StringBackend::with_capacity(rt.alloc(), capacity)?)
-        }
-    }
-}
-
-/// A copy, asked for again where that was refused memory, which leaves all.
+/// A copy, asked for again where that was refused memory, which leaves the bytes.
 fn copy_in_turn(rt: &(impl Abort + Print), backend: &StringBackend) -> Result<StringBackend, Fail> {
     match backend.clone() {
         Ok(copy) => Ok(copy),
@@ -199,7 +176,7 @@ fn copy_in_turn(rt: &(impl Abort + Print), backend: &StringBackend) -> Result<St
 /// Passes whichever request for memory is refused: within the room that was granted none is asked for.
 #[test]
 fn memory_of_makers_and_copies(rt: HostRuntime) -> Result<(), Fail> {
-    let mut backend = made(&rt, 2, "with_capacity of StringBackend")?;
+    let mut backend = made::<StringBackend>(&rt, 2, "with_capacity of StringBackend")?;
     assert_interns(&rt, &mut backend, &["Tiger", "Horse"])?;
     let copy = copy_in_turn(&rt, &backend)?;
     assert!(rt; copy == backend);
@@ -283,7 +260,7 @@ fn assert_no_symbol(rt: &impl Abort, backend: &mut StringBackend<SymbolU16>) {
 /// A backend whose room is used up by all the symbols of two bytes.
 #[test]
 fn memory_is_not_asked_for_without_a_symbol(rt: HostRuntime) -> Result<(), Fail> {
-    let mut backend = made(&rt, 65535, "the set-up of a test")?;
+    let mut backend = made::<StringBackend<SymbolU16>>(&rt, 65535, "the set-up of a test")?;
     use_all_symbols(&mut backend)?;
     assert_no_symbol(&rt, &mut backend);
     ask_last(&rt).map_err(Fail::from)
@@ -302,5 +279,8 @@ fn assert_shrinks(rt: &impl Abort, backend: &mut StringBackend) -> Result<(), Fa
 /// Passes whichever request for memory is refused, as that of shrinking, which is not seen.
 #[test]
 fn memory_of_shrinking(rt: HostRuntime) -> Result<(), Fail> {
-    assert_shrinks(&rt, &mut made(&rt, 9, "the set-up of a test")?)
+    assert_shrinks(
+        &rt,
+        &mut made::<StringBackend>(&rt, 9, "the set-up of a test")?,
+    )
 }

@@ -2,9 +2,9 @@ use super::*;
 use crate::DefaultStringInterner;
 use crate::backend::{Backend, BucketBackend, BufferBackend, StringBackend};
 use crate::interner::tests::{
-    assert_answers, assert_finds, assert_front, assert_list, assert_walk, number_of,
+    assert_answers, assert_finds, assert_front, assert_list, assert_walk,
 };
-use crate::tests::{Bit, ask_last, assert_equal, tell_refused};
+use crate::tests::{Bit, ask_last, assert_equal, collected, number_of, tell_refused};
 use std::alloc::AllocError;
 use std::process::Abort;
 use std::test::Fail;
@@ -136,22 +136,17 @@ fn memory_of_extend_over_buffers(rt: HostRuntime) -> Result<(), Fail> {
     extend_in_turn::<BufferBackend>(&rt, "extend over BufferBackend")
 }
 
-/// Two texts, one of them twice.
-fn from_three_texts<B: Backend + Drop>(alloc: Global) -> Result<StringInterner<B>, InternError> {
-    StringInterner::from_iter(alloc, ["Tiger", "Horse", "Tiger"].iter().copied())
-}
-
-/// An interner of two texts.
-fn collected<B: Backend + Drop>(
+/// An interner of two texts, collected again where that was refused memory.
+fn collected_in_turn<B: Backend + Drop>(
     rt: &(impl Abort + Print + AllocGlobal),
     call: &str,
 ) -> Result<StringInterner<B>, Fail> {
-    match from_three_texts(rt.alloc()) {
+    match collected(rt.alloc(), &["Tiger", "Horse", "Tiger"]) {
         Ok(made) => Ok(made),
         Err(error) => {
             assert_equal(rt, error, InternError::Memory(AllocError));
             tell_refused(rt, call)?;
-            from_three_texts(rt.alloc()).map_err(Fail::from)
+            collected(rt.alloc(), &["Tiger", "Horse", "Tiger"]).map_err(Fail::from)
         }
     }
 }
@@ -161,7 +156,7 @@ fn from_iter_in_turn<B: Backend + Drop>(
     rt: &(impl Abort + Print + AllocGlobal),
     call: &str,
 ) -> Result<(), Fail> {
-    assert_list(rt, &collected::<B>(rt, call)?, &["Tiger", "Horse"]);
+    assert_list(rt, &collected_in_turn::<B>(rt, call)?, &["Tiger", "Horse"]);
     ask_last(rt).map_err(Fail::from)
 }
 

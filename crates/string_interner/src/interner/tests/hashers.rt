@@ -28,7 +28,7 @@ fn intern_thirty<B: Backend, H: TextHasher>(
     interner: &mut StringInterner<B, H>,
 ) -> Result<(), Fail> {
     for number in 0..30 {
-        intern_number(rt, interner, number)?;
+        assert_new_number(rt, interner, number)?;
     }
     assert_knows_thirty(rt, interner)
 }
@@ -41,11 +41,11 @@ fn assert_copy_is_its_own<B: Backend, H: TextHasher>(
 ) -> Result<(), Fail> {
     assert_knows_thirty(rt, copy)?;
     assert!(rt; *copy == *interner);
-    intern_number(rt, copy, 30)?;
+    assert_new_number(rt, copy, 30)?;
     assert_knows_thirty(rt, interner)
 }
 
-/// Clones an interner of thirty texts.
+/// Interns thirty texts and clones the interner, which leaves it as it was.
 fn assert_clones_thirty<B: CopyBackend + Drop, H: TextHasher + Clone + Drop>(
     rt: &(impl Abort + AllocGlobal),
     interner: &mut StringInterner<B, H>,

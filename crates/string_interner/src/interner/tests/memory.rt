@@ -113,7 +113,7 @@ fn memory_of_get_or_intern_static_over_buffers(rt: HostRuntime) -> Result<(), Fa
     letters_in_turn::<BufferBackend>(&rt, "get_or_intern_static over BufferBackend", true)
 }
 
-/// Makes an interner with room for two texts.
+/// Makes an interner with room for two texts, again where that was refused memory.
 fn with_capacity<B: Backend + Drop>(
     rt: &(impl Print + AllocGlobal),
     call: &str,
@@ -127,7 +127,7 @@ fn with_capacity<B: Backend + Drop>(
     }
 }
 
-/// Makes an interner with room for seven texts, under a hasher.
+/// Makes an interner with room for seven texts, under a hasher, again where that was refused memory.
 fn with_capacity_and_hasher<B: Backend + Drop>(
     rt: &(impl Print + AllocGlobal),
     call: &str,
@@ -193,7 +193,8 @@ fn memory_of_makers_over_buffers(rt: HostRuntime) -> Result<(), Fail> {
     )
 }
 
-/// In an interner with room for as many texts, these answer their numbers: within its room nothing is asked for.
+/// In an interner with room for as many texts, these answer their numbers: within its room nothing is asked for. Where
+/// the room itself is refused, nothing is looked at.
 fn answers_within_the_room<B: Backend + Drop>(
     rt: &(impl Abort + Print + AllocGlobal),
     capacity: usize,
@@ -227,7 +228,7 @@ fn memory_within_the_room(rt: HostRuntime) -> Result<(), Fail> {
     ask_last(&rt).map_err(Fail::from)
 }
 
-/// Clones an interner of two texts, which stay where that was refused.
+/// Clones an interner of two texts, again where that was refused memory, which leaves them.
 fn clone_of<B: CopyBackend + Drop>(
     rt: &(impl Abort + Print),
     interner: &StringInterner<B>,

@@ -26,15 +26,16 @@ fn tigers_are_refused<B: Backend>(
     }
 }
 
+/// Whether the first text was refused, which the second one is not.
 fn first_is_refused(
     rt: &(impl Abort + Print),
     replies: &[Reply],
     backend: &str,
 ) -> Result<bool, Fail> {
     if replies.first() == Some(&Reply::NoMemory) {
-        tell_refused_over(rt, "run, its first text,", backend)?;
         let wanted = [Told::NoMemory, Told::Symbol(0), Told::Len(1)];
         assert_told(rt, replies, &wanted);
+        tell_refused_over(rt, "run, its first text,", backend)?;
         return Ok(true);
     }
     let wanted = [Told::Symbol(0), Told::Symbol(0), Told::Len(1)];
@@ -42,7 +43,7 @@ fn first_is_refused(
     Ok(false)
 }
 
-/// Passes whichever request for memory is refused.
+/// Passes whichever request for memory is refused, and asks last.
 fn assert_tigers<B: Backend>(
     rt: &(impl Abort + Print + AllocGlobal),
     interner: &mut StringInterner<B>,

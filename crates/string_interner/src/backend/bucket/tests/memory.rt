@@ -1,22 +1,7 @@
 //! Refused memory. Each test passes whichever one request is refused.
 
 use super::*;
-use crate::tests::{ask_last, assert_equal, tell_refused};
-
-/// A backend of a capacity, asked for again where that was refused memory.
-fn made<S: Symbol>(
-    rt: &(impl Print + AllocGlobal),
-    capacity: usize,
-    call: &str,
-) -> Result<BucketBackend<S>, Fail> {
-    match BucketBackend::with_capacity(rt.alloc(), capacity) {
-        Ok(made) => Ok(made),
-        Err(AllocError) => {
-            tell_refused(rt, call)?;
-            Ok(BucketBackend::with_capacity(rt.alloc(), capacity)?)
-        }
-    }
-}
+use crate::tests::{ask_last, assert_equal, made, tell_refused};
 
 /// A bucket of three bytes, asked for again where that was refused memory.
 fn made_bucket(rt: &(impl Print + AllocGlobal), call: &str) -> Result<FixedString, Fail> {
@@ -32,7 +17,7 @@ fn made_bucket(rt: &(impl Print + AllocGlobal), call: &str) -> Result<FixedStrin
 #[test]
 fn memory_makers(rt: HostRuntime) -> Result<(), Fail> {
     let call = "with_capacity of BucketBackend";
-    let shape_of_made = shape(&made::<DefaultSymbol>(&rt, 10, call)?);
+    let shape_of_made = shape(&made::<BucketBackend>(&rt, 10, call)?);
     assert_equal(&rt, shape_of_made, (10, 0, 0, 10, 0));
     let bucket = made_bucket(&rt, "with_capacity of FixedString")?;
     assert_equal(&rt, bucket.capacity(), 3);
@@ -80,7 +65,10 @@ fn assert_room(rt: &impl Abort, backend: &mut BucketBackend) -> Result<(), Fail>
 
 #[test]
 fn memory_within_the_room(rt: HostRuntime) -> Result<(), Fail> {
-    assert_room(&rt, &mut made(&rt, 10, "the set-up of a test")?)?;
+    assert_room(
+        &rt,
+        &mut made::<BucketBackend>(&rt, 10, "the set-up of a test")?,
+    )?;
     ask_last(&rt).map_err(Fail::from)
 }
 
@@ -180,7 +168,7 @@ fn copy_in_turn(rt: &(impl Abort + Print), backend: &BucketBackend) -> Result<Bu
     }
 }
 
-/// A copy is equal, and has its texts in one bucket.
+/// Fills a backend: a copy is equal, and has its texts in one bucket.
 fn assert_copied_in_turn(
     rt: &(impl Abort + Print),
     backend: &mut BucketBackend,
@@ -219,7 +207,7 @@ fn assert_no_symbol(rt: &impl Abort, backend: &mut BucketBackend<SymbolU16>) {
 /// A backend whose entries are used up by all the symbols of two bytes.
 #[test]
 fn memory_is_not_asked_for_without_a_symbol(rt: HostRuntime) -> Result<(), Fail> {
-    let mut backend = made(&rt, 65535, "the set-up of a test")?;
+    let mut backend = made::<BucketBackend<SymbolU16>>(&rt, 65535, "the set-up of a test")?;
     use_all_symbols(&mut backend)?;
     assert_no_symbol(&rt, &mut backend);
     ask_last(&rt).map_err(Fail::from)

@@ -1,22 +1,7 @@
 //! Refused memory. Each test passes whichever one request is refused.
 
 use super::*;
-use crate::tests::{ask_last, assert_equal, tell_refused};
-
-/// A backend of a capacity, asked for again where that was refused memory.
-fn made<S: Symbol>(
-    rt: &(impl Print + AllocGlobal),
-    capacity: usize,
-    call: &str,
-) -> Result<BufferBackend<S>, Fail> {
-    match BufferBackend::with_capacity(rt.alloc(), capacity) {
-        Ok(made) => Ok(made),
-        Err(AllocError) => {
-            tell_refused(rt, call)?;
-            Ok(BufferBackend::with_capacity(rt.alloc(), capacity)?)
-        }
-    }
-}
+use crate::tests::{ask_last, assert_equal, made, tell_refused};
 
 /// Within the capacity no memory is asked for, so none can be refused.
 fn assert_room(
@@ -38,7 +23,7 @@ fn memory_of_with_capacity(rt: HostRuntime) -> Result<(), Fail> {
         (1, &[(0, "abcdefghijkl")]),
     ];
     for (capacity, entries) in vectors {
-        let mut backend = made(&rt, capacity, "with_capacity of BufferBackend")?;
+        let mut backend = made::<BufferBackend>(&rt, capacity, "with_capacity of BufferBackend")?;
         assert_room(&rt, &mut backend, entries)?;
     }
     ask_last(&rt).map_err(Fail::from)
@@ -126,7 +111,7 @@ fn assert_no_symbol(rt: &impl Abort, backend: &mut BufferBackend<SymbolU16>) {
 /// A buffer without a place for a further text, and with no room for a longer one.
 #[test]
 fn memory_is_not_asked_for_without_a_symbol(rt: HostRuntime) -> Result<(), Fail> {
-    let mut backend = made(&rt, 5042, "the set-up of a test")?;
+    let mut backend = made::<BufferBackend<SymbolU16>>(&rt, 5042, "the set-up of a test")?;
     take_all_places(&rt, &mut backend)?;
     assert_no_symbol(&rt, &mut backend);
     ask_last(&rt).map_err(Fail::from)
@@ -177,5 +162,8 @@ fn assert_shrinks(rt: &impl Abort, backend: &mut BufferBackend) -> Result<(), Fa
 /// Passes whichever request for memory is refused, as that of shrinking, which is not seen.
 #[test]
 fn memory_of_shrinking(rt: HostRuntime) -> Result<(), Fail> {
-    assert_shrinks(&rt, &mut made(&rt, 9, "the set-up of a test")?)
+    assert_shrinks(
+        &rt,
+        &mut made::<BufferBackend>(&rt, 9, "the set-up of a test")?,
+    )
 }
