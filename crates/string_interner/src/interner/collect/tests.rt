@@ -61,7 +61,7 @@ fn is_made_of_the_elements(rt: HostRuntime) -> Result<(), Fail> {
     Ok(())
 }
 
-/// Takes three texts, for which it has room.
+/// Takes three texts, for which it has room, and asks last.
 fn assert_extends_within_the_room(
     rt: &(impl Abort + Print + AllocGlobal),
     interner: &mut StringInterner<BufferBackend>,
@@ -96,7 +96,7 @@ fn assert_has_fewer_than_three<B: Backend>(rt: &impl Abort, interner: &StringInt
     }
 }
 
-/// Takes three texts. The texts before a refused one stay, and none comes after it.
+/// Takes three texts, and asks last. The texts before a refused one stay, and none comes after it.
 fn assert_extends<B: Backend>(
     rt: &(impl Abort + Print + AllocGlobal),
     interner: &mut StringInterner<B>,

@@ -53,7 +53,7 @@ fn intern_letter<B: Backend>(
     Ok(())
 }
 
-/// Interns letters one after another, so that the backend grows, and the index twice.
+/// Interns letters one after another, so that the backend grows, and the index twice, and asks last.
 fn intern_letters<B: Backend>(
     rt: &(impl Abort + Print + AllocGlobal),
     interner: &mut StringInterner<B>,
@@ -244,7 +244,7 @@ fn clone_of<B: CopyBackend + Drop>(
     }
 }
 
-/// A copy is equal to its interner, and has the two texts.
+/// A copy is equal to its interner, and has the two texts. Asks last.
 fn assert_copy<B: Backend>(
     rt: &(impl Print + Abort + AllocGlobal),
     interner: &StringInterner<B>,
@@ -336,7 +336,7 @@ fn assert_known_without_memory<B: Backend>(
     Ok(())
 }
 
-/// Calls that take no memory, on an interner of the empty text and another: none of them is refused.
+/// Calls that take no memory, on an interner of the empty text and another: none of them is refused. Asks last.
 fn assert_calls_without_memory<B: Backend>(
     rt: &(impl Abort + Print + AllocGlobal),
     interner: &mut StringInterner<B>,
@@ -410,7 +410,7 @@ fn assert_known<B: Backend>(
 }
 
 /// An interner of the texts has no symbol for a further one, which its backend would have to grow for: the want of a
-/// symbol is told first, and no memory is asked for.
+/// symbol is told first, and no memory is asked for. Asks last.
 fn assert_refuses_further<B: Backend>(
     rt: &(impl Abort + Print + AllocGlobal),
     interner: &mut StringInterner<B>,
