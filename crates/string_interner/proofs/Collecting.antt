@@ -9,7 +9,8 @@ use Rattle.std.proofs.lemmas.Iterator.{YieldsList}
 use Rattle.std.proofs.lemmas.List.Sums.{sum_by-append}
 use Rattle.string_interner.specs.Text.{Text, first}
 use Rattle.string_interner.specs.Backend.{Appends}
-use Rattle.string_interner.specs.Interner.{Interned, Interns, entry_symbol}
+use Rattle.string_interner.specs.Index.{Holds}
+use Rattle.string_interner.specs.Interner.{Interned, Interns, IsLoaded, entry_symbol}
 use Rattle.string_interner.specs.Collect.{texts_of, fresh, IsMemory, InternsAll, TakesIn, StopsAt, Extends, InternsInOrder}
 use Rattle.string_interner.proofs.Laws.{refused-keeps}
 use Rattle.string_interner.specs.declared.backend.InternError.{InternError}
@@ -60,6 +61,16 @@ module _ {S : Type 0} (symbol_of : ℕ → Option S) (place : List Text → ℕ)
   pub all-more : (old texts mid : List Text) (text : Text) (symbol : S) (new : List Text) → InternsAll symbol_of place old texts mid → Interns symbol_of place mid text (Ok symbol) new → InternsAll symbol_of place old (texts ++ text ∷ []) new
   all-more old [] mid text symbol new h i = (new, (symbol, subst (λ (xs : List Text). Interns symbol_of place xs text (Ok symbol) new) h i), refl)
   all-more old (t ∷ ts) mid text symbol new h i = (h.0, h.1, all-more h.0 ts mid text symbol new h.2 i)
+
+  -- what is so of a length and a count of slots, where one more entry keeps it, is so once a text was interned
+  pub interned-slots : (P : ℕ → ℕ → Type 0) (mid new : Interned) (text : Text) (symbol : S) → Interns symbol_of place mid.texts text (Ok symbol) new.texts → (IsSome (first mid.texts text) → new ≡ mid) → IsLoaded new
+      → (Holds new.slot_count (length mid.texts + 1) → P (length mid.texts + 1) new.slot_count) → P (length mid.texts) mid.slot_count → P (length new.texts) new.slot_count
+  interned-slots P mid new text symbol i known loaded more now = of (first mid.texts text) i known
+    where
+      of : (o : Option ℕ) → MatchOption o (Appends symbol_of place mid.texts text (Ok symbol) new.texts) (λ i. (entry_symbol symbol_of place mid.texts i ≡ Some symbol) × (new.texts ≡ mid.texts)) → (IsSome o → new ≡ mid) → P (length new.texts) new.slot_count
+      of None h known = let n : length new.texts ≡ length mid.texts + 1 = ap length h.1 ∙ length_push mid.texts text in
+          subst (λ k. P k new.slot_count) (sym n) (more (subst (λ k. Holds new.slot_count k) n loaded.load))
+      of (Some i) h known = subst (λ (it : Interned). P (length it.texts) it.slot_count) (sym (known refl)) now
 
   module _ (cost : Text → ℕ) where
     -- a text that is interned takes its cost, and nothing where it was known
@@ -151,7 +162,7 @@ fronted steps (z ∷ zs) s t u x (y ∷ ys) (j, sj, more) st always = let m = al
 pub in-order : {S : Type 0} (symbol_of : ℕ → Option S) (place : List Text → ℕ) (cost : Text → ℕ) {I W : Type 0} (becomes : I → W → Type 0) (steps : W → Option (Bor Text) → W → Type 0) (iter : I) (old new : Interned) (outcome : Result (Unit {0}) InternError) (all : List (Bor Text))
     → Extends symbol_of place cost becomes steps iter old outcome new → ((walk : W) → becomes iter walk → YieldsList steps (λ x. x) walk all) → InternsInOrder symbol_of place old.texts (texts_of all) outcome new.texts
 in-order symbol_of place cost becomes steps iter old new (Ok done) all (walk, items, b, taken, drains) lists =
-    rw (drained steps items walk drains.1.0 drains.0 all drains.1.1 drains.1.2 (lists walk b).runs) taken.interned
+    let ends = drains.0 in rw (drained steps items walk ends.1.0 ends.0 all ends.1.1 ends.1.2 (lists walk b).runs) taken.interned
 in-order symbol_of place cost becomes steps iter old new (Err error) all (walk, items, b, taken, (item, left, yields, stops)) lists =
     let f = fronted steps items walk yields.0 left item all yields.1 yields.2 (lists walk b).runs in
     (texts_of items, item.now, texts_of f.0, ap texts_of f.1 ∙ map-append (λ (b : Bor Text). b.now) items (item ∷ f.0), taken.interned, stops.refuses)

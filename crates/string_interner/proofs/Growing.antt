@@ -4,8 +4,8 @@ use Rattle.std.proofs.Math.Nat.{pow-succ'}
 use Rattle.std.proofs.lemmas.Nat.{and_mask}
 use Rattle.std.proofs.Math.Pow.{pow_mono}
 use Rattle.std.proofs.lemmas.Bool.{cases_lt}
-use Rattle.string_interner.specs.Interner.{GrowsIfFull}
-use Rattle.string_interner.specs.Index.{Indexed, GrowsTo, IsSlotCount, IsSound, HasRoom, entry_count}
+use Rattle.string_interner.specs.Interner.{GrowsIfFull, GrowsFor}
+use Rattle.string_interner.specs.Index.{Indexed, GrowsTo, Holds, IsSlotCount, IsLeastSlotCount, IsSound, HasRoom, entry_count}
 
 pub IsSlotCount-grown : (count more : ℕ) → IsSlotCount count → GrowsTo count more → IsSlotCount more
 IsSlotCount-grown count more s (inl a) = inr (0, a.1)
@@ -120,3 +120,57 @@ GrowsIfFull-more len old new h = more h.grown
     more : (new ≡ old) ⊎ GrowsTo old new → old ≤ new
     more (inl e) = omega arith
     more (inr g) = let m = GrowsTo-more old new g in omega arith
+
+-- the count that a full one grows to is the least for one more entry
+least-next : (len old new : ℕ) → IsSlotCount old → 3 * old < 4 * (len + 1) → GrowsTo old new → Holds new (len + 1) → IsLeastSlotCount (len + 1) new
+least-next len old new s is_full (inl a) load =
+    let n = a.1 in record {
+      allowed = IsSlotCount-grown old new s (inl a);
+      room = load;
+      least = λ m allowed room. some_slots m len allowed room n;
+    }
+  where
+    some_slots : (m len : ℕ) → IsSlotCount m → Holds m (len + 1) → new ≡ 8 → new ≤ m
+    some_slots m len (inl z) room n = absurd (omega arith)
+    some_slots m len (inr p) room n = let e = p.1 in let a : 2 ^ 0 ≤ 2 ^ p.0 = pow_mono {i = 0} (omega arith) in omega arith
+least-next len old new (inl z) is_full (inr b) load = let l = b.0 in absurd (omega arith)
+least-next len old new (inr p) is_full (inr b) load =
+    let e = p.1 in let n = b.1 in record {
+      allowed = IsSlotCount-grown old new (inr p) (inr b);
+      room = load;
+      least = λ m allowed room. let a = above_doubled p.0 m allowed (omega arith) in omega arith;
+    }
+
+-- the least count that has room for one more entry too
+least-same : (len count : ℕ) → IsLeastSlotCount len count → Holds count (len + 1) → IsLeastSlotCount (len + 1) count
+least-same len count h load = record { allowed = h.allowed; room = load; least = λ m allowed room. h.least m allowed (omega arith) }
+
+-- a count that grows where it is full, and then has room, grows to the least that has
+least-full : (len old new : ℕ) → IsSlotCount old → 3 * old < 4 * (len + 1) → GrowsIfFull len old new → Holds new (len + 1) → IsLeastSlotCount (len + 1) new
+least-full len old new s is_full grows load = of grows.grown
+  where
+    of : (new ≡ old) ⊎ GrowsTo old new → IsLeastSlotCount (len + 1) new
+    of (inl e) = absurd (omega arith)
+    of (inr g) = least-next len old new s is_full g load
+
+-- the least count stays the least as one more entry comes
+pub least-grown : (len old new : ℕ) → IsLeastSlotCount len old → GrowsIfFull len old new → Holds new (len + 1) → IsLeastSlotCount (len + 1) new
+least-grown len old new h grows load =
+    elim (cases_lt (3 * old) (4 * (len + 1))) as (λ _. IsLeastSlotCount (len + 1) new) [
+      | inl is_full ↦ least-full len old new h.allowed is_full grows load
+      | inr room ↦ (let e = grows.allowed room in subst (IsLeastSlotCount (len + 1)) (sym e) (least-same len old h room))
+    ]
+
+-- slots that grew for a list grow for one more entry
+pub grown-more : (len old mid new : ℕ) → IsSlotCount mid → GrowsFor len old mid → GrowsIfFull len mid new → Holds new (len + 1) → GrowsFor (len + 1) old new
+grown-more len old mid new s h grows load = record {
+  allowed = λ room. (let e = h.allowed (omega arith) in let f = grows.allowed (omega (arith, e, room)) in omega arith);
+  least = λ none. elim (cases_lt (3 * mid) (4 * (len + 1))) as (λ _. IsLeastSlotCount (len + 1) new) [
+    | inl is_full ↦ least-full len mid new s is_full grows load
+    | inr room ↦ (let e = grows.allowed room in subst (IsLeastSlotCount (len + 1)) (sym e) (least-same len mid (h.least (λ r. none (subst (λ n. Holds n (len + 1)) (h.allowed r) room))) room))
+  ];
+}
+
+-- no slots are the least count for no entries
+pub least-none : (len count : ℕ) → len ≡ 0 → count ≡ 0 → IsLeastSlotCount len count
+least-none len count e z = record { allowed = inl z; room = omega arith; least = λ m allowed room. omega arith }

@@ -64,6 +64,12 @@ module _ {S : Type 0} (symbol_of : ℕ → Option S) (place : List Text → ℕ)
       → outcome ≡ Err (refused error) → ReadsElements symbol_of place old i all outcome
   reads_refused old i element rest all outcome is text error mid is_text interns e = rw (is, is_text) (Err error, mid, interns, e)
 
+  -- the next element is a string, and its text is interned
+  pub reads_more : (old : List Text) (i : ℕ) (element : Data) (rest all : Items) (outcome : Result Interned JsonError) → all ≡ item element rest
+      → (text : Text) (symbol : S) (mid : List Text) → as_str element ≡ Some text → Interns symbol_of place old text (Ok symbol) mid
+      → ReadsElements symbol_of place mid (i + 1) rest outcome → ReadsElements symbol_of place old i all outcome
+  reads_more old i element rest all outcome is text symbol mid is_text interns more = rw (is, is_text) (Ok symbol, mid, interns, more)
+
   -- the place before a text of a kept list has a symbol
   has_symbol : (front : List Text) (text : Text) (texts : List Text) → IsKept symbol_of place (front ++ text ∷ texts) → IsSome (symbol_of (place front))
   has_symbol front text texts kept =

@@ -7,7 +7,7 @@ use Rattle.std.specs.List.{sum_by}
 use Rattle.std.specs.Option.{option_map_or}
 use Rattle.string_interner.specs.Text.{Text, first}
 use Rattle.string_interner.specs.Index.{Holds}
-use Rattle.string_interner.specs.Interner.{Interned, Interns}
+use Rattle.string_interner.specs.Interner.{Interned, Interns, GrowsFor}
 use Rattle.string_interner.specs.declared.backend.InternError.{InternError}
 use Rattle.string_interner.specs.declared.backend.InternError.TheVariants.{NoSymbol, Memory}
 
@@ -55,12 +55,12 @@ module _ {S : Type 0} (symbol_of : ℕ → Option S) (place : List Text → ℕ)
       pub refuses : Interns symbol_of place new.texts refused (Err error) new.texts
       pub beyond : IsMemory error → ¬ HasRoomFor old (texts ++ refused ∷ [])
 
-    -- Items of what `iter` became are interned: all that it yields, or those in front of the first that is refused, and
-    -- then none was asked for after that.
+    -- Items of what `iter` became are interned: all that it yields, and the slots grow for them, or those in front of the
+    -- first that is refused, and then none was asked for after that.
     abbrev pub Extends : {I W : Type 0} → (I → W → Type 0) → (W → Option (Bor Text) → W → Type 0) → I → Interned → Result (Unit {0}) InternError → Interned → Type 0
     Extends {I} {W} becomes steps iter old outcome new =
         (walk : W) × (items : List (Bor Text)) × becomes iter walk × TakesIn old (texts_of items) new × MatchResult outcome
-        (λ _. Drains steps walk items)
+        (λ _. Drains steps walk items × GrowsFor (length new.texts) old.slot_count new.slot_count)
         (λ error. (refused : Bor Text) × (rest : W) × YieldsThen steps walk items (Some refused) rest × StopsAt old (texts_of items) refused.now error new)
 
     -- An interner that has no texts and no slots is extended by the items. Where one is refused, no interner is made.

@@ -8,7 +8,7 @@ ghost use Rattle.std.specs.Option.{option_copied};
 ghost use Rattle.std.specs.Cmp.{partial_equiv_from_equiv, on_equiv};
 ghost use Rattle.string_interner.specs.Text.{Text, IsDistinct, first, texts_eq, texts_eq-IsEquivalence};
 ghost use Rattle.string_interner.specs.Backend.{BeginsAt, IsPlace, IsKept};
-ghost use Rattle.string_interner.specs.Interner.{GrowsIfFull, Interned, Interns, known_symbol};
+ghost use Rattle.string_interner.specs.Interner.{GrowsIfFull, Interned, Interns, IsLoaded, known_symbol};
 ghost use Rattle.string_interner.specs.Index.{Holds, IsLeastSlotCount};
 
 use crate::backend::{Backend, CopyBackend, InternError, Iter};
@@ -116,19 +116,23 @@ impl<B: Backend, H: TextHasher> StringInterner<B, H> {
     /// How many texts there are.
     pub fn len(&self) -> usize
         ensures value { result ≡ length self.now.texts }
+
+        // What holds of every interner.
         ensures distinct { IsDistinct self.now.texts }
         ensures kept { IsKept B.Symbol.symbol_of B.place self.now.texts }
+        ensures loaded { IsLoaded self.now }
     {
+        self.index.keeps();
         self.backend.count()
     }
 
-    /// Does nothing. Its clause tells a proof what holds of every interner.
+    /// Does nothing. Its clauses tell a proof what holds of every interner.
     #[inline]
     pub(crate) fn keeps(&self)
-        ensures { IsKept B.Symbol.symbol_of B.place self.now.texts }
+        ensures kept { IsKept B.Symbol.symbol_of B.place self.now.texts }
+        ensures loaded { IsLoaded self.now }
     {
-        // Opens the value for the proof, which needs what holds of it.
-        let _ = &self.backend;
+        self.index.keeps();
     }
 
     /// Whether there is no text.

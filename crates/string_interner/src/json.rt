@@ -1,9 +1,10 @@
 //! JSON forms: of an interner the array of its texts, and of a symbol its number.
 
-ghost use Rattle.std.specs.Prelude.{◌≡◌, List, Ok, IfOk, IsOkAnd};
+ghost use Rattle.std.specs.Prelude.{◌≡◌, List, length, Ok, IfOk, IsOkAnd};
 ghost use Rattle.serde_json.specs.View.{view};
 ghost use Rattle.string_interner.specs.Text.{Text, IsDistinct};
 ghost use Rattle.string_interner.specs.Backend.{IsKept};
+ghost use Rattle.string_interner.specs.Index.{IsLeastSlotCount};
 ghost use Rattle.string_interner.specs.Json.{json_of_texts, json_of_number, refused, ReadsArray, ReadsArrayExactly, GivesBack, symbol_read};
 
 use crate::backend::{Backend, InternError};
@@ -71,12 +72,13 @@ impl<B: Backend + Drop, H: TextHasher + Default + Drop> StringInterner<B, H> {
     /// An interner of the texts of an array of JSON strings, under the hasher's default.
     ///
     /// It starts empty and interns element after element, so that repeats fold into one text: `["a", "b", "a"]` is read
-    /// as the texts a and b.
+    /// as the texts a and b. The index has the least count of slots for them.
     ///
     /// Refuses a value that is not an array with `NotAList`. Else the first refused element decides: with `NotAText`
     /// where it is not a string, and as `get_or_intern` refuses where it is.
     pub fn from_json(alloc: Global, value: &Value) -> Result<Self, JsonError>
         ensures reads { ReadsArray B.Symbol.symbol_of B.place (view value.now) result }
+        ensures slots { IfOk result (λ interner. IsLeastSlotCount (length interner.texts) interner.slot_count) }
 
         // What `to_json` wrote is read back, in order and with the same symbols, or memory was refused.
         ensures gives_back { (texts : List Text) → IsDistinct texts → IsKept B.Symbol.symbol_of B.place texts
@@ -87,6 +89,7 @@ impl<B: Backend + Drop, H: TextHasher + Default + Drop> StringInterner<B, H> {
         for (index, element) in elements.iter().enumerate() {
             let text = element.as_str().ok_or(JsonError::NotAText { index })?;
             interner.get_or_intern(text)?;
+            interner.keeps();
         }
         Ok(interner)
     }
@@ -99,6 +102,7 @@ impl<B: Backend + Drop, H: TextHasher + Default + Drop> StringInterner<B, H> {
     pub fn from_json_exact(alloc: Global, value: &Value) -> Result<Self, JsonError>
         ensures reads { ReadsArrayExactly B.Symbol.symbol_of B.place (view value.now) result }
         ensures form { IfOk result (λ interner. view value.now ≡ json_of_texts interner.texts) }
+        ensures slots { IfOk result (λ interner. IsLeastSlotCount (length interner.texts) interner.slot_count) }
 
         // What `to_json` wrote is read back, in order and with the same symbols, or memory was refused.
         ensures gives_back { (texts : List Text) → IsDistinct texts → IsKept B.Symbol.symbol_of B.place texts
@@ -113,6 +117,7 @@ impl<B: Backend + Drop, H: TextHasher + Default + Drop> StringInterner<B, H> {
                 return Err(JsonError::NotAText { index });
             };
             different.get_or_intern(text)?;
+            different.keeps();
             // Each element before this one lengthened the list, and one that is repeated does not.
             if different.len() == index {
                 return Err(JsonError::Repeated { index });

@@ -12,7 +12,8 @@ impl<B: Backend, H: TextHasher> StringInterner<B, H> {
     /// Interns the texts of an iterator that ends, one after another, and stops at the first that is refused.
     ///
     /// The texts before a refused one stay, and none is asked for after it. It is refused as `get_or_intern` refuses it;
-    /// so none is refused for memory where the new ones fit the room of the backend and of the index.
+    /// so none is refused for memory where the new ones fit the room of the backend and of the index. Where all went in,
+    /// there are as many slots as before if these hold all texts, and else the least count that does.
     pub fn extend<'t, I: IntoIterator<Item = &'t str>>(
         &mut self,
         iter: I,
@@ -21,8 +22,10 @@ impl<B: Backend, H: TextHasher> StringInterner<B, H> {
         ensures { Extends B.Symbol.symbol_of B.place B.cost I.into_iter_gives I.IntoIter.next_gives iter self.old result
             self.new }
     {
+        self.keeps();
         for text in iter {
             self.get_or_intern(text)?;
+            self.keeps();
         }
         Ok(())
     }

@@ -1,6 +1,12 @@
+use Rattle.std.proofs.Common.{length}
+use Rattle.string_interner.specs.Interner.{GrowsFor, IsLoaded}
 use Rattle.string_interner.specs.Collect.{texts_of, TakesIn}
 use Rattle.string_interner.proofs.interner.StringInterner.extend.Given as goal
 
--- the items so far went in
+-- the items so far went in, and the slots grew for them
 abbrev pub invariant-loop-text : goal.invariant-loop-text
-invariant-loop-text g l = TakesIn g.B.Symbol.Symbol.symbol_of g.B.Backend.place g.B.Backend.cost l.fn.self (texts_of l.yielded) l.self
+invariant-loop-text g l = record {
+  taken : TakesIn g.B.Symbol.Symbol.symbol_of g.B.Backend.place g.B.Backend.cost l.fn.self (texts_of l.yielded) l.self;
+  grown : GrowsFor (length l.self.texts) l.fn.self.slot_count l.self.slot_count;
+  loaded : IsLoaded l.self;
+}
