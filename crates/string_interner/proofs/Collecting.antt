@@ -9,8 +9,9 @@ use Rattle.std.proofs.lemmas.Iterator.{YieldsList}
 use Rattle.std.proofs.lemmas.List.Sums.{sum_by-append}
 use Rattle.string_interner.specs.Text.{Text, first}
 use Rattle.string_interner.specs.Backend.{Appends}
-use Rattle.string_interner.specs.Index.{Holds}
-use Rattle.string_interner.specs.Interner.{Interned, Interns, IsLoaded, entry_symbol}
+use Rattle.string_interner.specs.Index.{Holds, IsLoaded}
+use Rattle.string_interner.specs.Interner.{Interned, Interns, GrowsIfFull, GrowsFor, entry_symbol}
+use Rattle.string_interner.proofs.Growing.{GrowsFor-more}
 use Rattle.string_interner.specs.Collect.{texts_of, fresh, IsMemory, InternsAll, TakesIn, StopsAt, Extends, InternsInOrder}
 use Rattle.string_interner.proofs.Laws.{refused-keeps}
 use Rattle.string_interner.specs.declared.backend.InternError.{InternError}
@@ -63,7 +64,7 @@ module _ {S : Type 0} (symbol_of : ℕ → Option S) (place : List Text → ℕ)
   all-more old (t ∷ ts) mid text symbol new h i = (h.0, h.1, all-more h.0 ts mid text symbol new h.2 i)
 
   -- what is so of a length and a count of slots, where one more entry keeps it, is so once a text was interned
-  pub interned-slots : (P : ℕ → ℕ → Type 0) (mid new : Interned) (text : Text) (symbol : S) → Interns symbol_of place mid.texts text (Ok symbol) new.texts → (IsSome (first mid.texts text) → new ≡ mid) → IsLoaded new
+  pub interned-slots : (P : ℕ → ℕ → Type 0) (mid new : Interned) (text : Text) (symbol : S) → Interns symbol_of place mid.texts text (Ok symbol) new.texts → (IsSome (first mid.texts text) → new ≡ mid) → IsLoaded new.slot_count (length new.texts)
       → (Holds new.slot_count (length mid.texts + 1) → P (length mid.texts + 1) new.slot_count) → P (length mid.texts) mid.slot_count → P (length new.texts) new.slot_count
   interned-slots P mid new text symbol i known loaded more now = of (first mid.texts text) i known
     where
@@ -87,26 +88,24 @@ module _ {S : Type 0} (symbol_of : ℕ → Option S) (place : List Text → ℕ)
 
     -- one more text goes in
     taken-more : (old mid new : Interned) (texts : List Text) (text : Text) (symbol : S) → TakesIn symbol_of place cost old texts mid → Interns symbol_of place mid.texts text (Ok symbol) new.texts
-        → (IsSome (first mid.texts text) → new ≡ mid) → mid.room ≤ new.room + cost text → mid.slot_count ≤ new.slot_count → TakesIn symbol_of place cost old (texts ++ text ∷ []) new
-    taken-more old mid new texts text symbol taken i known spent slots = record {
+        → (IsSome (first mid.texts text) → new ≡ mid) → mid.room ≤ new.room + cost text → TakesIn symbol_of place cost old (texts ++ text ∷ []) new
+    taken-more old mid new texts text symbol taken i known spent = record {
       interned = all-more old.texts texts mid.texts text symbol new.texts taken.interned i;
       spent = omega (arith, taken.spent, cost-more old.texts mid.texts texts text taken.interned, spent-fresh mid new text known spent);
-      slots = omega (arith, taken.slots, slots);
     }
 
     -- the same, of the item of an iteration
     pub item-taken : (old mid new : Interned) (items : List (Bor Text)) (item : Bor Text) (symbol : S) → TakesIn symbol_of place cost old (texts_of items) mid → Interns symbol_of place mid.texts item.now (Ok symbol) new.texts
-        → (IsSome (first mid.texts item.now) → new ≡ mid) → mid.room ≤ new.room + cost item.now → mid.slot_count ≤ new.slot_count → TakesIn symbol_of place cost old (texts_of (items ++ item ∷ [])) new
-    item-taken old mid new items item symbol taken i known spent slots = subst (λ (ts : List Text). TakesIn symbol_of place cost old ts new) (sym (map_push (λ (b : Bor Text). b.now) items item))
-        (taken-more old mid new (texts_of items) item.now symbol taken i known spent slots)
+        → (IsSome (first mid.texts item.now) → new ≡ mid) → mid.room ≤ new.room + cost item.now → TakesIn symbol_of place cost old (texts_of (items ++ item ∷ [])) new
+    item-taken old mid new items item symbol taken i known spent = subst (λ (ts : List Text). TakesIn symbol_of place cost old ts new) (sym (map_push (λ (b : Bor Text). b.now) items item))
+        (taken-more old mid new (texts_of items) item.now symbol taken i known spent)
 
     -- a refused text leaves what went in
     pub refused-taken : (old mid new : Interned) (texts : List Text) (text : Text) (error : InternError) → TakesIn symbol_of place cost old texts mid → Interns symbol_of place mid.texts text (Err error) new.texts
-        → mid.room ≤ new.room → mid.slot_count ≤ new.slot_count → TakesIn symbol_of place cost old texts new
-    refused-taken old mid new texts text error taken i unspent slots = record {
+        → mid.room ≤ new.room → TakesIn symbol_of place cost old texts new
+    refused-taken old mid new texts text error taken i unspent = record {
       interned = rw (refused-keeps symbol_of place mid.texts new.texts text error i) taken.interned;
       spent = omega (arith, taken.spent, unspent);
-      slots = omega (arith, taken.slots, slots);
     }
 
     -- memory is refused for a new text that has a symbol
@@ -120,8 +119,9 @@ module _ {S : Type 0} (symbol_of : ℕ → Option S) (place : List Text → ℕ)
 
     -- a text that does not fit is refused
     pub stopped : (old mid new : Interned) (texts : List Text) (text : Text) (error : InternError) → TakesIn symbol_of place cost old texts mid → Interns symbol_of place mid.texts text (Err error) new.texts
-        → (IsSome (symbol_of (place mid.texts)) → cost text ≤ mid.room → 4 * (length mid.texts + 1) ≤ 3 * mid.slot_count → IsOk {T = S} {E = InternError} (Err error)) → StopsAt symbol_of place cost old texts text error new
-    stopped old mid new texts text error taken i granted = record {
+        → (IsSome (symbol_of (place mid.texts)) → cost text ≤ mid.room → 4 * (length mid.texts + 1) ≤ 3 * mid.slot_count → IsOk {T = S} {E = InternError} (Err error))
+        → GrowsFor (length mid.texts) old.slot_count mid.slot_count → GrowsIfFull (length mid.texts) mid.slot_count new.slot_count → StopsAt symbol_of place cost old texts text error new
+    stopped old mid new texts text error taken i granted grown slots = record {
       refuses = (let same = refused-keeps symbol_of place mid.texts new.texts text error i in subst (λ (xs : List Text). Interns symbol_of place xs text (Err error) new.texts) (sym same) i);
       beyond = λ m fits.
           let is_new = memory-new mid.texts new.texts text error m i in
@@ -129,19 +129,21 @@ module _ {S : Type 0} (symbol_of : ℕ → Option S) (place : List Text → ℕ)
           let c : sum_by cost (fresh old.texts (texts ++ text ∷ [])) ≡ sum_by cost (fresh old.texts texts) + cost text = cost-more old.texts mid.texts texts text taken.interned ∙ (ap (λ ts. sum_by cost (fresh old.texts texts) + sum_by cost ts) one ∙ omega arith) in
           let n : length (fresh old.texts (texts ++ text ∷ [])) ≡ length (fresh old.texts texts) + 1 = ap length (fresh-append old.texts texts (text ∷ []) ∙ ap (λ zs. fresh old.texts texts ++ fresh zs (text ∷ [])) (sym (all-fresh old.texts texts mid.texts taken.interned)) ∙ ap (λ ts. fresh old.texts texts ++ ts) one) ∙ length_push (fresh old.texts texts) text in
           let l : length mid.texts ≡ length old.texts + length (fresh old.texts texts) = ap length (all-fresh old.texts texts mid.texts taken.interned) ∙ length-append old.texts (fresh old.texts texts) in
-          let granted_now = granted is_new.1 (omega (arith, fits.backend, c, taken.spent)) (omega (arith, fits.index, n, l, taken.slots)) in cc;
+          let granted_now = granted is_new.1 (omega (arith, fits.backend, c, taken.spent)) (omega (arith, fits.index, n, l, GrowsFor-more _ _ _ grown)) in cc;
+      slots = rw (refused-keeps symbol_of place mid.texts new.texts text error i) (mid.slot_count, grown, slots);
     }
 
     -- an extension that a refused item ended
     pub extends-refused : {I W : Type 0} (becomes : I → W → Type 0) (steps : W → Option (Bor Text) → W → Type 0) (iter : I) (walk rest : W) (items : List (Bor Text)) (item : Bor Text) (old mid new : Interned) (error : InternError) (outcome : Result (Unit {0}) InternError)
         → becomes iter walk → YieldsThen steps walk items (Some item) rest → outcome ≡ Err error → TakesIn symbol_of place cost old (texts_of items) mid → Interns symbol_of place mid.texts item.now (Err error) new.texts
-        → (IsSome (symbol_of (place mid.texts)) → cost item.now ≤ mid.room → 4 * (length mid.texts + 1) ≤ 3 * mid.slot_count → IsOk {T = S} {E = InternError} (Err error)) → mid.room ≤ new.room → mid.slot_count ≤ new.slot_count → Extends symbol_of place cost becomes steps iter old outcome new
-    extends-refused becomes steps iter walk rest items item old mid new error outcome b y e taken i granted unspent slots = rw e (
+        → (IsSome (symbol_of (place mid.texts)) → cost item.now ≤ mid.room → 4 * (length mid.texts + 1) ≤ 3 * mid.slot_count → IsOk {T = S} {E = InternError} (Err error)) → mid.room ≤ new.room
+        → GrowsFor (length mid.texts) old.slot_count mid.slot_count → GrowsIfFull (length mid.texts) mid.slot_count new.slot_count → Extends symbol_of place cost becomes steps iter old outcome new
+    extends-refused becomes steps iter walk rest items item old mid new error outcome b y e taken i granted unspent grown slots = rw e (
       walk,
       items,
       b,
-      refused-taken old mid new (texts_of items) item.now error taken i unspent slots,
-      (item, rest, y, stopped old mid new (texts_of items) item.now error taken i granted),
+      refused-taken old mid new (texts_of items) item.now error taken i unspent,
+      (item, rest, y, stopped old mid new (texts_of items) item.now error taken i granted grown slots),
     )
 
 -- an iteration that ended went over the whole list

@@ -80,11 +80,10 @@ above_doubled k m (inr p) l =
 
 -- the next count, where this one has no room
 pub least_more : (cap count next : ℕ) → (k : ℕ) × (count ≡ 8 * 2 ^ k) → next ≡ 2 * count → 3 * count < 4 * cap
-    → ((m : ℕ) → IsSlotCount m → 4 * cap ≤ 3 * m → count ≤ m)
     → ((k : ℕ) × (next ≡ 8 * 2 ^ k)) × ((m : ℕ) → IsSlotCount m → 4 * cap ≤ 3 * m → next ≤ m)
-least_more cap count next p n l least =
+least_more cap count next p n l =
     let e = p.1 in let d : 2 ^ suc p.0 ≡ 2 * 2 ^ p.0 = pow-succ' 2 p.0 in
-    ((suc p.0, omega arith), λ m s r. let a = least m s r in let b = above_doubled p.0 m s (omega arith) in omega arith)
+    ((suc p.0, omega arith), λ m s r. let b = above_doubled p.0 m s (omega arith) in omega arith)
 
 pub masked : (n count : ℕ) → 0 < count → IsSlotCount count → bit_and n (count - 1) ≡ n % count
 masked n count h (inl e) = absurd (omega arith)
@@ -113,13 +112,12 @@ GrowsTo-more count more (inr a) = let x = a.0 in let y = a.1 in omega arith
 pub GrowsIfFull-same : (len count : ℕ) → GrowsIfFull len count count
 GrowsIfFull-same len count = record { allowed = λ h. refl; grown = inl refl }
 
--- there are no fewer slots than before
-pub GrowsIfFull-more : (len old new : ℕ) → GrowsIfFull len old new → old ≤ new
-GrowsIfFull-more len old new h = more h.grown
-  where
-    more : (new ≡ old) ⊎ GrowsTo old new → old ≤ new
-    more (inl e) = omega arith
-    more (inr g) = let m = GrowsTo-more old new g in omega arith
+-- a list that got longer has no fewer slots than before
+pub GrowsFor-more : (len old new : ℕ) → GrowsFor len old new → old ≤ new
+GrowsFor-more len old new h = elim (cases_lt (3 * old) (4 * len)) as (λ _. old ≤ new) [
+  | inl is_full ↦ (let r = (h.least (λ room. omega arith)).room in omega arith)
+  | inr room ↦ (let e = h.allowed room in omega arith)
+]
 
 -- the count that a full one grows to is the least for one more entry
 least-next : (len old new : ℕ) → IsSlotCount old → 3 * old < 4 * (len + 1) → GrowsTo old new → Holds new (len + 1) → IsLeastSlotCount (len + 1) new
@@ -135,11 +133,7 @@ least-next len old new s is_full (inl a) load =
     some_slots m len (inr p) room n = let e = p.1 in let a : 2 ^ 0 ≤ 2 ^ p.0 = pow_mono {i = 0} (omega arith) in omega arith
 least-next len old new (inl z) is_full (inr b) load = let l = b.0 in absurd (omega arith)
 least-next len old new (inr p) is_full (inr b) load =
-    let e = p.1 in let n = b.1 in record {
-      allowed = IsSlotCount-grown old new (inr p) (inr b);
-      room = load;
-      least = λ m allowed room. let a = above_doubled p.0 m allowed (omega arith) in omega arith;
-    }
+    let more = least_more (len + 1) old new p b.1 is_full in record { allowed = inr more.0; room = load; least = more.1 }
 
 -- the least count that has room for one more entry too
 least-same : (len count : ℕ) → IsLeastSlotCount len count → Holds count (len + 1) → IsLeastSlotCount (len + 1) count
@@ -167,7 +161,7 @@ grown-more len old mid new s h grows load = record {
   allowed = λ room. (let e = h.allowed (omega arith) in let f = grows.allowed (omega (arith, e, room)) in omega arith);
   least = λ none. elim (cases_lt (3 * mid) (4 * (len + 1))) as (λ _. IsLeastSlotCount (len + 1) new) [
     | inl is_full ↦ least-full len mid new s is_full grows load
-    | inr room ↦ (let e = grows.allowed room in subst (IsLeastSlotCount (len + 1)) (sym e) (least-same len mid (h.least (λ r. none (subst (λ n. Holds n (len + 1)) (h.allowed r) room))) room))
+    | inr room ↦ least-grown len mid new (h.least (λ r. none (subst (λ n. Holds n (len + 1)) (h.allowed r) room))) grows load
   ];
 }
 

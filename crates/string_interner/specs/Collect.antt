@@ -7,7 +7,7 @@ use Rattle.std.specs.List.{sum_by}
 use Rattle.std.specs.Option.{option_map_or}
 use Rattle.string_interner.specs.Text.{Text, first}
 use Rattle.string_interner.specs.Index.{Holds}
-use Rattle.string_interner.specs.Interner.{Interned, Interns, GrowsFor}
+use Rattle.string_interner.specs.Interner.{Interned, Interns, GrowsIfFull, GrowsFor}
 use Rattle.string_interner.specs.declared.backend.InternError.{InternError}
 use Rattle.string_interner.specs.declared.backend.InternError.TheVariants.{NoSymbol, Memory}
 
@@ -48,15 +48,16 @@ module _ {S : Type 0} (symbol_of : ℕ → Option S) (place : List Text → ℕ)
     pub record TakesIn (old : Interned) (texts : List Text) (new : Interned) : Type 0 where
       pub interned : InternsAll old.texts texts new.texts
       pub spent : old.room ≤ new.room + sum_by cost (fresh old.texts texts)
-      pub slots : old.slot_count ≤ new.slot_count
 
-    -- After the texts went in, the next one is refused so: for memory only where they and it do not fit the old room.
+    -- After the texts went in, the next one is refused so: for memory only where they and it do not fit the old room. The
+    -- slots grew for the texts, and then as for the refused one.
     pub record StopsAt (old : Interned) (texts : List Text) (refused : Text) (error : InternError) (new : Interned) : Type 0 where
       pub refuses : Interns symbol_of place new.texts refused (Err error) new.texts
       pub beyond : IsMemory error → ¬ HasRoomFor old (texts ++ refused ∷ [])
+      pub slots : (count : ℕ) × GrowsFor (length new.texts) old.slot_count count × GrowsIfFull (length new.texts) count new.slot_count
 
-    -- Items of what `iter` became are interned: all that it yields, and the slots grow for them, or those in front of the
-    -- first that is refused, and then none was asked for after that.
+    -- Items of what `iter` became are interned: all that it yields, and the slots grow for the texts, or those in front of
+    -- the first that is refused, and then none was asked for after that.
     abbrev pub Extends : {I W : Type 0} → (I → W → Type 0) → (W → Option (Bor Text) → W → Type 0) → I → Interned → Result (Unit {0}) InternError → Interned → Type 0
     Extends {I} {W} becomes steps iter old outcome new =
         (walk : W) × (items : List (Bor Text)) × becomes iter walk × TakesIn old (texts_of items) new × MatchResult outcome

@@ -32,6 +32,11 @@ HasRoom index = Holds (length index.slots) (entry_count index + 1)
 abbrev pub IsSlotCount : ℕ → Type 0
 IsSlotCount n = (n ≡ 0) ⊎ ((k : ℕ) × (n ≡ 8 * 2 ^ k))
 
+-- an allowed count of slots, of which these entries fill at most three quarters
+pub record IsLoaded (slots entries : ℕ) : Type 0 where
+  pub allowed : IsSlotCount slots
+  pub load : Holds slots entries
+
 -- the least allowed count of slots that has room for this many entries
 pub record IsLeastSlotCount (capacity n : ℕ) : Type 0 where
   pub allowed : IsSlotCount n

@@ -5,7 +5,7 @@ use Rattle.string_interner.specs.Text.{Text, IsDistinct, first}
 use Rattle.string_interner.specs.Backend.{Bucket, IsKept, Appends}
 use Rattle.string_interner.specs.Entry.{entry_text}
 use Rattle.string_interner.specs.Slots.{symbols}
-use Rattle.string_interner.specs.Index.{GrowsTo, Holds, IsSlotCount, IsLeastSlotCount, IsWhole}
+use Rattle.string_interner.specs.Index.{GrowsTo, Holds, IsLeastSlotCount, IsWhole}
 use Rattle.string_interner.specs.declared.backend.InternError.{InternError}
 
 -- what contracts see of an interner
@@ -16,11 +16,6 @@ pub record Interned : Type 0 where
   pub room : ℕ
   -- how many slots the index has
   pub slot_count : ℕ
-
--- what its slots keep to: an allowed count of them, of which at most three quarters are filled
-pub record IsLoaded (interner : Interned) : Type 0 where
-  pub allowed : IsSlotCount interner.slot_count
-  pub load : Holds interner.slot_count (length interner.texts)
 
 -- How many slots there are once a text was interned in a list of this length: as many where one more entry was allowed,
 -- and else as many or more, as slots grow.

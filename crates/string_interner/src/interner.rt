@@ -8,8 +8,8 @@ ghost use Rattle.std.specs.Option.{option_copied};
 ghost use Rattle.std.specs.Cmp.{partial_equiv_from_equiv, on_equiv};
 ghost use Rattle.string_interner.specs.Text.{Text, IsDistinct, first, texts_eq, texts_eq-IsEquivalence};
 ghost use Rattle.string_interner.specs.Backend.{BeginsAt, IsPlace, IsKept};
-ghost use Rattle.string_interner.specs.Interner.{GrowsIfFull, Interned, Interns, IsLoaded, known_symbol};
-ghost use Rattle.string_interner.specs.Index.{Holds, IsLeastSlotCount};
+ghost use Rattle.string_interner.specs.Interner.{GrowsIfFull, Interned, Interns, known_symbol};
+ghost use Rattle.string_interner.specs.Index.{Holds, IsLoaded, IsLeastSlotCount};
 
 use crate::backend::{Backend, CopyBackend, InternError, Iter};
 use crate::dedup::{DefaultHashBuilder, Index, Looks, TextHasher};
@@ -120,7 +120,7 @@ impl<B: Backend, H: TextHasher> StringInterner<B, H> {
         // What holds of every interner.
         ensures distinct { IsDistinct self.now.texts }
         ensures kept { IsKept B.Symbol.symbol_of B.place self.now.texts }
-        ensures loaded { IsLoaded self.now }
+        ensures loaded { IsLoaded self.now.slot_count (length self.now.texts) }
     {
         self.index.keeps();
         self.backend.count()
@@ -130,7 +130,7 @@ impl<B: Backend, H: TextHasher> StringInterner<B, H> {
     #[inline]
     pub(crate) fn keeps(&self)
         ensures kept { IsKept B.Symbol.symbol_of B.place self.now.texts }
-        ensures loaded { IsLoaded self.now }
+        ensures loaded { IsLoaded self.now.slot_count (length self.now.texts) }
     {
         self.index.keeps();
     }

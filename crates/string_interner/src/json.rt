@@ -72,7 +72,7 @@ impl<B: Backend + Drop, H: TextHasher + Default + Drop> StringInterner<B, H> {
     /// An interner of the texts of an array of JSON strings, under the hasher's default.
     ///
     /// It starts empty and interns element after element, so that repeats fold into one text: `["a", "b", "a"]` is read
-    /// as the texts a and b. The index has the least count of slots for them.
+    /// as the texts a and b. What is read has the least count of slots for its texts.
     ///
     /// Refuses a value that is not an array with `NotAList`. Else the first refused element decides: with `NotAText`
     /// where it is not a string, and as `get_or_intern` refuses where it is.
@@ -117,7 +117,6 @@ impl<B: Backend + Drop, H: TextHasher + Default + Drop> StringInterner<B, H> {
                 return Err(JsonError::NotAText { index });
             };
             different.get_or_intern(text)?;
-            different.keeps();
             // Each element before this one lengthened the list, and one that is repeated does not.
             if different.len() == index {
                 return Err(JsonError::Repeated { index });

@@ -6,7 +6,7 @@ pub loop-count-preserved : goal.loop-count-preserved
 loop-count-preserved c =
     let inv = c.loop-count.invariant in
     let both = least_more c.args.capacity c.loop-count.count c.in_ok-count.count inv.allowed (omega (arith, c.in_ok-count.ensures.1))
-    (let e = inv.allowed.1 in omega arith) inv.least in
+    (let e = inv.allowed.1 in omega arith) in
     record { some = inv.some; allowed = both.0; least = both.1 }
 
 pub returns-clause-fits : goal.returns-clause-fits

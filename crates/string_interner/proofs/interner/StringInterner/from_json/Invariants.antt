@@ -6,8 +6,8 @@ use Rattle.string_interner.specs.Json.{ReadsElements, ReadsArray}
 use Rattle.string_interner.specs.declared.json.JsonError.{JsonError}
 use Rattle.string_interner.proofs.interner.StringInterner.from_json.Given as goal
 
--- what comes of reading the elements ahead into the texts so far comes of reading the whole array, and the slots grew for
--- these texts
+-- what comes of reading the elements ahead into the texts so far comes of reading the whole array, and the slots are
+-- the least for these texts
 abbrev pub invariant-loop-index : goal.invariant-loop-index
 invariant-loop-index g l = record {
   reads : (outcome : Result Interned JsonError) → ReadsElements g.B.Symbol.Symbol.symbol_of g.B.Backend.place l.interner.texts l.index (items_view (drop l.index l.element-items)) outcome

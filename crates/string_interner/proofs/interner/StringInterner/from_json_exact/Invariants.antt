@@ -7,7 +7,7 @@ use Rattle.string_interner.specs.declared.json.JsonError.{JsonError}
 use Rattle.string_interner.proofs.interner.StringInterner.from_json_exact.Given as goal
 
 -- what comes of reading the elements ahead into the texts so far comes of reading the whole array, each element so far is
--- a text of its own, and the slots grew for these texts
+-- a text of its own, and the slots are the least for these texts
 abbrev pub invariant-loop-index : goal.invariant-loop-index
 invariant-loop-index g l = record {
   reads : (outcome : Result Interned JsonError) → ReadsElementsExactly g.B.Symbol.Symbol.symbol_of g.B.Backend.place l.different.texts l.index (items_view (drop l.index l.element-items)) outcome
