@@ -13,7 +13,8 @@ impl<B: Backend, H: TextHasher> StringInterner<B, H> {
     ///
     /// The texts before a refused one stay, and none is asked for after it. It is refused as `get_or_intern` refuses it;
     /// so none is refused for memory where the new ones fit the room of the backend and of the index. Where all went in,
-    /// there are as many slots as before if these hold all texts, and else the least count that does.
+    /// there are as many slots as before if these hold all texts, and else the least count that does; a refused one may
+    /// leave one growth more.
     pub fn extend<'t, I: IntoIterator<Item = &'t str>>(
         &mut self,
         iter: I,
@@ -32,7 +33,8 @@ impl<B: Backend, H: TextHasher> StringInterner<B, H> {
 }
 
 impl<B: Backend + Drop, H: TextHasher + Default + Drop> StringInterner<B, H> {
-    /// An interner of the texts of an iterator that ends, under the hasher's default: `new`, and then `extend`.
+    /// An interner of the texts of an iterator that ends, under the hasher's default: `new`, and then `extend`. It has the
+    /// least count of slots for its texts.
     ///
     /// Refuses as `extend` does. No interner is then made.
     pub fn from_iter<'t, I: IntoIterator<Item = &'t str>>(
