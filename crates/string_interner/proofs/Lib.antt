@@ -31,3 +31,4 @@ pub mod Spelling
 pub mod Steps
 pub mod WholeTexts
 pub mod Wholes
+pub mod Worked

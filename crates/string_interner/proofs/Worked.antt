@@ -1,0 +1,10 @@
+-- Worked rows: what the definitions of `specs/` give for the values of known tables. No contract cites these; each shows
+-- that a definition means what the world outside means by it, and is proved by computing where the definition computes.
+pub mod Buckets
+pub mod Buffer
+pub mod Hasher
+pub mod Probing
+pub mod Reading
+pub mod Slots
+pub mod Spelling
+pub mod Strings
