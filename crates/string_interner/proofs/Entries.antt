@@ -3,7 +3,7 @@ use Rattle.std.proofs.Common.{ℕ, Bor, None, Bool, true, false, ◌≡◌, ◌<
 use Rattle.std.specs.Prelude.{slice_get, is_some, not}
 use Rattle.std.specs.Iterator.{YieldsFirstBy}
 use Rattle.string_interner.specs.Text.{texts_eq}
-use Rattle.std.proofs.lemmas.List.{take_more, drop_more, append_assoc, append-nil, map-append}
+use Rattle.std.proofs.lemmas.List.{take_more, drop_more}
 use Rattle.std.proofs.lemmas.Option.{get_or_from_slice_get}
 use Rattle.string_interner.specs.Text.{Text}
 use Rattle.string_interner.specs.Walk.{Walk, entries}
@@ -31,10 +31,3 @@ no_more symbol_of place s t None true y e = rw (no_entry symbol_of place s.behin
 no_more symbol_of place s t None false y e = cc
 no_more symbol_of place s t (Some x) true y e = cc
 no_more symbol_of place s t (Some x) false y e = rw (first_entry symbol_of place s.behind s.ahead t.behind t.ahead (Some x.0) x.1.now y) refl
-
--- in a loop that keeps each text that it walks over: the kept texts and those ahead stay all
-pub walked_on : (kept more : List (Bor Text)) (t : Bor Text) (ahead ahead' all : List Text) → map (λ (x : Bor Text). x.now) kept ++ ahead ≡ all → ahead ≡ t.now ∷ ahead' → more ≡ kept ++ t ∷ [] → map (λ (x : Bor Text). x.now) more ++ ahead' ≡ all
-walked_on kept more t ahead ahead' all e s m = rw (m, map-append (λ (x : Bor Text). x.now) kept (t ∷ []), append_assoc) (ap (λ xs. map (λ (x : Bor Text). x.now) kept ++ xs) (sym s) ∙ e)
-
-pub walked_over : (kept : List (Bor Text)) (ahead all : List Text) → map (λ (x : Bor Text). x.now) kept ++ ahead ≡ all → ahead ≡ [] → map (λ (x : Bor Text). x.now) kept ≡ all
-walked_over kept ahead all e s = sym (append-nil (map (λ (x : Bor Text). x.now) kept)) ∙ (ap (λ xs. map (λ (x : Bor Text). x.now) kept ++ xs) (sym s) ∙ e)

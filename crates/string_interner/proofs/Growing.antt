@@ -1,5 +1,5 @@
 -- The arithmetic of growth.
-use Rattle.std.proofs.Common.{◌≡◌, ℕ, suc, ◌+◌, ◌-◌, ◌*◌, ◌^◌, ◌<◌, ◌≤◌, ◌%◌, max, bit_and, ◌⊎◌, inl, inr, arith, refl, subst, sym, length}
+use Rattle.std.proofs.Common.{◌≡◌, ℕ, suc, ◌+◌, ◌-◌, ◌*◌, ◌^◌, ◌<◌, ◌≤◌, ◌%◌, max, bit_and, ◌⊎◌, inl, inr, arith, subst, sym, length}
 use Rattle.std.proofs.Math.Nat.{pow-succ'}
 use Rattle.std.proofs.lemmas.Nat.{and_mask}
 use Rattle.std.proofs.Math.Pow.{pow_mono}
@@ -107,10 +107,6 @@ count_small count (inr p) l =
 pub GrowsTo-more : (count more : ℕ) → GrowsTo count more → count < more
 GrowsTo-more count more (inl a) = let x = a.0 in let y = a.1 in omega arith
 GrowsTo-more count more (inr a) = let x = a.0 in let y = a.1 in omega arith
-
--- the slots stay as they are
-pub GrowsIfFull-same : (len count : ℕ) → GrowsIfFull len count count
-GrowsIfFull-same len count = record { allowed = λ h. refl; grown = inl refl }
 
 -- a list that got longer has no fewer slots than before
 pub GrowsFor-more : (len old new : ℕ) → GrowsFor len old new → old ≤ new

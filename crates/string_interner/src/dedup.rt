@@ -341,6 +341,3 @@ impl<S: Symbol> Index<S> {
         self.fill(hasher, backend);
     }
 }
-
-#[cfg(test)]
-mod tests;

@@ -199,6 +199,3 @@ pub fn run<B: Backend, H: TextHasher>(
     interner.keeps();
     Ok(replies)
 }
-
-#[cfg(test)]
-mod tests;

@@ -32,13 +32,6 @@ impl FullBucket {
         FullBucket { text, capacity }
     }
 
-    /// The capacity in bytes that was asked for. Contracts and tests alone ask for it.
-    pub fn capacity(&self) -> usize
-        ensures { result ≡ self.now.capacity }
-    {
-        self.capacity
-    }
-
     /// What stands in the bucket.
     #[inline]
     pub fn as_str(&self) -> &str
