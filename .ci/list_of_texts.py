@@ -85,8 +85,8 @@ class Texts:
         return self.texts[number] if number < len(self.texts) else None
 
 
-# What a line may ask for beside its reply: nothing, the copy of a text, or whatever room it needs.
-NOTHING, COPY, ROOM = "nothing", "a copy", "room"
+# What a line asks for where no rule tells how much room it needs.
+ANY = None
 
 
 class Run:
@@ -95,34 +95,49 @@ class Run:
     def __init__(self, backend, commands, refused=None):
         self.texts = Texts(backend)
         self.replies = []
+        # Of each line: the number that its reply tells, and the sizes of its requests for memory.
+        self.numbers = []
         self.asks = []
-        self.told = []
         for line, (word, argument) in enumerate(commands, 1):
             self.step(word, argument, line == refused)
 
-    def step(self, word, argument, is_refused):
-        reply, told, asks = b"ok", None, NOTHING
-        if word == b"i":
-            is_known = argument in self.texts.numbers
-            asks = NOTHING if is_known else ROOM
-            told = None if is_refused and not is_known else self.texts.intern(argument)
-            reply = b"no memory" if told is None else b"symbol %d" % told
-        elif word == b"g":
-            told = self.texts.numbers.get(argument)
-            reply = b"none" if told is None else b"symbol %d" % told
-        elif word == b"len":
-            reply = b"len %d" % len(self.texts.texts)
-        elif word == b"shrink":
-            asks = ROOM
-        elif word == b"r" and (argument >= len(self.told) or self.told[argument] is None):
-            reply = b"no reply"
-        else:
-            text = self.texts.read(self.told[argument] if word == b"r" else argument)
-            asks = COPY if text else NOTHING
-            reply = b"none" if text is None else b"no memory" if is_refused and text else b"text " + text
+    def reply(self, reply, number=None, asks=()):
         self.replies.append(reply)
-        self.told.append(told)
-        self.asks.append((asks, len(reply) - len(b"text ")))
+        self.numbers.append(number)
+        self.asks.append(asks)
+
+    def step(self, word, argument, is_refused):
+        if word == b"i":
+            self.intern(argument, is_refused)
+        elif word == b"g":
+            self.tell(self.texts.numbers.get(argument))
+        elif word == b"r":
+            number = self.numbers[argument] if argument < len(self.numbers) else None
+            self.reply(b"no reply") if number is None else self.read(number, is_refused)
+        elif word == b"n":
+            self.read(argument, is_refused)
+        elif word == b"len":
+            self.reply(b"len %d" % len(self.texts.texts))
+        else:
+            self.reply(b"ok", asks=ANY)
+
+    def tell(self, number, asks=()):
+        self.reply(b"none" if number is None else b"symbol %d" % number, number, asks)
+
+    def intern(self, text, is_refused):
+        if text in self.texts.numbers:
+            self.tell(self.texts.numbers[text])
+        elif is_refused:
+            self.reply(b"no memory", asks=ANY)
+        else:
+            self.tell(self.texts.intern(text), ANY)
+
+    def read(self, number, is_refused):
+        text = self.texts.read(number)
+        if not text:
+            self.reply(b"none" if text is None else b"text ")
+        else:
+            self.reply(b"no memory" if is_refused else b"text " + text, asks=(len(text),))
 
 
 def answer(words, data, refused=None):
