@@ -84,7 +84,7 @@ HOSTILE_INPUTS = 300
 
 def try_hostile_bytes(program, number):
     """Bytes of any value, or of small ones, or of ASCII."""
-    source = random.Random(-number)
+    source = random.Random(number)
     greatest = source.choice([2, 128, 256])
     data = bytes(source.randrange(greatest) for _ in range(source.randrange(5000)))
     return expect(program, f"hostile bytes {number}", [source.choice(BACKENDS)], data)
