@@ -1,8 +1,5 @@
-//! The line forms, the messages and the statuses, and what a failing reader, writer or allocator makes of them.
-
-mod faults;
-mod memory;
-mod random;
+//! Readers and writers that fail in the middle. What each line is answered stands in `cases/` and is run on the built
+//! program.
 
 use super::serve;
 use crate::fault::Fault;
@@ -25,346 +22,185 @@ impl Read for BreaksOff<'_> {
     }
 }
 
-/// Gives its bytes, and knows whether its end was met.
+/// How a writer fails, and never again after that.
+#[derive(Clone, Copy)]
+enum Failure {
+    Never,
+    /// At the write with this number, counted from 0: by an error, or by taking nothing.
+    Write(usize, Option<ErrorKind>),
+    Flush,
+}
+
+/// Keeps what it is given, a share of it at each write, and knows whether a byte followed a newline in one write.
 #[derive(Drop)]
-struct Drained<'b> {
-    left: &'b [u8],
-    is_at_end: bool,
-}
-
-impl Read for Drained<'_> {
-    fn read(&mut self, buf: &mut [u8]) -> io::Result<usize> {
-        self.is_at_end = self.left.is_empty();
-        self.left.read(buf)
-    }
-}
-
-/// Takes all that it is given, but fails at one write, counted from 0, or at the flush.
-#[derive(Drop)]
-struct FailsAt {
-    write: usize,
-    is_flush_refused: bool,
-}
-
-impl Write for FailsAt {
-    fn write(&mut self, buf: &[u8]) -> io::Result<usize> {
-        match self.write.checked_sub(1) {
-            Some(left) => self.write = left,
-            None => return Err(io::Error::from(ErrorKind::StorageFull)),
-        }
-        Ok(buf.len())
-    }
-
-    fn flush(&mut self) -> io::Result<()> {
-        if self.is_flush_refused {
-            return Err(io::Error::from(ErrorKind::StorageFull));
-        }
-        Ok(())
-    }
-}
-
-/// Takes one byte at a time.
-#[derive(Drop)]
-struct OneByte {
+struct Watched {
+    share: usize,
+    failure: Failure,
+    writes: usize,
+    is_mixed: bool,
     taken: Vec<u8>,
 }
 
-impl Write for OneByte {
-    fn write(&mut self, buf: &[u8]) -> io::Result<usize> {
-        match buf.first() {
-            Some(byte) => {
-                self.taken.push(*byte)?;
-                Ok(1)
-            }
-            None => Ok(0),
+impl Watched {
+    fn new(alloc: Global, share: usize, failure: Failure) -> Self {
+        Watched {
+            share,
+            failure,
+            writes: 0,
+            is_mixed: false,
+            taken: Vec::new(alloc),
         }
     }
-
-    fn flush(&mut self) -> io::Result<()> {
-        Ok(())
-    }
-}
-
-/// Counts the lines that it is given, and the writes in which a byte follows a newline.
-#[derive(Drop)]
-struct Watched {
-    lines: u64,
-    mixed: u64,
 }
 
 impl Write for Watched {
     fn write(&mut self, buf: &[u8]) -> io::Result<usize> {
-        match buf.iter().position(|byte| *byte == b'\n') {
-            Some(index) if index + 1 < buf.len() => self.mixed = self.mixed.wrapping_add(1),
-            Some(_) => self.lines = self.lines.wrapping_add(1),
-            None => {}
+        let write = self.writes;
+        self.writes = write.wrapping_add(1);
+        match self.failure {
+            Failure::Write(failing, Some(kind)) if failing == write => {
+                return Err(io::Error::from(kind));
+            }
+            Failure::Write(failing, None) if failing == write => return Ok(0),
+            _ => {}
         }
-        Ok(buf.len())
+        let line = buf.split(|byte| *byte == b'\n').next().unwrap_or_default();
+        self.is_mixed = self.is_mixed || buf.len() > line.len().saturating_add(1);
+        let part = &buf[..buf.len().min(self.share)];
+        self.taken.extend_from_slice(part)?;
+        Ok(part.len())
     }
 
     fn flush(&mut self) -> io::Result<()> {
-        Ok(())
+        match self.failure {
+            Failure::Flush => Err(io::Error::from(ErrorKind::StorageFull)),
+            _ => Ok(()),
+        }
     }
 }
 
-/// The arguments that a shell would make of these words.
-fn arguments(alloc: Global, words: &[&str]) -> Result<Vec<String>, AllocError> {
+/// The arguments that a shell would make of a word.
+fn arguments(alloc: Global, word: &str) -> Result<Vec<String>, AllocError> {
     let mut arguments = Vec::new(alloc);
-    for word in words {
-        arguments.push(String::from_str(alloc, word)?)?;
-    }
+    arguments.push(String::from_str(alloc, word)?)?;
     Ok(arguments)
 }
 
-/// Serves the input over memory, and compares the message, which is empty where there is no fault,
-/// the status and the output.
-fn expect_served(
+#[test]
+fn a_failed_read_is_told_after_each_byte(rt: HostRuntime) -> Result<(), Fail> {
+    let arguments = arguments(rt.alloc(), "string")?;
+    let mut written = Vec::new(rt.alloc());
+    // Text, a bad line, a character of two bytes, and a byte that begins none.
+    let input: &[u8] = b"i a\nx\ni \xc3\xa9\nlen\n\xff\n";
+    for count in 0..input.len() {
+        let mut reader = BreaksOff(&input[..count]);
+        let served = serve(rt.alloc(), &arguments, &mut reader, &mut written);
+        assert!(rt; matches!(served, Err(Fault::Input)), "after {count} bytes");
+    }
+    assert!(rt; written.is_empty());
+    Ok(())
+}
+
+const COMMANDS: &[u8] = b"i Tiger\ng Bear\nr 0\nlen\nshrink\nr 9\n";
+
+const LINES: &[u8] = b"symbol 0\nnone\ntext Tiger\nlen 1\nok\nno reply\n";
+
+/// Whether serving tells a failure of the writer. What was written before it is a front of the lines.
+fn is_failure_told(
     rt: &(impl Abort + AllocGlobal),
-    words: &[&str],
-    input: &[u8],
-    message: &str,
-    status: u8,
-    output: &str,
-) -> Result<(), Fail> {
-    let alloc = rt.alloc();
-    let mut unread = input;
-    let mut written = Vec::new(alloc);
-    let served = serve(alloc, &arguments(alloc, words)?, &mut unread, &mut written);
-    assert_eq!(rt;
-        String::from_utf8(written)?.as_str(),
-        output,
-        "for {input:?}"
-    );
+    arguments: &[String],
+    failure: Failure,
+) -> Result<bool, Fail> {
+    let mut input = COMMANDS;
+    let mut output = Watched::new(rt.alloc(), usize::MAX, failure);
+    let served = serve(rt.alloc(), arguments, &mut input, &mut output);
+    assert!(rt; LINES.starts_with(&output.taken));
     match served {
-        Ok(()) => assert_eq!(rt; ("", 0), (message, status), "for {input:?}"),
+        Ok(()) => {
+            assert!(rt; output.taken.len() == LINES.len());
+            Ok(false)
+        }
         Err(fault) => {
-            assert_eq!(rt; fault.status(), status, "for {input:?}");
-            assert_eq!(rt; fault.to_string(alloc)?.as_str(), message, "for {input:?}");
+            assert!(rt; matches!(fault, Fault::Output) && fault.status() == 1);
+            let message = fault.to_string(rt.alloc())?;
+            assert!(rt; message.as_str() == "cannot write output");
+            let is_whole = output.taken.len() == LINES.len();
+            assert!(rt; is_whole == matches!(failure, Failure::Flush));
+            Ok(true)
         }
     }
-    Ok(())
 }
 
-#[test]
-fn interns_texts(rt: HostRuntime) -> Result<(), Fail> {
-    for (input, output) in [
-        ("", ""),
-        (
-            "i Elephant\ni Tiger\ni Tiger\n",
-            "symbol 0\nsymbol 1\nsymbol 1\n",
-        ),
-        ("i Elephant\ni Tiger", "symbol 0\nsymbol 1\n"),
-        // The empty text, and texts that differ by a carriage return, a space or a NUL.
-        (
-            "i \ni a\ni a\r\ni a \ni a\0\ni \ni a\0\n",
-            "symbol 0\nsymbol 1\nsymbol 2\nsymbol 3\nsymbol 4\nsymbol 0\nsymbol 4\n",
-        ),
-        ("i i a\ni \u{e9}\ni i a\n", "symbol 0\nsymbol 1\nsymbol 0\n"),
-    ] {
-        expect_served(&rt, &["string"], input.as_bytes(), "", 0, output)?;
-    }
-    Ok(())
-}
-
-#[test]
-fn tells_the_first_bad_line(rt: HostRuntime) -> Result<(), Fail> {
-    for (input, message) in [
-        ("x", "bad line 1"),
-        ("x\n", "bad line 1"),
-        ("\n", "bad line 1"),
-        ("i", "bad line 1"),
-        ("I a", "bad line 1"),
-        (" i a", "bad line 1"),
-        ("ii a", "bad line 1"),
-        ("i\ta", "bad line 1"),
-        ("i\r", "bad line 1"),
-        ("\u{e9} a", "bad line 1"),
-        ("i a\n\ni b", "bad line 2"),
-        ("i a\n\n", "bad line 2"),
-        ("i a\ni b\nx\ny\n", "bad line 3"),
-    ] {
-        expect_served(&rt, &["string"], input.as_bytes(), message, 2, "")?;
-    }
-    Ok(())
-}
-
-#[test]
-fn wants_one_known_word(rt: HostRuntime) -> Result<(), Fail> {
-    let usage = "usage: intern string|bucket|buffer";
-    expect_served(&rt, &[], b"i a\n", usage, 2, "")?;
-    expect_served(&rt, &["string", "string"], b"i a\n", usage, 2, "")?;
-    for word in ["String", "", "string ", "strings", "tree"] {
-        expect_served(&rt, &[word], b"i a\n", usage, 2, "")?;
-    }
-    // A wrong word is told before input that is not text, and before a bad line.
-    expect_served(&rt, &["tree"], b"\xff", usage, 2, "")?;
-    expect_served(&rt, &["tree"], b"x\n", usage, 2, "")
-}
-
-#[test]
-fn wants_utf8(rt: HostRuntime) -> Result<(), Fail> {
-    // Bytes that begin no character, half a character at the end, and damage after a bad line.
-    let damaged: [&[u8]; 5] = [
-        b"\xff\x69\x20\x61\x0a",
-        b"\x69\x20\xff\x0a",
-        b"\x69\x20\x61\x0a\x69\x20\xc3",
-        b"\x69\x20\xed\xa0\x80\x0a",
-        b"\x78\x0a\x69\x20\x61\xff",
-    ];
-    for input in damaged {
-        expect_served(&rt, &["string"], input, "cannot read input", 1, "")?;
-    }
-    Ok(())
-}
-
-#[test]
-fn tells_a_failed_read(rt: HostRuntime) -> Result<(), Fail> {
-    let arguments = arguments(rt.alloc(), &["string"])?;
-    let inputs: [&[u8]; 3] = [b"", b"i a\ni b\n", b"x\n"];
-    for input in inputs {
-        let mut written = Vec::new(rt.alloc());
-        let served = serve(rt.alloc(), &arguments, &mut BreaksOff(input), &mut written);
-        assert!(rt; matches!(served, Err(Fault::Input)), "after {input:?}");
-        assert!(rt; written.is_empty());
-    }
-    Ok(())
-}
-
-#[test]
-fn tells_a_failed_write(rt: HostRuntime) -> Result<(), Fail> {
-    let arguments = arguments(rt.alloc(), &["string"])?;
-    for (write, is_flush_refused) in [(0, false), (1, false), (usize::MAX, true)] {
-        let mut input: &[u8] = b"i a\ni b\n";
-        let mut output = FailsAt {
-            write,
-            is_flush_refused,
-        };
-        match serve(rt.alloc(), &arguments, &mut input, &mut output) {
-            Ok(()) => assert!(rt; false, "write {write} failed unseen"),
-            Err(fault) => {
-                assert!(rt; matches!(fault, Fault::Output));
-                assert_eq!(rt; fault.status(), 1);
-                assert_eq!(rt;
-                    fault.to_string(rt.alloc())?.as_str(),
-                    "cannot write output"
-                );
-            }
+/// How many writes there are, each of which was told when it failed.
+fn writes_told(
+    rt: &(impl Abort + AllocGlobal),
+    arguments: &[String],
+    kind: Option<ErrorKind>,
+) -> Result<usize, Fail> {
+    for write in 0..100 {
+        if !is_failure_told(rt, arguments, Failure::Write(write, kind))? {
+            return Ok(write);
         }
     }
-    Ok(())
+    Ok(100)
 }
 
 #[test]
-fn writes_line_by_line(rt: HostRuntime) -> Result<(), Fail> {
-    let arguments = arguments(rt.alloc(), &["string"])?;
-    let mut input: &[u8] = b"i a\ni b\ni a\n";
-    let mut watched = Watched { lines: 0, mixed: 0 };
-    serve(rt.alloc(), &arguments, &mut input, &mut watched)?;
-    assert_eq!(rt; (watched.lines, watched.mixed), (3, 0));
+fn each_failed_write_is_told(rt: HostRuntime) -> Result<(), Fail> {
+    let arguments = arguments(rt.alloc(), "string")?;
+    for kind in [
+        Some(ErrorKind::BrokenPipe),
+        Some(ErrorKind::OutOfMemory),
+        None,
+    ] {
+        // Each of the six lines has a write of its own, and after the last write there is none to fail.
+        let writes = writes_told(&rt, &arguments, kind)?;
+        assert!(rt; (6..100).contains(&writes), "{writes} writes");
+    }
+    assert!(rt; is_failure_told(&rt, &arguments, Failure::Flush)?);
+    Ok(())
+}
 
-    let mut input: &[u8] = b"i a\ni b\ni a\n";
-    let mut slow = OneByte {
-        taken: Vec::new(rt.alloc()),
-    };
-    serve(rt.alloc(), &arguments, &mut input, &mut slow)?;
-    assert_eq!(rt;
-        slow.taken.as_slice(),
-        b"symbol 0\nsymbol 1\nsymbol 0\n".as_slice()
+/// Serves the input to a writer that takes a share at a time, and compares what it took.
+fn expect_lines(
+    rt: &(impl Abort + AllocGlobal),
+    word: &str,
+    input: &[u8],
+    output: &str,
+    share: usize,
+) -> Result<(), Fail> {
+    let arguments = arguments(rt.alloc(), word)?;
+    let mut unread = input;
+    let mut written = Watched::new(rt.alloc(), share, Failure::Never);
+    serve(rt.alloc(), &arguments, &mut unread, &mut written)?;
+    assert!(rt;
+        written.taken.as_slice() == output.as_bytes() && !written.is_mixed,
+        "for {output:?}"
     );
     Ok(())
 }
 
 #[test]
-fn asks_back(rt: HostRuntime) -> Result<(), Fail> {
-    for (input, output) in [
-        (
-            "i Elephant\ni Tiger\ni Tiger\nr 1\ng Horse\n",
-            "symbol 0\nsymbol 1\nsymbol 1\ntext Tiger\nnone\n",
-        ),
-        ("i \nr 0\n", "symbol 0\ntext \n"),
-        (
-            "i a\nn 0\nn 1\nn 4294967295\nn 18446744073709551615\nr 1\nr 0\nlen\n",
-            "symbol 0\ntext a\nnone\nnone\nnone\nno reply\ntext a\nlen 1\n",
-        ),
-        (
-            "i a\ni b\ng b\nr 2\n",
-            "symbol 0\nsymbol 1\nsymbol 1\ntext b\n",
-        ),
-        ("i a\nn 000", "symbol 0\ntext a\n"),
-        ("len", "len 0\n"),
-        (
-            "i a\ng a\ng \nlen\nn 1\nr 5\nr 3\n",
-            "symbol 0\nsymbol 0\nnone\nlen 1\nnone\nno reply\nno reply\n",
-        ),
-        ("r 0\n", "no reply\n"),
-        (
-            "n 18446744073709551615\nr 00000000000000000000000000018446744073709551615\n",
-            "none\nno reply\n",
-        ),
-    ] {
-        expect_served(&rt, &["string"], input.as_bytes(), "", 0, output)?;
+fn no_write_has_bytes_of_two_lines(rt: HostRuntime) -> Result<(), Fail> {
+    let short: &[u8] = b"i Elephant\ni Tiger\ni Tiger\nr 1\ng Horse\n";
+    let each: &[u8] = b"i Tiger\nn 1\nn 6\nr 5\nr 1\nr 0\nlen\nshrink\n";
+    for share in [1, 5, usize::MAX] {
+        for (word, input, output) in [
+            (
+                "string",
+                short,
+                "symbol 0\nsymbol 1\nsymbol 1\ntext Tiger\nnone\n",
+            ),
+            (
+                "buffer",
+                each,
+                "symbol 0\nnone\nnone\nno reply\nno reply\ntext Tiger\nlen 1\nok\n",
+            ),
+            ("bucket", b"i \nr 0\n", "symbol 0\ntext \n"),
+            ("string", b"", ""),
+        ] {
+            expect_lines(&rt, word, input, output, share)?;
+        }
     }
     Ok(())
-}
-
-#[test]
-fn serves_each_backend(rt: HostRuntime) -> Result<(), Fail> {
-    let counted = "symbol 0\nsymbol 1\nsymbol 0\nsymbol 1\ntext Horse\nlen 2\nnone\n";
-    let by_bytes = "symbol 0\nsymbol 6\nsymbol 0\nsymbol 6\ntext Horse\nlen 2\nnone\n";
-    let input = b"i Tiger\ni Horse\ni Tiger\ng Horse\nr 1\nlen\ng Bear\n";
-    for (word, output) in [
-        ("string", counted),
-        ("bucket", counted),
-        ("buffer", by_bytes),
-    ] {
-        expect_served(&rt, &[word], input, "", 0, output)?;
-    }
-    let input = b"i Tiger\nn 1\nn 6\nr 5\nr 1\nr 0\nlen\nshrink\n";
-    let output = "symbol 0\nnone\nnone\nno reply\nno reply\ntext Tiger\nlen 1\nok\n";
-    expect_served(&rt, &["buffer"], input, "", 0, output)
-}
-
-#[test]
-fn shrinks(rt: HostRuntime) -> Result<(), Fail> {
-    expect_served(
-        &rt,
-        &["string"],
-        b"shrink\ni a\nshrink\nn 0\n",
-        "",
-        0,
-        "ok\nsymbol 0\nok\ntext a\n",
-    )
-}
-
-#[test]
-fn tells_a_bad_question(rt: HostRuntime) -> Result<(), Fail> {
-    for input in [
-        "g",
-        "G a",
-        "r",
-        "r ",
-        "n",
-        "n ",
-        "n  1",
-        "n 1 ",
-        "r -1",
-        "r +1",
-        "n -0",
-        "n 0x1",
-        "r 1\r",
-        "r \u{661}",
-        "n 18446744073709551616",
-        "n 000018446744073709551616",
-        "len ",
-        "len\r",
-        " len",
-        "len 1",
-        "Len",
-        "shrink ",
-        "SHRINK",
-        "symbol 0",
-    ] {
-        expect_served(&rt, &["string"], input.as_bytes(), "bad line 1", 2, "")?;
-    }
-    expect_served(&rt, &["string"], b"len\n\n", "bad line 2", 2, "")
 }
