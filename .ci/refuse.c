@@ -1,0 +1,85 @@
+/* Stands before the C library of a program (LD_PRELOAD), to refuse it memory and to see what it asks for.
+
+   REFUSE=N refuses the Nth request, counted from 1, and says `request refused` on standard error. TELL_ASKS, set to
+   anything, says `asks BYTES` there for each request. Both lines are written at once, so that they stand before whatever
+   the program prints next.
+
+   It includes nothing: the kit's compiler runs where no headers of the C library are installed. */
+typedef unsigned long size_type;
+
+extern char *getenv(const char *name);
+extern unsigned long strtoul(const char *text, char **end, int base);
+extern long write(int file, const void *bytes, size_type count);
+extern void *dlsym(void *library, const char *name);
+
+/* In the place of a library, for dlsym: the one after this. */
+#define RTLD_NEXT ((void *)-1L)
+#define STANDARD_ERROR 2
+
+static int is_ready;
+static int tells_asks;
+static size_type refused;
+static size_type requests;
+
+static void read_settings(void) {
+    const char *number = getenv("REFUSE");
+    refused = number ? strtoul(number, 0, 10) : 0;
+    tells_asks = getenv("TELL_ASKS") != 0;
+    is_ready = 1;
+}
+
+/* printf would ask for memory itself. */
+static void tell_ask(size_type bytes) {
+    char line[32] = "asks ";
+    char digits[20];
+    int count = 0, end = 5;
+    do {
+        digits[count++] = (char)('0' + bytes % 10);
+        bytes /= 10;
+    } while (bytes != 0);
+    while (count != 0) {
+        line[end++] = digits[--count];
+    }
+    line[end++] = '\n';
+    write(STANDARD_ERROR, line, (size_type)end);
+}
+
+static int is_refused(size_type bytes) {
+    static const char told[] = "request refused\n";
+    if (!is_ready) {
+        read_settings();
+    }
+    requests++;
+    if (tells_asks) {
+        tell_ask(bytes);
+    }
+    if (requests != refused) {
+        return 0;
+    }
+    write(STANDARD_ERROR, told, sizeof told - 1);
+    return 1;
+}
+
+void *malloc(size_type bytes) {
+    static void *(*next)(size_type);
+    if (!next) {
+        next = dlsym(RTLD_NEXT, "malloc");
+    }
+    return is_refused(bytes) ? 0 : next(bytes);
+}
+
+void *calloc(size_type count, size_type bytes) {
+    static void *(*next)(size_type, size_type);
+    if (!next) {
+        next = dlsym(RTLD_NEXT, "calloc");
+    }
+    return is_refused(count * bytes) ? 0 : next(count, bytes);
+}
+
+void *realloc(void *block, size_type bytes) {
+    static void *(*next)(void *, size_type);
+    if (!next) {
+        next = dlsym(RTLD_NEXT, "realloc");
+    }
+    return is_refused(bytes) ? 0 : next(block, bytes);
+}

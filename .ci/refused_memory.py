@@ -1,0 +1,45 @@
+"""Runs a built program with one of its requests for memory refused, and sees what it asks for."""
+
+import os
+import subprocess
+import tempfile
+from collections import namedtuple
+from pathlib import Path
+
+# How a run ended. `asks` are the sizes of its requests for memory, in order, where they were wanted.
+Ended = namedtuple("Ended", "status output error asks")
+
+SECONDS = 60
+
+
+def compile_refuser(folder):
+    """Compiles `refuse.c` into a folder, and returns the library."""
+    guide = Path(subprocess.run(["rt", "doc"], check=True, capture_output=True, text=True).stdout.split()[-1])
+    clang = guide.parent / "toolchain/bin/clang"
+    library = Path(folder) / "refuse.so"
+    source = Path(__file__).resolve().parent / "refuse.c"
+    command = [clang if clang.exists() else "cc", "-O2", "-shared", "-fPIC", "-nostdlib", "-fuse-ld=lld"]
+    subprocess.run([*map(str, command), "-o", str(library), str(source)], check=True)
+    return library
+
+
+def run(program, words, data, library=None, refused=0):
+    """Runs the program on some bytes. With a library its requests are told, and the one with this number is refused."""
+    environment = {"PATH": os.environ.get("PATH", "")}
+    if library is not None:
+        environment.update(LD_PRELOAD=str(library), TELL_ASKS="1", REFUSE=str(refused))
+    with tempfile.TemporaryFile() as given:
+        given.write(data)
+        given.seek(0)
+        # Without closing files first, the process starts several times as fast.
+        ended = subprocess.run([program, *words], stdin=given, capture_output=True, env=environment,
+                               close_fds=False, timeout=SECONDS)
+    error = ended.stderr if library is None else b""
+    asks = []
+    if library is not None:
+        for line in ended.stderr.splitlines(keepends=True):
+            if line.startswith(b"asks "):
+                asks.append(int(line[5:]))
+            elif line != b"request refused\n":
+                error += line
+    return Ended(ended.returncode, ended.stdout, error, asks)
