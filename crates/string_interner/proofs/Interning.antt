@@ -8,7 +8,7 @@ use Rattle.string_interner.specs.Text.{Text, first}
 use Rattle.string_interner.specs.Backend.{IsKept, Appends}
 use Rattle.string_interner.specs.Entry.{entry_text}
 use Rattle.string_interner.specs.Slots.{symbols}
-use Rattle.string_interner.specs.Index.{AddsPair, Fits, Indexed, Inserts, IsAbsent, look_up, text_of}
+use Rattle.string_interner.specs.Index.{AddsPair, Fits, Indexed, Inserts, IsAbsent, SameMap, look_up, text_of}
 use Rattle.string_interner.specs.Probe.{IsVacant}
 use Rattle.string_interner.specs.Interner.{IsInterned, entry_symbol, known_symbol}
 use Rattle.string_interner.proofs.EntryTexts.{Adds, entry_text-adds}
@@ -56,6 +56,16 @@ module _ {S : Type 0} (symbol_of : ℕ → Option S) (number : S → ℕ) (place
   -- and where nothing is found, the text is new
   pub sought_none : (lent : List Text) (found : Option S) (t : Text) → found ≡ look_up (entries lent) slots t → lent ≡ texts → found ≡ None → first texts t ≡ None
   sought_none lent found t e same none = known_none symbol_of place texts t is.kept (sought lent found t e same ∙ none)
+
+  -- slots that hold the same map, of as many symbols
+  pub interned-same : (bigger : List (Option S)) → Fits (entries texts) code bigger → SameMap (entries texts) slots bigger
+      → length (symbols bigger) ≡ length (symbols slots) → IsInterned symbol_of place number code texts bigger
+  interned-same bigger fits same count = record {
+    distinct = is.distinct;
+    kept = is.kept;
+    whole = record { fits = fits; whole = λ s u e. same u ∙ is.whole.whole s u e };
+    count = count ∙ is.count;
+  }
 
   -- a text that is put last
   module _ (t : Text) (s : S) (more : List Text) (new_text : first texts t ≡ None) (put : Appends symbol_of place texts t (Ok s) more) where
