@@ -129,4 +129,4 @@ def try_all(program, pool):
     for found, count in pool.map(partial(try_case, program), paths):
         faults += found
         refused += count
-    return faults, f"{len(paths)} cases, and each of their {refused} requests for memory refused"
+    return faults, len(paths) + refused, f"{len(paths)} cases, and each of their {refused} requests for memory refused"

@@ -101,6 +101,7 @@ def try_all(program, pool):
         faults.append(f"random inputs: too few ended in one of the statuses: {statuses}")
     for found in pool.map(partial(try_hostile_bytes, program), range(HOSTILE_INPUTS)):
         faults += found
-    return faults, (f"{LISTS} random lists of commands on each backend, {SHORT_INPUTS} short inputs "
-                    f"({statuses[0]} answered, {statuses[1]} unreadable, {statuses[2]} with a bad line), "
-                    f"{HOSTILE_INPUTS} inputs of any bytes")
+    tried = len(BACKENDS) * LISTS + SHORT_INPUTS + HOSTILE_INPUTS
+    return faults, tried, (f"{LISTS} random lists of commands on each backend, {SHORT_INPUTS} short inputs "
+                           f"({statuses[0]} answered, {statuses[1]} unreadable, {statuses[2]} with a bad line), "
+                           f"{HOSTILE_INPUTS} inputs of any bytes")

@@ -59,4 +59,4 @@ def try_all(program, pool):
     for found, seconds in pool.map(partial(try_large, program), trials):
         faults += found
         slowest = max(slowest, seconds)
-    return faults, f"{len(trials)} large inputs, the slowest in {slowest:.1f} seconds"
+    return faults, len(trials), f"{len(trials)} large inputs, the slowest in {slowest:.1f} seconds"

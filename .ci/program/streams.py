@@ -106,4 +106,5 @@ def try_streams(program):
 
 
 def try_all(program, pool):
-    return pool.submit(try_streams, program).result(), "inputs and outputs that fail, close or come in pieces"
+    faults = pool.submit(try_streams, program).result()
+    return faults, len(TRIALS), "inputs and outputs that fail, close or come in pieces"

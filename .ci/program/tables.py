@@ -39,10 +39,11 @@ TABLES = {"bad_lines": try_bad_line, "unknown_words": try_unknown_word, "bytes_t
 
 
 def try_all(program, pool):
-    faults, counts = [], []
+    faults, tried, counts = [], 0, []
     for name, trial in TABLES.items():
         rows = (CASES / name).read_bytes().split(b"\n")[:-1]
+        tried += len(rows)
         counts.append(f"{len(rows)} {name.replace('_', ' ')}")
         for found in pool.map(partial(trial, program), rows):
             faults += found
-    return faults, ", ".join(counts)
+    return faults, tried, ", ".join(counts)
