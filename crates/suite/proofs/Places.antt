@@ -1,0 +1,15 @@
+-- Where the entry of a text begins that was put last.
+use Rattle.std.proofs.Common.{◌≡◌, ℕ, ◌<◌, List, [], ◌∷◌, ◌++◌, length, take, sym, arith, Option, Some, Ok}
+use Rattle.std.specs.Prelude.{◌^◌}
+use Rattle.std.proofs.lemmas.List.{length_push, take-append-le, take_all}
+use Rattle.string_interner.specs.Text.{Text}
+use Rattle.string_interner.specs.Backend.{Appends, IsPlace}
+
+-- the number of the symbol that was returned is a place
+pub appended-place : {S : Type 0} (symbol_of : ℕ → Option S) (place : List Text → ℕ) (number : S → ℕ)
+    → ((i : ℕ) (s : S) → symbol_of i ≡ Some s → (number s ≡ i) × (i < 2 ^ 64))
+    → (old new : List Text) (text : Text) (s : S) → Appends symbol_of place old text (Ok s) new → IsPlace place new (number s)
+appended-place symbol_of place number numbered old new text s h =
+    let n : number s ≡ place old = (numbered (place old) s h.0).0 in
+    let t : take (length old) new ≡ old = rw (h.1, take-append-le (length old) old (text ∷ []) (omega arith)) (take_all (length old) old (omega arith)) in
+    (length old, record { within = rw h.1 (omega (arith, length_push old text)); begins = rw t (sym n) })

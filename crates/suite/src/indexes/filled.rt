@@ -1,0 +1,99 @@
+//! A backend of distinct texts with an index of them.
+
+ghost use Rattle.std.specs.Prelude.{◌≡◌};
+ghost use Rattle.string_interner.specs.Interner.{known_symbol};
+
+use std::alloc::{AllocError, Global};
+use std::marker::Model;
+use string_interner::backend::{Backend, InternError};
+use string_interner::dedup::{Index, Looks, TextHasher};
+
+/// A backend of distinct texts with an index of them, by the public calls of both alone.
+#[derive(Drop)]
+pub struct Filled<B: Backend, H: TextHasher> {
+    backend: B,
+    hasher: H,
+    index: Index<B::Symbol>,
+}
+
+/// Contracts see the texts.
+impl<B: Backend, H: TextHasher> Model for Filled<B, H> {
+    ghost use Rattle.std.specs.Prelude.{List};
+    ghost use Rattle.string_interner.specs.Text.{Text};
+    ghost use Rattle.string_interner.specs.Interner.{IsInterned};
+
+    ghost Value = { List Text };
+
+    ghost view = { λ f. B.texts f.backend };
+
+    ghost invariant = { λ f. IsInterned B.Symbol.symbol_of B.place B.Symbol.number (H.code f.hasher) (B.texts f.backend)
+        f.index.slots };
+}
+
+impl<B: Backend, H: TextHasher + Default> Filled<B, H> {
+    /// No texts.
+    pub fn new(alloc: Global) -> Self {
+        Filled {
+            backend: B::new(alloc),
+            hasher: H::default(),
+            index: Index::new(alloc),
+        }
+    }
+
+    /// No texts, with an index of a capacity.
+    pub fn with_capacity(alloc: Global, capacity: usize) -> Result<Self, AllocError> {
+        let index = Index::with_capacity(alloc, capacity)?;
+        Ok(Filled {
+            backend: B::new(alloc),
+            hasher: H::default(),
+            index,
+        })
+    }
+}
+
+impl<B: Backend, H: TextHasher> Filled<B, H> {
+    /// The backend.
+    pub fn backend(&self) -> &B {
+        &self.backend
+    }
+
+    /// The index.
+    pub fn index(&self) -> &Index<B::Symbol> {
+        &self.index
+    }
+
+    /// Calls `find`.
+    pub fn find(&self, text: &str) -> Option<B::Symbol>
+        ensures { result ≡ known_symbol B.Symbol.symbol_of B.place self.now text.now }
+    {
+        let mut looks = Looks::new(&self.backend);
+        self.index.find(&self.hasher, &mut looks, text)
+    }
+
+    /// Calls `reserve_one`.
+    pub fn reserve(&mut self) -> Result<(), AllocError> {
+        self.index.reserve_one(&self.hasher, &self.backend)
+    }
+
+    /// Interns a text in the backend and calls `insert` with its symbol, unless the text is there.
+    pub fn insert(&mut self, text: &str) -> Result<B::Symbol, InternError> {
+        if let Some(symbol) = self.find(text) {
+            return Ok(symbol);
+        }
+        self.index
+            .reserve_one(&self.hasher, &self.backend)
+            .map_err(InternError::Memory)?;
+        let symbol = self.backend.intern(text)?;
+        self.index.insert(&self.hasher, &self.backend, symbol);
+        Ok(symbol)
+    }
+
+    /// Truncates the backend and calls `refill`.
+    pub fn truncate(&mut self, len: usize) {
+        if len < self.backend.count() {
+            let _ = self.index.slots();
+            self.backend.truncate(len);
+            self.index.refill(&self.hasher, &self.backend);
+        }
+    }
+}

@@ -1,0 +1,213 @@
+//! Calls on interners: `one`, on which calls are made, and `other`.
+
+mod json;
+mod looks;
+mod makers;
+mod scale;
+mod texts;
+
+use crate::fault::{Fault, Mistake};
+use crate::line::{Argument, Row, call_of};
+use crate::own::{Extra, Shown};
+pub use json::{symbol_from_json, symbol_to_json};
+pub use looks::walk_over;
+use looks::{Look, look_at};
+use makers::{Maker, make};
+use scale::{Pair, on_both};
+use string_interner::StringInterner;
+use string_interner::backend::CopyBackend;
+use string_interner::dedup::TextHasher;
+use texts::{Change, change_one};
+
+/// A call on an interner.
+#[derive(Clone, Copy)]
+enum InternerCall {
+    Make(Maker),
+    Change(Change),
+    Look(Look),
+    Both(Pair),
+}
+
+/// The calls on an interner by their names.
+const CALLS: [Row<InternerCall>; 32] = [
+    ("new", Argument::Nothing, InternerCall::Make(Maker::New)),
+    (
+        "with_hasher",
+        Argument::Nothing,
+        InternerCall::Make(Maker::WithHasher),
+    ),
+    (
+        "with_capacity",
+        Argument::Number,
+        InternerCall::Make(Maker::WithCapacity),
+    ),
+    (
+        "with_capacity_and_hasher",
+        Argument::Number,
+        InternerCall::Make(Maker::WithCapacityAndHasher),
+    ),
+    (
+        "from_iter",
+        Argument::Text,
+        InternerCall::Make(Maker::FromIter),
+    ),
+    (
+        "from_iter_numbers",
+        Argument::Number,
+        InternerCall::Make(Maker::FromIterNumbers),
+    ),
+    (
+        "from_json",
+        Argument::Text,
+        InternerCall::Make(Maker::FromJson),
+    ),
+    (
+        "from_json_exact",
+        Argument::Text,
+        InternerCall::Make(Maker::FromJsonExact),
+    ),
+    (
+        "get_or_intern",
+        Argument::Text,
+        InternerCall::Change(Change::GetOrIntern),
+    ),
+    (
+        "get_or_intern_static",
+        Argument::StaticText,
+        InternerCall::Change(Change::GetOrInternStatic),
+    ),
+    (
+        "resolve_unchecked",
+        Argument::Text,
+        InternerCall::Change(Change::ResolveUnchecked),
+    ),
+    (
+        "letters",
+        Argument::Number,
+        InternerCall::Change(Change::Letters),
+    ),
+    (
+        "numbers",
+        Argument::Number,
+        InternerCall::Change(Change::Numbers),
+    ),
+    (
+        "extend",
+        Argument::Text,
+        InternerCall::Change(Change::Extend),
+    ),
+    (
+        "extend_numbers",
+        Argument::Number,
+        InternerCall::Change(Change::ExtendNumbers),
+    ),
+    (
+        "shrink_to_fit",
+        Argument::Nothing,
+        InternerCall::Change(Change::ShrinkToFit),
+    ),
+    (
+        "truncate",
+        Argument::Number,
+        InternerCall::Change(Change::Truncate),
+    ),
+    ("get", Argument::Text, InternerCall::Look(Look::Get)),
+    (
+        "get_numbers",
+        Argument::Number,
+        InternerCall::Look(Look::GetNumbers),
+    ),
+    (
+        "resolve",
+        Argument::Number,
+        InternerCall::Look(Look::Resolve),
+    ),
+    ("len", Argument::Nothing, InternerCall::Look(Look::Len)),
+    (
+        "is_empty",
+        Argument::Nothing,
+        InternerCall::Look(Look::IsEmpty),
+    ),
+    ("iter", Argument::Nothing, InternerCall::Look(Look::Iter)),
+    (
+        "to_json",
+        Argument::Nothing,
+        InternerCall::Look(Look::ToJson),
+    ),
+    (
+        "symbol_to_json",
+        Argument::Number,
+        InternerCall::Look(Look::SymbolToJson),
+    ),
+    (
+        "symbol_from_json",
+        Argument::Text,
+        InternerCall::Look(Look::SymbolFromJson),
+    ),
+    ("clone", Argument::Nothing, InternerCall::Both(Pair::Clone)),
+    ("swap", Argument::Nothing, InternerCall::Both(Pair::Swap)),
+    ("equal", Argument::Nothing, InternerCall::Both(Pair::Equal)),
+    (
+        "json_again",
+        Argument::Nothing,
+        InternerCall::Both(Pair::JsonAgain),
+    ),
+    (
+        "json_exact_again",
+        Argument::Nothing,
+        InternerCall::Both(Pair::JsonExactAgain),
+    ),
+    (
+        "texts_asked",
+        Argument::Nothing,
+        InternerCall::Change(Change::TextsAsked),
+    ),
+];
+
+/// Whether the backend offers what a call needs.
+fn is_offered<B: Shown>(word: InternerCall) -> bool {
+    match word {
+        InternerCall::Change(Change::TextsAsked) => B::offers(Extra::TextsAsked),
+        _ => true,
+    }
+}
+
+/// Makes the calls of the lines on two interners, of which the first is called.
+fn all_calls<B: CopyBackend + Shown + Drop, H: TextHasher + Default + Clone + Drop>(
+    rt: &HostRuntime,
+    one: &mut StringInterner<B, H>,
+    other: &mut StringInterner<B, H>,
+    lines: &str,
+) -> Result<(), Fault> {
+    let mut number: usize = 1;
+    for line in lines.split_terminator('\n') {
+        number = number.saturating_add(1);
+        let (word, call) = call_of(&CALLS, number, line)?;
+        if !is_offered::<B>(word) {
+            return Err(Fault::Line {
+                line: number,
+                mistake: Mistake::NotOffered,
+            });
+        }
+        match word {
+            InternerCall::Make(maker) => make(rt, one, maker, call)?,
+            InternerCall::Change(kind) => change_one(rt, one, kind, call)?,
+            InternerCall::Look(kind) => look_at(rt, one, kind, call)?,
+            InternerCall::Both(kind) => on_both(rt, one, other, kind, call)?,
+        }
+    }
+    Ok(())
+}
+
+/// Makes the calls of the lines on two new interners.
+pub fn interner_session<B: CopyBackend + Shown + Drop, H: TextHasher + Default + Clone + Drop>(
+    rt: &HostRuntime,
+    lines: &str,
+) -> Result<(), Fault> {
+    all_calls::<B, H>(
+        rt,
+        &mut StringInterner::new(rt.alloc()),
+        &mut StringInterner::new(rt.alloc()),
+        lines,
+    )
+}

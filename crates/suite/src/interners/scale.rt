@@ -1,0 +1,157 @@
+//! Calls on many texts, and on both interners.
+
+use super::json::{ReadAs, from_value, value_of};
+use super::makers::put;
+use crate::counting::signal;
+use crate::decimal::{Progress, in_decimal};
+use crate::line::Call;
+use crate::sight::sight_of;
+use crate::tell::{
+    is_refused, numbered, tell_bool, tell_count, tell_done, tell_no_memory, tell_refusal,
+};
+use std::io;
+use std::mem::swap;
+use string_interner::StringInterner;
+use string_interner::backend::{Backend, CopyBackend, InternError};
+use string_interner::dedup::TextHasher;
+
+/// A call on both interners.
+#[derive(Clone, Copy)]
+pub enum Pair {
+    Clone,
+    Swap,
+    Equal,
+    JsonAgain,
+    JsonExactAgain,
+}
+
+/// Interns one of many texts, again if memory was refused. After a refusal only the count of texts and that text are
+/// looked at, as a sight of all texts takes too long here.
+fn intern_one<B: Backend, H: TextHasher>(
+    rt: &HostRuntime,
+    interner: &mut StringInterner<B, H>,
+    name: &str,
+    text: &str,
+) -> io::Result<Result<usize, InternError>> {
+    let before = interner.len();
+    let mut answer = numbered(interner.get_or_intern(text));
+    if is_refused(&answer) {
+        let is_kept = interner.len() == before && interner.get(text).is_none();
+        answer = numbered(interner.get_or_intern(text));
+        tell_refusal(rt, name, is_kept, !is_refused(&answer))?;
+    }
+    Ok(answer)
+}
+
+/// Interns the decimal numbers below a count.
+pub fn numbers<B: Backend, H: TextHasher>(
+    rt: &HostRuntime,
+    interner: &mut StringInterner<B, H>,
+    call: Call<'_>,
+) -> io::Result<()> {
+    let mut progress = Progress::new();
+    for number in 0..call.number {
+        let answer = intern_one(rt, interner, call.name, in_decimal(number)?.as_str())?;
+        progress = progress.with(rt, number, answer)?;
+    }
+    progress.tell_last(rt)
+}
+
+/// A text that no scenario interns.
+const QUESTION: &'static str = "how many texts were you asked for?";
+
+/// How often a text is asked to be interned at most, so that a backend that refuses it always is seen.
+const MOST_QUESTIONS: usize = 1 << 20;
+
+/// Prints how many texts the backend was asked for, which a `Counting` tells by two refusals for each.
+pub fn texts_asked<B: Backend, H: TextHasher>(
+    rt: &HostRuntime,
+    interner: &mut StringInterner<B, H>,
+    name: &str,
+) -> io::Result<()> {
+    let count = interner.len();
+    let mut refusals: usize = 0;
+    signal(interner);
+    for _ in 0..MOST_QUESTIONS {
+        if !is_refused(&numbered(interner.get_or_intern(QUESTION))) {
+            break;
+        }
+        refusals = refusals.saturating_add(1);
+    }
+    interner.truncate(count);
+    signal(interner);
+    // An odd refusal is one of memory.
+    tell_refusal(rt, name, true, refusals % 2 == 1)?;
+    tell_count(rt, refusals / 2)
+}
+
+/// Looks for the decimal numbers below a count, and prints those that have no symbol which resolves to them.
+pub fn get_numbers<B: Backend, H: TextHasher>(
+    rt: &HostRuntime,
+    interner: &StringInterner<B, H>,
+    count: usize,
+) -> io::Result<()> {
+    let mut known: usize = 0;
+    for number in 0..count {
+        let digits = in_decimal(number)?;
+        if let Some(symbol) = interner.get(digits.as_str())
+            && interner.resolve(symbol) == Some(digits.as_str())
+        {
+            known = known.saturating_add(1);
+        } else {
+            println!(rt; "  {number} is not known")?;
+        }
+    }
+    println!(rt; "{known} known")
+}
+
+/// Clones an interner into the place of the other one, again if memory was refused.
+fn clone_into<B: CopyBackend + Drop, H: TextHasher + Clone + Drop>(
+    rt: &HostRuntime,
+    interner: &StringInterner<B, H>,
+    other: &mut StringInterner<B, H>,
+    name: &str,
+) -> io::Result<()> {
+    let before = sight_of(interner);
+    let mut made = interner.clone();
+    if made.is_err() {
+        let is_kept = sight_of(interner) == before;
+        made = interner.clone();
+        tell_refusal(rt, name, is_kept, made.is_ok())?;
+    }
+    put(rt, other, made)
+}
+
+/// Reads the JSON form of an interner into the place of the other one.
+fn json_again<B: Backend + Drop, H: TextHasher + Default + Drop>(
+    rt: &HostRuntime,
+    interner: &StringInterner<B, H>,
+    other: &mut StringInterner<B, H>,
+    name: &str,
+    how: ReadAs,
+) -> io::Result<()> {
+    match value_of(rt, interner, name)? {
+        Ok(value) => from_value(rt, other, name, &value, how),
+        Err(_) => tell_no_memory(rt),
+    }
+}
+
+/// Makes a call on both interners.
+pub fn on_both<B: CopyBackend + Drop, H: TextHasher + Default + Clone + Drop>(
+    rt: &HostRuntime,
+    one: &mut StringInterner<B, H>,
+    other: &mut StringInterner<B, H>,
+    kind: Pair,
+    call: Call<'_>,
+) -> io::Result<()> {
+    match kind {
+        Pair::Clone => clone_into(rt, one, other, call.name),
+        Pair::Swap => {
+            swap(one, other);
+            tell_done(rt)
+        }
+        Pair::Equal => tell_bool(rt, *one == *other),
+        Pair::JsonAgain => json_again(rt, one, other, call.name, ReadAs::Any),
+        Pair::JsonExactAgain => json_again(rt, one, other, call.name, ReadAs::Exact),
+    }
+}

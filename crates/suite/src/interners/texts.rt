@@ -1,0 +1,156 @@
+//! Calls that intern texts or drop them.
+
+use super::scale::{numbers, texts_asked};
+use crate::decimal::{call_with, joined_again};
+use crate::line::Call;
+use crate::sight::{sight_of, sight_of_first};
+use crate::tell::{
+    is_refused, letters_of, numbered, tell_answer, tell_done, tell_no_memory, tell_outcome,
+    tell_refusal, tell_text,
+};
+use std::io;
+use string_interner::StringInterner;
+use string_interner::backend::{Backend, InternError};
+use string_interner::dedup::TextHasher;
+
+/// A call that may change an interner.
+#[derive(Clone, Copy)]
+pub enum Change {
+    GetOrIntern,
+    GetOrInternStatic,
+    ResolveUnchecked,
+    Letters,
+    Numbers,
+    Extend,
+    ExtendNumbers,
+    ShrinkToFit,
+    Truncate,
+    TextsAsked,
+}
+
+/// Calls `get_or_intern`, again if memory was refused.
+fn get_or_intern<B: Backend, H: TextHasher>(
+    rt: &HostRuntime,
+    interner: &mut StringInterner<B, H>,
+    name: &str,
+    text: &str,
+) -> io::Result<()> {
+    let before = sight_of(interner);
+    let mut answer = numbered(interner.get_or_intern(text));
+    if is_refused(&answer) {
+        let is_kept = sight_of(interner) == before && interner.get(text).is_none();
+        answer = numbered(interner.get_or_intern(text));
+        tell_refusal(rt, name, is_kept, !is_refused(&answer))?;
+    }
+    tell_answer(rt, answer)
+}
+
+/// Calls `get_or_intern_static`, again if memory was refused.
+fn get_or_intern_static<B: Backend, H: TextHasher>(
+    rt: &HostRuntime,
+    interner: &mut StringInterner<B, H>,
+    call: Call<'_>,
+) -> io::Result<()> {
+    let before = sight_of(interner);
+    let mut answer = numbered(interner.get_or_intern_static(call.static_text));
+    if is_refused(&answer) {
+        let is_kept = sight_of(interner) == before && interner.get(call.static_text).is_none();
+        answer = numbered(interner.get_or_intern_static(call.static_text));
+        tell_refusal(rt, call.name, is_kept, !is_refused(&answer))?;
+    }
+    tell_answer(rt, answer)
+}
+
+/// Interns the text of a call of `letters`.
+fn letters<B: Backend, H: TextHasher>(
+    rt: &HostRuntime,
+    interner: &mut StringInterner<B, H>,
+    call: Call<'_>,
+) -> io::Result<()> {
+    match letters_of(rt, call)? {
+        Some(text) => get_or_intern(rt, interner, call.name, &text),
+        None => tell_no_memory(rt),
+    }
+}
+
+/// Interns a text and calls `resolve_unchecked` with its symbol.
+fn read_back<'i, B: Backend, H: TextHasher>(
+    interner: &'i mut StringInterner<B, H>,
+    text: &str,
+) -> Result<&'i str, InternError> {
+    let symbol = interner.get_or_intern(text)?;
+    Ok(interner.resolve_unchecked(symbol))
+}
+
+/// Reads a text back, again if memory was refused.
+fn resolve_unchecked<B: Backend, H: TextHasher>(
+    rt: &HostRuntime,
+    interner: &mut StringInterner<B, H>,
+    call: Call<'_>,
+) -> io::Result<()> {
+    let before = sight_of(interner);
+    if is_refused(&read_back(interner, call.text)) {
+        let is_kept = sight_of(interner) == before;
+        let is_granted = !is_refused(&read_back(interner, call.text));
+        tell_refusal(rt, call.name, is_kept, is_granted)?;
+    }
+    match read_back(interner, call.text) {
+        Ok(found) => tell_text(rt, Some(found)),
+        Err(error) => println!(rt; "{error}"),
+    }
+}
+
+/// Calls `extend`, again if memory was refused. The texts that were there before stay as they were.
+fn extend<B: Backend, H: TextHasher>(
+    rt: &HostRuntime,
+    interner: &mut StringInterner<B, H>,
+    call: Call<'_>,
+) -> io::Result<()> {
+    let before = sight_of(interner);
+    let mut outcome = interner.extend(call.text.splitn(call.limit, ','));
+    if is_refused(&outcome) {
+        let is_kept = sight_of_first(interner, before.count) == before;
+        outcome = interner.extend(call.text.splitn(call.limit, ','));
+        tell_refusal(rt, call.name, is_kept, !is_refused(&outcome))?;
+    }
+    tell_outcome(rt, outcome)
+}
+
+/// Calls `extend` with the decimal numbers below a count.
+fn extend_numbers<B: Backend, H: TextHasher>(
+    rt: &HostRuntime,
+    interner: &mut StringInterner<B, H>,
+    call: Call<'_>,
+) -> io::Result<()> {
+    match joined_again(rt, call.name, call.number)? {
+        Some(texts) => extend(rt, interner, call_with(call, &texts)),
+        None => tell_no_memory(rt),
+    }
+}
+
+/// Makes a call that may change an interner.
+pub fn change_one<B: Backend, H: TextHasher>(
+    rt: &HostRuntime,
+    one: &mut StringInterner<B, H>,
+    kind: Change,
+    call: Call<'_>,
+) -> io::Result<()> {
+    match kind {
+        Change::GetOrIntern => get_or_intern(rt, one, call.name, call.text),
+        Change::GetOrInternStatic => get_or_intern_static(rt, one, call),
+        Change::ResolveUnchecked => resolve_unchecked(rt, one, call),
+        Change::Letters => letters(rt, one, call),
+        Change::Numbers => numbers(rt, one, call),
+        Change::Extend => extend(rt, one, call),
+        Change::ExtendNumbers => extend_numbers(rt, one, call),
+        Change::ShrinkToFit => {
+            one.shrink_to_fit();
+            tell_done(rt)
+        }
+        Change::Truncate => {
+            one.truncate(call.number);
+            tell_done(rt)
+        }
+        Change::TextsAsked => texts_asked(rt, one, call.name),
+    }
+}

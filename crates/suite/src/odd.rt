@@ -1,0 +1,145 @@
+//! Symbol types and hashers of a caller.
+
+ghost use Rattle.std.specs.Prelude.{◌<◌, ◌+◌, ◌*◌, ◌%◌, ◌^◌, ℕ, length};
+ghost use Rattle.std.proofs.Common.{rules, lit≤};
+ghost use Rattle.string_interner.specs.Symbol.{number_below, number_below-some};
+ghost use Rattle.suite.specs.Samples.{half_of, half_of-some, halves_equal, halves_same};
+
+use std::alloc::AllocError;
+use std::marker::Model;
+use string_interner::dedup::TextHasher;
+use string_interner::symbol::Symbol;
+
+/// A hasher that gives all texts one code.
+#[derive(Clone, Copy, Default)]
+pub struct Constant;
+
+impl TextHasher for Constant {
+    ghost code = { λ _ text. 0 };
+
+    fn hash_text(&self, _text: &str) -> u64 {
+        0
+    }
+}
+
+/// A hasher by the count of bytes.
+#[derive(Clone, Copy, Default)]
+pub struct ByteCount;
+
+impl TextHasher for ByteCount {
+    ghost code = { λ _ text. length text };
+
+    fn hash_text(&self, text: &str) -> u64 {
+        text.len() as u64
+    }
+}
+
+/// A hasher by the count of bytes and a salt. Its clone has another salt.
+#[derive(Drop)]
+pub struct Salted {
+    pub salt: u64,
+}
+
+impl Clone for Salted {
+    fn clone(&self) -> Result<Self, AllocError> {
+        Ok(Salted {
+            salt: self.salt.wrapping_add(29),
+        })
+    }
+}
+
+impl TextHasher for Salted {
+    ghost code = { λ hasher text. (hasher.salt + length text) % 2 ^ 64 };
+
+    fn hash_text(&self, text: &str) -> u64 {
+        self.salt.wrapping_add(text.len() as u64)
+    }
+}
+
+/// A symbol type with gaps: the even numbers below 2^17.
+#[derive(Clone, Copy, PartialEq, Eq, PartialOrd, Ord, Hash, Debug)]
+pub struct Even {
+    half: u16,
+}
+
+impl Model for Even {
+    ghost Value = { ℕ };
+
+    ghost view = { λ symbol. symbol.half };
+
+    ghost inverse = { λ n. record { half = n } };
+}
+
+impl Symbol for Even {
+    ghost number = { λ symbol. 2 * symbol };
+
+    ghost symbol_of = { half_of };
+
+    fn try_from_usize(index: usize) -> Option<Self> {
+        if index % 2 == 0 && index / 2 < 65536 {
+            Some(Even {
+                half: (index / 2) as u16,
+            })
+        } else {
+            None
+        }
+    }
+
+    fn to_usize(self) -> usize {
+        2 * self.half as usize
+    }
+
+    ghost numbered = { half_of-some };
+
+    ghost equal_by_number = { halves_equal };
+
+    ghost injective = { halves_same };
+}
+
+/// A symbol type that has two symbols: the numbers 0 and 1.
+#[derive(Clone, Copy, PartialEq, Eq, PartialOrd, Ord, Hash, Debug)]
+pub struct Bit {
+    number: u8,
+}
+
+impl Model for Bit {
+    ghost Value = { ℕ };
+
+    ghost view = { λ symbol. symbol.number };
+
+    ghost invariant = { λ symbol. symbol.number < 2 };
+
+    ghost inverse = { λ n. record { number = n } };
+}
+
+impl Symbol for Bit {
+    ghost number = { λ symbol. symbol };
+
+    ghost symbol_of = { number_below 2 };
+
+    fn try_from_usize(index: usize) -> Option<Self> {
+        if index < 2 {
+            Some(Bit {
+                number: index as u8,
+            })
+        } else {
+            None
+        }
+    }
+
+    fn to_usize(self) -> usize {
+        self.number as usize
+    }
+
+    ghost numbered = { number_below-some 2 (lit≤ tt) };
+
+    ghost equal_by_number = { Prim.search rules };
+
+    ghost injective = { λ a b same. same };
+}
+
+impl Default for Salted {
+    fn default() -> Self {
+        Salted { salt: 5 }
+    }
+}
