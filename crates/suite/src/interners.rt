@@ -160,14 +160,14 @@ const CALLS: [Row<InternerCall>; 32] = [
     (
         "texts_asked",
         Argument::Nothing,
-        InternerCall::Change(Change::TextsAsked),
+        InternerCall::Both(Pair::TextsAsked),
     ),
 ];
 
 /// Whether the backend offers what a call needs.
 fn is_offered<B: Shown>(word: InternerCall) -> bool {
     match word {
-        InternerCall::Change(Change::TextsAsked) => B::offers(Extra::TextsAsked),
+        InternerCall::Both(Pair::TextsAsked) => B::offers(Extra::TextsAsked),
         _ => true,
     }
 }
