@@ -15,8 +15,9 @@ use crate::tell::{
 use filled::Filled;
 use std::alloc::AllocError;
 use std::io;
+use std::mem::size_of;
 use string_interner::backend::InternError;
-use string_interner::dedup::TextHasher;
+use string_interner::dedup::{Looks, TextHasher};
 use string_interner::symbol::Symbol;
 
 /// A call on an index.
@@ -31,11 +32,12 @@ enum IndexCall {
     PutBack,
     Greatest,
     Truncate,
+    LooksSize,
     TextsAsked,
 }
 
 /// The calls on an index by their names.
-const CALLS: [Row<IndexCall>; 10] = [
+const CALLS: [Row<IndexCall>; 11] = [
     ("new", Argument::Nothing, IndexCall::New),
     ("with_capacity", Argument::Number, IndexCall::WithCapacity),
     ("insert", Argument::Text, IndexCall::Insert),
@@ -45,6 +47,7 @@ const CALLS: [Row<IndexCall>; 10] = [
     ("put_back", Argument::Nothing, IndexCall::PutBack),
     ("greatest", Argument::Nothing, IndexCall::Greatest),
     ("truncate", Argument::Number, IndexCall::Truncate),
+    ("looks_size", Argument::Nothing, IndexCall::LooksSize),
     ("texts_asked", Argument::Nothing, IndexCall::TextsAsked),
 ];
 
@@ -205,6 +208,7 @@ fn on_index<B: Shown + Drop, H: TextHasher + Default + Drop>(
             filled.truncate(call.number);
             tell_done(rt)
         }
+        IndexCall::LooksSize => tell_count(rt, size_of::<Looks<'_, B>>()),
         IndexCall::TextsAsked => tell_count(rt, filled.backend().texts_asked()),
     }
 }
