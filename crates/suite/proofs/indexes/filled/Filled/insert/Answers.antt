@@ -1,4 +1,4 @@
-use Rattle.std.proofs.Common.{ap, ◌∙◌, sym, refl}
+use Rattle.std.proofs.Common.{◌∙◌, sym, refl}
 use Rattle.string_interner.proofs.Interning.{known_none, interned-same, fits-more, absent-more, interned-more}
 use Rattle.suite.proofs.indexes.filled.Filled.insert.Goals as goal
 
