@@ -2,7 +2,7 @@
 //!
 //! An interner owns its backend and gives nothing of it out but texts and symbols, and a program has no cell that is
 //! shared by all. So the backend tells its count by what any caller sees, which texts are refused: between two times that
-//! `TELL` is resolved it counts nothing, and refuses two texts for each one that it was asked for.
+//! `SIGNAL` is resolved it counts nothing, and refuses two texts for each one that it was asked for.
 
 ghost use Rattle.std.specs.Prelude.{◌≡◌, length, slice_get};
 ghost use Rattle.std.proofs.Common.{rules, refl};
@@ -16,11 +16,8 @@ use string_interner::backend::{Backend, CopyBackend, InternError, Iter, StringBa
 use string_interner::dedup::TextHasher;
 use string_interner::symbol::{Symbol, SymbolU32};
 
-/// Resolving the number of the last `SymbolU32` begins the telling, or ends it.
-const TELL: usize = 4294967294;
-
-/// Resolving this number forgets the count.
-const FORGET: usize = 4294967293;
+/// The number of the last `SymbolU32`.
+const SIGNAL: usize = 4294967294;
 
 /// A backend that counts the texts that it is asked for. Its contracts promise no room.
 #[derive(Drop)]
@@ -52,10 +49,15 @@ impl Counting {
         }
     }
 
-    /// Begins to tell the count, or goes on to count.
-    fn turn(&self) {
-        self.is_telling.set(!self.is_telling.get());
-        self.owed.set(self.asked.get().wrapping_mul(2));
+    /// Begins to tell the count, or goes on to count. The count that was told is forgotten where all of it was.
+    fn take_signal(&self) {
+        let is_telling = !self.is_telling.get();
+        self.is_telling.set(is_telling);
+        if is_telling {
+            self.owed.set(self.asked.get().wrapping_mul(2));
+        } else if self.owed.get() == 0 {
+            self.asked.set(0);
+        }
     }
 
     /// Whether the next text is to be refused.
@@ -110,10 +112,10 @@ impl Backend for Counting {
     }
 
     fn resolve(&self, symbol: SymbolU32) -> Option<&str> {
-        match symbol.to_usize() {
-            TELL => self.turn(),
-            FORGET => self.asked.set(0),
-            _ => self.count_one(),
+        if symbol.to_usize() == SIGNAL {
+            self.take_signal();
+        } else {
+            self.count_one();
         }
         self.inner.resolve(symbol)
     }
@@ -147,33 +149,20 @@ impl Backend for Counting {
 
 impl CopyBackend for Counting {
     fn try_copy(&self) -> Result<Self, AllocError> {
-        let copy = Counting::over(self.inner.try_copy()?);
-        // A copy is asked in the place of a backend that tells its count.
-        if self.is_telling.get() {
-            copy.asked.set(self.asked.get());
-            copy.turn();
-        }
-        Ok(copy)
+        Ok(Counting::over(self.inner.try_copy()?))
     }
 }
 
-/// Resolves `TELL`. Backends other than `Counting` have nothing there.
-pub fn turn_backend<B: Backend>(backend: &B) {
-    if let Some(symbol) = B::Symbol::try_from_usize(TELL) {
+/// Resolves the number that a `Counting` takes as a signal. Other backends have nothing there.
+pub fn signal_backend<B: Backend>(backend: &B) {
+    if let Some(symbol) = B::Symbol::try_from_usize(SIGNAL) {
         let _ = backend.resolve(symbol);
     }
 }
 
-/// Resolves `TELL` in an interner.
-pub fn turn<B: Backend, H: TextHasher>(interner: &StringInterner<B, H>) {
-    if let Some(symbol) = B::Symbol::try_from_usize(TELL) {
-        let _ = interner.resolve(symbol);
-    }
-}
-
-/// Resolves `FORGET` in an interner.
-pub fn forget<B: Backend, H: TextHasher>(interner: &StringInterner<B, H>) {
-    if let Some(symbol) = B::Symbol::try_from_usize(FORGET) {
+/// The same of an interner.
+pub fn signal<B: Backend, H: TextHasher>(interner: &StringInterner<B, H>) {
+    if let Some(symbol) = B::Symbol::try_from_usize(SIGNAL) {
         let _ = interner.resolve(symbol);
     }
 }

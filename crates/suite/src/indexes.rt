@@ -2,7 +2,7 @@
 
 mod filled;
 
-use crate::counting::turn_backend;
+use crate::counting::signal_backend;
 use crate::decimal::{Progress, in_decimal};
 use crate::fault::{Fault, Mistake};
 use crate::line::{Argument, Call, Row, call_of};
@@ -60,13 +60,13 @@ enum View {
 
 /// What is seen of the texts, and of what is found under them.
 fn sight_of_texts<B: Shown, H: TextHasher>(filled: &Filled<B, H>) -> Sight {
-    turn_backend(filled.backend());
+    signal_backend(filled.backend());
     let mut sight = Sight::new();
     for (symbol, text) in filled.backend().iter() {
         let is_found = filled.find(text) == Some(symbol);
         sight = sight.with(symbol.to_usize(), text, is_found);
     }
-    turn_backend(filled.backend());
+    signal_backend(filled.backend());
     sight
 }
 

@@ -160,14 +160,14 @@ const CALLS: [Row<InternerCall>; 32] = [
     (
         "texts_asked",
         Argument::Nothing,
-        InternerCall::Both(Pair::TextsAsked),
+        InternerCall::Change(Change::TextsAsked),
     ),
 ];
 
 /// Whether the backend offers what a call needs.
 fn is_offered<B: Shown>(word: InternerCall) -> bool {
     match word {
-        InternerCall::Both(Pair::TextsAsked) => B::offers(Extra::TextsAsked),
+        InternerCall::Change(Change::TextsAsked) => B::offers(Extra::TextsAsked),
         _ => true,
     }
 }

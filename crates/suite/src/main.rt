@@ -144,55 +144,39 @@ fn index_under<H: TextHasher + Default + Drop>(
     }
 }
 
-/// Runs a scenario on an interner with `SymbolU32` under a hasher of a caller.
-fn interner_under<H: TextHasher + Default + Clone + Drop>(
-    rt: &HostRuntime,
-    scenario: Scenario<'_>,
-) -> Result<(), Fault> {
-    match scenario.backend {
-        BackendWord::String => interner_session::<StringBackend, H>(rt, scenario.lines),
-        BackendWord::Bucket => interner_session::<BucketBackend, H>(rt, scenario.lines),
-        BackendWord::Buffer => interner_session::<BufferBackend, H>(rt, scenario.lines),
-        BackendWord::Counting | BackendWord::None => not_built(),
-    }
-}
-
-/// Runs a scenario on an interner or on an index under a hasher of a caller.
+/// Runs a scenario on an interner with `SymbolU32`, or on an index, under a hasher of a caller.
 fn under_hasher<H: TextHasher + Default + Clone + Drop>(
     rt: &HostRuntime,
     scenario: Scenario<'_>,
 ) -> Result<(), Fault> {
     match scenario.level {
-        Level::Index => index_under::<H>(rt, scenario),
-        Level::Interner if scenario.backend == BackendWord::Counting => {
-            interner_session::<Counting, H>(rt, scenario.lines)
-        }
-        Level::Interner => interner_under::<H>(rt, scenario),
-        _ => not_built(),
+        Level::Index => return index_under::<H>(rt, scenario),
+        Level::Interner if scenario.symbol == SymbolWord::U32 => {}
+        _ => return not_built(),
+    }
+    match scenario.backend {
+        BackendWord::String => interner_session::<StringBackend, H>(rt, scenario.lines),
+        BackendWord::Bucket => interner_session::<BucketBackend, H>(rt, scenario.lines),
+        BackendWord::Buffer => interner_session::<BufferBackend, H>(rt, scenario.lines),
+        BackendWord::Counting => interner_session::<Counting, H>(rt, scenario.lines),
+        BackendWord::None => not_built(),
     }
 }
 
-/// Runs a scenario under the default hasher.
-fn under_default(rt: &HostRuntime, scenario: Scenario<'_>) -> Result<(), Fault> {
-    match scenario.level {
-        Level::Symbol => symbols_alone(rt, scenario),
-        Level::Index if scenario.symbol != SymbolWord::U32 => not_built(),
-        Level::Index => index_under::<FixedState>(rt, scenario),
-        _ => over_symbol(rt, scenario),
-    }
-}
-
-/// Runs a scenario. Hashers of a caller go with `SymbolU32` alone.
+/// Runs a scenario.
 fn run_scenario(rt: &HostRuntime, scenario: Scenario<'_>) -> Result<(), Fault> {
+    if scenario.level == Level::Index && scenario.symbol != SymbolWord::U32 {
+        return not_built();
+    }
     match scenario.hasher {
-        HasherWord::Default => under_default(rt, scenario),
-        _ if scenario.symbol != SymbolWord::U32 => not_built(),
+        HasherWord::Default => match scenario.level {
+            Level::Symbol => symbols_alone(rt, scenario),
+            Level::Index => index_under::<FixedState>(rt, scenario),
+            _ => over_symbol(rt, scenario),
+        },
         HasherWord::Constant => under_hasher::<Constant>(rt, scenario),
         HasherWord::Length => under_hasher::<ByteCount>(rt, scenario),
-        HasherWord::Salted if scenario.level == Level::Interner => {
-            interner_under::<Salted>(rt, scenario)
-        }
-        HasherWord::Salted => not_built(),
+        HasherWord::Salted => under_hasher::<Salted>(rt, scenario),
     }
 }
 

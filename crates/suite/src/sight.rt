@@ -1,6 +1,6 @@
 //! What is seen of an interner, taken without memory, to tell whether a refused call changed it.
 
-use crate::counting::turn;
+use crate::counting::signal;
 use string_interner::StringInterner;
 use string_interner::backend::Backend;
 use string_interner::dedup::{FixedState, TextHasher};
@@ -42,7 +42,7 @@ pub fn sight_of_first<B: Backend, H: TextHasher>(
     interner: &StringInterner<B, H>,
     count: usize,
 ) -> Sight {
-    turn(interner);
+    signal(interner);
     let mut sight = Sight::new();
     for (symbol, text) in interner {
         if sight.count < count {
@@ -50,7 +50,7 @@ pub fn sight_of_first<B: Backend, H: TextHasher>(
             sight = sight.with(symbol.to_usize(), text, is_found);
         }
     }
-    turn(interner);
+    signal(interner);
     sight
 }
 

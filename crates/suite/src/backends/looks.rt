@@ -1,7 +1,7 @@
 //! Calls that look at a backend.
 
 use super::entries::Entries;
-use crate::counting::turn_backend;
+use crate::counting::signal_backend;
 use crate::interners::walk_over;
 use crate::line::Call;
 use crate::own::Shown;
@@ -25,13 +25,13 @@ pub enum Look {
 
 /// What is seen of a backend.
 pub fn sight_of<B: Shown>(backend: &B) -> Sight {
-    turn_backend(backend);
+    signal_backend(backend);
     let mut sight = Sight::new();
     for (symbol, text) in backend.walk() {
         let is_read = backend.resolve(symbol) == Some(text);
         sight = sight.with(symbol.to_usize(), text, is_read);
     }
-    turn_backend(backend);
+    signal_backend(backend);
     let next = number_found(backend.next_symbol());
     let length = backend.bytes().map_or(0, |bytes| bytes.len());
     sight

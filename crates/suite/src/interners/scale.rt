@@ -2,14 +2,13 @@
 
 use super::json::{ReadAs, from_value, value_of};
 use super::makers::put;
-use crate::counting::{forget, turn};
+use crate::counting::signal;
 use crate::decimal::{Progress, in_decimal};
 use crate::line::Call;
 use crate::sight::sight_of;
 use crate::tell::{
     is_refused, numbered, tell_bool, tell_count, tell_done, tell_no_memory, tell_refusal,
 };
-use std::alloc::AllocError;
 use std::io;
 use std::mem::swap;
 use string_interner::StringInterner;
@@ -24,7 +23,6 @@ pub enum Pair {
     Equal,
     JsonAgain,
     JsonExactAgain,
-    TextsAsked,
 }
 
 /// Interns one of many texts, again if memory was refused. After a refusal only the count of texts and that text are
@@ -65,37 +63,26 @@ const QUESTION: &'static str = "how many texts were you asked for?";
 /// How often a text is asked to be interned at most, so that a backend that refuses it always is seen.
 const MOST_QUESTIONS: usize = 1 << 20;
 
-/// How often the text is refused until it is interned.
-fn refusals_of<B: Backend, H: TextHasher>(interner: &mut StringInterner<B, H>) -> usize {
+/// Prints how many texts the backend was asked for, which a `Counting` tells by two refusals for each.
+pub fn texts_asked<B: Backend, H: TextHasher>(
+    rt: &HostRuntime,
+    interner: &mut StringInterner<B, H>,
+    name: &str,
+) -> io::Result<()> {
+    let count = interner.len();
     let mut refusals: usize = 0;
+    signal(interner);
     for _ in 0..MOST_QUESTIONS {
         if !is_refused(&numbered(interner.get_or_intern(QUESTION))) {
             break;
         }
         refusals = refusals.saturating_add(1);
     }
-    refusals
-}
-
-/// Prints how many texts the backend was asked for. A clone is asked, so that the interner stays as it is.
-fn texts_asked<B: CopyBackend + Drop, H: TextHasher + Clone + Drop>(
-    rt: &HostRuntime,
-    interner: &StringInterner<B, H>,
-    name: &str,
-) -> io::Result<()> {
-    turn(interner);
-    let made = cloned(rt, interner, name)?;
-    forget(interner);
-    turn(interner);
-    match made {
-        Ok(mut copy) => {
-            let refusals = refusals_of(&mut copy);
-            // Each text is told by two refusals, so one more is of memory.
-            tell_refusal(rt, name, true, refusals % 2 == 1)?;
-            tell_count(rt, refusals / 2)
-        }
-        Err(_) => tell_no_memory(rt),
-    }
+    interner.truncate(count);
+    signal(interner);
+    // An odd refusal is one of memory.
+    tell_refusal(rt, name, true, refusals % 2 == 1)?;
+    tell_count(rt, refusals / 2)
 }
 
 /// Looks for the decimal numbers below a count, and prints those that have no symbol which resolves to them.
@@ -118,21 +105,7 @@ pub fn get_numbers<B: Backend, H: TextHasher>(
     println!(rt; "{known} known")
 }
 
-/// Calls `clone`, again if memory was refused.
-fn cloned<B: CopyBackend + Drop, H: TextHasher + Clone + Drop>(
-    rt: &HostRuntime,
-    interner: &StringInterner<B, H>,
-    name: &str,
-) -> io::Result<Result<StringInterner<B, H>, AllocError>> {
-    let mut made = interner.clone();
-    if made.is_err() {
-        made = interner.clone();
-        tell_refusal(rt, name, true, made.is_ok())?;
-    }
-    Ok(made)
-}
-
-/// Clones an interner into the place of the other one, and compares what is seen of it.
+/// Clones an interner into the place of the other one, again if memory was refused.
 fn clone_into<B: CopyBackend + Drop, H: TextHasher + Clone + Drop>(
     rt: &HostRuntime,
     interner: &StringInterner<B, H>,
@@ -140,8 +113,12 @@ fn clone_into<B: CopyBackend + Drop, H: TextHasher + Clone + Drop>(
     name: &str,
 ) -> io::Result<()> {
     let before = sight_of(interner);
-    let made = cloned(rt, interner, name)?;
-    tell_refusal(rt, name, sight_of(interner) == before, false)?;
+    let mut made = interner.clone();
+    if made.is_err() {
+        let is_kept = sight_of(interner) == before;
+        made = interner.clone();
+        tell_refusal(rt, name, is_kept, made.is_ok())?;
+    }
     put(rt, other, made)
 }
 
@@ -176,6 +153,5 @@ pub fn on_both<B: CopyBackend + Drop, H: TextHasher + Default + Clone + Drop>(
         Pair::Equal => tell_bool(rt, *one == *other),
         Pair::JsonAgain => json_again(rt, one, other, call.name, ReadAs::Any),
         Pair::JsonExactAgain => json_again(rt, one, other, call.name, ReadAs::Exact),
-        Pair::TextsAsked => texts_asked(rt, one, call.name),
     }
 }

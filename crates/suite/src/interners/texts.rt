@@ -1,6 +1,6 @@
 //! Calls that intern texts or drop them.
 
-use super::scale::numbers;
+use super::scale::{numbers, texts_asked};
 use crate::decimal::{call_with, joined_again};
 use crate::line::Call;
 use crate::sight::{sight_of, sight_of_first};
@@ -25,6 +25,7 @@ pub enum Change {
     ExtendNumbers,
     ShrinkToFit,
     Truncate,
+    TextsAsked,
 }
 
 /// Calls `get_or_intern`, again if memory was refused.
@@ -150,5 +151,6 @@ pub fn change_one<B: Backend, H: TextHasher>(
             one.truncate(call.number);
             tell_done(rt)
         }
+        Change::TextsAsked => texts_asked(rt, one, call.name),
     }
 }
