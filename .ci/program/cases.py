@@ -87,6 +87,9 @@ def asked_after(program, case, number, purpose, ended):
     """What was asked for after a refused request, by the call that was refused."""
     if purpose in ("input", "commands", "replies"):
         return ended.asks[number:]
+    if purpose == "output":
+        wanted = [size for _, size in case.requests()][1:]
+        return [] if ended.asks[number:] == wanted else ended.asks[number:]
     lines = lines_of(case.data)
     if not isinstance(purpose, int) or lines[purpose - 1] == b"shrink":
         return []
@@ -125,6 +128,8 @@ def try_all(program, pool):
     known = {path.stem for path in paths}
     faults = [f"{path.name} belongs to no case" for path in sorted(CASES.iterdir())
               if path.suffix[1:] in Case.ENDS and path.stem not in known]
+    if not paths:
+        faults.append("there are no cases")
     refused = 0
     for found, count in pool.map(partial(try_case, program), paths):
         faults += found

@@ -42,6 +42,8 @@ def try_all(program, pool):
     faults, tried, counts = [], 0, []
     for name, trial in TABLES.items():
         rows = (CASES / name).read_bytes().split(b"\n")[:-1]
+        if not rows:
+            faults.append(f"{name} has no rows")
         tried += len(rows)
         counts.append(f"{len(rows)} {name.replace('_', ' ')}")
         for found in pool.map(partial(trial, program), rows):
