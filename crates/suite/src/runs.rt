@@ -4,7 +4,7 @@ mod commands;
 
 use crate::decimal::joined_again;
 use crate::fault::Fault;
-use crate::sight::sight_of;
+use crate::sight::{Sight, sight_of};
 use crate::tell::{tell_count, tell_no_memory, tell_refusal};
 use commands::{Plan, commands_of, plan_of, texts_of};
 use std::alloc::AllocError;
@@ -55,21 +55,23 @@ fn run_once<B: Backend, H: TextHasher>(
     Ok(replies)
 }
 
-/// Runs the commands once more from as many texts as there were, if one of them was refused memory.
+/// Runs the commands once more from the texts that there were, if one of them was refused memory.
 fn run_again<B: Backend, H: TextHasher>(
     rt: &HostRuntime,
     interner: &mut StringInterner<B, H>,
     commands: &[Command<'_>],
     replies: Vec<Reply>,
-    count: usize,
+    before: Sight,
 ) -> io::Result<Vec<Reply>> {
     if !has_no_memory(&replies) {
         return Ok(replies);
     }
-    interner.truncate(count);
+    interner.truncate(before.count);
+    // Texts that a command dropped do not come back.
+    let is_kept = interner.len() < before.count || sight_of(interner) == before;
     match run(rt.alloc(), interner, commands) {
         Ok(others) => {
-            tell_refusal(rt, RUN, true, !has_no_memory(&others))?;
+            tell_refusal(rt, RUN, is_kept, !has_no_memory(&others))?;
             Ok(others)
         }
         Err(_) => Ok(replies),
@@ -82,10 +84,10 @@ fn run_commands<B: Backend, H: TextHasher>(
     interner: &mut StringInterner<B, H>,
     commands: &[Command<'_>],
 ) -> io::Result<()> {
-    let count = interner.len();
+    let before = sight_of(interner);
     match run_once(rt, interner, commands)? {
         Ok(replies) => {
-            let replies = run_again(rt, interner, commands, replies, count)?;
+            let replies = run_again(rt, interner, commands, replies, before)?;
             tell_replies(rt, &replies)?;
             tell_count(rt, interner.len())
         }
