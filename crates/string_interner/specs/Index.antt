@@ -120,6 +120,12 @@ module _ {S : Type 0} (entry : S → Option Text) where
 abbrev pub FitsAll : {S : Type 0} → List (Option S) → Type 0
 FitsAll {S} slots = (entry : S → Option Text) (code : Text → ℕ) → Fits entry code slots
 
+-- The symbol is added where texts with this code go: under its text, if that has this code, whatever entries and hasher
+-- the slots fit.
+abbrev pub InsertsByCode : {S : Type 0} → ℕ → Indexed S → Indexed S → S → Type 0
+InsertsByCode {S} known_code old new symbol = (entry : S → Option Text) (code : Text → ℕ) → Fits entry code old.slots → IsAbsent entry old.slots symbol
+    → known_code ≡ code (text_of entry symbol) → Inserts entry code old new symbol
+
 -- what a count of slots grows to: 8 from none, or twice as many
 abbrev pub GrowsTo : ℕ → ℕ → Type 0
 GrowsTo count more = ((count ≡ 0) × (more ≡ 8)) ⊎ ((0 < count) × (more ≡ 2 * count))

@@ -1,9 +1,12 @@
 -- What the steps of the index do to its slots.
--- Cited by the private functions of `dedup`, and by `Sought`.
-use Rattle.std.specs.Prelude.{◌≡◌, ℕ, ◌<◌, ◌%◌, List, length, IfSome, slice_index_or, slice_set, Contains, Option, Some, None}
+-- Cited by the private functions of `dedup`.
+use Rattle.std.specs.Prelude.{◌≡◌, ℕ, ◌<◌, ◌≤◌, ◌%◌, List, length, slice_index_or, slice_set, Contains, Option, Some, None, ⊤}
 use Rattle.string_interner.specs.Text.{Text}
 use Rattle.string_interner.specs.Slots.{symbols, filled_run, probed}
 use Rattle.string_interner.specs.Index.{Fits}
+use Rattle.string_interner.specs.declared.dedup.probe.Entry.{Entry}
+use Rattle.string_interner.specs.declared.dedup.probe.Entry.TheVariants.{Occupied, Vacant}
+use Rattle.string_interner.specs.declared.dedup.probe.Vacancy.{Vacancy}
 
 -- the new slots are the old ones with the symbol in one that was empty, in the filled run from its home on
 pub record FillsSlot {S : Type 0} (old new : List (Option S)) (home : ℕ) (symbol : S) : Type 0 where
@@ -17,10 +20,22 @@ pub record FillsSlot {S : Type 0} (old new : List (Option S)) (home : ℕ) (symb
 abbrev pub IsFree : {S : Type 0} → List (Option S) → ℕ → ℕ → Type 0
 IsFree {S} slots home at = (at < length slots) × ((symbol : S) → FillsSlot slots (slice_set slots at (Some symbol)) home symbol)
 
--- The symbol of the text may be put there: into the slot `at`, where one is known, or else where its code leads.
-pub record IsVacant {S : Type 0} (code : Text → ℕ) (slots : List (Option S)) (text : Text) (known_code : ℕ) (at : Option ℕ) : Type 0 where
-  pub code_is : known_code ≡ code text
-  pub free : IfSome at (IsFree slots (code text % length slots))
+-- The symbol of a text with this code goes there: into the slot where probing stopped, as long as there are as many
+-- slots as there were then, and else where the code leads.
+pub record IsVacant {S : Type 0} (slots : List (Option S)) (code : ℕ) (vacancy : Vacancy) : Type 0 where
+  pub code_is : vacancy.code ≡ code
+  pub before : vacancy.slots ≤ length slots
+  pub free : vacancy.slots ≡ length slots → 0 < length slots → IsFree slots (code % length slots) vacancy.at
+
+-- what a look-up found
+abbrev pub found_by : {S : Type 0} → Entry S → Option S
+found_by (Occupied symbol) = Some symbol
+found_by (Vacant _) = None
+
+-- what is so of the vacancy, where nothing was found
+abbrev pub IfVacant : {S : Type 0} → Entry S → (Vacancy → Type 0) → Type 0
+IfVacant (Occupied _) P = ⊤
+IfVacant (Vacant vacancy) P = P vacancy
 
 -- the new slots have the symbols of the old ones, and fit
 pub record Rebuilt {S : Type 0} (entry : S → Option Text) (code : Text → ℕ) (old new : List (Option S)) : Type 0 where

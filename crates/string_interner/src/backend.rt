@@ -126,13 +126,10 @@ pub trait Backend {
         ensures text { (i : ℕ) → BeginsAt place (texts self.now) at i → slice_get (texts self.now) i ≡ Some result.1.now }
         ensures next { (i : ℕ) → BeginsAt place (texts self.now) at i → result.2 ≡ place (take (i + 1) (texts self.now)) };
 
-    /// Gives back memory that no text needs, where that can be had, and all room where there is no text. Texts, symbols
-    /// and buckets stay.
+    /// Gives back memory that no text needs, where that can be had. Texts, symbols and buckets stay.
     fn shrink_to_fit(&mut self)
         ensures texts { texts self.new ≡ texts self.old }
-        ensures buckets { buckets self.new ≡ buckets self.old }
-        ensures room { room self.new ≤ room self.old }
-        ensures frees { texts self.old ≡ [] → room self.new ≡ 0 };
+        ensures buckets { buckets self.new ≡ buckets self.old };
 
     /// Keeps the first `len` texts with their symbols, and drops the others. Changes nothing where there are not more
     /// than that. Takes no memory; buckets stay, with the bytes of dropped texts.

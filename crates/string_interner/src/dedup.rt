@@ -6,20 +6,19 @@ mod hasher;
 mod probe;
 mod slots;
 
-ghost use Rattle.std.specs.Prelude.{◌≡◌, ℕ, ◌+◌, ◌*◌, ◌<◌, ◌≤◌, ◌%◌, ◌^◌, length, [], IsTrue, IsNone, IsOk, IfOk, OnOk, OnErr, Ok, false, ◌↔◌};
+ghost use Rattle.std.specs.Prelude.{◌≡◌, ℕ, ◌+◌, ◌*◌, ◌<◌, ◌≤◌, ◌%◌, ◌^◌, length, [], IsTrue, IsOk, IfOk, OnOk, OnErr, ◌↔◌};
 ghost use Rattle.string_interner.specs.Text.{IsDistinct};
-ghost use Rattle.string_interner.specs.Backend.{IsKept};
 ghost use Rattle.string_interner.specs.Entry.{entry_text};
 ghost use Rattle.string_interner.specs.Slots.{IsFilledRun, symbols};
-ghost use Rattle.string_interner.specs.Index.{entry_count, Fits, FitsAll, Grows, GrowsTo, HasRoom, Holds, Inserts, IsAbsent, IsBounded, IsLeastSlotCount, IsWhole, Refills, SameMap, look_up, text_of};
-ghost use Rattle.string_interner.specs.Probe.{IsFree, IsVacant};
+ghost use Rattle.string_interner.specs.Index.{entry_count, Fits, FitsAll, Grows, GrowsTo, HasRoom, Holds, Inserts, InsertsByCode, IsAbsent, IsBounded, IsLeastSlotCount, Refills, SameMap, look_up};
+ghost use Rattle.string_interner.specs.Probe.{IfVacant, IsVacant, found_by};
 
 use crate::backend::Backend;
 use crate::symbol::Symbol;
 use growing::{least_slot_count, next_slot_count, put_all, rebuilt};
 pub use hasher::{DefaultHashBuilder, FixedState, TextHasher};
-pub(crate) use probe::Vacancy;
-use probe::{Ended, home_of, probe, settle};
+pub(crate) use probe::Entry;
+use probe::{Vacancy, occupy, probe, unprobed};
 pub use slots::Looks;
 use slots::Slots;
 use std::alloc::{AllocError, Global};
@@ -97,13 +96,13 @@ impl<S: Symbol> Index<S> {
         self.alloc
     }
 
-    /// Does nothing. Its clause tells a proof what holds of every index.
+    /// How many entries there are.
     #[inline]
-    pub(crate) fn keeps(&self)
-        ensures { IsBounded self.now }
+    pub(crate) fn len(&self) -> usize
+        ensures value { result ≡ entry_count self.now }
+        ensures bounded { IsBounded self.now }
     {
-        // Opens the value for the proof, which needs what holds of it.
-        let _ = &self.greatest;
+        self.len
     }
 
     /// How many slots there are.
@@ -152,27 +151,24 @@ impl<S: Symbol> Index<S> {
         ensures at_most { looks.new.count ≤ looks.old.count + entry_count self.now + 1 }
         ensures no_slots { length self.now.slots ≡ 0 → looks.new.count ≡ looks.old.count }
     {
-        self.seek(hasher, hasher.hash_text(text), looks, text)
-            .symbol
+        match self.entry(hasher, looks, text) {
+            Entry::Occupied(symbol) => Some(symbol),
+            Entry::Vacant(_) => None,
+        }
     }
 
-    /// Finds the symbol as `find` does, for a text whose code is known, and tells the slot where the probe ended: a
-    /// free one for the text, where no symbol was found and one more entry is allowed.
+    /// Looks for a text as `find` does, and answers its symbol or where that goes.
     #[inline(always)]
-    pub(crate) fn seek<H: TextHasher, B: Backend<Symbol = S>>(
+    pub(crate) fn entry<H: TextHasher, B: Backend<Symbol = S>>(
         &self,
         hasher: &H,
-        code: u64,
         looks: &mut Looks<'_, B>,
         text: &str,
-    ) -> Ended<S>
-        requires fits { Fits (entry_text S.number B.place (B.texts looks.old.backend)) (H.code hasher.now)
-            self.now.slots }
-        requires code { code ≡ H.code hasher.now text.now }
-        ensures found { result.symbol
+    ) -> Entry<S>
+        requires { Fits (entry_text S.number B.place (B.texts looks.old.backend)) (H.code hasher.now) self.now.slots }
+        ensures found { found_by result
             ≡ look_up (entry_text S.number B.place (B.texts looks.old.backend)) self.now.slots text.now }
-        ensures free { IsNone result.symbol → HasRoom self.now
-            → IsFree self.now.slots (H.code hasher.now text.now % length self.now.slots) result.at }
+        ensures vacant { IfVacant result (IsVacant self.now.slots (H.code hasher.now text.now)) }
         ensures backend { looks.new.backend ≡ looks.old.backend }
         ensures counts { looks.old.count ≤ looks.new.count }
         ensures run { (f : ℕ) → IsFilledRun self.now.slots (H.code hasher.now text.now % length self.now.slots) f
@@ -180,14 +176,11 @@ impl<S: Symbol> Index<S> {
         ensures at_most { looks.new.count ≤ looks.old.count + entry_count self.now + 1 }
         ensures no_slots { length self.now.slots ≡ 0 → looks.new.count ≡ looks.old.count }
     {
-        let count = self.slots.len();
-        if count == 0 {
-            return Ended {
-                symbol: None,
-                at: 0,
-            };
+        let code = hasher.hash_text(text);
+        if self.slots.len() == 0 {
+            return Entry::Vacant(unprobed(code));
         }
-        probe(&self.slots, home_of(code, count), looks, text)
+        probe(&self.slots, code, looks, text)
     }
 
     /// Whether one more entry is allowed.
@@ -230,6 +223,10 @@ impl<S: Symbol> Index<S> {
         ensures had_room { HasRoom self.old → IsOk result × (self.new ≡ self.old) }
         ensures grown { ¬ HasRoom self.old → OnOk result (Grows self.old self.new) }
         ensures err { OnErr result (self.new ≡ self.old) }
+
+        // What was looked for before goes where it went, or where its code leads now.
+        ensures vacant { (code : ℕ) (vacancy : Vacancy) → IsVacant self.old.slots code vacancy
+            → IsVacant self.new.slots code vacancy }
     {
         if self.has_room() {
             return Ok(());
@@ -239,37 +236,6 @@ impl<S: Symbol> Index<S> {
         let bigger = rebuilt(&mut self.slots, count, hasher, backend, self.alloc)?;
         self.grow(bigger);
         Ok(())
-    }
-
-    /// Makes room as `reserve_one` does, in an index that has every entry of the backend, and tells whether the slots
-    /// grew. The symbols are put back in the order of the entries, whose texts are then read in sequence.
-    pub(crate) fn reserve<H: TextHasher, B: Backend<Symbol = S>>(
-        &mut self,
-        hasher: &H,
-        backend: &B,
-    ) -> Result<bool, AllocError>
-        requires kept { IsKept S.symbol_of B.place (B.texts backend.now) }
-        requires distinct { IsDistinct (B.texts backend.now) }
-        requires whole { IsWhole (entry_text S.number B.place (B.texts backend.now)) (H.code hasher.now)
-            self.old.slots }
-        requires entries { entry_count self.old ≡ length (B.texts backend.now) }
-        ensures whole { IsWhole (entry_text S.number B.place (B.texts backend.now)) (H.code hasher.now)
-            self.new.slots }
-        ensures count { entry_count self.new ≡ entry_count self.old }
-        ensures room { OnOk result (HasRoom self.new) }
-        ensures had_room { HasRoom self.old → (result ≡ Ok false) × (self.new ≡ self.old) }
-        ensures grown { ¬ HasRoom self.old → OnOk result (Grows self.old self.new) }
-        ensures unchanged { result ≡ Ok false → self.new ≡ self.old }
-        ensures err { OnErr result (self.new ≡ self.old) }
-    {
-        if self.has_room() {
-            return Ok(false);
-        }
-        let count = next_slot_count(self.slots.len()).ok_or(AllocError)?;
-        let mut bigger = Slots::empty(self.alloc, count)?;
-        put_all(&mut bigger, hasher, backend);
-        self.grow(bigger);
-        Ok(true)
     }
 
     /// Adds the symbol of an entry whose text is not in the index, where one more entry is allowed. Takes no memory.
@@ -286,31 +252,17 @@ impl<S: Symbol> Index<S> {
             symbol }
     {
         let text = backend.resolve_unchecked(symbol);
-        let vacancy = Vacancy {
-            code: hasher.hash_text(text),
-            at: None,
-        };
-        self.insert_into(hasher, backend, vacancy, symbol);
+        self.insert_at(unprobed(hasher.hash_text(text)), symbol);
     }
 
-    /// Adds the symbol as `insert` does, where it is known where that goes.
+    /// Adds the symbol of an entry whose text was not found, where one more entry is allowed. Takes no memory.
     #[inline]
-    pub(crate) fn insert_into<H: TextHasher, B: Backend<Symbol = S>>(
-        &mut self,
-        hasher: &H,
-        backend: &B,
-        vacancy: Vacancy,
-        symbol: S,
-    )
-        requires fits { Fits (entry_text S.number B.place (B.texts backend.now)) (H.code hasher.now) self.old.slots }
+    pub(crate) fn insert_at(&mut self, vacancy: Vacancy, symbol: S)
         requires room { HasRoom self.old }
-        requires absent { IsAbsent (entry_text S.number B.place (B.texts backend.now)) self.old.slots symbol }
-        requires vacant { IsVacant (H.code hasher.now) self.old.slots
-            (text_of (entry_text S.number B.place (B.texts backend.now)) symbol) vacancy.code vacancy.at }
-        ensures { Inserts (entry_text S.number B.place (B.texts backend.now)) (H.code hasher.now) self.old self.new
-            symbol }
+        requires vacant { IsVacant self.old.slots vacancy.code vacancy }
+        ensures { InsertsByCode vacancy.code self.old self.new symbol }
     {
-        settle(&mut self.slots, vacancy, symbol);
+        occupy(&mut self.slots, vacancy, symbol);
         self.len += 1;
         self.greatest = self.greatest.max(self.len);
     }

@@ -1,20 +1,21 @@
 //! An interner: each text once, with the symbol that stands for it.
 
 mod collect;
-mod seek;
+mod given;
 
-ghost use Rattle.std.specs.Prelude.{◌≡◌, ℕ, ◌+◌, ◌*◌, ◌≤◌, ◌&&◌, ◌↔◌, List, [], ◌∷◌, length, take, slice_get, Option, Some, IsTrue, IsSome, IsOk, IfOk, IsErrOf, OnOk, OnErr};
+ghost use Rattle.std.specs.Prelude.{◌≡◌, ℕ, ◌≤◌, ◌&&◌, ◌↔◌, List, [], ◌∷◌, length, take, slice_get, Option, Some, IsTrue, IsSome, IfOk};
 ghost use Rattle.std.specs.Option.{option_copied};
 ghost use Rattle.std.specs.Cmp.{partial_equiv_from_equiv, on_equiv};
 ghost use Rattle.string_interner.specs.Text.{Text, IsDistinct, first, texts_eq, texts_eq-IsEquivalence};
 ghost use Rattle.string_interner.specs.Backend.{BeginsAt, IsPlace, IsKept};
-ghost use Rattle.string_interner.specs.Interner.{GrowsIfFull, Interned, Interns, known_symbol};
-ghost use Rattle.string_interner.specs.Index.{Holds, IsLoaded, IsLeastSlotCount};
+ghost use Rattle.string_interner.specs.Interner.{Interned, InternsInto, known_symbol};
+ghost use Rattle.string_interner.specs.Given.{given_text};
+ghost use Rattle.string_interner.specs.Index.{IsLoaded, IsLeastSlotCount};
 
 use crate::backend::{Backend, CopyBackend, InternError, Iter};
-use crate::dedup::{DefaultHashBuilder, Index, Looks, TextHasher};
+use crate::dedup::{DefaultHashBuilder, Entry, Index, Looks, TextHasher};
 use crate::symbol::Symbol;
-use seek::{Sought, seek};
+use given::{Given, store, text_of};
 use std::alloc::{AllocError, Global};
 use std::marker::Model;
 
@@ -122,17 +123,7 @@ impl<B: Backend, H: TextHasher> StringInterner<B, H> {
         ensures kept { IsKept B.Symbol.symbol_of B.place self.now.texts }
         ensures loaded { IsLoaded self.now.slot_count (length self.now.texts) }
     {
-        self.index.keeps();
-        self.backend.count()
-    }
-
-    /// Does nothing. Its clauses tell a proof what holds of every interner.
-    #[inline]
-    pub(crate) fn keeps(&self)
-        ensures kept { IsKept B.Symbol.symbol_of B.place self.now.texts }
-        ensures loaded { IsLoaded self.now.slot_count (length self.now.texts) }
-    {
-        self.index.keeps();
+        self.index.len()
     }
 
     /// Whether there is no text.
@@ -157,66 +148,45 @@ impl<B: Backend, H: TextHasher> StringInterner<B, H> {
     /// type has no symbol for the next place, before memory is asked for, and else only for want of memory; a refused
     /// text leaves texts and buckets as they were.
     pub fn get_or_intern(&mut self, text: &str) -> Result<B::Symbol, InternError>
-        ensures interns { Interns B.Symbol.symbol_of B.place self.old.texts text.now result self.new.texts }
-        ensures known { IsSome (first self.old.texts text.now) → self.new ≡ self.old }
-        ensures no_symbol { IsErrOf result InternError.NoSymbol → self.new ≡ self.old }
-        ensures buckets { OnErr result (self.new.buckets ≡ self.old.buckets) }
-
-        // Within the room of the backend and of the index, memory is not refused.
-        ensures granted { IsSome (B.Symbol.symbol_of (B.place self.old.texts)) → B.cost text.now ≤ self.old.room
-            → Holds self.old.slot_count (length self.old.texts + 1) → IsOk result }
-
-        // A text takes no more of the room than its cost, and a refused one takes nothing.
-        ensures spent { OnOk result (self.old.room ≤ self.new.room + B.cost text.now) }
-        ensures unspent { OnErr result (self.old.room ≤ self.new.room) }
-        ensures slots { GrowsIfFull (length self.old.texts) self.old.slot_count self.new.slot_count }
+        ensures { InternsInto B.Symbol.symbol_of B.place B.cost self.old text.now result self.new }
     {
-        match seek(&self.backend, &self.hasher, &mut self.index, text)? {
-            Sought::Known(symbol) => Ok(symbol),
-            Sought::New(vacancy) => {
-                let symbol = self.backend.intern(text)?;
-                self.index
-                    .insert_into(&self.hasher, &self.backend, vacancy, symbol);
-                Ok(symbol)
-            }
-        }
+        self.intern_given(Given::Copied(text))
     }
 
     /// The symbol of a text, as `get_or_intern` answers it. A new text is put last by the backend's `intern_static`,
     /// which may keep the text itself in the place of a copy.
     pub fn get_or_intern_static(&mut self, text: &'static str) -> Result<B::Symbol, InternError>
-        ensures interns { Interns B.Symbol.symbol_of B.place self.old.texts text.now result self.new.texts }
-        ensures known { IsSome (first self.old.texts text.now) → self.new ≡ self.old }
-        ensures no_symbol { IsErrOf result InternError.NoSymbol → self.new ≡ self.old }
-        ensures buckets { OnErr result (self.new.buckets ≡ self.old.buckets) }
-
-        // Within the room of the backend and of the index, memory is not refused.
-        ensures granted { IsSome (B.Symbol.symbol_of (B.place self.old.texts)) → B.cost text.now ≤ self.old.room
-            → Holds self.old.slot_count (length self.old.texts + 1) → IsOk result }
-
-        // A text takes no more of the room than its cost, and a refused one takes nothing.
-        ensures spent { OnOk result (self.old.room ≤ self.new.room + B.cost text.now) }
-        ensures unspent { OnErr result (self.old.room ≤ self.new.room) }
-        ensures slots { GrowsIfFull (length self.old.texts) self.old.slot_count self.new.slot_count }
+        ensures { InternsInto B.Symbol.symbol_of B.place B.cost self.old text.now result self.new }
     {
-        match seek(&self.backend, &self.hasher, &mut self.index, text)? {
-            Sought::Known(symbol) => Ok(symbol),
-            Sought::New(vacancy) => {
-                let symbol = self.backend.intern_static(text)?;
-                self.index
-                    .insert_into(&self.hasher, &self.backend, vacancy, symbol);
-                Ok(symbol)
-            }
-        }
+        self.intern_given(Given::Static(text))
     }
 
-    /// Gives back memory of the backend that no text needs, where that can be had, and all of its room where there is no
-    /// text. As many slots stay.
+    /// The symbol of a text, copied or kept.
+    #[inline(always)]
+    fn intern_given(&mut self, given: Given<'_>) -> Result<B::Symbol, InternError>
+        ensures { InternsInto B.Symbol.symbol_of B.place B.cost self.old (given_text given.entry) result self.new }
+    {
+        let mut looks = Looks::new(&self.backend);
+        let vacancy = match self.index.entry(&self.hasher, &mut looks, text_of(given)) {
+            Entry::Occupied(symbol) => return Ok(symbol),
+            Entry::Vacant(vacancy) => vacancy,
+        };
+        // Without a symbol no memory is asked for.
+        if self.backend.next_symbol().is_none() {
+            return Err(InternError::NoSymbol);
+        }
+        if let Err(error) = self.index.reserve_one(&self.hasher, &self.backend) {
+            return Err(InternError::Memory(error));
+        }
+        let symbol = store(&mut self.backend, given)?;
+        self.index.insert_at(vacancy, symbol);
+        Ok(symbol)
+    }
+
+    /// Gives back memory of the backend that no text needs, where that can be had. As many slots stay.
     pub fn shrink_to_fit(&mut self)
         ensures texts { self.new.texts ≡ self.old.texts }
         ensures buckets { self.new.buckets ≡ self.old.buckets }
-        ensures room { self.new.room ≤ self.old.room }
-        ensures frees { self.old.texts ≡ [] → self.new.room ≡ 0 }
         ensures slots { self.new.slot_count ≡ self.old.slot_count }
     {
         self.backend.shrink_to_fit();
@@ -233,8 +203,7 @@ impl<B: Backend, H: TextHasher> StringInterner<B, H> {
         ensures room { self.old.room ≤ self.new.room }
         ensures slots { self.new.slot_count ≡ self.old.slot_count }
     {
-        if len < self.backend.count() {
-            self.index.keeps();
+        if len < self.index.len() {
             self.backend.truncate(len);
             self.index.refill(&self.hasher, &self.backend);
         }

@@ -89,7 +89,8 @@ impl<B: Backend + Drop, H: TextHasher + Default + Drop> StringInterner<B, H> {
         for (index, element) in elements.iter().enumerate() {
             let text = element.as_str().ok_or(JsonError::NotAText { index })?;
             interner.get_or_intern(text)?;
-            interner.keeps();
+            // Tells the load.
+            let _ = interner.len();
         }
         Ok(interner)
     }

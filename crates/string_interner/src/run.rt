@@ -196,7 +196,8 @@ pub fn run<B: Backend, H: TextHasher>(
         let reply = step(alloc, interner, &replies, command);
         replies.push_reserved(reply);
     }
-    interner.keeps();
+    // Tells that the list is one that a backend keeps.
+    let _ = interner.len();
     Ok(replies)
 }
 

@@ -189,7 +189,12 @@ impl<S: Symbol> Backend for BufferBackend<S> {
         (S::try_from_usize(at).unwrap(), text, next)
     }
 
-    fn shrink_to_fit(&mut self) {
+    /// Leaves no more room than there was, and none where there is no text.
+    fn shrink_to_fit(&mut self)
+        ensures texts { self.new.texts ≡ self.old.texts }
+        ensures room { self.new.room ≤ self.old.room }
+        ensures frees { self.old.texts ≡ [] → self.new.room ≡ 0 }
+    {
         self.bytes.shrink_to_fit();
     }
 

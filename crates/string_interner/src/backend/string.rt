@@ -136,7 +136,12 @@ impl<S: Symbol> Backend for StringBackend<S> {
         (S::try_from_usize(at).unwrap(), text, at + 1)
     }
 
-    fn shrink_to_fit(&mut self) {
+    /// Leaves no more room than there was, and none where there is no text.
+    fn shrink_to_fit(&mut self)
+        ensures texts { self.new.texts ≡ self.old.texts }
+        ensures room { self.new.room ≤ self.old.room }
+        ensures frees { self.old.texts ≡ [] → self.new.room ≡ 0 }
+    {
         self.joined.shrink_to_fit();
         self.ends.shrink_to_fit();
     }

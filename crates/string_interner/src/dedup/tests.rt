@@ -3,8 +3,8 @@
 ghost use Rattle.std.specs.Prelude.{◌≡◌};
 ghost use Rattle.string_interner.specs.Interner.{known_symbol};
 
-use super::probe::home_of;
-use super::{FixedState, Index, Looks, TextHasher};
+use super::probe::{home_of, slot_of};
+use super::{Entry, FixedState, Index, Looks, TextHasher};
 use crate::backend::{Backend, InternError, StringBackend};
 use crate::symbol::{Symbol, SymbolU32};
 use crate::tests::{ByteCount, Constant, ask_last, assert_equal, number_of, tell_refused};
@@ -53,11 +53,22 @@ impl<B: Backend, H: TextHasher> Filled<B, H> {
         self.index.find(&self.hasher, &mut looks, text)
     }
 
-    /// The slot where the probe for the text ends.
-    fn ends_at(&self, text: &str) -> usize {
+    /// The slot where the symbol of a text goes that was not added.
+    fn goes_to(&self, text: &str) -> Option<usize> {
         let mut looks = Looks::new(&self.backend);
-        let code = self.hasher.hash_text(text);
-        self.index.seek(&self.hasher, code, &mut looks, text).at
+        match self.index.entry(&self.hasher, &mut looks, text) {
+            Entry::Occupied(_) => None,
+            Entry::Vacant(vacancy) => Some(slot_of(&vacancy)),
+        }
+    }
+
+    /// The number of the symbol in a slot, if there is one.
+    fn number_at(&mut self, at: usize) -> Option<usize> {
+        if at < self.index.slots() {
+            number_of(self.index.slots.symbol_at(at))
+        } else {
+            None
+        }
     }
 
     /// Makes room for one more text in the index.
@@ -234,14 +245,16 @@ fn add_all<B: Backend, H: TextHasher>(
     Ok(())
 }
 
-/// The probe for each text ends at this slot.
-fn assert_ends_at<B: Backend, H: TextHasher>(
+/// The symbol of each text stands in this slot.
+fn assert_stands_at<B: Backend, H: TextHasher>(
     rt: &impl Abort,
-    filled: &Filled<B, H>,
+    filled: &mut Filled<B, H>,
     places: &[(&str, usize)],
 ) {
     for (text, slot) in places {
-        assert_equal(rt, (*text, filled.ends_at(text)), (*text, *slot));
+        let number = number_of(filled.find(text));
+        assert!(rt; number.is_some());
+        assert_equal(rt, (*text, filled.number_at(*slot)), (*text, number));
     }
 }
 
@@ -254,9 +267,11 @@ fn assert_passes<B: Backend>(
     wanted: (usize, usize),
 ) {
     let home = home_of(ByteCount.hash_text(text), 8);
-    let run = filled.ends_at(text).wrapping_sub(home) % 8;
+    let Some(slot) = filled.goes_to(text) else {
+        return assert!(rt; false);
+    };
+    let run = slot.wrapping_sub(home) % 8;
     assert_equal(rt, (text, (home, run)), (text, wanted));
-    assert!(rt; filled.find(text).is_none());
 }
 
 /// Adds six texts of one home, which fill the last of eight slots and round the end five more, and looks for others.
@@ -273,7 +288,7 @@ fn assert_probes_go_round_the_end<B: Backend>(
         ("fffffff", 4),
     ];
     add_all(filled, &places)?;
-    assert_ends_at(rt, filled, &places);
+    assert_stands_at(rt, filled, &places);
     assert_passes(rt, filled, "ggggggg", (7, 6));
     assert_passes(rt, filled, "", (0, 5));
     assert_passes(rt, filled, "ggggg", (5, 0));

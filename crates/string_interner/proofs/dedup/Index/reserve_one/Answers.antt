@@ -1,8 +1,9 @@
-use Rattle.std.proofs.Common.{ap, subst}
+use Rattle.std.proofs.Common.{ap, subst, arith, length}
 use Rattle.string_interner.specs.Entry.{entry_text}
 use Rattle.string_interner.specs.Index.{GrowsTo}
 use Rattle.string_interner.specs.Probe.{Rebuilt}
 use Rattle.string_interner.proofs.Rebuilding.{Rebuilt-same}
+use Rattle.string_interner.proofs.Vacancies.{IsVacant-grown}
 use Rattle.string_interner.proofs.Growing.{GrowsTo-more, IsSlotCount-grown}
 use Rattle.string_interner.proofs.dedup.Index.reserve_one.Goals as goal
 
@@ -19,3 +20,8 @@ rebuilt-requires-clause-count g c = IsSlotCount-grown _ _ c.self.invariant.bound
 pub rebuilt-requires-clause-more : goal.rebuilt-requires-clause-more
 rebuilt-requires-clause-more g c = GrowsTo-more _ _
     (subst (λ n. GrowsTo n c.in_ok-count.count) c.len.ensures (rw c.in_ok-count.ensures.ok_part at c.next_slot_count.ensures.some))
+
+pub returns-clause-vacant : goal.returns-clause-vacant
+returns-clause-vacant g c = λ code vacancy is.
+    let more = GrowsTo-more _ _ (subst (λ n. GrowsTo n c.in_ok-count.count) c.len.ensures (rw c.in_ok-count.ensures.ok_part at c.next_slot_count.ensures.some)) in
+    rw c.grow.ensures.slots (IsVacant-grown c.args.self.now.slots _ code vacancy (omega (arith, more, c.in_ok-bigger.ensures.count, ap (λ x. length x.slots) c.self.view_is)) is)
