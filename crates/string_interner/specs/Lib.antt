@@ -20,4 +20,3 @@ pub mod Json
 pub mod Scopes
 pub mod Run
 pub mod ListAnswers
-pub mod Samples

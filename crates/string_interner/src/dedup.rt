@@ -293,6 +293,3 @@ impl<S: Symbol> Index<S> {
         self.fill(hasher, backend);
     }
 }
-
-#[cfg(test)]
-mod tests;

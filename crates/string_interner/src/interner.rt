@@ -299,6 +299,3 @@ impl<B: Backend, H: TextHasher> PartialEq for StringInterner<B, H> {
 impl<B: Backend, H: TextHasher> Eq for StringInterner<B, H> {
     ghost laws = { on_equiv (λ (i : Interned). i.texts) texts_eq-IsEquivalence };
 }
-
-#[cfg(test)]
-pub(crate) mod tests;

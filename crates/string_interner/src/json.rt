@@ -147,6 +147,3 @@ pub fn symbol_from_json<S: Symbol>(value: &Value) -> Result<S, JsonError>
     let number = value.as_u64().ok_or(JsonError::NotANumber)?;
     S::try_from_usize(number as usize).ok_or(JsonError::NoSymbol)
 }
-
-#[cfg(test)]
-mod tests;

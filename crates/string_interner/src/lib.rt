@@ -12,8 +12,6 @@ pub mod json;
 pub mod run;
 pub mod scope;
 pub mod symbol;
-#[cfg(test)]
-mod tests;
 
 pub use backend::DefaultBackend;
 pub use dedup::DefaultHashBuilder;

@@ -200,6 +200,3 @@ pub fn run<B: Backend, H: TextHasher>(
     let _ = interner.len();
     Ok(replies)
 }
-
-#[cfg(test)]
-mod tests;

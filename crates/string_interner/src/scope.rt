@@ -135,6 +135,3 @@ impl<B: Backend, H: TextHasher> Scopes<B, H> {
 pub fn scope_law()
     ensures { LeavingGivesBack }
 {}
-
-#[cfg(test)]
-mod tests;

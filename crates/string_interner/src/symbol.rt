@@ -186,6 +186,3 @@ impl Symbol for usize {
 
     ghost injective = { λ a b same. same };
 }
-
-#[cfg(test)]
-mod tests;

@@ -315,6 +315,3 @@ impl<S: Symbol> PartialEq for BucketBackend<S> {
 impl<S: Symbol> Eq for BucketBackend<S> {
     ghost laws = { on_equiv (λ (b : BucketContents). b.texts) texts_eq-IsEquivalence };
 }
-
-#[cfg(test)]
-mod tests;

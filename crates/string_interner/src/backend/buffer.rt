@@ -267,6 +267,3 @@ impl<S: Symbol> PartialEq for BufferBackend<S> {
 impl<S: Symbol> Eq for BufferBackend<S> {
     ghost laws = { on_equiv (λ (b : Contents). b.texts) texts_eq-IsEquivalence };
 }
-
-#[cfg(test)]
-mod tests;

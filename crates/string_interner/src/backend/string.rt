@@ -207,6 +207,3 @@ impl<S: Symbol> PartialEq for StringBackend<S> {
 impl<S: Symbol> Eq for StringBackend<S> {
     ghost laws = { on_equiv (λ (b : Contents). b.texts) texts_eq-IsEquivalence };
 }
-
-#[cfg(test)]
-mod tests;

@@ -41,12 +41,6 @@ pub fn unprobed(code: u64) -> Vacancy
     }
 }
 
-/// The slot where probing stopped.
-#[cfg(test)]
-pub fn slot_of(vacancy: &Vacancy) -> usize {
-    vacancy.at
-}
-
 /// The slot at which a text with this code is looked for first.
 #[inline(always)]
 pub fn home_of(code: u64, slots: usize) -> usize

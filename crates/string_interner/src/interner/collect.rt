@@ -50,6 +50,3 @@ impl<B: Backend + Drop, H: TextHasher + Default + Drop> StringInterner<B, H> {
         Ok(interner)
     }
 }
-
-#[cfg(test)]
-mod tests;

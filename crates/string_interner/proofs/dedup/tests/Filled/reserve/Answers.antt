@@ -1,5 +1,0 @@
-use Rattle.string_interner.proofs.Interning.{interned-same}
-use Rattle.string_interner.proofs.dedup.tests.Filled.reserve.Goals as goal
-
-pub invariant_of-self : goal.invariant_of-self
-invariant_of-self g c = interned-same g.B.Symbol.Symbol.symbol_of g.B.Symbol.Symbol.number g.B.Backend.place g.met.B.Symbol.Symbol.numbered g.met.B.Symbol.Symbol.injective g.met.B.Backend.grows _ _ _ c.self.invariant _ c.reserve_one.ensures.fits c.reserve_one.ensures.same c.reserve_one.ensures.count
