@@ -100,14 +100,6 @@ module _ {S : Type 0} (symbol_of : ℕ → Option S) (place : List Text → ℕ)
     item-taken old mid new items item symbol taken call = subst (λ (ts : List Text). TakesIn symbol_of place cost old ts new) (sym (map_push (λ (b : Bor Text). b.now) items item))
         (taken-more old mid new (texts_of items) item.now symbol taken call)
 
-    -- a refused text leaves what went in
-    pub refused-taken : (old mid new : Interned) (texts : List Text) (text : Text) (error : InternError) → TakesIn symbol_of place cost old texts mid → InternsInto symbol_of place cost mid text (Err error) new
-        → TakesIn symbol_of place cost old texts new
-    refused-taken old mid new texts text error taken call = record {
-      interned = rw (refused-keeps symbol_of place mid.texts new.texts text error call.interns) taken.interned;
-      spent = omega (arith, taken.spent, call.room.unspent);
-    }
-
     -- memory is refused for a new text that has a symbol
     memory-new : (mid new : List Text) (text : Text) (error : InternError) → IsMemory error → Interns symbol_of place mid text (Err error) new → (first mid text ≡ None) × IsSome (symbol_of (place mid))
     memory-new mid new text NoSymbol m i = absurd m
@@ -119,17 +111,16 @@ module _ {S : Type 0} (symbol_of : ℕ → Option S) (place : List Text → ℕ)
 
     -- a text that does not fit is refused
     pub stopped : (old mid new : Interned) (texts : List Text) (text : Text) (error : InternError) → TakesIn symbol_of place cost old texts mid → InternsInto symbol_of place cost mid text (Err error) new
-        → GrowsFor (length mid.texts) old.slot_count mid.slot_count → StopsAt symbol_of place cost old texts text error new
-    stopped old mid new texts text error taken call grown = let i = call.interns in record {
-      refuses = (let same = refused-keeps symbol_of place mid.texts new.texts text error i in subst (λ (xs : List Text). Interns symbol_of place xs text (Err error) new.texts) (sym same) i);
+        → GrowsFor (length mid.texts) old.slot_count mid.slot_count → StopsAt symbol_of place cost old texts mid text error new
+    stopped old mid new texts text error taken call grown = record {
+      refuses = call;
       beyond = λ m fits.
-          let is_new = memory-new mid.texts new.texts text error m i in
+          let is_new = memory-new mid.texts new.texts text error m call.interns in
           let one : fresh mid.texts (text ∷ []) ≡ text ∷ [] = rw is_new.0 refl in
           let c : sum_by cost (fresh old.texts (texts ++ text ∷ [])) ≡ sum_by cost (fresh old.texts texts) + cost text = cost-more old.texts mid.texts texts text taken.interned ∙ (ap (λ ts. sum_by cost (fresh old.texts texts) + sum_by cost ts) one ∙ omega arith) in
           let n : length (fresh old.texts (texts ++ text ∷ [])) ≡ length (fresh old.texts texts) + 1 = ap length (fresh-append old.texts texts (text ∷ []) ∙ ap (λ zs. fresh old.texts texts ++ fresh zs (text ∷ [])) (sym (all-fresh old.texts texts mid.texts taken.interned)) ∙ ap (λ ts. fresh old.texts texts ++ ts) one) ∙ length_push (fresh old.texts texts) text in
           let l : length mid.texts ≡ length old.texts + length (fresh old.texts texts) = ap length (all-fresh old.texts texts mid.texts taken.interned) ∙ length-append old.texts (fresh old.texts texts) in
           let granted_now = call.room.granted (is_new.1, omega (arith, fits.index, n, l, GrowsFor-more _ _ _ grown)) (omega (arith, fits.backend, c, taken.spent)) in cc;
-      slots = rw (refused-keeps symbol_of place mid.texts new.texts text error i) (mid.slot_count, grown, call.slots);
     }
 
     -- an extension that a refused item ended
@@ -139,8 +130,10 @@ module _ {S : Type 0} (symbol_of : ℕ → Option S) (place : List Text → ℕ)
     extends-refused becomes steps iter walk rest items item old mid new error outcome b y e taken call grown = rw e (
       walk,
       items,
+      mid,
       b,
-      refused-taken old mid new (texts_of items) item.now error taken call,
+      taken,
+      grown,
       (item, rest, y, stopped old mid new (texts_of items) item.now error taken call grown),
     )
 
@@ -161,8 +154,15 @@ fronted steps (z ∷ zs) s t u x (y ∷ ys) (j, sj, more) st always = let m = al
 -- an interner that is extended by what yields a list interns its texts in order
 pub in-order : {S : Type 0} (symbol_of : ℕ → Option S) (place : List Text → ℕ) (cost : Text → ℕ) {I W : Type 0} (becomes : I → W → Type 0) (steps : W → Option (Bor Text) → W → Type 0) (iter : I) (old new : Interned) (outcome : Result (Unit {0}) InternError) (all : List (Bor Text))
     → Extends symbol_of place cost becomes steps iter old outcome new → ((walk : W) → becomes iter walk → YieldsList steps (λ x. x) walk all) → InternsInOrder symbol_of place old.texts (texts_of all) outcome new.texts
-in-order symbol_of place cost becomes steps iter old new (Ok done) all (walk, items, b, taken, drains) lists =
-    let ends = drains.0 in rw (drained steps items walk ends.1.0 ends.0 all ends.1.1 ends.1.2 (lists walk b).runs) taken.interned
-in-order symbol_of place cost becomes steps iter old new (Err error) all (walk, items, b, taken, (item, left, yields, stops)) lists =
+in-order symbol_of place cost becomes steps iter old new (Ok done) all (walk, items, mid, b, taken, grown, drains) lists =
+    let ends = drains.0 in rw (ap (λ (i : Interned). i.texts) drains.1, drained steps items walk ends.1.0 ends.0 all ends.1.1 ends.1.2 (lists walk b).runs) taken.interned
+in-order symbol_of place cost becomes steps iter old new (Err error) all (walk, items, mid, b, taken, grown, (item, left, yields, stops)) lists =
     let f = fronted steps items walk yields.0 left item all yields.1 yields.2 (lists walk b).runs in
-    (texts_of items, item.now, texts_of f.0, ap texts_of f.1 ∙ map-append (λ (b : Bor Text). b.now) items (item ∷ f.0), taken.interned, stops.refuses)
+    let same = refused-keeps symbol_of place mid.texts new.texts item.now error stops.refuses.interns in (
+      texts_of items,
+      item.now,
+      texts_of f.0,
+      ap texts_of f.1 ∙ map-append (λ (b : Bor Text). b.now) items (item ∷ f.0),
+      rw same taken.interned,
+      subst (λ (xs : List Text). Interns symbol_of place xs item.now (Err error) new.texts) (sym same) stops.refuses.interns,
+    )

@@ -1,6 +1,6 @@
 -- What is said of every interner: a list of distinct texts, each with its symbol, and interning a text.
 -- Cited by `StringInterner` and by all that stands on it.
-use Rattle.std.specs.Prelude.{◌≡◌, ℕ, ◌+◌, ◌⊎◌, List, length, take, Option, Some, IsSome, MatchOption, IsOkAnd, IsErrOf, OnErr, Result, option_and_then}
+use Rattle.std.specs.Prelude.{◌≡◌, ℕ, ◌+◌, ◌≤◌, ◌⊎◌, List, [], length, take, Option, Some, IsSome, MatchOption, IsOkAnd, IsErrOf, OnErr, Result, option_and_then}
 use Rattle.string_interner.specs.Text.{Text, IsDistinct, first}
 use Rattle.string_interner.specs.Backend.{Bucket, IsKept, Appends, UsesRoom}
 use Rattle.string_interner.specs.Entry.{entry_text}
@@ -18,8 +18,25 @@ pub record Interned : Type 0 where
   -- how many slots the index has
   pub slot_count : ℕ
 
--- How many slots there are once a text was interned in a list of this length: as many where one more entry was allowed,
--- and else as many or more, as slots grow.
+-- one that was just made
+pub record IsNew (interner : Interned) : Type 0 where
+  pub texts : interner.texts ≡ []
+  pub slots : interner.slot_count ≡ 0
+
+-- one that was just made with a capacity, for which its backend grants this room
+pub record IsMadeFor (capacity grant : ℕ) (interner : Interned) : Type 0 where
+  pub texts : interner.texts ≡ []
+  pub room : grant ≤ interner.room
+  pub slots : IsLeastSlotCount capacity interner.slot_count
+
+-- no memory is given back: buckets and slots stay, and there is no less room
+pub record KeepsMemory (old new : Interned) : Type 0 where
+  pub buckets : new.buckets ≡ old.buckets
+  pub room : old.room ≤ new.room
+  pub slots : new.slot_count ≡ old.slot_count
+
+-- Slot count after interning into a list of this length: unchanged where the load factor allows one more entry, and else
+-- unchanged or grown once.
 pub record GrowsIfFull (len old new : ℕ) : Type 0 where
   pub allowed : Holds old (len + 1) → new ≡ old
   pub grown : (new ≡ old) ⊎ GrowsTo old new

@@ -3,10 +3,15 @@
 use Rattle.std.specs.Prelude.{◌≡◌, ℕ, ◌<◌, ◌≤◌, ◌%◌, List, length, slice_index_or, slice_set, Contains, Option, Some, None, ⊤}
 use Rattle.string_interner.specs.Text.{Text}
 use Rattle.string_interner.specs.Slots.{symbols, filled_run, probed}
-use Rattle.string_interner.specs.Index.{Fits}
+use Rattle.string_interner.specs.Index.{Fits, IsSlotCount}
 use Rattle.string_interner.specs.declared.dedup.probe.Entry.{Entry}
 use Rattle.string_interner.specs.declared.dedup.probe.Entry.TheVariants.{Occupied, Vacant}
 use Rattle.string_interner.specs.declared.dedup.probe.Vacancy.{Vacancy}
+
+-- the count of slots is allowed, and a slot is empty
+pub record HasFreeSlot {S : Type 0} (slots : List (Option S)) : Type 0 where
+  pub allowed : IsSlotCount (length slots)
+  pub free : length (symbols slots) < length slots
 
 -- the new slots are the old ones with the symbol in one that was empty, in the filled run from its home on
 pub record FillsSlot {S : Type 0} (old new : List (Option S)) (home : ℕ) (symbol : S) : Type 0 where
@@ -16,7 +21,7 @@ pub record FillsSlot {S : Type 0} (old new : List (Option S)) (home : ℕ) (symb
   pub written : new ≡ slice_set old at (Some symbol)
   pub placed : Contains (filled_run (probed new home)) symbol
 
--- a symbol with this home may be put there
+-- the slot is empty, and in the filled run from the home on once a symbol stands there
 abbrev pub IsFree : {S : Type 0} → List (Option S) → ℕ → ℕ → Type 0
 IsFree {S} slots home at = (at < length slots) × ((symbol : S) → FillsSlot slots (slice_set slots at (Some symbol)) home symbol)
 
@@ -24,8 +29,8 @@ IsFree {S} slots home at = (at < length slots) × ((symbol : S) → FillsSlot sl
 -- slots as there were then, and else where the code leads.
 pub record IsVacant {S : Type 0} (slots : List (Option S)) (code : ℕ) (vacancy : Vacancy) : Type 0 where
   pub code_is : vacancy.code ≡ code
-  pub before : vacancy.slots ≤ length slots
-  pub free : vacancy.slots ≡ length slots → 0 < length slots → IsFree slots (code % length slots) vacancy.at
+  pub before : vacancy.slot_count ≤ length slots
+  pub free : vacancy.slot_count ≡ length slots → 0 < length slots → IsFree slots (code % length slots) vacancy.at
 
 -- what a look-up found
 abbrev pub found_by : {S : Type 0} → Entry S → Option S

@@ -1,8 +1,8 @@
 //! Scopes over an interner: what is declared in a scope is forgotten where the scope is left.
 
-ghost use Rattle.std.specs.Prelude.{◌≡◌, ◌+◌, ◌≤◌, ◌↔◌, [], ◌∷◌, ◌++◌, length, None, IsSome, OnOk, OnErr};
+ghost use Rattle.std.specs.Prelude.{◌≡◌, ◌+◌, ◌↔◌, [], ◌∷◌, ◌++◌, length, None, IsSome, OnOk, OnErr};
 ghost use Rattle.string_interner.specs.Text.{first};
-ghost use Rattle.string_interner.specs.Interner.{InternsInto, known_symbol};
+ghost use Rattle.string_interner.specs.Interner.{InternsInto, KeepsMemory, known_symbol};
 ghost use Rattle.string_interner.specs.Scopes.{layers, joined_layers, interned, Leaves, LayerStep, LeavingGivesBack};
 
 use crate::backend::{Backend, InternError};
@@ -76,9 +76,7 @@ impl<B: Backend, H: TextHasher> Scopes<B, H> {
         ensures layers { Leaves (layers self.old) result (layers self.new) }
         ensures none { self.old.below ≡ [] → self.new ≡ self.old }
         ensures step { LayerStep (layers self.old) (layers self.new) }
-        ensures buckets { self.new.buckets ≡ self.old.buckets }
-        ensures room { self.old.room ≤ self.new.room }
-        ensures slots { self.new.slot_count ≡ self.old.slot_count }
+        ensures memory { KeepsMemory (interned self.old) (interned self.new) }
     {
         match self.starts.pop() {
             Some(start) => {

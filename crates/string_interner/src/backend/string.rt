@@ -3,7 +3,7 @@
 ghost use Rattle.std.specs.Prelude.{◌≡◌, ◌*◌, ◌^◌, max, ◌<◌, ◌≤◌, [], length, slice_get, Some, IfOk, OnOk, refl};
 ghost use Rattle.std.specs.Cmp.{partial_equiv_from_equiv, on_equiv};
 ghost use Rattle.std.proofs.Common.{rules};
-ghost use Rattle.string_interner.specs.Backend.{Contents};
+ghost use Rattle.string_interner.specs.Backend.{Contents, Shrinks};
 ghost use Rattle.string_interner.specs.Text.{texts_eq, texts_eq-IsEquivalence};
 ghost use Rattle.string_interner.specs.StringBackend.{cut, start_at, IsCut};
 ghost use Rattle.string_interner.specs.CountLaws.{length_grows, reads_at_length};
@@ -138,9 +138,7 @@ impl<S: Symbol> Backend for StringBackend<S> {
 
     /// Leaves no more room than there was, and none where there is no text.
     fn shrink_to_fit(&mut self)
-        ensures texts { self.new.texts ≡ self.old.texts }
-        ensures room { self.new.room ≤ self.old.room }
-        ensures frees { self.old.texts ≡ [] → self.new.room ≡ 0 }
+        ensures { Shrinks self.old self.new }
     {
         self.joined.shrink_to_fit();
         self.ends.shrink_to_fit();

@@ -2,46 +2,51 @@
 
 ghost use Rattle.std.specs.Prelude.{◌≡◌, ◌+◌, ◌<◌, ◌≤◌, ◌%◌, ◌^◌, length, IsSome, Contains, Some};
 ghost use Rattle.string_interner.specs.Entry.{entry_text};
-ghost use Rattle.string_interner.specs.Slots.{probed, filled_run, first_passing, symbols};
+ghost use Rattle.string_interner.specs.Slots.{probed, filled_run, first_passing};
 ghost use Rattle.string_interner.specs.Index.{IsSlotCount, has_text};
-ghost use Rattle.string_interner.specs.Probe.{FillsSlot, IfVacant, IsVacant, found_by};
+ghost use Rattle.string_interner.specs.Probe.{FillsSlot, HasFreeSlot, IfVacant, IsVacant, found_by};
 
 use crate::backend::Backend;
 use crate::dedup::slots::{Looks, Slots};
 use crate::symbol::Symbol;
 
-/// What looking for a text found.
+/// What a look-up found.
 #[derive(Drop)]
 pub enum Entry<S> {
     /// The symbol that has the text.
     Occupied(S),
-    /// None has it, and its own goes here.
+    /// No symbol has it; a new one goes here.
     Vacant(Vacancy),
 }
 
-/// Where the symbol of a text goes that was not found: into the empty slot where probing stopped, or, once the slots
-/// grew, wherever the code of the text leads.
+/// Where the symbol of a text goes that was not found.
+///
+/// It holds the text's code and the empty slot where the probe ended. Growth moves all symbols, so the slot counts only
+/// while there are as many slots as there were; after that the code leads. So a vacancy outlives growth, and what holds
+/// one need not know of it.
 #[derive(Drop)]
 pub struct Vacancy {
     code: u64,
-    /// How many slots there were.
-    slots: usize,
+    /// How many slots there were. None, where no probe ended at a slot.
+    slot_count: usize,
     at: usize,
 }
 
-/// Where the symbol of a text with this code goes, where no text was looked for.
-#[inline]
-pub fn unprobed(code: u64) -> Vacancy
-    ensures { result ≡ record { code = code; slots = 0; at = 0 } }
-{
-    Vacancy {
-        code,
-        slots: 0,
-        at: 0,
+impl Vacancy {
+    /// Where the symbol of a text with this code goes, without a probe.
+    #[inline]
+    pub fn by_code(code: u64) -> Vacancy
+        ensures { result ≡ record { code = code; slot_count = 0; at = 0 } }
+    {
+        Vacancy {
+            code,
+            slot_count: 0,
+            at: 0,
+        }
     }
 }
 
-/// The slot at which a text with this code is looked for first.
+/// Returns the slot at which the probe for a text with this code starts.
 #[inline(always)]
 pub fn home_of(code: u64, slots: usize) -> usize
     requires some { 0 < slots }
@@ -51,7 +56,7 @@ pub fn home_of(code: u64, slots: usize) -> usize
     (code as usize) & (slots - 1)
 }
 
-/// Looks for a text with this code, slot by slot from its home on, as far as the first that has its symbol or is empty.
+/// Probes for a text with this code, slot by slot from its home on, up to the first that has its symbol or is empty.
 #[inline(always)]
 pub fn probe<S: Symbol, B: Backend<Symbol = S>>(
     slots: &Slots<S>,
@@ -78,7 +83,7 @@ pub fn probe<S: Symbol, B: Backend<Symbol = S>>(
         let Some(seen) = slots.look(at, looks, text) else {
             return Entry::Vacant(Vacancy {
                 code,
-                slots: count,
+                slot_count: count,
                 at,
             });
         };
@@ -87,30 +92,27 @@ pub fn probe<S: Symbol, B: Backend<Symbol = S>>(
         }
         at = if at + 1 < count { at + 1 } else { 0 };
     }
-    Entry::Vacant(unprobed(code))
+    Entry::Vacant(Vacancy::by_code(code))
 }
 
 /// Puts a symbol into the first empty slot from its text's home on.
 pub fn put_by_code<S: Symbol>(slots: &mut Slots<S>, code: u64, symbol: S)
-    requires free { length (symbols slots.old) < length slots.old }
-    requires count { IsSlotCount (length slots.old) }
-    ensures puts { FillsSlot slots.old slots.new (code % length slots.old) symbol }
-    ensures small { length slots.old < 2 ^ 64 }
+    requires { HasFreeSlot slots.old }
+    ensures { FillsSlot slots.old slots.new (code % length slots.old) symbol }
 {
     let home = home_of(code, slots.len());
     slots.put(home, symbol);
 }
 
-/// Puts a symbol where it goes.
+/// Puts a symbol where its vacancy says.
 #[inline]
 pub fn occupy<S: Symbol>(slots: &mut Slots<S>, vacancy: Vacancy, symbol: S)
-    requires free { length (symbols slots.old) < length slots.old }
-    requires count { IsSlotCount (length slots.old) }
+    requires free { HasFreeSlot slots.old }
     requires vacant { IsVacant slots.old vacancy.code vacancy }
     ensures puts { FillsSlot slots.old slots.new (vacancy.code % length slots.old) symbol }
     ensures small { length slots.old < 2 ^ 64 }
 {
-    if vacancy.slots == slots.len() {
+    if vacancy.slot_count == slots.len() {
         slots.set(vacancy.at, symbol);
     } else {
         put_by_code(slots, vacancy.code, symbol);

@@ -1,5 +1,5 @@
 use Rattle.string_interner.specs.Entry.{entry_text}
-use Rattle.std.proofs.Common.{◌%◌, arith, ap, ◌∙◌, length}
+use Rattle.std.proofs.Common.{◌%◌, arith, ap, ◌∙◌, length, rules}
 use Rattle.string_interner.specs.Slots.{probed, filled_run, first_passing, symbols}
 use Rattle.string_interner.specs.Index.{has_text}
 use Rattle.string_interner.proofs.SlotSymbols.{run_within}
@@ -20,11 +20,14 @@ returns-clause-vacant g c = rw (← c.self.view_is, ← c.hash_text-code.ensures
 pub probe-requires-clause-entries : goal.probe-requires-clause-entries
 probe-requires-clause-entries g c = rw (ap (λ x. x.slots) c.self.view_is) c.requires.entries
 
-pub returns-clause-at_most : goal.returns-clause-at_most
-returns-clause-at_most g c =
+pub returns-clause-looks : goal.returns-clause-looks
+returns-clause-looks g c =
     let same = ap (λ x. length (symbols x.slots)) c.self.view_is in
-    let run = run_within c.self.inside.slots (c.hash_text-code.result % length c.self.inside.slots) in omega arith
-
-pub returns-clause-run : goal.returns-clause-run
-returns-clause-run g c = rw (← c.self.view_is, ← c.hash_text-code.ensures) (λ f r.
-    let le = run-le c.self.inside.slots (c.hash_text-code.result % length c.self.inside.slots) f (omega arith) r in omega arith)
+    let run = run_within c.self.inside.slots (c.hash_text-code.result % length c.self.inside.slots) in
+    rw (← c.self.view_is, ← c.hash_text-code.ensures) (record {
+      backend = search rules;
+      counts = search rules;
+      run = λ f r. let le = run-le c.self.inside.slots (c.hash_text-code.result % length c.self.inside.slots) f (omega arith) r in omega arith;
+      at_most = omega arith;
+      no_slots = search rules;
+    })

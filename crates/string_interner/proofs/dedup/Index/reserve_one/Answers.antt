@@ -13,12 +13,12 @@ returns-clause-same g c =
     rw c.grow.ensures.slots (Rebuilt-same entry code c.args.self.now.slots c.in_ok-bigger.bigger c.requires
     (subst (λ xs. Rebuilt entry code xs c.in_ok-bigger.bigger) (ap (λ x. x.slots) c.self.view_is) c.in_ok-bigger.ensures.made))
 
-pub rebuilt-requires-clause-count : goal.rebuilt-requires-clause-count
-rebuilt-requires-clause-count g c = IsSlotCount-grown _ _ c.self.invariant.bounded.allowed
+pub rehash-requires-clause-count : goal.rehash-requires-clause-count
+rehash-requires-clause-count g c = IsSlotCount-grown _ _ c.self.invariant.bounded.allowed
     (subst (λ n. GrowsTo n c.in_ok-count.count) c.len.ensures (rw c.in_ok-count.ensures.ok_part at c.next_slot_count.ensures.some))
 
-pub rebuilt-requires-clause-more : goal.rebuilt-requires-clause-more
-rebuilt-requires-clause-more g c = GrowsTo-more _ _
+pub rehash-requires-clause-more : goal.rehash-requires-clause-more
+rehash-requires-clause-more g c = GrowsTo-more _ _
     (subst (λ n. GrowsTo n c.in_ok-count.count) c.len.ensures (rw c.in_ok-count.ensures.ok_part at c.next_slot_count.ensures.some))
 
 pub returns-clause-vacant : goal.returns-clause-vacant

@@ -4,7 +4,7 @@ use Rattle.std.specs.List.{Contains}
 use Rattle.std.proofs.lemmas.List.Elements.{Contains-get_or}
 use Rattle.string_interner.specs.Index.{has_text}
 use Rattle.string_interner.proofs.Putting.{free_at}
-use Rattle.string_interner.proofs.Vacancies.{unprobed_IsVacant, mod_less}
+use Rattle.string_interner.proofs.Vacancies.{by_code_IsVacant, mod_less}
 use Rattle.string_interner.proofs.Probing.{Walked-start, Walked-empty, Walked-hit, Walked-more}
 use Rattle.string_interner.proofs.dedup.probe.probe.Goals as goal
 use Rattle.string_interner.proofs.dedup.probe.probe.Goals.{then-at-count, else-at-count}
@@ -23,7 +23,7 @@ returns-in_default-clause-vacant g c = record {
 }
 
 pub returns-clause-vacant : goal.returns-clause-vacant
-returns-clause-vacant g c = rw c.unprobed.ensures (unprobed_IsVacant _ _)
+returns-clause-vacant g c = rw c.by_code.ensures (by_code_IsVacant _ _)
 
 pub loop-step-init : goal.loop-step-init
 loop-step-init g c = record {

@@ -1,4 +1,4 @@
-use Rattle.std.proofs.Common.{rules}
+use Rattle.std.proofs.Common.{refl, rules}
 use Rattle.string_interner.specs.Interner.{GrowsFor}
 use Rattle.string_interner.proofs.Collecting.{item-taken, interned-slots, extends-refused}
 use Rattle.string_interner.proofs.Growing.{grown-more}
@@ -17,3 +17,14 @@ pub returns-in_err-get_or_intern : goal.returns-in_err-get_or_intern
 returns-in_err-get_or_intern g c = extends-refused g.B.Symbol.Symbol.symbol_of g.B.Backend.place g.B.Backend.cost g.I.IntoIterator.into_iter_gives g.I.IntoIter.Iterator.next_gives _ c.into_iter-text-iterator.result c.next.new.self c.loop-text.yielded c.in-Some.text _ _ _ c.in_err-get_or_intern.field-0.0 c.from_residual.result
     c.into_iter-text-iterator.ensures.into_iter_gives (search rules) (search rules)
     c.loop-text.invariant.taken c.in_err-get_or_intern.ensures c.loop-text.invariant.grown
+
+pub returns : goal.returns
+returns g c = (
+  c.into_iter-text-iterator.result,
+  c.loop-text.yielded,
+  c.loop-text.self,
+  c.into_iter-text-iterator.ensures.into_iter_gives,
+  c.loop-text.invariant.taken,
+  c.loop-text.invariant.grown,
+  (search rules, refl),
+)

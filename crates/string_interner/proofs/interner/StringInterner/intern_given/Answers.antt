@@ -12,12 +12,12 @@ use Rattle.string_interner.proofs.interner.StringInterner.intern_given.Goals.{In
 use Rattle.string_interner.proofs.interner.StringInterner.intern_given.Given.{Over}
 
 pub returns-in-Occupied : goal.returns-in-Occupied
-returns-in-Occupied g c = rw (← c.self.view_is, ← c.text_of.ensures) (into-known g.B.Symbol.Symbol.symbol_of g.B.Backend.place g.B.Backend.cost _ _ c.text_of.result.now _
+returns-in-Occupied g c = rw (← c.self.view_is, ← c.text.ensures) (into-known g.B.Symbol.Symbol.symbol_of g.B.Backend.place g.B.Backend.cost _ _ c.text.result.now _
     (sought g.B.Symbol.Symbol.symbol_of g.B.Symbol.Symbol.number g.B.Backend.place g.met.B.Symbol.Symbol.numbered g.met.B.Symbol.Symbol.injective g.met.B.Backend.grows _ _ _ c.self.invariant _ _ _ c.in-Occupied.ensures.found (ap g.B.Backend.texts c.new-looks.ensures.backend)) refl)
 
 -- where no symbol was found, the text is new
 is_new : (g : Over) (c : In-Vacant g) → first (g.B.Backend.texts c.self.inside.backend) (given_text c.args.given) ≡ None
-is_new g c = not_found g.B.Symbol.Symbol.symbol_of g.B.Symbol.Symbol.number g.B.Backend.place g.met.B.Symbol.Symbol.numbered g.met.B.Symbol.Symbol.injective g.met.B.Backend.grows _ _ _ c.self.invariant _ _ _ c.in-Vacant.ensures.found (ap g.B.Backend.texts c.new-looks.ensures.backend) c.text_of.ensures
+is_new g c = not_found g.B.Symbol.Symbol.symbol_of g.B.Symbol.Symbol.number g.B.Backend.place g.met.B.Symbol.Symbol.numbered g.met.B.Symbol.Symbol.injective g.met.B.Backend.grows _ _ _ c.self.invariant _ _ _ c.in-Vacant.ensures.found (ap g.B.Backend.texts c.new-looks.ensures.backend) c.text.ensures
 
 pub returns-then-is_none : goal.returns-then-is_none
 returns-then-is_none g c = rw (← c.self.view_is) (into-unnamed g.B.Symbol.Symbol.symbol_of g.B.Backend.place g.B.Backend.cost _ _ (is_new g (goal.at.returns-then-is_none g c).In-Vacant) (search rules))
@@ -41,9 +41,9 @@ same g c = interned-same g.B.Symbol.Symbol.symbol_of g.B.Symbol.Symbol.number g.
 
 inserts : (g : Over) (c : After-insert_at g) → first (g.B.Backend.texts c.self.inside.backend) (given_text c.args.given) ≡ None
     → IsInterned g.B.Symbol.Symbol.symbol_of g.B.Backend.place g.B.Symbol.Symbol.number (g.H.TextHasher.code c.self.inside.hasher) (g.B.Backend.texts c.self.inside.backend) c.reserve_one.new.self.slots
-    → Inserts (entry_text g.B.Symbol.Symbol.number g.B.Backend.place (g.B.Backend.texts c.store.new.backend)) (g.H.TextHasher.code c.self.inside.hasher) c.reserve_one.new.self c.insert_at.new.self c.in_ok-symbol.symbol
+    → Inserts (entry_text g.B.Symbol.Symbol.number g.B.Backend.place (g.B.Backend.texts c.store_in.new.backend)) (g.H.TextHasher.code c.self.inside.hasher) c.reserve_one.new.self c.insert_at.new.self c.in_ok-symbol.symbol
 inserts g c new_text is = inserts-more g.B.Symbol.Symbol.symbol_of g.B.Symbol.Symbol.number g.B.Backend.place g.met.B.Symbol.Symbol.numbered g.met.B.Symbol.Symbol.injective g.met.B.Backend.grows _ _ _ is _ _ _ new_text c.in_ok-symbol.ensures.appends _ _ _ refl
-    (c.in-Vacant.ensures.vacant.code_is ∙ ap (g.H.TextHasher.code c.self.inside.hasher) c.text_of.ensures) c.insert_at.ensures
+    (c.in-Vacant.ensures.vacant.code_is ∙ ap (g.H.TextHasher.code c.self.inside.hasher) c.text.ensures) c.insert_at.ensures
 
 pub invariant_of-self-2 : goal.invariant_of-self-2
 invariant_of-self-2 g c = let at = goal.at.invariant_of-self-2 g c in
