@@ -1,6 +1,6 @@
 -- What the steps of the index do to its slots.
 -- Cited by the private functions of `dedup`.
-use Rattle.std.specs.Prelude.{◌≡◌, ℕ, ◌<◌, ◌≤◌, ◌%◌, List, length, slice_index_or, slice_set, Contains, Option, Some, None, ⊤}
+use Rattle.std.specs.Prelude.{◌≡◌, ℕ, ◌<◌, ◌≤◌, ◌%◌, ◌+◌, ◌⊎◌, List, length, slice_index_or, slice_set, Contains, Option, Some, None, ⊤}
 use Rattle.string_interner.specs.Text.{Text}
 use Rattle.string_interner.specs.Slots.{symbols, filled_run, probed}
 use Rattle.string_interner.specs.Index.{Fits, IsSlotCount}
@@ -20,6 +20,11 @@ pub record FillsSlot {S : Type 0} (old new : List (Option S)) (home : ℕ) (symb
   pub was_empty : slice_index_or old at None ≡ None
   pub written : new ≡ slice_set old at (Some symbol)
   pub placed : Contains (filled_run (probed new home)) symbol
+
+-- the slot that comes after this one, round the end
+pub record Follows (count at next : ℕ) : Type 0 where
+  pub within : next < count
+  pub one_on : (next ≡ at + 1) ⊎ ((next ≡ 0) × (at + 1 ≡ count))
 
 -- the slot is empty, and in the filled run from the home on once a symbol stands there
 abbrev pub IsFree : {S : Type 0} → List (Option S) → ℕ → ℕ → Type 0

@@ -7,7 +7,7 @@ ghost use Rattle.string_interner.specs.Index.{IsSlotCount, has_text};
 ghost use Rattle.string_interner.specs.Probe.{FillsSlot, HasFreeSlot, IfVacant, IsVacant, found_by};
 
 use crate::backend::Backend;
-use crate::dedup::slots::{Looks, Slots};
+use crate::dedup::slots::{Looks, Slots, slot_after};
 use crate::symbol::Symbol;
 
 /// What a look-up found.
@@ -90,7 +90,7 @@ pub fn probe<S: Symbol, B: Backend<Symbol = S>>(
         if seen.matches {
             return Entry::Occupied(seen.symbol);
         }
-        at = if at + 1 < count { at + 1 } else { 0 };
+        at = slot_after(at, count);
     }
     Entry::Vacant(Vacancy::by_code(code))
 }

@@ -4,7 +4,7 @@ ghost use Rattle.std.specs.Prelude.{◌≡◌, ◌+◌, ◌<◌, ◌^◌, length
 ghost use Rattle.string_interner.specs.Entry.{entry_text};
 ghost use Rattle.string_interner.specs.Slots.{symbols};
 ghost use Rattle.string_interner.specs.Index.{has_text};
-ghost use Rattle.string_interner.specs.Probe.{FillsSlot};
+ghost use Rattle.string_interner.specs.Probe.{FillsSlot, Follows};
 
 use crate::backend::Backend;
 use crate::dedup::count::Count;
@@ -64,6 +64,15 @@ impl<S: Symbol> Model for Slots<S> {
     ghost Value = { List (Option S) };
 
     ghost view = { λ s. s.items.items };
+}
+
+/// Returns the slot after this one: after the last comes the first.
+#[inline(always)]
+pub fn slot_after(at: usize, count: usize) -> usize
+    requires { at < count }
+    ensures { Follows count at result }
+{
+    if at + 1 < count { at + 1 } else { 0 }
 }
 
 /// Empties all slots.
@@ -168,7 +177,7 @@ impl<S: Symbol> Slots<S> {
                 self.set(at, symbol);
                 return;
             }
-            at = if at + 1 < count { at + 1 } else { 0 };
+            at = slot_after(at, count);
         }
     }
 }
