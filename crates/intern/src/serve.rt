@@ -73,17 +73,28 @@ fn first_bad(text: &str) -> Option<usize>
     lines(text).position(|line| line::command(line).is_none())
 }
 
+/// What is told where there is no memory for the commands: the first bad line, if there is one.
+fn fault_without_memory(text: &str) -> Fault
+    ensures { IsLineFault (lines_of text.now) result }
+{
+    match first_bad(text) {
+        Some(index) => Fault::BadLine(index + 1),
+        None => Fault::Memory,
+    }
+}
+
 /// The command of each line. A bad line is told even where there is no memory for the commands.
 fn commands_of(alloc: Global, text: &str) -> Result<Vec<Command<'_>>, Fault>
     ensures stated { IfOk result (λ commands. AllZip States commands.items (lines_of text.now)) }
     ensures fault { IfErr result (IsLineFault (lines_of text.now)) }
 {
-    if let Some(index) = first_bad(text) {
-        return Err(Fault::BadLine(index + 1));
-    }
-    let mut commands = Vec::with_capacity(alloc, lines(text).count()).map_err(|_| Fault::Memory)?;
+    let Ok(mut commands) = Vec::with_capacity(alloc, lines(text).count()) else {
+        return Err(fault_without_memory(text));
+    };
     for line in lines(text) {
-        let command = line::command(line).unwrap();
+        let Some(command) = line::command(line) else {
+            return Err(Fault::BadLine(commands.len() + 1));
+        };
         commands.push_reserved(command);
     }
     Ok(commands)

@@ -1,5 +1,5 @@
 -- What stands in buckets stays while they are put texts, and so do the entries.
-use Rattle.std.proofs.Common.{◌≡◌, ℕ, ◌+◌, ◌-◌, ◌*◌, ◌^◌, ◌<◌, ◌≤◌, List, [], ◌∷◌, ◌++◌, length, take, drop, get_or, map, All, false, Option, IsSome, refl, sym, ap, subst, ◌∙◌, inl, inr, arith, Bor}
+use Rattle.std.proofs.Common.{◌≡◌, ℕ, ◌+◌, ◌-◌, ◌*◌, ◌^◌, ◌<◌, ◌≤◌, min, max, List, [], ◌∷◌, ◌++◌, length, take, drop, get_or, map, All, false, Option, IsSome, refl, sym, ap, subst, ◌∙◌, inl, inr, arith, Bor}
 use Rattle.std.specs.Prelude.{slice_range}
 use Rattle.std.specs.Str.{IsUtf8, IsCharBoundary}
 use Rattle.std.proofs.lemmas.Bool.{cases_lt, cases_eq}
@@ -291,3 +291,16 @@ stored-copies symbol_of full head entries copies bucket stored are capacity = re
   };
   kept = rw are.texts stored.kept;
 }
+
+-- a text takes no more of the room of the head and of the free entries than its length, and at least one
+pub spent-puts : (text : Text) (full new_full : List Bucket) (head new_head : Bucket) (free left : ℕ) → Puts text full head new_full new_head → free ≤ left + 1
+    → min (head.capacity - length head.bytes) free ≤ min (new_head.capacity - length new_head.bytes) left + max 1 (length text)
+spent-puts text full new_full head new_head free left puts entry =
+    elim (cases_lt head.capacity (length head.bytes + length text)) as (λ _. min (head.capacity - length head.bytes) free ≤ min (new_head.capacity - length new_head.bytes) left + max 1 (length text)) [
+      | inl too_long ↦ omega (arith, too_long, entry)
+      | inr fits ↦
+          (let h = (puts.fits fits).1 in
+          let capacity = ap (λ (b : Bucket). b.capacity) h in
+          let bytes = ap (λ (b : Bucket). length b.bytes) h ∙ length-append head.bytes text in
+          omega (arith, fits, entry, capacity, bytes))
+    ]

@@ -1,6 +1,6 @@
 -- Interning text after text.
-use Rattle.std.proofs.Common.{◌≡◌, ℕ, ◌+◌, ◌*◌, ◌≤◌, List, [], ◌∷◌, ◌++◌, length, refl, sym, ap, ◌∙◌, subst, arith, Option, Some, None, Ok, Err, Bor}
-use Rattle.std.specs.Prelude.{MatchOption, IsOk, IsSome, Result}
+use Rattle.std.proofs.Common.{◌≡◌, ℕ, ◌+◌, ◌≤◌, List, [], ◌∷◌, ◌++◌, length, refl, sym, ap, ◌∙◌, subst, arith, Option, Some, None, Ok, Err, Bor}
+use Rattle.std.specs.Prelude.{MatchOption, IsSome, Result}
 use Rattle.std.specs.Iterator.{Yields, YieldsThen, AlwaysYields}
 use Rattle.std.specs.List.{sum_by}
 use Rattle.std.specs.Option.{option_map_or}
@@ -10,7 +10,7 @@ use Rattle.std.proofs.lemmas.List.Sums.{sum_by-append}
 use Rattle.string_interner.specs.Text.{Text, first}
 use Rattle.string_interner.specs.Backend.{Appends}
 use Rattle.string_interner.specs.Index.{Holds, IsLoaded}
-use Rattle.string_interner.specs.Interner.{Interned, Interns, GrowsIfFull, GrowsFor, entry_symbol}
+use Rattle.string_interner.specs.Interner.{Interned, Interns, InternsInto, GrowsFor, entry_symbol}
 use Rattle.string_interner.proofs.Growing.{GrowsFor-more}
 use Rattle.string_interner.specs.Collect.{texts_of, fresh, IsMemory, InternsAll, TakesIn, StopsAt, Extends, InternsInOrder}
 use Rattle.string_interner.proofs.Laws.{refused-keeps}
@@ -63,17 +63,17 @@ module _ {S : Type 0} (symbol_of : ℕ → Option S) (place : List Text → ℕ)
   all-more old [] mid text symbol new h i = (new, (symbol, subst (λ (xs : List Text). Interns symbol_of place xs text (Ok symbol) new) h i), refl)
   all-more old (t ∷ ts) mid text symbol new h i = (h.0, h.1, all-more h.0 ts mid text symbol new h.2 i)
 
-  -- what is so of a length and a count of slots, where one more entry keeps it, is so once a text was interned
-  pub interned-slots : (P : ℕ → ℕ → Type 0) (mid new : Interned) (text : Text) (symbol : S) → Interns symbol_of place mid.texts text (Ok symbol) new.texts → (IsSome (first mid.texts text) → new ≡ mid) → IsLoaded new.slot_count (length new.texts)
-      → (Holds new.slot_count (length mid.texts + 1) → P (length mid.texts + 1) new.slot_count) → P (length mid.texts) mid.slot_count → P (length new.texts) new.slot_count
-  interned-slots P mid new text symbol i known loaded more now = of (first mid.texts text) i known
-    where
-      of : (o : Option ℕ) → MatchOption o (Appends symbol_of place mid.texts text (Ok symbol) new.texts) (λ i. (entry_symbol symbol_of place mid.texts i ≡ Some symbol) × (new.texts ≡ mid.texts)) → (IsSome o → new ≡ mid) → P (length new.texts) new.slot_count
-      of None h known = let n : length new.texts ≡ length mid.texts + 1 = ap length h.1 ∙ length_push mid.texts text in
-          subst (λ k. P k new.slot_count) (sym n) (more (subst (λ k. Holds new.slot_count k) n loaded.load))
-      of (Some i) h known = subst (λ (it : Interned). P (length it.texts) it.slot_count) (sym (known refl)) now
-
   module _ (cost : Text → ℕ) where
+    -- what is so of a length and a count of slots, where one more entry keeps it, is so once a text was interned
+    pub interned-slots : (P : ℕ → ℕ → Type 0) (mid new : Interned) (text : Text) (symbol : S) → InternsInto symbol_of place cost mid text (Ok symbol) new → IsLoaded new.slot_count (length new.texts)
+        → (Holds new.slot_count (length mid.texts + 1) → P (length mid.texts + 1) new.slot_count) → P (length mid.texts) mid.slot_count → P (length new.texts) new.slot_count
+    interned-slots P mid new text symbol call loaded more now = of (first mid.texts text) call.interns call.known
+      where
+        of : (o : Option ℕ) → MatchOption o (Appends symbol_of place mid.texts text (Ok symbol) new.texts) (λ i. (entry_symbol symbol_of place mid.texts i ≡ Some symbol) × (new.texts ≡ mid.texts)) → (IsSome o → new ≡ mid) → P (length new.texts) new.slot_count
+        of None h known = let n : length new.texts ≡ length mid.texts + 1 = ap length h.1 ∙ length_push mid.texts text in
+            subst (λ k. P k new.slot_count) (sym n) (more (subst (λ k. Holds new.slot_count k) n loaded.load))
+        of (Some i) h known = subst (λ (it : Interned). P (length it.texts) it.slot_count) (sym (known refl)) now
+
     -- a text that is interned takes its cost, and nothing where it was known
     spent-fresh : (mid new : Interned) (text : Text) → (IsSome (first mid.texts text) → new ≡ mid) → mid.room ≤ new.room + cost text → mid.room ≤ new.room + sum_by cost (fresh mid.texts (text ∷ []))
     spent-fresh mid new text known spent = of (first mid.texts text) known
@@ -87,26 +87,18 @@ module _ {S : Type 0} (symbol_of : ℕ → Option S) (place : List Text → ℕ)
     cost-more old mid texts text h = rw (fresh-append old texts (text ∷ []), ← all-fresh old texts mid h) (sum_by-append cost (fresh old texts) (fresh mid (text ∷ [])))
 
     -- one more text goes in
-    taken-more : (old mid new : Interned) (texts : List Text) (text : Text) (symbol : S) → TakesIn symbol_of place cost old texts mid → Interns symbol_of place mid.texts text (Ok symbol) new.texts
-        → (IsSome (first mid.texts text) → new ≡ mid) → mid.room ≤ new.room + cost text → TakesIn symbol_of place cost old (texts ++ text ∷ []) new
-    taken-more old mid new texts text symbol taken i known spent = record {
-      interned = all-more old.texts texts mid.texts text symbol new.texts taken.interned i;
-      spent = omega (arith, taken.spent, cost-more old.texts mid.texts texts text taken.interned, spent-fresh mid new text known spent);
+    taken-more : (old mid new : Interned) (texts : List Text) (text : Text) (symbol : S) → TakesIn symbol_of place cost old texts mid → InternsInto symbol_of place cost mid text (Ok symbol) new
+        → TakesIn symbol_of place cost old (texts ++ text ∷ []) new
+    taken-more old mid new texts text symbol taken call = record {
+      interned = all-more old.texts texts mid.texts text symbol new.texts taken.interned call.interns;
+      spent = omega (arith, taken.spent, cost-more old.texts mid.texts texts text taken.interned, spent-fresh mid new text call.known call.room.spent);
     }
 
     -- the same, of the item of an iteration
-    pub item-taken : (old mid new : Interned) (items : List (Bor Text)) (item : Bor Text) (symbol : S) → TakesIn symbol_of place cost old (texts_of items) mid → Interns symbol_of place mid.texts item.now (Ok symbol) new.texts
-        → (IsSome (first mid.texts item.now) → new ≡ mid) → mid.room ≤ new.room + cost item.now → TakesIn symbol_of place cost old (texts_of (items ++ item ∷ [])) new
-    item-taken old mid new items item symbol taken i known spent = subst (λ (ts : List Text). TakesIn symbol_of place cost old ts new) (sym (map_push (λ (b : Bor Text). b.now) items item))
-        (taken-more old mid new (texts_of items) item.now symbol taken i known spent)
-
-    -- a refused text leaves what went in
-    pub refused-taken : (old mid new : Interned) (texts : List Text) (text : Text) (error : InternError) → TakesIn symbol_of place cost old texts mid → Interns symbol_of place mid.texts text (Err error) new.texts
-        → mid.room ≤ new.room → TakesIn symbol_of place cost old texts new
-    refused-taken old mid new texts text error taken i unspent = record {
-      interned = rw (refused-keeps symbol_of place mid.texts new.texts text error i) taken.interned;
-      spent = omega (arith, taken.spent, unspent);
-    }
+    pub item-taken : (old mid new : Interned) (items : List (Bor Text)) (item : Bor Text) (symbol : S) → TakesIn symbol_of place cost old (texts_of items) mid → InternsInto symbol_of place cost mid item.now (Ok symbol) new
+        → TakesIn symbol_of place cost old (texts_of (items ++ item ∷ [])) new
+    item-taken old mid new items item symbol taken call = subst (λ (ts : List Text). TakesIn symbol_of place cost old ts new) (sym (map_push (λ (b : Bor Text). b.now) items item))
+        (taken-more old mid new (texts_of items) item.now symbol taken call)
 
     -- memory is refused for a new text that has a symbol
     memory-new : (mid new : List Text) (text : Text) (error : InternError) → IsMemory error → Interns symbol_of place mid text (Err error) new → (first mid text ≡ None) × IsSome (symbol_of (place mid))
@@ -118,32 +110,31 @@ module _ {S : Type 0} (symbol_of : ℕ → Option S) (place : List Text → ℕ)
         of (Some i) h = absurd h.0
 
     -- a text that does not fit is refused
-    pub stopped : (old mid new : Interned) (texts : List Text) (text : Text) (error : InternError) → TakesIn symbol_of place cost old texts mid → Interns symbol_of place mid.texts text (Err error) new.texts
-        → (IsSome (symbol_of (place mid.texts)) → cost text ≤ mid.room → 4 * (length mid.texts + 1) ≤ 3 * mid.slot_count → IsOk {T = S} {E = InternError} (Err error))
-        → GrowsFor (length mid.texts) old.slot_count mid.slot_count → GrowsIfFull (length mid.texts) mid.slot_count new.slot_count → StopsAt symbol_of place cost old texts text error new
-    stopped old mid new texts text error taken i granted grown slots = record {
-      refuses = (let same = refused-keeps symbol_of place mid.texts new.texts text error i in subst (λ (xs : List Text). Interns symbol_of place xs text (Err error) new.texts) (sym same) i);
+    pub stopped : (old mid new : Interned) (texts : List Text) (text : Text) (error : InternError) → TakesIn symbol_of place cost old texts mid → InternsInto symbol_of place cost mid text (Err error) new
+        → GrowsFor (length mid.texts) old.slot_count mid.slot_count → StopsAt symbol_of place cost old texts mid text error new
+    stopped old mid new texts text error taken call grown = record {
+      refuses = call;
       beyond = λ m fits.
-          let is_new = memory-new mid.texts new.texts text error m i in
+          let is_new = memory-new mid.texts new.texts text error m call.interns in
           let one : fresh mid.texts (text ∷ []) ≡ text ∷ [] = rw is_new.0 refl in
           let c : sum_by cost (fresh old.texts (texts ++ text ∷ [])) ≡ sum_by cost (fresh old.texts texts) + cost text = cost-more old.texts mid.texts texts text taken.interned ∙ (ap (λ ts. sum_by cost (fresh old.texts texts) + sum_by cost ts) one ∙ omega arith) in
           let n : length (fresh old.texts (texts ++ text ∷ [])) ≡ length (fresh old.texts texts) + 1 = ap length (fresh-append old.texts texts (text ∷ []) ∙ ap (λ zs. fresh old.texts texts ++ fresh zs (text ∷ [])) (sym (all-fresh old.texts texts mid.texts taken.interned)) ∙ ap (λ ts. fresh old.texts texts ++ ts) one) ∙ length_push (fresh old.texts texts) text in
           let l : length mid.texts ≡ length old.texts + length (fresh old.texts texts) = ap length (all-fresh old.texts texts mid.texts taken.interned) ∙ length-append old.texts (fresh old.texts texts) in
-          let granted_now = granted is_new.1 (omega (arith, fits.backend, c, taken.spent)) (omega (arith, fits.index, n, l, GrowsFor-more _ _ _ grown)) in cc;
-      slots = rw (refused-keeps symbol_of place mid.texts new.texts text error i) (mid.slot_count, grown, slots);
+          let granted_now = call.room.granted (is_new.1, omega (arith, fits.index, n, l, GrowsFor-more _ _ _ grown)) (omega (arith, fits.backend, c, taken.spent)) in cc;
     }
 
     -- an extension that a refused item ended
     pub extends-refused : {I W : Type 0} (becomes : I → W → Type 0) (steps : W → Option (Bor Text) → W → Type 0) (iter : I) (walk rest : W) (items : List (Bor Text)) (item : Bor Text) (old mid new : Interned) (error : InternError) (outcome : Result (Unit {0}) InternError)
-        → becomes iter walk → YieldsThen steps walk items (Some item) rest → outcome ≡ Err error → TakesIn symbol_of place cost old (texts_of items) mid → Interns symbol_of place mid.texts item.now (Err error) new.texts
-        → (IsSome (symbol_of (place mid.texts)) → cost item.now ≤ mid.room → 4 * (length mid.texts + 1) ≤ 3 * mid.slot_count → IsOk {T = S} {E = InternError} (Err error)) → mid.room ≤ new.room
-        → GrowsFor (length mid.texts) old.slot_count mid.slot_count → GrowsIfFull (length mid.texts) mid.slot_count new.slot_count → Extends symbol_of place cost becomes steps iter old outcome new
-    extends-refused becomes steps iter walk rest items item old mid new error outcome b y e taken i granted unspent grown slots = rw e (
+        → becomes iter walk → YieldsThen steps walk items (Some item) rest → outcome ≡ Err error → TakesIn symbol_of place cost old (texts_of items) mid → InternsInto symbol_of place cost mid item.now (Err error) new
+        → GrowsFor (length mid.texts) old.slot_count mid.slot_count → Extends symbol_of place cost becomes steps iter old outcome new
+    extends-refused becomes steps iter walk rest items item old mid new error outcome b y e taken call grown = rw e (
       walk,
       items,
+      mid,
       b,
-      refused-taken old mid new (texts_of items) item.now error taken i unspent,
-      (item, rest, y, stopped old mid new (texts_of items) item.now error taken i granted grown slots),
+      taken,
+      grown,
+      (item, rest, y, stopped old mid new (texts_of items) item.now error taken call grown),
     )
 
 -- an iteration that ended went over the whole list
@@ -163,8 +154,15 @@ fronted steps (z ∷ zs) s t u x (y ∷ ys) (j, sj, more) st always = let m = al
 -- an interner that is extended by what yields a list interns its texts in order
 pub in-order : {S : Type 0} (symbol_of : ℕ → Option S) (place : List Text → ℕ) (cost : Text → ℕ) {I W : Type 0} (becomes : I → W → Type 0) (steps : W → Option (Bor Text) → W → Type 0) (iter : I) (old new : Interned) (outcome : Result (Unit {0}) InternError) (all : List (Bor Text))
     → Extends symbol_of place cost becomes steps iter old outcome new → ((walk : W) → becomes iter walk → YieldsList steps (λ x. x) walk all) → InternsInOrder symbol_of place old.texts (texts_of all) outcome new.texts
-in-order symbol_of place cost becomes steps iter old new (Ok done) all (walk, items, b, taken, drains) lists =
-    let ends = drains.0 in rw (drained steps items walk ends.1.0 ends.0 all ends.1.1 ends.1.2 (lists walk b).runs) taken.interned
-in-order symbol_of place cost becomes steps iter old new (Err error) all (walk, items, b, taken, (item, left, yields, stops)) lists =
+in-order symbol_of place cost becomes steps iter old new (Ok done) all (walk, items, mid, b, taken, grown, drains) lists =
+    let ends = drains.0 in rw (ap (λ (i : Interned). i.texts) drains.1, drained steps items walk ends.1.0 ends.0 all ends.1.1 ends.1.2 (lists walk b).runs) taken.interned
+in-order symbol_of place cost becomes steps iter old new (Err error) all (walk, items, mid, b, taken, grown, (item, left, yields, stops)) lists =
     let f = fronted steps items walk yields.0 left item all yields.1 yields.2 (lists walk b).runs in
-    (texts_of items, item.now, texts_of f.0, ap texts_of f.1 ∙ map-append (λ (b : Bor Text). b.now) items (item ∷ f.0), taken.interned, stops.refuses)
+    let same = refused-keeps symbol_of place mid.texts new.texts item.now error stops.refuses.interns in (
+      texts_of items,
+      item.now,
+      texts_of f.0,
+      ap texts_of f.1 ∙ map-append (λ (b : Bor Text). b.now) items (item ∷ f.0),
+      rw same taken.interned,
+      subst (λ (xs : List Text). Interns symbol_of place xs item.now (Err error) new.texts) (sym same) stops.refuses.interns,
+    )

@@ -1,11 +1,12 @@
 -- The arithmetic of growth.
-use Rattle.std.proofs.Common.{◌≡◌, ℕ, suc, ◌+◌, ◌-◌, ◌*◌, ◌^◌, ◌<◌, ◌≤◌, ◌%◌, max, bit_and, ◌⊎◌, inl, inr, arith, subst, sym, length}
+use Rattle.std.proofs.Common.{◌≡◌, ℕ, suc, ◌+◌, ◌-◌, ◌*◌, ◌^◌, ◌<◌, ◌≤◌, ◌%◌, max, bit_and, ◌⊎◌, inl, inr, arith, refl, ap, subst, sym, length, Result, Ok, Err}
+use Rattle.std.specs.Prelude.{IsOk, OnOk, OnErr}
 use Rattle.std.proofs.Math.Nat.{pow-succ'}
 use Rattle.std.proofs.lemmas.Nat.{and_mask}
 use Rattle.std.proofs.Math.Pow.{pow_mono}
 use Rattle.std.proofs.lemmas.Bool.{cases_lt}
 use Rattle.string_interner.specs.Interner.{GrowsIfFull, GrowsFor}
-use Rattle.string_interner.specs.Index.{Indexed, GrowsTo, Holds, IsSlotCount, IsLeastSlotCount, IsSound, HasRoom, entry_count}
+use Rattle.string_interner.specs.Index.{Indexed, GrowsTo, Holds, IsSlotCount, IsLeastSlotCount, IsSound, HasRoom, Grows, entry_count}
 
 pub IsSlotCount-grown : (count more : ℕ) → IsSlotCount count → GrowsTo count more → IsSlotCount more
 IsSlotCount-grown count more s (inl a) = inr (0, a.1)
@@ -107,6 +108,22 @@ count_small count (inr p) l =
 pub GrowsTo-more : (count more : ℕ) → GrowsTo count more → count < more
 GrowsTo-more count more (inl a) = let x = a.0 in let y = a.1 in omega arith
 GrowsTo-more count more (inr a) = let x = a.0 in let y = a.1 in omega arith
+
+-- the slots stay as they are
+pub GrowsIfFull-same : (len count : ℕ) → GrowsIfFull len count count
+GrowsIfFull-same len count = record { allowed = λ h. refl; grown = inl refl }
+
+-- room for one more entry was asked for
+pub GrowsIfFull-reserved : {S T E : Type 0} (old new : Indexed S) (outcome : Result T E) → (HasRoom old → IsOk outcome × (new ≡ old)) → (¬ HasRoom old → OnOk outcome (Grows old new)) → OnErr outcome (new ≡ old)
+    → GrowsIfFull (entry_count old) (length old.slots) (length new.slots)
+GrowsIfFull-reserved old new (Err e) had_room grown err = record { allowed = λ h. ap (λ x. length x.slots) err; grown = inl (ap (λ x. length x.slots) err) }
+GrowsIfFull-reserved old new (Ok done) had_room grown err = record {
+  allowed = λ h. ap (λ x. length x.slots) (had_room h).1;
+  grown = elim (cases_lt (3 * length old.slots) (4 * (entry_count old + 1))) as (λ _. (length new.slots ≡ length old.slots) ⊎ GrowsTo (length old.slots) (length new.slots)) [
+    | inl is_full ↦ inr (grown (λ h. omega arith)).slots
+    | inr room ↦ inl (ap (λ x. length x.slots) (had_room room).1)
+  ];
+}
 
 -- a list that got longer has no fewer slots than before
 pub GrowsFor-more : (len old new : ℕ) → GrowsFor len old new → old ≤ new

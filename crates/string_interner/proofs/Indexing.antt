@@ -1,10 +1,9 @@
 -- What a put of an entry's symbol does to the map.
 use Rattle.std.proofs.Common.{◌≡◌, ℕ, ◌+◌, ◌%◌, true, List, [], Option, Some, None, length, max, refl, sym, subst, ap, ◌∙◌}
 use Rattle.std.specs.Option.{IsSome, is_some, unwrap_or}
-use Rattle.string_interner.specs.Index.{entry_count, HasRoom, IsSound, Indexed, Inserts, IsAbsent, Fits, text_of}
+use Rattle.string_interner.specs.Index.{entry_count, IsSound, Indexed, Inserts, IsAbsent, Fits, text_of}
 use Rattle.string_interner.specs.Probe.{FillsSlot}
 use Rattle.string_interner.specs.Text.{Text}
-use Rattle.string_interner.proofs.Growing.{IsSound-more}
 use Rattle.string_interner.proofs.LookUp.{FillsSlot-fits, FillsSlot-look_up, FillsSlot-symbols, FillsSlot-length}
 
 module _ {S : Type 0} (entry : S → Option Text) where
@@ -30,13 +29,6 @@ module _ {S : Type 0} (entry : S → Option Text) where
         put_back = back;
         greatest = greatest ∙ ap (max old.greatest) (sym (FillsSlot-symbols old.slots new.slots _ symbol p));
       }
-
-  -- an index keeps to its bounds when a symbol is inserted
-  pub IsSound-inserted : (code : Text → ℕ) (inside old new : Indexed S) (len : ℕ) (symbol : S) → inside ≡ old → IsSound inside len → HasRoom old
-      → Inserts entry code old new symbol → IsSound new (len + 1)
-  IsSound-inserted code inside old new len symbol same sound room i =
-      let s = subst (λ x. IsSound x len) same sound in
-      IsSound-more old new len s room i.count i.slots i.put_back (i.greatest ∙ ap (max old.greatest) (i.count ∙ ap (λ n. n + 1) (sym s.counted)))
 
 -- the greatest number of entries, when one more is inserted
 pub greatest-inserted : {S : Type 0} (inside old : Indexed S) (len result : ℕ) → inside ≡ old → IsSound inside len → result ≡ max inside.greatest (len + 1)

@@ -8,8 +8,7 @@ use Rattle.string_interner.specs.Text.{Text, first}
 use Rattle.string_interner.specs.Backend.{IsKept, Appends}
 use Rattle.string_interner.specs.Entry.{entry_text}
 use Rattle.string_interner.specs.Slots.{symbols}
-use Rattle.string_interner.specs.Index.{AddsPair, Fits, Indexed, Inserts, IsAbsent, SameMap, look_up, text_of}
-use Rattle.string_interner.specs.Probe.{IsVacant}
+use Rattle.string_interner.specs.Index.{AddsPair, Fits, Indexed, Inserts, InsertsByCode, IsAbsent, SameMap, look_up, text_of}
 use Rattle.string_interner.specs.Interner.{IsInterned, entry_symbol, known_symbol}
 use Rattle.string_interner.proofs.EntryTexts.{Adds, entry_text-adds}
 use Rattle.string_interner.proofs.Firsts.{first_within, first_none}
@@ -57,6 +56,10 @@ module _ {S : Type 0} (symbol_of : ℕ → Option S) (number : S → ℕ) (place
   pub sought_none : (lent : List Text) (found : Option S) (t : Text) → found ≡ look_up (entries lent) slots t → lent ≡ texts → found ≡ None → first texts t ≡ None
   sought_none lent found t e same none = known_none symbol_of place texts t is.kept (sought lent found t e same ∙ none)
 
+  -- the same of a text that is known by an equation
+  pub not_found : (lent : List Text) (t u : Text) → None ≡ look_up (entries lent) slots t → lent ≡ texts → t ≡ u → first texts u ≡ None
+  not_found lent t u e same text = subst (λ x. first texts x ≡ None) text (sought_none lent None t e same refl)
+
   -- slots that hold the same map, of as many symbols
   pub interned-same : (bigger : List (Option S)) → Fits (entries texts) code bigger → SameMap (entries texts) slots bigger
       → length (symbols bigger) ≡ length (symbols slots) → IsInterned symbol_of place number code texts bigger
@@ -87,10 +90,6 @@ module _ {S : Type 0} (symbol_of : ℕ → Option S) (number : S → ℕ) (place
     pub text-more : text_of (entries more) s ≡ t
     text-more = text_of-added (entries texts) (entries more) code slots slots s t is.whole is.whole.fits (λ u. refl) adds
 
-    -- and goes where the text does
-    pub vacant-more : (known_code : ℕ) (at : Option ℕ) → IsVacant code slots t known_code at → IsVacant code slots (text_of (entries more) s) known_code at
-    vacant-more known_code at v = rw text-more v
-
     -- once it is inserted the index has each text again
     pub interned-more : (old new : Indexed S) → IsKept symbol_of place more → old.slots ≡ slots → Inserts (entries more) code old new s
         → IsInterned symbol_of place number code more new.slots
@@ -101,3 +100,7 @@ module _ {S : Type 0} (symbol_of : ℕ → Option S) (number : S → ℕ) (place
           (subst (λ (xs : List (Option S)). AddsPair (entries more) xs new.slots s) here i.pair);
       count = (let a = ap (λ xs. length (symbols xs)) here in let b = i.count in let d = is.count in let e = ap length put.1 ∙ length_push texts t in omega arith);
     }
+
+    -- where it is put by the code of the text, it is inserted
+    pub inserts-more : (known_code : ℕ) (old new : Indexed S) → old.slots ≡ slots → known_code ≡ code t → InsertsByCode known_code old new s → Inserts (entries more) code old new s
+    inserts-more known_code old new here is_code by = by (entries more) code (rw here fits-more) (rw here absent-more) (is_code ∙ ap code (sym text-more))

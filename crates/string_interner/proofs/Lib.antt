@@ -14,6 +14,7 @@ pub mod Fronts
 pub mod Growing
 pub mod Indexing
 pub mod Interning
+pub mod InternsInto
 pub mod JsonExact
 pub mod JsonForms
 pub mod Kept
@@ -29,6 +30,7 @@ pub mod SameEntries
 pub mod Scopes
 pub mod Spelling
 pub mod Steps
+pub mod Vacancies
 pub mod WholeTexts
 pub mod Wholes
 pub mod Worked

@@ -40,9 +40,6 @@ module _ {S : Type 0} (slots : List (Option S)) (home : ℕ) (h : home < length 
         },
       )
 
-  pub no_end : (test : S → Bool) (i at : ℕ) → Walked test slots home i at → length slots ≤ i → length (symbols slots) < length slots → ⊥
-  no_end test i at w k free = let a = w.run in let b = run_within slots home in omega arith
-
   pub passes : (i at next : ℕ) → On i at → i < length slots → is_some (get_or slots at None) ≡ true → next < length slots
       → (next ≡ at + 1) ⊎ ((next ≡ 0) × (at + 1 ≡ length slots)) → On (i + 1) next
   passes i at next w k e l p =

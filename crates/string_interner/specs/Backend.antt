@@ -46,3 +46,19 @@ pub record UsesRoom {T E : Type 0} (has_symbol : Type 0) (cost old new : ℕ) (o
   pub granted : has_symbol → cost ≤ old → IsOk outcome
   pub spent : OnOk outcome (old ≤ new + cost)
   pub unspent : OnErr outcome (old ≤ new)
+
+-- The same of a backend that has these texts, buckets and room, where a text takes its cost of the room. A refused text
+-- leaves the buckets.
+pub record AppendsInto {S B : Type 0} (symbol_of : ℕ → Option S) (place : List Text → ℕ) (cost : Text → ℕ) (texts_of : B → List Text)
+    (buckets_of : B → List Bucket) (room_of : B → ℕ) (old : B) (text : Text) (outcome : Result S InternError) (new : B) : Type 0 where
+  pub appends : Appends symbol_of place (texts_of old) text outcome (texts_of new)
+  pub kept : IsKept symbol_of place (texts_of new)
+  pub buckets : OnErr outcome (buckets_of new ≡ buckets_of old)
+  -- within the room, memory is not refused
+  pub room : UsesRoom (IsSome (symbol_of (place (texts_of old)))) (cost text) (room_of old) (room_of new) outcome
+
+-- memory is given back: the texts stay, with no more room than there was, and with none where there is no text
+pub record Shrinks (old new : Contents) : Type 0 where
+  pub texts : new.texts ≡ old.texts
+  pub room : new.room ≤ old.room
+  pub frees : old.texts ≡ [] → new.room ≡ 0

@@ -1,10 +1,11 @@
 -- How texts lie in buckets: where the text of an entry stands, how a text is put in, and what bounds the capacities.
 -- Cited by the model and the contracts of `BucketBackend`.
-use Rattle.std.specs.Prelude.{◌≡◌, ℕ, ◌+◌, ◌-◌, ◌*◌, ◌<◌, ◌≤◌, max, List, [], ◌∷◌, ◌++◌, length, map, sum_by, slice_index_or, slice_range, All, Bool, true, false, Option}
+use Rattle.std.specs.Prelude.{◌≡◌, ℕ, ◌+◌, ◌-◌, ◌*◌, ◌^◌, ◌<◌, ◌≤◌, max, List, [], ◌∷◌, ◌++◌, length, map, sum_by, slice_index_or, slice_range, All, Bool, true, false, Option, Result}
 use Rattle.std.specs.Str.{IsCharBoundary}
 use Rattle.std.specs.Int.{IsNextPowerOfTwo}
 use Rattle.string_interner.specs.Text.{Text}
-use Rattle.string_interner.specs.Backend.{Bucket, IsKept}
+use Rattle.string_interner.specs.Backend.{AppendsInto, Bucket, IsKept}
+use Rattle.string_interner.specs.declared.backend.InternError.{InternError}
 use Rattle.string_interner.specs.declared.backend.bucket.interned_str.InternedStr.{InternedStr}
 use Rattle.string_interner.specs.declared.backend.bucket.interned_str.InternedStr.TheVariants.{InBucket, Static}
 
@@ -43,6 +44,10 @@ byte_count buckets = sum_by (λ bucket. length bucket.bytes) buckets
 abbrev pub AreBounded : List Bucket → Type 0
 AreBounded buckets = total_capacity buckets ≤ max (bucket_at buckets 0).capacity (4 * byte_count buckets)
 
+-- A text is put last, where it takes its length of the room, and at least one.
+abbrev pub AppendsText : {S : Type 0} → (ℕ → Option S) → BucketContents → Text → Result S InternError → BucketContents → Type 0
+AppendsText symbol_of = AppendsInto symbol_of length (λ text. max 1 (length text)) (λ b. b.texts) (λ b. buckets_of b.full b.head) (λ b. b.room)
+
 -- A text is put into the buckets: at the end of the head where the capacity of the head allows it. Else the head joins
 -- the older buckets, and the text begins a new head, whose capacity is the least power of two above both.
 pub record Puts (text : Text) (full : List Bucket) (head : Bucket) (new_full : List Bucket) (new_head : Bucket) : Type 0 where
@@ -66,6 +71,23 @@ abbrev pub copied_bytes : List Text → List Bool → List ℕ
 copied_bytes (text ∷ texts) (false ∷ statics) = text ++ copied_bytes texts statics
 copied_bytes (text ∷ texts) (true ∷ statics) = copied_bytes texts statics
 copied_bytes _ _ = []
+
+-- the buckets stay as they are
+pub record KeepsBuckets (old new : BucketContents) : Type 0 where
+  pub full : new.full ≡ old.full
+  pub head : new.head ≡ old.head
+
+-- the capacity of a head that takes the bytes of all buckets, and keeps the room of this head
+abbrev pub joint_capacity : BucketContents → ℕ
+joint_capacity contents = contents.head.capacity + byte_count contents.full
+
+-- the copy has all texts that stand in buckets in one head, and static texts where they are
+pub record JoinsBuckets (old copy : BucketContents) : Type 0 where
+  pub texts : copy.texts ≡ old.texts
+  pub statics : copy.statics ≡ old.statics
+  pub full : copy.full ≡ []
+  pub head : copy.head ≡ record { capacity = joint_capacity old; bytes = copied_bytes old.texts old.statics }
+  pub fits : joint_capacity old < 2 ^ 64
 
 -- whether an entry is a static text
 abbrev pub is_static : InternedStr → Bool

@@ -7,7 +7,7 @@ use Rattle.std.specs.List.{sum_by}
 use Rattle.std.specs.Option.{option_map_or}
 use Rattle.string_interner.specs.Text.{Text, first}
 use Rattle.string_interner.specs.Index.{Holds}
-use Rattle.string_interner.specs.Interner.{Interned, Interns, GrowsIfFull, GrowsFor}
+use Rattle.string_interner.specs.Interner.{Interned, IsNew, Interns, InternsInto, GrowsFor}
 use Rattle.string_interner.specs.declared.backend.InternError.{InternError}
 use Rattle.string_interner.specs.declared.backend.InternError.TheVariants.{NoSymbol, Memory}
 
@@ -49,23 +49,23 @@ module _ {S : Type 0} (symbol_of : ℕ → Option S) (place : List Text → ℕ)
       pub interned : InternsAll old.texts texts new.texts
       pub spent : old.room ≤ new.room + sum_by cost (fresh old.texts texts)
 
-    -- After the texts went in, the next one is refused so: for memory only where they and it do not fit the old room. The
-    -- slots grew for the texts, and then as for the refused one.
-    pub record StopsAt (old : Interned) (texts : List Text) (refused : Text) (error : InternError) (new : Interned) : Type 0 where
-      pub refuses : Interns symbol_of place new.texts refused (Err error) new.texts
+    -- After the texts went in, the next one is refused as interning it is: for memory only where they and it do not fit the
+    -- old room.
+    pub record StopsAt (old : Interned) (texts : List Text) (mid : Interned) (refused : Text) (error : InternError) (new : Interned) : Type 0 where
+      pub refuses : InternsInto symbol_of place cost mid refused (Err error) new
       pub beyond : IsMemory error → ¬ HasRoomFor old (texts ++ refused ∷ [])
-      pub slots : (count : ℕ) × GrowsFor (length new.texts) old.slot_count count × GrowsIfFull (length new.texts) count new.slot_count
 
-    -- Items of what `iter` became are interned: all that it yields, and the slots grow for the texts, or those in front of
-    -- the first that is refused, and then none was asked for after that.
+    -- Items of what `iter` became are interned, and the slots grow for them: all that it yields, or those in front of the
+    -- first that is refused, and then none was asked for after that.
     abbrev pub Extends : {I W : Type 0} → (I → W → Type 0) → (W → Option (Bor Text) → W → Type 0) → I → Interned → Result (Unit {0}) InternError → Interned → Type 0
     Extends {I} {W} becomes steps iter old outcome new =
-        (walk : W) × (items : List (Bor Text)) × becomes iter walk × TakesIn old (texts_of items) new × MatchResult outcome
-        (λ _. Drains steps walk items × GrowsFor (length new.texts) old.slot_count new.slot_count)
-        (λ error. (refused : Bor Text) × (rest : W) × YieldsThen steps walk items (Some refused) rest × StopsAt old (texts_of items) refused.now error new)
+        (walk : W) × (items : List (Bor Text)) × (mid : Interned) × becomes iter walk × TakesIn old (texts_of items) mid
+        × GrowsFor (length mid.texts) old.slot_count mid.slot_count × MatchResult outcome
+        (λ _. Drains steps walk items × (new ≡ mid))
+        (λ error. (refused : Bor Text) × (rest : W) × YieldsThen steps walk items (Some refused) rest × StopsAt old (texts_of items) mid refused.now error new)
 
     -- An interner that has no texts and no slots is extended by the items. Where one is refused, no interner is made.
     abbrev pub Collects : {I W : Type 0} → (I → W → Type 0) → (W → Option (Bor Text) → W → Type 0) → I → Result Interned InternError → Type 0
-    Collects becomes steps iter outcome = (empty : Interned) × (empty.texts ≡ []) × (empty.slot_count ≡ 0) × MatchResult outcome
+    Collects becomes steps iter outcome = (empty : Interned) × IsNew empty × MatchResult outcome
         (λ made. Extends becomes steps iter empty (Ok tt) made)
         (λ error. (front : Interned) × Extends becomes steps iter empty (Err error) front)

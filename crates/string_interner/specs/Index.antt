@@ -6,7 +6,7 @@ use Rattle.std.specs.Prelude.{◌≡◌, ℕ, ◌+◌, ◌*◌, ◌^◌, ◌<◌
 use Rattle.std.specs.Option.{option_map_or}
 use Rattle.std.specs.Str.{bytes_eq}
 use Rattle.string_interner.specs.Text.{Text}
-use Rattle.string_interner.specs.Slots.{symbols, filled_run, probed, first_passing}
+use Rattle.string_interner.specs.Slots.{Looking, IsFilledRun, symbols, filled_run, probed, first_passing}
 
 -- what contracts see of an index
 pub record Indexed (S : Type 0) : Type 0 where
@@ -56,6 +56,15 @@ pub record IsSound {S : Type 0} (index : Indexed S) (len : ℕ) : Type 0 where
   pub bounded : IsBounded index
   -- so that the next doubling leaves what was put back within bounds
   pub put_back : 4 * index.put_back ≤ 3 * length index.slots
+
+-- A text with this code was looked for: at most one look more than there are slots in the filled run from its home on,
+-- and so at most one more than there are entries, and none without slots. The backend stays lent.
+pub record CountsLooks {S B : Type 0} (index : Indexed S) (code : ℕ) (old new : Looking B) : Type 0 where
+  pub backend : new.backend ≡ old.backend
+  pub counts : old.count ≤ new.count
+  pub run : (f : ℕ) → IsFilledRun index.slots (code % length index.slots) f → new.count ≤ old.count + f + 1
+  pub at_most : new.count ≤ old.count + entry_count index + 1
+  pub no_slots : length index.slots ≡ 0 → new.count ≡ old.count
 
 -- the symbols from a text's home on, up to the first empty slot
 abbrev pub filled_run_of : {S : Type 0} → (Text → ℕ) → List (Option S) → Text → List S
@@ -119,6 +128,12 @@ module _ {S : Type 0} (entry : S → Option Text) where
 -- the slots fit all entries and hashers
 abbrev pub FitsAll : {S : Type 0} → List (Option S) → Type 0
 FitsAll {S} slots = (entry : S → Option Text) (code : Text → ℕ) → Fits entry code slots
+
+-- The symbol is added where texts with this code go: under its text, if that has this code, whatever entries and hasher
+-- the slots fit.
+abbrev pub InsertsByCode : {S : Type 0} → ℕ → Indexed S → Indexed S → S → Type 0
+InsertsByCode {S} known_code old new symbol = (entry : S → Option Text) (code : Text → ℕ) → Fits entry code old.slots → IsAbsent entry old.slots symbol
+    → known_code ≡ code (text_of entry symbol) → Inserts entry code old new symbol
 
 -- what a count of slots grows to: 8 from none, or twice as many
 abbrev pub GrowsTo : ℕ → ℕ → Type 0

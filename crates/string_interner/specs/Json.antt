@@ -5,8 +5,8 @@ use Rattle.std.specs.Option.{ok_or, option_map_or}
 use Rattle.serde_json.specs.Data.{Data, number, unsigned, string, array, Items, no_items, item}
 use Rattle.serde_json.specs.Find.{as_array, as_number, as_str, as_u64}
 use Rattle.serde_json.specs.View.{items_of}
-use Rattle.string_interner.specs.Text.{Text, first}
-use Rattle.string_interner.specs.Backend.{Appends}
+use Rattle.string_interner.specs.Text.{Text, IsDistinct, first}
+use Rattle.string_interner.specs.Backend.{Appends, IsKept}
 use Rattle.string_interner.specs.Interner.{Interned, Interns}
 use Rattle.string_interner.specs.declared.backend.InternError.{InternError}
 use Rattle.string_interner.specs.declared.backend.InternError.TheVariants.{NoSymbol as InternNoSymbol, Memory as InternMemory}
@@ -65,3 +65,7 @@ abbrev pub GivesBack : List Text → Result Interned JsonError → Type 0
 GivesBack texts (Ok interner) = interner.texts ≡ texts
 GivesBack texts (Err (Memory _)) = ⊤
 GivesBack texts (Err _) = ⊥
+
+-- where the value is what `to_json` writes of a list that an interner may have, that comes of reading it
+abbrev pub ReadsBack : {S : Type 0} → (ℕ → Option S) → (List Text → ℕ) → Data → Result Interned JsonError → Type 0
+ReadsBack symbol_of place value outcome = (texts : List Text) → IsDistinct texts → IsKept symbol_of place texts → value ≡ json_of_texts texts → GivesBack texts outcome

@@ -9,12 +9,12 @@ pub mod BufferBackend
 pub mod BufferLaws
 pub mod Walk
 pub mod Entry
+pub mod Given
 pub mod Hasher
 pub mod Slots
 pub mod Index
 pub mod Probe
 pub mod Interner
-pub mod Sought
 pub mod Collect
 pub mod Json
 pub mod Scopes

@@ -1,9 +1,17 @@
 -- What the steps of the index do to its slots.
--- Cited by the private functions of `dedup`, and by `Sought`.
-use Rattle.std.specs.Prelude.{◌≡◌, ℕ, ◌<◌, ◌%◌, List, length, IfSome, slice_index_or, slice_set, Contains, Option, Some, None}
+-- Cited by the private functions of `dedup`.
+use Rattle.std.specs.Prelude.{◌≡◌, ℕ, ◌<◌, ◌≤◌, ◌%◌, ◌+◌, ◌⊎◌, List, length, slice_index_or, slice_set, Contains, Option, Some, None, ⊤}
 use Rattle.string_interner.specs.Text.{Text}
 use Rattle.string_interner.specs.Slots.{symbols, filled_run, probed}
-use Rattle.string_interner.specs.Index.{Fits}
+use Rattle.string_interner.specs.Index.{Fits, IsSlotCount}
+use Rattle.string_interner.specs.declared.dedup.probe.Entry.{Entry}
+use Rattle.string_interner.specs.declared.dedup.probe.Entry.TheVariants.{Occupied, Vacant}
+use Rattle.string_interner.specs.declared.dedup.probe.Vacancy.{Vacancy}
+
+-- the count of slots is allowed, and a slot is empty
+pub record HasFreeSlot {S : Type 0} (slots : List (Option S)) : Type 0 where
+  pub allowed : IsSlotCount (length slots)
+  pub free : length (symbols slots) < length slots
 
 -- the new slots are the old ones with the symbol in one that was empty, in the filled run from its home on
 pub record FillsSlot {S : Type 0} (old new : List (Option S)) (home : ℕ) (symbol : S) : Type 0 where
@@ -13,14 +21,31 @@ pub record FillsSlot {S : Type 0} (old new : List (Option S)) (home : ℕ) (symb
   pub written : new ≡ slice_set old at (Some symbol)
   pub placed : Contains (filled_run (probed new home)) symbol
 
--- a symbol with this home may be put there
+-- the slot that comes after this one, round the end
+pub record Follows (count at next : ℕ) : Type 0 where
+  pub within : next < count
+  pub one_on : (next ≡ at + 1) ⊎ ((next ≡ 0) × (at + 1 ≡ count))
+
+-- the slot is empty, and in the filled run from the home on once a symbol stands there
 abbrev pub IsFree : {S : Type 0} → List (Option S) → ℕ → ℕ → Type 0
 IsFree {S} slots home at = (at < length slots) × ((symbol : S) → FillsSlot slots (slice_set slots at (Some symbol)) home symbol)
 
--- The symbol of the text may be put there: into the slot `at`, where one is known, or else where its code leads.
-pub record IsVacant {S : Type 0} (code : Text → ℕ) (slots : List (Option S)) (text : Text) (known_code : ℕ) (at : Option ℕ) : Type 0 where
-  pub code_is : known_code ≡ code text
-  pub free : IfSome at (IsFree slots (code text % length slots))
+-- The symbol of a text with this code goes there: into the slot where probing stopped, as long as there are as many
+-- slots as there were then, and else where the code leads.
+pub record IsVacant {S : Type 0} (slots : List (Option S)) (code : ℕ) (vacancy : Vacancy) : Type 0 where
+  pub code_is : vacancy.code ≡ code
+  pub before : vacancy.slot_count ≤ length slots
+  pub free : vacancy.slot_count ≡ length slots → 0 < length slots → IsFree slots (code % length slots) vacancy.at
+
+-- what a look-up found
+abbrev pub found_by : {S : Type 0} → Entry S → Option S
+found_by (Occupied symbol) = Some symbol
+found_by (Vacant _) = None
+
+-- what is so of the vacancy, where nothing was found
+abbrev pub IfVacant : {S : Type 0} → Entry S → (Vacancy → Type 0) → Type 0
+IfVacant (Occupied _) P = ⊤
+IfVacant (Vacant vacancy) P = P vacancy
 
 -- the new slots have the symbols of the old ones, and fit
 pub record Rebuilt {S : Type 0} (entry : S → Option Text) (code : Text → ℕ) (old new : List (Option S)) : Type 0 where

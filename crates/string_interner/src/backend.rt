@@ -5,13 +5,13 @@ mod buffer;
 mod string;
 mod walk;
 
-ghost use Rattle.std.specs.Prelude.{◌≡◌, ℕ, ◌+◌, ◌<◌, ◌≤◌, List, [], ◌∷◌, ◌++◌, length, take, slice_get, Option, Some, IsSome, IfOk, OnErr};
+ghost use Rattle.std.specs.Prelude.{◌≡◌, ℕ, ◌+◌, ◌<◌, ◌≤◌, List, [], ◌∷◌, ◌++◌, length, take, slice_get, Option, Some, IfOk};
 ghost use Rattle.std.specs.Option.{option_copied};
 ghost use Rattle.string_interner.specs.Text.{Text};
 
 use crate::symbol::{DefaultSymbol, Symbol};
 pub use bucket::BucketBackend;
-pub use buffer::BufferBackend;
+pub use buffer::{BufferBackend, spelling_law};
 use std::alloc::{AllocError, Global};
 pub use string::StringBackend;
 use thiserror::Error;
@@ -39,7 +39,7 @@ pub trait Backend {
     /// What stands for a text.
     type Symbol: Symbol;
 
-    ghost use Rattle.string_interner.specs.Backend.{Bucket, BeginsAt, IsPlace, IsKept, Appends, UsesRoom};
+    ghost use Rattle.string_interner.specs.Backend.{Bucket, BeginsAt, IsPlace, IsKept, AppendsInto};
 
     /// The texts, in the order in which they came.
     ghost texts: { Self → List Text };
@@ -82,29 +82,17 @@ pub trait Backend {
     fn next_symbol(&self) -> Option<Self::Symbol>
         ensures { result ≡ Self.Symbol.symbol_of (place (texts self.now)) };
 
-    /// Puts a text last, without looking for it, and answers the symbol of its place.
+    /// Appends a text, without looking for it, and returns the symbol of its place.
     ///
     /// Refuses with `NoSymbol` exactly where `next_symbol` is `None`, before it asks for memory, and else only where
     /// memory was refused or the place after the text does not fit a `usize`. A refused text changes no text and no
     /// bucket.
     fn intern(&mut self, text: &str) -> Result<Self::Symbol, InternError>
-        ensures appends { Appends Self.Symbol.symbol_of place (texts self.old) text.now result (texts self.new) }
-        ensures kept { IsKept Self.Symbol.symbol_of place (texts self.new) }
-        ensures buckets { OnErr result (buckets self.new ≡ buckets self.old) }
+        ensures { AppendsInto Self.Symbol.symbol_of place cost texts buckets room self.old text.now result self.new };
 
-        // Within the room, memory is not refused.
-        ensures room { UsesRoom (IsSome (Self.Symbol.symbol_of (place (texts self.old)))) (cost text.now)
-            (room self.old) (room self.new) result };
-
-    /// Puts a text last as `intern` does, where a backend may keep the text itself in the place of a copy.
+    /// Appends a text as `intern` does, where a backend may keep the text itself in the place of a copy.
     fn intern_static(&mut self, text: &'static str) -> Result<Self::Symbol, InternError>
-        ensures appends { Appends Self.Symbol.symbol_of place (texts self.old) text.now result (texts self.new) }
-        ensures kept { IsKept Self.Symbol.symbol_of place (texts self.new) }
-        ensures buckets { OnErr result (buckets self.new ≡ buckets self.old) }
-
-        // Within the room, memory is not refused.
-        ensures room { UsesRoom (IsSome (Self.Symbol.symbol_of (place (texts self.old)))) (cost text.now)
-            (room self.old) (room self.new) result }
+        ensures { AppendsInto Self.Symbol.symbol_of place cost texts buckets room self.old text.now result self.new }
     {
         self.intern(text)
     }
@@ -126,13 +114,10 @@ pub trait Backend {
         ensures text { (i : ℕ) → BeginsAt place (texts self.now) at i → slice_get (texts self.now) i ≡ Some result.1.now }
         ensures next { (i : ℕ) → BeginsAt place (texts self.now) at i → result.2 ≡ place (take (i + 1) (texts self.now)) };
 
-    /// Gives back memory that no text needs, where that can be had, and all room where there is no text. Texts, symbols
-    /// and buckets stay.
+    /// Gives back memory that no text needs, where that can be had. Texts, symbols and buckets stay.
     fn shrink_to_fit(&mut self)
         ensures texts { texts self.new ≡ texts self.old }
-        ensures buckets { buckets self.new ≡ buckets self.old }
-        ensures room { room self.new ≤ room self.old }
-        ensures frees { texts self.old ≡ [] → room self.new ≡ 0 };
+        ensures buckets { buckets self.new ≡ buckets self.old };
 
     /// Keeps the first `len` texts with their symbols, and drops the others. Changes nothing where there are not more
     /// than that. Takes no memory; buckets stay, with the bytes of dropped texts.

@@ -6,20 +6,19 @@ mod hasher;
 mod probe;
 mod slots;
 
-ghost use Rattle.std.specs.Prelude.{◌≡◌, ℕ, ◌+◌, ◌*◌, ◌<◌, ◌≤◌, ◌%◌, ◌^◌, length, [], IsTrue, IsNone, IsOk, IfOk, OnOk, OnErr, Ok, false, ◌↔◌};
+ghost use Rattle.std.specs.Prelude.{◌≡◌, ℕ, ◌^◌, length, [], IsTrue, IsOk, IfOk, OnOk, OnErr, ◌↔◌};
 ghost use Rattle.string_interner.specs.Text.{IsDistinct};
-ghost use Rattle.string_interner.specs.Backend.{IsKept};
 ghost use Rattle.string_interner.specs.Entry.{entry_text};
-ghost use Rattle.string_interner.specs.Slots.{IsFilledRun, symbols};
-ghost use Rattle.string_interner.specs.Index.{entry_count, Fits, FitsAll, Grows, GrowsTo, HasRoom, Holds, Inserts, IsAbsent, IsBounded, IsLeastSlotCount, IsWhole, Refills, SameMap, look_up, text_of};
-ghost use Rattle.string_interner.specs.Probe.{IsFree, IsVacant};
+ghost use Rattle.string_interner.specs.Slots.{symbols};
+ghost use Rattle.string_interner.specs.Index.{entry_count, CountsLooks, Fits, FitsAll, Grows, GrowsTo, HasRoom, Holds, Inserts, InsertsByCode, IsAbsent, IsBounded, IsLeastSlotCount, Refills, SameMap, look_up};
+ghost use Rattle.string_interner.specs.Probe.{IfVacant, IsVacant, found_by};
 
 use crate::backend::Backend;
 use crate::symbol::Symbol;
-use growing::{least_slot_count, next_slot_count, put_all, rebuilt};
+use growing::{least_slot_count, next_slot_count, put_all, rehash};
 pub use hasher::{DefaultHashBuilder, FixedState, TextHasher};
-pub(crate) use probe::Vacancy;
-use probe::{Ended, home_of, probe, settle};
+pub(crate) use probe::Entry;
+use probe::{Vacancy, occupy, probe};
 pub use slots::Looks;
 use slots::Slots;
 use std::alloc::{AllocError, Global};
@@ -27,9 +26,9 @@ use std::marker::Model;
 
 /// A hash index of the entries of a backend: it finds the symbol of a text.
 ///
-/// It holds symbols and no texts, and asks the backend for the text of each symbol that it looks at, so it is right
-/// under every hasher. A text is looked for from its home on, slot by slot, as far as the first empty slot: at most
-/// one look more than there are filled slots in that run. At most three quarters of the slots are filled.
+/// It holds symbols and no texts, and asks the backend for the text of each symbol that a probe reads, so it is right
+/// under every hasher. Probing is linear: from the text's home on, slot by slot, up to the first empty slot. At most
+/// three quarters of the slots are filled.
 ///
 /// Its calls take a backend and a hasher that it *fits*: its symbols are of that backend's entries, with distinct
 /// texts, and were put into slots under that hasher. Without entries it fits every backend and hasher.
@@ -42,7 +41,7 @@ pub struct Index<S: Symbol> {
     alloc: Global,
 }
 
-/// Contracts see the slots, how many symbols doublings put back, and the greatest number of entries so far.
+/// Contracts see the slots, how many symbols were rehashed as the table grew, and the greatest number of entries so far.
 impl<S: Symbol> Model for Index<S> {
     ghost use Rattle.string_interner.specs.Index.{Indexed, IsSound};
 
@@ -53,8 +52,9 @@ impl<S: Symbol> Model for Index<S> {
     ghost invariant = { λ i. IsSound (record { slots = i.slots; put_back = i.put_back; greatest = i.greatest }) i.len };
 }
 
+// What an interner asks of its index: a look-up, room for one more entry, the insertion, and all entries at once.
 impl<S: Symbol> Index<S> {
-    /// No slots. Takes no memory.
+    /// Makes an index without slots. Takes no memory.
     pub fn new(alloc: Global) -> Self
         ensures slots { result.slots ≡ [] }
         ensures put_back { result.put_back ≡ 0 }
@@ -70,10 +70,10 @@ impl<S: Symbol> Index<S> {
         }
     }
 
-    /// No entries, and the least allowed count of slots that has room for `capacity` of them: none for 0, and else a
-    /// power of two from 8 on, of which `capacity` is at most three quarters: 8 for 6 entries, and 16 for 7.
+    /// Makes an index without entries, with the least allowed count of slots that has room for `capacity` of them: none
+    /// for 0, and else a power of two from 8 on, of which `capacity` is at most three quarters: 8 for 6 entries, 16 for 7.
     ///
-    /// Refuses only where memory was refused or that count does not fit a `usize`.
+    /// Returns `Err` only where memory was refused or that count does not fit a `usize`.
     pub fn with_capacity(alloc: Global, capacity: usize) -> Result<Self, AllocError>
         ensures slots { IfOk result (λ index. IsLeastSlotCount capacity (length index.slots)) }
         ensures count { IfOk result (λ index. entry_count index ≡ 0) }
@@ -92,50 +92,45 @@ impl<S: Symbol> Index<S> {
         })
     }
 
-    /// The allocator that the index was made with.
+    /// Returns the allocator that the index was made with.
     pub(crate) fn allocator(&self) -> Global {
         self.alloc
     }
 
-    /// Does nothing. Its clause tells a proof what holds of every index.
+    /// Returns how many entries there are.
     #[inline]
-    pub(crate) fn keeps(&self)
-        ensures { IsBounded self.now }
-    {
-        // Opens the value for the proof, which needs what holds of it.
-        let _ = &self.greatest;
-    }
-
-    /// How many slots there are.
-    pub fn slots(&self) -> usize
-        ensures value { result ≡ length self.now.slots }
+    pub(crate) fn len(&self) -> usize
+        ensures value { result ≡ entry_count self.now }
         ensures bounded { IsBounded self.now }
     {
-        // Opens the value for the proof, which needs what holds of it.
-        let _ = &self.len;
-        self.slots.len()
+        self.len
     }
 
-    /// How many symbols doublings put back, since the index was made.
-    pub fn put_back(&self) -> usize
-        ensures value { result ≡ self.now.put_back }
-        ensures bounded { IsBounded self.now }
+    /// Looks for a text, hashing it once, and returns its symbol, or where the symbol of a text that is not there goes.
+    #[inline(always)]
+    pub(crate) fn entry<H: TextHasher, B: Backend<Symbol = S>>(
+        &self,
+        hasher: &H,
+        looks: &mut Looks<'_, B>,
+        text: &str,
+    ) -> Entry<S>
+        requires { Fits (entry_text S.number B.place (B.texts looks.old.backend)) (H.code hasher.now) self.now.slots }
+        ensures found { found_by result
+            ≡ look_up (entry_text S.number B.place (B.texts looks.old.backend)) self.now.slots text.now }
+        ensures vacant { IfVacant result (IsVacant self.now.slots (H.code hasher.now text.now)) }
+        ensures looks { CountsLooks self.now (H.code hasher.now text.now) looks.old looks.new }
     {
-        self.put_back
+        let code = hasher.hash_text(text);
+        if self.slots.len() == 0 {
+            return Entry::Vacant(Vacancy::by_code(code));
+        }
+        probe(&self.slots, code, looks, text)
     }
 
-    /// The greatest number of entries that there were, since the index was made.
-    pub fn greatest(&self) -> usize
-        ensures value { result ≡ self.now.greatest }
-        ensures bounded { IsBounded self.now }
-    {
-        self.greatest
-    }
-
-    /// The symbol whose text this is, if any.
+    /// Returns the symbol whose text this is, if any.
     ///
-    /// It takes at most one look more than there are slots in the filled run from the text's home on, and so at most
-    /// one more than there are entries; and none where there are no slots.
+    /// Takes at most one look more than there are slots in the probe cluster from the text's home on, and so at most one
+    /// more than there are entries; takes none where there are no slots.
     pub fn find<H: TextHasher, B: Backend<Symbol = S>>(
         &self,
         hasher: &H,
@@ -145,78 +140,18 @@ impl<S: Symbol> Index<S> {
         requires { Fits (entry_text S.number B.place (B.texts looks.old.backend)) (H.code hasher.now) self.now.slots }
         ensures found { result
             ≡ look_up (entry_text S.number B.place (B.texts looks.old.backend)) self.now.slots text.now }
-        ensures backend { looks.new.backend ≡ looks.old.backend }
-        ensures counts { looks.old.count ≤ looks.new.count }
-        ensures run { (f : ℕ) → IsFilledRun self.now.slots (H.code hasher.now text.now % length self.now.slots) f
-            → looks.new.count ≤ looks.old.count + f + 1 }
-        ensures at_most { looks.new.count ≤ looks.old.count + entry_count self.now + 1 }
-        ensures no_slots { length self.now.slots ≡ 0 → looks.new.count ≡ looks.old.count }
+        ensures looks { CountsLooks self.now (H.code hasher.now text.now) looks.old looks.new }
     {
-        self.seek(hasher, hasher.hash_text(text), looks, text)
-            .symbol
-    }
-
-    /// Finds the symbol as `find` does, for a text whose code is known, and tells the slot where the probe ended: a
-    /// free one for the text, where no symbol was found and one more entry is allowed.
-    #[inline(always)]
-    pub(crate) fn seek<H: TextHasher, B: Backend<Symbol = S>>(
-        &self,
-        hasher: &H,
-        code: u64,
-        looks: &mut Looks<'_, B>,
-        text: &str,
-    ) -> Ended<S>
-        requires fits { Fits (entry_text S.number B.place (B.texts looks.old.backend)) (H.code hasher.now)
-            self.now.slots }
-        requires code { code ≡ H.code hasher.now text.now }
-        ensures found { result.symbol
-            ≡ look_up (entry_text S.number B.place (B.texts looks.old.backend)) self.now.slots text.now }
-        ensures free { IsNone result.symbol → HasRoom self.now
-            → IsFree self.now.slots (H.code hasher.now text.now % length self.now.slots) result.at }
-        ensures backend { looks.new.backend ≡ looks.old.backend }
-        ensures counts { looks.old.count ≤ looks.new.count }
-        ensures run { (f : ℕ) → IsFilledRun self.now.slots (H.code hasher.now text.now % length self.now.slots) f
-            → looks.new.count ≤ looks.old.count + f + 1 }
-        ensures at_most { looks.new.count ≤ looks.old.count + entry_count self.now + 1 }
-        ensures no_slots { length self.now.slots ≡ 0 → looks.new.count ≡ looks.old.count }
-    {
-        let count = self.slots.len();
-        if count == 0 {
-            return Ended {
-                symbol: None,
-                at: 0,
-            };
+        match self.entry(hasher, looks, text) {
+            Entry::Occupied(symbol) => Some(symbol),
+            Entry::Vacant(_) => None,
         }
-        probe(&self.slots, home_of(code, count), looks, text)
     }
 
-    /// Whether one more entry is allowed.
-    #[inline]
-    fn has_room(&self) -> bool
-        ensures { IsTrue result ↔ HasRoom self.now }
-    {
-        let count = self.slots.len();
-        // Three quarters, since a count of slots is a multiple of 4.
-        self.len < count - count / 4
-    }
-
-    /// Takes bigger slots into which all symbols were put back.
-    fn grow(&mut self, bigger: Slots<S>)
-        requires full { ¬ HasRoom self.old }
-        requires count { GrowsTo (length self.old.slots) (length bigger) }
-        requires symbols { length (symbols bigger) ≡ entry_count self.old }
-        ensures slots { self.new.slots ≡ bigger }
-        ensures grown { Grows self.old self.new }
-        ensures room { HasRoom self.new }
-    {
-        self.slots = bigger;
-        self.put_back += self.len;
-    }
-
-    /// Makes room for one more entry: does nothing where one more is allowed, and else grows from no slots to 8, or
-    /// to twice as many, putting the symbols back by the codes of their texts.
+    /// Makes room for one more entry: does nothing where the load factor allows one more, and else grows from no slots to
+    /// 8, or to twice as many, and rehashes the symbols.
     ///
-    /// Refuses only where memory was refused or the count of slots does not fit a `usize`. All is then as it was.
+    /// Returns `Err` only where memory was refused or the count of slots does not fit a `usize`. All is then as it was.
     pub fn reserve_one<H: TextHasher, B: Backend<Symbol = S>>(
         &mut self,
         hasher: &H,
@@ -230,49 +165,77 @@ impl<S: Symbol> Index<S> {
         ensures had_room { HasRoom self.old → IsOk result × (self.new ≡ self.old) }
         ensures grown { ¬ HasRoom self.old → OnOk result (Grows self.old self.new) }
         ensures err { OnErr result (self.new ≡ self.old) }
+
+        // So a caller may make room between a look-up and the insertion.
+        ensures vacant { (code : ℕ) (vacancy : Vacancy) → IsVacant self.old.slots code vacancy
+            → IsVacant self.new.slots code vacancy }
     {
         if self.has_room() {
             return Ok(());
         }
         let count = next_slot_count(self.slots.len()).ok_or(AllocError)?;
-        // The bigger slots are built first, so that a refusal leaves all as it was.
-        let bigger = rebuilt(&mut self.slots, count, hasher, backend, self.alloc)?;
+        // The bigger slots are filled first, so that a refusal leaves all as it was.
+        let bigger = rehash(&mut self.slots, count, hasher, backend, self.alloc)?;
         self.grow(bigger);
         Ok(())
     }
 
-    /// Makes room as `reserve_one` does, in an index that has every entry of the backend, and tells whether the slots
-    /// grew. The symbols are put back in the order of the entries, whose texts are then read in sequence.
-    pub(crate) fn reserve<H: TextHasher, B: Backend<Symbol = S>>(
-        &mut self,
-        hasher: &H,
-        backend: &B,
-    ) -> Result<bool, AllocError>
-        requires kept { IsKept S.symbol_of B.place (B.texts backend.now) }
-        requires distinct { IsDistinct (B.texts backend.now) }
-        requires whole { IsWhole (entry_text S.number B.place (B.texts backend.now)) (H.code hasher.now)
-            self.old.slots }
-        requires entries { entry_count self.old ≡ length (B.texts backend.now) }
-        ensures whole { IsWhole (entry_text S.number B.place (B.texts backend.now)) (H.code hasher.now)
-            self.new.slots }
-        ensures count { entry_count self.new ≡ entry_count self.old }
-        ensures room { OnOk result (HasRoom self.new) }
-        ensures had_room { HasRoom self.old → (result ≡ Ok false) × (self.new ≡ self.old) }
-        ensures grown { ¬ HasRoom self.old → OnOk result (Grows self.old self.new) }
-        ensures unchanged { result ≡ Ok false → self.new ≡ self.old }
-        ensures err { OnErr result (self.new ≡ self.old) }
+    /// Adds the symbol of a text that was not found, where there is room for one more. Hashes nothing and takes no memory.
+    #[inline]
+    pub(crate) fn insert_at(&mut self, vacancy: Vacancy, symbol: S)
+        requires room { HasRoom self.old }
+        requires vacant { IsVacant self.old.slots vacancy.code vacancy }
+        ensures { InsertsByCode vacancy.code self.old self.new symbol }
     {
-        if self.has_room() {
-            return Ok(false);
-        }
-        let count = next_slot_count(self.slots.len()).ok_or(AllocError)?;
-        let mut bigger = Slots::empty(self.alloc, count)?;
-        put_all(&mut bigger, hasher, backend);
-        self.grow(bigger);
-        Ok(true)
+        occupy(&mut self.slots, vacancy, symbol);
+        self.len += 1;
+        self.greatest = self.greatest.max(self.len);
     }
 
-    /// Adds the symbol of an entry whose text is not in the index, where one more entry is allowed. Takes no memory.
+    /// Empties all slots, and adds the symbol of every entry of the backend, whose texts are distinct and at most three
+    /// quarters of the slots. Takes no memory: as many slots stay, and none of it counts as growth.
+    pub fn refill<H: TextHasher, B: Backend<Symbol = S>>(&mut self, hasher: &H, backend: &B)
+        requires distinct { IsDistinct (B.texts backend.now) }
+        requires room { Holds (length self.old.slots) (length (B.texts backend.now)) }
+        ensures { Refills (entry_text S.number B.place (B.texts backend.now)) (H.code hasher.now) self.old self.new
+            (length (B.texts backend.now)) }
+    {
+        self.slots.clear();
+        self.len = backend.count();
+        self.greatest = self.greatest.max(self.len);
+        put_all(&mut self.slots, hasher, backend);
+    }
+}
+
+// What this index is beside that: slots, and counts of what happened to them.
+impl<S: Symbol> Index<S> {
+    /// Returns how many slots there are.
+    ///
+    /// Its clause `bounded` is what holds of every index.
+    pub fn slots(&self) -> usize
+        ensures value { result ≡ length self.now.slots }
+        ensures bounded { IsBounded self.now }
+    {
+        // Opens the value for the proof, which needs what holds of it.
+        let _ = &self.len;
+        self.slots.len()
+    }
+
+    /// Returns how many symbols were rehashed as the table grew, since the index was made.
+    pub fn put_back(&self) -> usize
+        ensures value { result ≡ self.now.put_back }
+    {
+        self.put_back
+    }
+
+    /// Returns the greatest number of entries that there were since the index was made.
+    pub fn greatest(&self) -> usize
+        ensures value { result ≡ self.now.greatest }
+    {
+        self.greatest
+    }
+
+    /// Adds the symbol of an entry whose text is not in the index, where there is room for one more. Takes no memory.
     pub fn insert<H: TextHasher, B: Backend<Symbol = S>>(
         &mut self,
         hasher: &H,
@@ -286,58 +249,29 @@ impl<S: Symbol> Index<S> {
             symbol }
     {
         let text = backend.resolve_unchecked(symbol);
-        let vacancy = Vacancy {
-            code: hasher.hash_text(text),
-            at: None,
-        };
-        self.insert_into(hasher, backend, vacancy, symbol);
+        self.insert_at(Vacancy::by_code(hasher.hash_text(text)), symbol);
     }
 
-    /// Adds the symbol as `insert` does, where it is known where that goes.
+    /// Reports whether the load factor allows one more entry.
     #[inline]
-    pub(crate) fn insert_into<H: TextHasher, B: Backend<Symbol = S>>(
-        &mut self,
-        hasher: &H,
-        backend: &B,
-        vacancy: Vacancy,
-        symbol: S,
-    )
-        requires fits { Fits (entry_text S.number B.place (B.texts backend.now)) (H.code hasher.now) self.old.slots }
-        requires room { HasRoom self.old }
-        requires absent { IsAbsent (entry_text S.number B.place (B.texts backend.now)) self.old.slots symbol }
-        requires vacant { IsVacant (H.code hasher.now) self.old.slots
-            (text_of (entry_text S.number B.place (B.texts backend.now)) symbol) vacancy.code vacancy.at }
-        ensures { Inserts (entry_text S.number B.place (B.texts backend.now)) (H.code hasher.now) self.old self.new
-            symbol }
+    fn has_room(&self) -> bool
+        ensures { IsTrue result ↔ HasRoom self.now }
     {
-        settle(&mut self.slots, vacancy, symbol);
-        self.len += 1;
-        self.greatest = self.greatest.max(self.len);
+        let count = self.slots.len();
+        // Three quarters, since a count of slots is a multiple of 4.
+        self.len < count - count / 4
     }
 
-    /// Adds the symbol of every entry of the backend to an index without entries, as `refill` does.
-    pub(crate) fn fill<H: TextHasher, B: Backend<Symbol = S>>(&mut self, hasher: &H, backend: &B)
-        requires empty { entry_count self.old ≡ 0 }
-        requires distinct { IsDistinct (B.texts backend.now) }
-        requires room { Holds (length self.old.slots) (length (B.texts backend.now)) }
-        ensures { Refills (entry_text S.number B.place (B.texts backend.now)) (H.code hasher.now) self.old self.new
-            (length (B.texts backend.now)) }
+    /// Moves to bigger slots, into which all symbols were rehashed.
+    fn grow(&mut self, bigger: Slots<S>)
+        requires full { ¬ HasRoom self.old }
+        requires count { GrowsTo (length self.old.slots) (length bigger) }
+        requires symbols { length (symbols bigger) ≡ entry_count self.old }
+        ensures slots { self.new.slots ≡ bigger }
+        ensures grown { Grows self.old self.new }
+        ensures room { HasRoom self.new }
     {
-        self.len = backend.count();
-        self.greatest = self.greatest.max(self.len);
-        put_all(&mut self.slots, hasher, backend);
-    }
-
-    /// Empties all slots, and adds the symbol of every entry of the backend, whose texts are distinct and at most three
-    /// quarters of the slots. Takes no memory, and no doubling happens in it.
-    pub fn refill<H: TextHasher, B: Backend<Symbol = S>>(&mut self, hasher: &H, backend: &B)
-        requires distinct { IsDistinct (B.texts backend.now) }
-        requires room { Holds (length self.old.slots) (length (B.texts backend.now)) }
-        ensures { Refills (entry_text S.number B.place (B.texts backend.now)) (H.code hasher.now) self.old self.new
-            (length (B.texts backend.now)) }
-    {
-        self.slots.clear();
-        self.len = 0;
-        self.fill(hasher, backend);
+        self.slots = bigger;
+        self.put_back += self.len;
     }
 }

@@ -1,20 +1,21 @@
 //! An interner: each text once, with the symbol that stands for it.
 
 mod collect;
-mod seek;
+mod given;
 
-ghost use Rattle.std.specs.Prelude.{◌≡◌, ℕ, ◌+◌, ◌*◌, ◌≤◌, ◌&&◌, ◌↔◌, List, [], ◌∷◌, length, take, slice_get, Option, Some, IsTrue, IsSome, IsOk, IfOk, IsErrOf, OnOk, OnErr};
+ghost use Rattle.std.specs.Prelude.{◌≡◌, ℕ, ◌≤◌, ◌&&◌, ◌↔◌, List, [], ◌∷◌, length, take, slice_get, Option, Some, IsTrue, IsSome, IfOk};
 ghost use Rattle.std.specs.Option.{option_copied};
 ghost use Rattle.std.specs.Cmp.{partial_equiv_from_equiv, on_equiv};
 ghost use Rattle.string_interner.specs.Text.{Text, IsDistinct, first, texts_eq, texts_eq-IsEquivalence};
 ghost use Rattle.string_interner.specs.Backend.{BeginsAt, IsPlace, IsKept};
-ghost use Rattle.string_interner.specs.Interner.{GrowsIfFull, Interned, Interns, known_symbol};
-ghost use Rattle.string_interner.specs.Index.{Holds, IsLoaded, IsLeastSlotCount};
+ghost use Rattle.string_interner.specs.Interner.{Interned, InternsInto, IsMadeFor, IsNew, KeepsMemory, known_symbol};
+ghost use Rattle.string_interner.specs.Given.{given_text};
+ghost use Rattle.string_interner.specs.Index.{IsLoaded, IsLeastSlotCount};
 
 use crate::backend::{Backend, CopyBackend, InternError, Iter};
-use crate::dedup::{DefaultHashBuilder, Index, Looks, TextHasher};
+use crate::dedup::{DefaultHashBuilder, Entry, Index, Looks, TextHasher};
 use crate::symbol::Symbol;
-use seek::{Sought, seek};
+use given::Given;
 use std::alloc::{AllocError, Global};
 use std::marker::Model;
 
@@ -55,40 +56,35 @@ impl<B: Backend, H: TextHasher> Model for StringInterner<B, H> {
 }
 
 impl<B: Backend, H: TextHasher + Default> StringInterner<B, H> {
-    /// No texts, under the hasher's default. Takes no memory.
+    /// Makes an empty interner, under the hasher's default. Takes no memory.
     pub fn new(alloc: Global) -> Self
-        ensures texts { result.texts ≡ [] }
-        ensures slots { result.slot_count ≡ 0 }
+        ensures { IsNew result }
     {
         StringInterner::with_hasher(alloc, H::default())
     }
 }
 
 impl<B: Backend, H: TextHasher + Default + Drop> StringInterner<B, H> {
-    /// No texts, under the hasher's default, with the room that the backend and the index have for `capacity` texts.
+    /// Makes an empty interner, under the hasher's default, whose backend and index have room for `capacity` texts.
     ///
-    /// Refuses only where memory was refused or a size does not fit a `usize`.
+    /// Returns `Err` only where memory was refused or a size does not fit a `usize`.
     pub fn with_capacity(alloc: Global, capacity: usize) -> Result<Self, AllocError>
-        ensures texts { IfOk result (λ interner. interner.texts ≡ []) }
-        ensures room { IfOk result (λ interner. B.grant capacity ≤ interner.room) }
-        ensures slots { IfOk result (λ interner. IsLeastSlotCount capacity interner.slot_count) }
+        ensures { IfOk result (IsMadeFor capacity (B.grant capacity)) }
     {
         StringInterner::with_capacity_and_hasher(alloc, capacity, H::default())
     }
 }
 
 impl<B: Backend, H: TextHasher + Drop> StringInterner<B, H> {
-    /// No texts, under this hasher, with the room that the backend and the index have for `capacity` texts.
+    /// Makes an empty interner, under this hasher, whose backend and index have room for `capacity` texts.
     ///
-    /// Refuses only where memory was refused or a size does not fit a `usize`.
+    /// Returns `Err` only where memory was refused or a size does not fit a `usize`.
     pub fn with_capacity_and_hasher(
         alloc: Global,
         capacity: usize,
         hasher: H,
     ) -> Result<Self, AllocError>
-        ensures texts { IfOk result (λ interner. interner.texts ≡ []) }
-        ensures room { IfOk result (λ interner. B.grant capacity ≤ interner.room) }
-        ensures slots { IfOk result (λ interner. IsLeastSlotCount capacity interner.slot_count) }
+        ensures { IfOk result (IsMadeFor capacity (B.grant capacity)) }
     {
         let index = Index::with_capacity(alloc, capacity)?;
         let backend = B::with_capacity(alloc, capacity)?;
@@ -101,10 +97,9 @@ impl<B: Backend, H: TextHasher + Drop> StringInterner<B, H> {
 }
 
 impl<B: Backend, H: TextHasher> StringInterner<B, H> {
-    /// No texts, under this hasher. Takes no memory.
+    /// Makes an empty interner, under this hasher. Takes no memory.
     pub fn with_hasher(alloc: Global, hasher: H) -> Self
-        ensures texts { result.texts ≡ [] }
-        ensures slots { result.slot_count ≡ 0 }
+        ensures { IsNew result }
     {
         StringInterner {
             backend: B::new(alloc),
@@ -113,7 +108,7 @@ impl<B: Backend, H: TextHasher> StringInterner<B, H> {
         }
     }
 
-    /// How many texts there are.
+    /// Returns how many texts there are.
     pub fn len(&self) -> usize
         ensures value { result ≡ length self.now.texts }
 
@@ -122,27 +117,17 @@ impl<B: Backend, H: TextHasher> StringInterner<B, H> {
         ensures kept { IsKept B.Symbol.symbol_of B.place self.now.texts }
         ensures loaded { IsLoaded self.now.slot_count (length self.now.texts) }
     {
-        self.index.keeps();
-        self.backend.count()
+        self.index.len()
     }
 
-    /// Does nothing. Its clauses tell a proof what holds of every interner.
-    #[inline]
-    pub(crate) fn keeps(&self)
-        ensures kept { IsKept B.Symbol.symbol_of B.place self.now.texts }
-        ensures loaded { IsLoaded self.now.slot_count (length self.now.texts) }
-    {
-        self.index.keeps();
-    }
-
-    /// Whether there is no text.
+    /// Reports whether there is no text.
     pub fn is_empty(&self) -> bool
         ensures { IsTrue result ↔ (self.now.texts ≡ []) }
     {
         self.len() == 0
     }
 
-    /// The symbol of a text: some exactly where the text is known. Takes no memory.
+    /// Returns the symbol of a text: some exactly where the text is known. Takes no memory.
     pub fn get(&self, text: &str) -> Option<B::Symbol>
         ensures symbol { result ≡ known_symbol B.Symbol.symbol_of B.place self.now.texts text.now }
         ensures known { IsSome result ↔ IsSome (first self.now.texts text.now) }
@@ -151,72 +136,51 @@ impl<B: Backend, H: TextHasher> StringInterner<B, H> {
             .find(&self.hasher, &mut Looks::new(&self.backend), text)
     }
 
-    /// The symbol of a text. A new text is put last.
+    /// Returns the symbol of a text. A new text is appended.
     ///
     /// A known text takes no memory and changes nothing. A new one is refused with `NoSymbol` exactly where the symbol
     /// type has no symbol for the next place, before memory is asked for, and else only for want of memory; a refused
     /// text leaves texts and buckets as they were.
     pub fn get_or_intern(&mut self, text: &str) -> Result<B::Symbol, InternError>
-        ensures interns { Interns B.Symbol.symbol_of B.place self.old.texts text.now result self.new.texts }
-        ensures known { IsSome (first self.old.texts text.now) → self.new ≡ self.old }
-        ensures no_symbol { IsErrOf result InternError.NoSymbol → self.new ≡ self.old }
-        ensures buckets { OnErr result (self.new.buckets ≡ self.old.buckets) }
-
-        // Within the room of the backend and of the index, memory is not refused.
-        ensures granted { IsSome (B.Symbol.symbol_of (B.place self.old.texts)) → B.cost text.now ≤ self.old.room
-            → Holds self.old.slot_count (length self.old.texts + 1) → IsOk result }
-
-        // A text takes no more of the room than its cost, and a refused one takes nothing.
-        ensures spent { OnOk result (self.old.room ≤ self.new.room + B.cost text.now) }
-        ensures unspent { OnErr result (self.old.room ≤ self.new.room) }
-        ensures slots { GrowsIfFull (length self.old.texts) self.old.slot_count self.new.slot_count }
+        ensures { InternsInto B.Symbol.symbol_of B.place B.cost self.old text.now result self.new }
     {
-        match seek(&self.backend, &self.hasher, &mut self.index, text)? {
-            Sought::Known(symbol) => Ok(symbol),
-            Sought::New(vacancy) => {
-                let symbol = self.backend.intern(text)?;
-                self.index
-                    .insert_into(&self.hasher, &self.backend, vacancy, symbol);
-                Ok(symbol)
-            }
-        }
+        self.intern_given(Given::Copied(text))
     }
 
-    /// The symbol of a text, as `get_or_intern` answers it. A new text is put last by the backend's `intern_static`,
+    /// Returns the symbol of a text, as `get_or_intern` does. A new text is appended by the backend's `intern_static`,
     /// which may keep the text itself in the place of a copy.
     pub fn get_or_intern_static(&mut self, text: &'static str) -> Result<B::Symbol, InternError>
-        ensures interns { Interns B.Symbol.symbol_of B.place self.old.texts text.now result self.new.texts }
-        ensures known { IsSome (first self.old.texts text.now) → self.new ≡ self.old }
-        ensures no_symbol { IsErrOf result InternError.NoSymbol → self.new ≡ self.old }
-        ensures buckets { OnErr result (self.new.buckets ≡ self.old.buckets) }
-
-        // Within the room of the backend and of the index, memory is not refused.
-        ensures granted { IsSome (B.Symbol.symbol_of (B.place self.old.texts)) → B.cost text.now ≤ self.old.room
-            → Holds self.old.slot_count (length self.old.texts + 1) → IsOk result }
-
-        // A text takes no more of the room than its cost, and a refused one takes nothing.
-        ensures spent { OnOk result (self.old.room ≤ self.new.room + B.cost text.now) }
-        ensures unspent { OnErr result (self.old.room ≤ self.new.room) }
-        ensures slots { GrowsIfFull (length self.old.texts) self.old.slot_count self.new.slot_count }
+        ensures { InternsInto B.Symbol.symbol_of B.place B.cost self.old text.now result self.new }
     {
-        match seek(&self.backend, &self.hasher, &mut self.index, text)? {
-            Sought::Known(symbol) => Ok(symbol),
-            Sought::New(vacancy) => {
-                let symbol = self.backend.intern_static(text)?;
-                self.index
-                    .insert_into(&self.hasher, &self.backend, vacancy, symbol);
-                Ok(symbol)
-            }
-        }
+        self.intern_given(Given::Static(text))
     }
 
-    /// Gives back memory of the backend that no text needs, where that can be had, and all of its room where there is no
-    /// text. As many slots stay.
+    /// Returns the symbol of a text, which is appended where it is new.
+    #[inline(always)]
+    fn intern_given(&mut self, given: Given<'_>) -> Result<B::Symbol, InternError>
+        ensures { InternsInto B.Symbol.symbol_of B.place B.cost self.old (given_text given.entry) result self.new }
+    {
+        let mut looks = Looks::new(&self.backend);
+        let vacancy = match self.index.entry(&self.hasher, &mut looks, given.text()) {
+            Entry::Occupied(symbol) => return Ok(symbol),
+            Entry::Vacant(vacancy) => vacancy,
+        };
+        // Without a symbol no memory is asked for.
+        if self.backend.next_symbol().is_none() {
+            return Err(InternError::NoSymbol);
+        }
+        if let Err(error) = self.index.reserve_one(&self.hasher, &self.backend) {
+            return Err(InternError::Memory(error));
+        }
+        let symbol = given.store_in(&mut self.backend)?;
+        self.index.insert_at(vacancy, symbol);
+        Ok(symbol)
+    }
+
+    /// Gives back memory of the backend that no text needs, where that can be had. As many slots stay.
     pub fn shrink_to_fit(&mut self)
         ensures texts { self.new.texts ≡ self.old.texts }
         ensures buckets { self.new.buckets ≡ self.old.buckets }
-        ensures room { self.new.room ≤ self.old.room }
-        ensures frees { self.old.texts ≡ [] → self.new.room ≡ 0 }
         ensures slots { self.new.slot_count ≡ self.old.slot_count }
     {
         self.backend.shrink_to_fit();
@@ -229,12 +193,9 @@ impl<B: Backend, H: TextHasher> StringInterner<B, H> {
     pub fn truncate(&mut self, len: usize)
         ensures texts { self.new.texts ≡ take len self.old.texts }
         ensures same { length self.old.texts ≤ len → self.new ≡ self.old }
-        ensures buckets { self.new.buckets ≡ self.old.buckets }
-        ensures room { self.old.room ≤ self.new.room }
-        ensures slots { self.new.slot_count ≡ self.old.slot_count }
+        ensures memory { KeepsMemory self.old self.new }
     {
-        if len < self.backend.count() {
-            self.index.keeps();
+        if len < self.index.len() {
             self.backend.truncate(len);
             self.index.refill(&self.hasher, &self.backend);
         }
@@ -265,10 +226,10 @@ impl<B: Backend, H: TextHasher> StringInterner<B, H> {
 }
 
 impl<B: CopyBackend + Drop, H: TextHasher + Clone + Drop> StringInterner<B, H> {
-    /// An interner with an equal list, and so with the same symbols. Its index is made anew under the clone's own
-    /// hasher, whatever that answers, with the least slots for its texts.
+    /// Makes an interner with an equal list, and so with the same symbols. Its index is made anew under the clone's own
+    /// hasher, whatever codes that gives, with the least slots for its texts.
     ///
-    /// Refuses only where memory was refused or a size does not fit a `usize`.
+    /// Returns `Err` only where memory was refused or a size does not fit a `usize`.
     pub fn clone(&self) -> Result<Self, AllocError>
         ensures texts { IfOk result (λ copy. copy.texts ≡ self.now.texts) }
         ensures slots { IfOk result (λ copy. IsLeastSlotCount (length self.now.texts) copy.slot_count) }
@@ -276,7 +237,7 @@ impl<B: CopyBackend + Drop, H: TextHasher + Clone + Drop> StringInterner<B, H> {
         let hasher = self.hasher.clone()?;
         let mut index = Index::with_capacity(self.index.allocator(), self.len())?;
         let backend = self.backend.try_copy()?;
-        index.fill(&hasher, &backend);
+        index.refill(&hasher, &backend);
         Ok(StringInterner {
             backend,
             hasher,

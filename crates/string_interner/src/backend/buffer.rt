@@ -6,7 +6,7 @@ ghost use Rattle.std.specs.Prelude.{◌≡◌, ℕ, ◌+◌, ◌*◌, ◌^◌, �
 ghost use Rattle.std.specs.Option.{option_copied};
 ghost use Rattle.std.specs.Cmp.{partial_equiv_from_equiv, on_equiv};
 ghost use Rattle.string_interner.specs.Text.{Text, texts_eq, texts_eq-IsEquivalence};
-ghost use Rattle.string_interner.specs.Backend.{Contents, BeginsAt, IsKept};
+ghost use Rattle.string_interner.specs.Backend.{Contents, Shrinks, BeginsAt, IsKept};
 ghost use Rattle.string_interner.specs.Spelling.{digits, IsLeastDigitCount};
 ghost use Rattle.string_interner.specs.BufferBackend.{entry_of, bytes_of, entry_len, place_of, Reads, read_front, read_at, HasEntryAt};
 ghost use Rattle.string_interner.specs.BufferLaws.{entry_len-positive, place_grows, reads_at_place};
@@ -89,9 +89,6 @@ impl<S: Symbol> BufferBackend<S> {
         ensures spelled { result.now ≡ bytes_of self.now.texts }
         ensures len { length result.now ≡ place_of self.now.texts }
         ensures kept { IsKept S.symbol_of place_of self.now.texts }
-
-        // A length has no more digits than it needs.
-        ensures lengths { (n : ℕ) → IsLeastDigitCount n (digits n) }
     {
         &self.bytes
     }
@@ -189,7 +186,10 @@ impl<S: Symbol> Backend for BufferBackend<S> {
         (S::try_from_usize(at).unwrap(), text, next)
     }
 
-    fn shrink_to_fit(&mut self) {
+    /// Leaves no more room than there was, and none where there is no text.
+    fn shrink_to_fit(&mut self)
+        ensures { Shrinks self.old self.new }
+    {
         self.bytes.shrink_to_fit();
     }
 
@@ -250,10 +250,6 @@ impl<S: Symbol> PartialEq for BufferBackend<S> {
     fn eq(&self, other: &Self) -> bool
         ensures value { result ≡ texts_eq self.now.texts other.now.texts }
         ensures lists { IsTrue result ↔ (self.now.texts ≡ other.now.texts) }
-
-        // No entry begins another one, so equal bytes spell equal lists.
-        ensures entries { (t u : Text) (x y : List ℕ) → entry_of t ++ x ≡ entry_of u ++ y → t ≡ u }
-        ensures bytes { (l m : List Text) → (bytes_of l ≡ bytes_of m) ↔ (l ≡ m) }
     {
         self.as_bytes() == other.as_bytes()
     }
@@ -262,3 +258,11 @@ impl<S: Symbol> PartialEq for BufferBackend<S> {
 impl<S: Symbol> Eq for BufferBackend<S> {
     ghost laws = { on_equiv (λ (b : Contents). b.texts) texts_eq-IsEquivalence };
 }
+
+/// Does nothing. Its clauses are the laws of the spelled list, which `as_bytes` holds: no entry begins another one, so
+/// equal bytes spell equal lists, and a length has no more digits than it needs.
+pub fn spelling_law()
+    ensures entries { (t u : Text) (x y : List ℕ) → entry_of t ++ x ≡ entry_of u ++ y → t ≡ u }
+    ensures bytes { (l m : List Text) → (bytes_of l ≡ bytes_of m) ↔ (l ≡ m) }
+    ensures lengths { (n : ℕ) → IsLeastDigitCount n (digits n) }
+{}

@@ -3,7 +3,7 @@
 ghost use Rattle.std.specs.Prelude.{◌≡◌, ◌*◌, ◌^◌, max, ◌<◌, ◌≤◌, [], length, slice_get, Some, IfOk, OnOk, refl};
 ghost use Rattle.std.specs.Cmp.{partial_equiv_from_equiv, on_equiv};
 ghost use Rattle.std.proofs.Common.{rules};
-ghost use Rattle.string_interner.specs.Backend.{Contents};
+ghost use Rattle.string_interner.specs.Backend.{Contents, Shrinks};
 ghost use Rattle.string_interner.specs.Text.{texts_eq, texts_eq-IsEquivalence};
 ghost use Rattle.string_interner.specs.StringBackend.{cut, start_at, IsCut};
 ghost use Rattle.string_interner.specs.CountLaws.{length_grows, reads_at_length};
@@ -136,7 +136,10 @@ impl<S: Symbol> Backend for StringBackend<S> {
         (S::try_from_usize(at).unwrap(), text, at + 1)
     }
 
-    fn shrink_to_fit(&mut self) {
+    /// Leaves no more room than there was, and none where there is no text.
+    fn shrink_to_fit(&mut self)
+        ensures { Shrinks self.old self.new }
+    {
         self.joined.shrink_to_fit();
         self.ends.shrink_to_fit();
     }

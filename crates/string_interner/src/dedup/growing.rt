@@ -1,4 +1,4 @@
-//! How many slots an index is to have, and putting all symbols into slots that are empty.
+//! How many slots an index has, and filling new ones.
 
 ghost use Rattle.std.specs.Prelude.{◌≡◌, ◌*◌, ◌<◌, ◌≤◌, ◌^◌, length, IfNone, IfOk, IfSome, OnSome, [], Some};
 ghost use Rattle.string_interner.specs.Entry.{entry_text};
@@ -15,10 +15,10 @@ use crate::dedup::slots::Slots;
 use crate::symbol::Symbol;
 use std::alloc::{AllocError, Global};
 
-/// More slots, with the symbols of these put back by the codes of their texts.
+/// Returns more slots, into which the symbols of these are rehashed.
 ///
-/// Borrows the slots as one who may change them, since a reading through a shared reference is a look.
-pub fn rebuilt<S: Symbol, H: TextHasher, B: Backend<Symbol = S>>(
+/// Takes `&mut`, since a reading through a shared reference counts as a look. Changes nothing.
+pub fn rehash<S: Symbol, H: TextHasher, B: Backend<Symbol = S>>(
     slots: &mut Slots<S>,
     count: usize,
     hasher: &H,
@@ -63,7 +63,7 @@ pub fn put_all<S: Symbol, H: TextHasher, B: Backend<Symbol = S>>(
     }
 }
 
-/// The count of slots after so many, where it fits a `usize`: 8 after none, and else twice as many.
+/// Returns the count of slots to grow to, where it fits a `usize`: 8 from none, and else twice as many.
 pub fn next_slot_count(count: usize) -> Option<usize>
     ensures some { IfSome result (GrowsTo count) }
     ensures none { IfNone result (2 ^ 63 ≤ count) }
@@ -75,7 +75,7 @@ pub fn next_slot_count(count: usize) -> Option<usize>
     }
 }
 
-/// The least allowed count of slots that has room for so many entries, where it fits a `usize`.
+/// Returns the least allowed count of slots that has room for so many entries, where it fits a `usize`.
 pub fn least_slot_count(capacity: usize) -> Option<usize>
     ensures least { IfSome result (IsLeastSlotCount capacity) }
     ensures fits { OnSome result (Holds (2 ^ 63) capacity) }

@@ -1,31 +1,52 @@
 //! Linear probing: from the home of a text on, slot by slot, round the end to the first.
 
-ghost use Rattle.std.specs.Prelude.{◌≡◌, ◌+◌, ◌<◌, ◌≤◌, ◌%◌, ◌^◌, length, IsNone, IsSome, IfSome, Contains, Some};
+ghost use Rattle.std.specs.Prelude.{◌≡◌, ◌+◌, ◌<◌, ◌≤◌, ◌%◌, ◌^◌, length, IsSome, Contains, Some};
 ghost use Rattle.string_interner.specs.Entry.{entry_text};
-ghost use Rattle.string_interner.specs.Slots.{probed, filled_run, first_passing, symbols};
+ghost use Rattle.string_interner.specs.Slots.{probed, filled_run, first_passing};
 ghost use Rattle.string_interner.specs.Index.{IsSlotCount, has_text};
-ghost use Rattle.string_interner.specs.Probe.{FillsSlot, IsFree};
+ghost use Rattle.string_interner.specs.Probe.{FillsSlot, HasFreeSlot, IfVacant, IsVacant, found_by};
 
 use crate::backend::Backend;
-use crate::dedup::slots::{Looks, Slots};
+use crate::dedup::slots::{Looks, Slots, slot_after};
 use crate::symbol::Symbol;
 
-/// Where a probe ended: with the symbol that it found, if any, and at which slot.
+/// What a look-up found.
 #[derive(Drop)]
-pub struct Ended<S> {
-    pub symbol: Option<S>,
-    pub at: usize,
+pub enum Entry<S> {
+    /// The symbol that has the text.
+    Occupied(S),
+    /// No symbol has it; a new one goes here.
+    Vacant(Vacancy),
 }
 
-/// Where the symbol of a text that was not found goes: into the free slot where the probe ended, where that still
-/// stands, and else where the code of the text leads.
+/// Where the symbol of a text goes that was not found.
+///
+/// It holds the text's code and the empty slot where the probe ended. Growth moves all symbols, so the slot counts only
+/// while there are as many slots as there were; after that the code leads. So a vacancy outlives growth, and what holds
+/// one need not know of it.
 #[derive(Drop)]
 pub struct Vacancy {
-    pub code: u64,
-    pub at: Option<usize>,
+    code: u64,
+    /// How many slots there were. None, where no probe ended at a slot.
+    slot_count: usize,
+    at: usize,
 }
 
-/// The slot at which a text with this code is looked for first.
+impl Vacancy {
+    /// Where the symbol of a text with this code goes, without a probe.
+    #[inline]
+    pub fn by_code(code: u64) -> Vacancy
+        ensures { result ≡ record { code = code; slot_count = 0; at = 0 } }
+    {
+        Vacancy {
+            code,
+            slot_count: 0,
+            at: 0,
+        }
+    }
+}
+
+/// Returns the slot at which the probe for a text with this code starts.
 #[inline(always)]
 pub fn home_of(code: u64, slots: usize) -> usize
     requires some { 0 < slots }
@@ -35,65 +56,65 @@ pub fn home_of(code: u64, slots: usize) -> usize
     (code as usize) & (slots - 1)
 }
 
-/// Looks for a text with this home, slot by slot, as far as the first that has its symbol or is empty.
+/// Probes for a text with this code, slot by slot from its home on, up to the first that has its symbol or is empty.
 #[inline(always)]
 pub fn probe<S: Symbol, B: Backend<Symbol = S>>(
     slots: &Slots<S>,
-    home: usize,
+    code: u64,
     looks: &mut Looks<'_, B>,
     text: &str,
-) -> Ended<S>
-    requires home { home < length slots.now }
+) -> Entry<S>
+    requires some { 0 < length slots.now }
+    requires count { IsSlotCount (length slots.now) }
     requires entries { (s : S) → Contains slots.now (Some s)
         → IsSome (entry_text S.number B.place (B.texts looks.old.backend) s) }
-    ensures found { result.symbol ≡ first_passing
+    ensures found { found_by result ≡ first_passing
         (has_text (entry_text S.number B.place (B.texts looks.old.backend)) text.now)
-        (filled_run (probed slots.now home)) }
-    ensures free { IsNone result.symbol → length (symbols slots.now) < length slots.now
-        → IsFree slots.now home result.at }
+        (filled_run (probed slots.now (code % length slots.now))) }
+    ensures vacant { IfVacant result (IsVacant slots.now code) }
     ensures backend { looks.new.backend ≡ looks.old.backend }
     ensures counts { looks.old.count ≤ looks.new.count }
-    ensures looks { looks.new.count ≤ looks.old.count + length (filled_run (probed slots.now home)) + 1 }
+    ensures looks { looks.new.count
+        ≤ looks.old.count + length (filled_run (probed slots.now (code % length slots.now))) + 1 }
 {
     let count = slots.len();
-    let mut at = home;
+    let mut at = home_of(code, count);
     for _step in 0..count {
         let Some(seen) = slots.look(at, looks, text) else {
-            return Ended { symbol: None, at };
+            return Entry::Vacant(Vacancy {
+                code,
+                slot_count: count,
+                at,
+            });
         };
         if seen.matches {
-            return Ended {
-                symbol: Some(seen.symbol),
-                at,
-            };
+            return Entry::Occupied(seen.symbol);
         }
-        at = if at + 1 < count { at + 1 } else { 0 };
+        at = slot_after(at, count);
     }
-    Ended { symbol: None, at }
+    Entry::Vacant(Vacancy::by_code(code))
 }
 
 /// Puts a symbol into the first empty slot from its text's home on.
 pub fn put_by_code<S: Symbol>(slots: &mut Slots<S>, code: u64, symbol: S)
-    requires free { length (symbols slots.old) < length slots.old }
-    requires count { IsSlotCount (length slots.old) }
-    ensures puts { FillsSlot slots.old slots.new (code % length slots.old) symbol }
-    ensures small { length slots.old < 2 ^ 64 }
+    requires { HasFreeSlot slots.old }
+    ensures { FillsSlot slots.old slots.new (code % length slots.old) symbol }
 {
     let home = home_of(code, slots.len());
     slots.put(home, symbol);
 }
 
-/// Puts a symbol where it goes.
+/// Puts a symbol where its vacancy says.
 #[inline]
-pub fn settle<S: Symbol>(slots: &mut Slots<S>, vacancy: Vacancy, symbol: S)
-    requires free { length (symbols slots.old) < length slots.old }
-    requires count { IsSlotCount (length slots.old) }
-    requires vacant { IfSome vacancy.at (IsFree slots.old (vacancy.code % length slots.old)) }
+pub fn occupy<S: Symbol>(slots: &mut Slots<S>, vacancy: Vacancy, symbol: S)
+    requires free { HasFreeSlot slots.old }
+    requires vacant { IsVacant slots.old vacancy.code vacancy }
     ensures puts { FillsSlot slots.old slots.new (vacancy.code % length slots.old) symbol }
     ensures small { length slots.old < 2 ^ 64 }
 {
-    match vacancy.at {
-        Some(at) => slots.set(at, symbol),
-        None => put_by_code(slots, vacancy.code, symbol),
+    if vacancy.slot_count == slots.len() {
+        slots.set(vacancy.at, symbol);
+    } else {
+        put_by_code(slots, vacancy.code, symbol);
     }
 }

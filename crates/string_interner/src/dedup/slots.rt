@@ -4,7 +4,7 @@ ghost use Rattle.std.specs.Prelude.{◌≡◌, ◌+◌, ◌<◌, ◌^◌, length
 ghost use Rattle.string_interner.specs.Entry.{entry_text};
 ghost use Rattle.string_interner.specs.Slots.{symbols};
 ghost use Rattle.string_interner.specs.Index.{has_text};
-ghost use Rattle.string_interner.specs.Probe.{FillsSlot};
+ghost use Rattle.string_interner.specs.Probe.{FillsSlot, Follows};
 
 use crate::backend::Backend;
 use crate::dedup::count::Count;
@@ -12,9 +12,9 @@ use crate::symbol::Symbol;
 use std::alloc::{AllocError, Global};
 use std::marker::Model;
 
-/// A backend that is lent to look-ups. Contracts see how many looks they took; no call tells, and no byte is kept.
+/// Borrows a backend for look-ups and counts their looks. A look reads one slot, with the text of its symbol.
 ///
-/// A look is one reading of one slot, with the text of its symbol.
+/// The count is ghost state: no method returns it, and it takes no space.
 #[derive(Drop)]
 pub struct Looks<'a, B> {
     backend: &'a B,
@@ -31,7 +31,7 @@ impl<'a, B> Model for Looks<'a, B> {
 }
 
 impl<'a, B> Looks<'a, B> {
-    /// No looks so far.
+    /// Lends a backend, with no looks so far.
     #[inline(always)]
     pub fn new(backend: &'a B) -> Self
         ensures backend { result.backend ≡ backend.now }
@@ -66,6 +66,15 @@ impl<S: Symbol> Model for Slots<S> {
     ghost view = { λ s. s.items.items };
 }
 
+/// Returns the slot after this one: after the last comes the first.
+#[inline(always)]
+pub fn slot_after(at: usize, count: usize) -> usize
+    requires { at < count }
+    ensures { Follows count at result }
+{
+    if at + 1 < count { at + 1 } else { 0 }
+}
+
 /// Empties all slots.
 fn empty_all<S: Symbol>(slots: &mut [Option<S>])
     ensures empty { symbols slots.new ≡ [] }
@@ -77,7 +86,7 @@ fn empty_all<S: Symbol>(slots: &mut [Option<S>])
 }
 
 impl<S: Symbol> Slots<S> {
-    /// No slots. Takes no memory.
+    /// Makes no slots. Takes no memory.
     pub fn new(alloc: Global) -> Self
         ensures { result ≡ [] }
     {
@@ -86,7 +95,7 @@ impl<S: Symbol> Slots<S> {
         }
     }
 
-    /// Empty slots. Refuses only where memory was refused.
+    /// Makes empty slots. Returns `Err` only where memory was refused.
     pub fn empty(alloc: Global, count: usize) -> Result<Self, AllocError>
         ensures { IfOk result (λ slots. slots ≡ replicate count None) }
     {
@@ -95,7 +104,7 @@ impl<S: Symbol> Slots<S> {
         })
     }
 
-    /// How many slots there are.
+    /// Returns how many slots there are.
     #[inline(always)]
     pub fn len(&self) -> usize
         ensures { result ≡ length self.now }
@@ -103,7 +112,7 @@ impl<S: Symbol> Slots<S> {
         self.items.len()
     }
 
-    /// Reads a slot for a text: its symbol, if any, and whether that symbol's text is this one. It is one look.
+    /// Reads a slot for a text: its symbol, if any, and whether that symbol's text is this one. That is one look.
     #[inline(always)]
     pub fn look<B: Backend<Symbol = S>>(
         &self,
@@ -127,7 +136,7 @@ impl<S: Symbol> Slots<S> {
         Some(Seen { symbol, matches })
     }
 
-    /// The symbol of a slot, if any, read by the one who may change it.
+    /// Returns the symbol of a slot, if any. Takes `&mut`, so that it is no look.
     #[inline(always)]
     pub fn symbol_at(&mut self, at: usize) -> Option<S>
         requires { at < length self.old }
@@ -168,7 +177,7 @@ impl<S: Symbol> Slots<S> {
                 self.set(at, symbol);
                 return;
             }
-            at = if at + 1 < count { at + 1 } else { 0 };
+            at = slot_after(at, count);
         }
     }
 }

@@ -23,10 +23,11 @@ impl<B: Backend, H: TextHasher> StringInterner<B, H> {
         ensures { Extends B.Symbol.symbol_of B.place B.cost I.into_iter_gives I.IntoIter.next_gives iter self.old result
             self.new }
     {
-        self.keeps();
+        // Tells the load before the first text.
+        let _ = self.len();
         for text in iter {
             self.get_or_intern(text)?;
-            self.keeps();
+            let _ = self.len();
         }
         Ok(())
     }

@@ -1,46 +1,54 @@
-use Rattle.std.proofs.Common.{◌≡◌, ℕ, ◌<◌, ◌≤◌, List, [], Option, Some, None, IsSome, IsNone, sym, subst, map, length, vec_len, vec_capacity, arith, rules}
+use Rattle.std.proofs.Common.{◌≡◌, ◌<◌, ◌≤◌, [], subst, sym, map, length, vec_capacity, arith, rules}
+use Rattle.std.proofs.lemmas.List.{length_push}
+use Rattle.std.proofs.lemmas.List.Elements.{AllWithin-more, AllWithin-none, at_read}
 use Rattle.std.proofs.lemmas.Grind.{common_steps}
 use Rattle.std.proofs.lemmas.Iterator.Consumers.{YieldsList-turn, YieldsList-end, count_from_yields_List}
 use Rattle.std.proofs.lemmas.Slice.Zip.{all_zipped_more}
-use Rattle.std.specs.List.{AllZip}
-use Rattle.string_interner.specs.declared.run.Command.{Command}
+use Rattle.std.specs.List.{AllWithin, AllZip}
 use Rattle.intern.specs.Line.{States}
 use Rattle.intern.specs.Lines.{IsBad, IsStated, lines_of}
 use Rattle.intern.proofs.Cut.{YieldsList-from_lines_of}
 use Rattle.intern.proofs.serve.commands_of.Goals as goal
 
--- a line that states a command has one
-IsSome-from_stated : (r : Option Command) (line : List ℕ) → (IsNone r → IsBad line) → IsStated line → IsSome r
-IsSome-from_stated (Some command) line bad stated = search rules
-IsSome-from_stated None line bad stated = absurd (bad (search rules) stated.0 stated.1)
-
-pub unwrap-command-requires : goal.unwrap-command-requires
-unwrap-command-requires c =
+pub returns-in_default-command-clause-fault : goal.returns-in_default-command-clause-fault
+returns-in_default-command-clause-fault c =
     let given = YieldsList-from_lines_of c.args.text.now (cc) (cc) (cc) in
-    let turn = YieldsList-turn given c.loop-line.yielded _ c.loop-line.yielded_by _ c.next.new.self c.in-Some-line.line c.in-Some-line.is c.next.ensures.steps in
-    let stated : IsStated c.in-Some-line.line.now = subst IsStated (sym turn.1) (c.in_default.ensures.first _ c.in-Some-line.line.now turn.0) in
-    IsSome-from_stated c.command.result c.in-Some-line.line.now c.command.ensures.bad stated
+    let turn = YieldsList-turn given c.loop-line.yielded _ c.loop-line.yielded_by _ c.next.new.self c.in-Some.line c.in-Some.is c.next.ensures.steps in
+    let bad : IsBad c.in-Some.line.now = c.command.ensures.bad (search rules) in (
+      length c.loop-line.yielded,
+      omega (arith, c.len.ensures, c.loop-line.invariant.count),
+      (turn.0, at_read (lines_of c.args.text.now) IsBad _ _ turn.0 turn.1 bad, c.loop-line.invariant.good),
+    )
 
 pub push_reserved-requires : goal.push_reserved-requires
 push_reserved-requires c =
     let given = YieldsList-from_lines_of c.args.text.now (cc) (cc) (cc) in
     let within : length c.loop-line.yielded < length (lines_of c.args.text.now) =
-    (YieldsList-turn given c.loop-line.yielded _ c.loop-line.yielded_by _ c.next.new.self c.in-Some-line.line c.in-Some-line.is c.next.ensures.steps).0 in
+    (YieldsList-turn given c.loop-line.yielded _ c.loop-line.yielded_by _ c.next.new.self c.in-Some.line c.in-Some.is c.next.ensures.steps).0 in
     omega (arith, within, c.loop-line.invariant.count, c.loop-line.invariant.room)
 
 pub loop-line-init : goal.loop-line-init
 loop-line-init c =
     let given = YieldsList-from_lines_of c.args.text.now c.lines.ensures.text c.lines.ensures.has_more c.lines.ensures.pattern in
     let all = count_from_yields_List _ _ c.count.ensures.ran given in
-    let fits : c.count.result ≤ vec_capacity c.in_ok-commands.commands = search rules in
-    let none : c.in_ok-commands.commands.items ≡ [] = search rules in
-    record { stated = rw none tt; count = search rules; room = omega (arith, all, fits) }
+    let fits : c.count.result ≤ vec_capacity c.in-Ok.commands = search rules in
+    let none : c.in-Ok.commands.items ≡ [] = search rules in
+    record { stated = rw none tt; count = search rules; room = omega (arith, all, fits); good = AllWithin-none IsStated _ 0 }
 
 pub loop-line-preserved : goal.loop-line-preserved
 loop-line-preserved c =
-    let stated : States c.unwrap-command.result c.in-Some-line.line.now = search rules in
-    let more = all_zipped_more States c.loop-line.commands.items (map (λ x. x.now) c.loop-line.yielded) c.unwrap-command.result c.in-Some-line.line.now c.loop-line.invariant.stated stated in
-    grind (arith, common_steps, more)
+    let given = YieldsList-from_lines_of c.args.text.now (cc) (cc) (cc) in
+    let turn = YieldsList-turn given c.loop-line.yielded _ c.loop-line.yielded_by _ c.next.new.self c.in-Some.line c.in-Some.is c.next.ensures.steps in
+    let stated : States c.in-Some-command.command c.in-Some.line.now = search rules in
+    let good = AllWithin-more IsStated (lines_of c.args.text.now) 0 (length c.loop-line.yielded) c.loop-line.invariant.good
+    (at_read (lines_of c.args.text.now) IsStated _ _ turn.0 turn.1 (c.in-Some-command.command, stated)) in
+    let more = all_zipped_more States c.loop-line.commands.items (map (λ x. x.now) c.loop-line.yielded) c.in-Some-command.command c.in-Some.line.now c.loop-line.invariant.stated stated in
+    record {
+      stated = grind (arith, common_steps, more);
+      count = grind (arith, common_steps);
+      room = grind (arith, common_steps);
+      good = subst (AllWithin IsStated (lines_of c.args.text.now) 0) (sym (length_push c.loop-line.yielded c.in-Some.line)) good;
+    }
 
 pub returns-clause-stated : goal.returns-clause-stated
 returns-clause-stated c =

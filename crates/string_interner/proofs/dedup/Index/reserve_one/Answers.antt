@@ -1,8 +1,9 @@
-use Rattle.std.proofs.Common.{ap, subst}
+use Rattle.std.proofs.Common.{ap, subst, arith, length}
 use Rattle.string_interner.specs.Entry.{entry_text}
 use Rattle.string_interner.specs.Index.{GrowsTo}
 use Rattle.string_interner.specs.Probe.{Rebuilt}
 use Rattle.string_interner.proofs.Rebuilding.{Rebuilt-same}
+use Rattle.string_interner.proofs.Vacancies.{IsVacant-grown}
 use Rattle.string_interner.proofs.Growing.{GrowsTo-more, IsSlotCount-grown}
 use Rattle.string_interner.proofs.dedup.Index.reserve_one.Goals as goal
 
@@ -12,10 +13,15 @@ returns-clause-same g c =
     rw c.grow.ensures.slots (Rebuilt-same entry code c.args.self.now.slots c.in_ok-bigger.bigger c.requires
     (subst (λ xs. Rebuilt entry code xs c.in_ok-bigger.bigger) (ap (λ x. x.slots) c.self.view_is) c.in_ok-bigger.ensures.made))
 
-pub rebuilt-requires-clause-count : goal.rebuilt-requires-clause-count
-rebuilt-requires-clause-count g c = IsSlotCount-grown _ _ c.self.invariant.bounded.allowed
+pub rehash-requires-clause-count : goal.rehash-requires-clause-count
+rehash-requires-clause-count g c = IsSlotCount-grown _ _ c.self.invariant.bounded.allowed
     (subst (λ n. GrowsTo n c.in_ok-count.count) c.len.ensures (rw c.in_ok-count.ensures.ok_part at c.next_slot_count.ensures.some))
 
-pub rebuilt-requires-clause-more : goal.rebuilt-requires-clause-more
-rebuilt-requires-clause-more g c = GrowsTo-more _ _
+pub rehash-requires-clause-more : goal.rehash-requires-clause-more
+rehash-requires-clause-more g c = GrowsTo-more _ _
     (subst (λ n. GrowsTo n c.in_ok-count.count) c.len.ensures (rw c.in_ok-count.ensures.ok_part at c.next_slot_count.ensures.some))
+
+pub returns-clause-vacant : goal.returns-clause-vacant
+returns-clause-vacant g c = λ code vacancy is.
+    let more = GrowsTo-more _ _ (subst (λ n. GrowsTo n c.in_ok-count.count) c.len.ensures (rw c.in_ok-count.ensures.ok_part at c.next_slot_count.ensures.some)) in
+    rw c.grow.ensures.slots (IsVacant-grown c.args.self.now.slots _ code vacancy (omega (arith, more, c.in_ok-bigger.ensures.count, ap (λ x. length x.slots) c.self.view_is)) is)

@@ -13,7 +13,7 @@ loop-symbol-init g c = record {
 pub loop-symbol-preserved : goal.loop-symbol-preserved
 loop-symbol-preserved g c =
     let inv = c.loop-symbol.invariant in
-    let puts = puts_at _ _ _ _ _ c.hash_text.ensures c.put_by_code.ensures.puts in
+    let puts = puts_at _ _ _ _ _ c.hash_text.ensures c.put_by_code.ensures in
     record {
       placed = placed-next g.S.Symbol.symbol_of g.S.Symbol.number g.B.Backend.place g.met.S.Symbol.numbered g.met.S.Symbol.injective g.met.B.Backend.grows (g.H.TextHasher.code c.args.hasher.now) (g.B.Backend.texts c.args.backend.now) c.requires.kept c.requires.distinct _ _ _ _ c.loop-symbol.slots c.put_by_code.new.slots c.in-Some.symbol c.in-Some.text.now inv.placed c.in-Some.ensures.steps puts;
       size = FillsSlot-length _ _ _ _ puts ∙ inv.size;

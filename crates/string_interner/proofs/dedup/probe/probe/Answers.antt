@@ -1,41 +1,50 @@
 use Rattle.string_interner.specs.Entry.{entry_text}
-use Rattle.std.proofs.Common.{None, subst, ◌≡◌, ◌⊎◌, ◌+◌, ◌<◌, length, arith, sym, ap, ◌∙◌, inl, inr}
+use Rattle.std.proofs.Common.{None, subst, refl, ◌%◌, length, arith, sym, ap, ◌∙◌}
 use Rattle.std.specs.List.{Contains}
 use Rattle.std.proofs.lemmas.List.Elements.{Contains-get_or}
 use Rattle.string_interner.specs.Index.{has_text}
-use Rattle.string_interner.proofs.Putting.{free_at, no_end}
-use Rattle.string_interner.proofs.Probing.{Walked-empty, Walked-hit, Walked-more}
+use Rattle.string_interner.specs.Probe.{Follows}
+use Rattle.string_interner.proofs.Putting.{free_at}
+use Rattle.string_interner.proofs.Vacancies.{by_code_IsVacant, mod_less}
+use Rattle.string_interner.proofs.Probing.{Walked-start, Walked-empty, Walked-hit, Walked-more}
 use Rattle.string_interner.proofs.dedup.probe.probe.Goals as goal
-use Rattle.string_interner.proofs.dedup.probe.probe.Goals.{then-at-count, else-at-count}
 
 pub look-requires-clause-is_entry : goal.look-requires-clause-is_entry
 look-requires-clause-is_entry g c = λ s e. rw c.loop-step.invariant.backend (c.requires.entries s (subst (Contains c.args.slots.now) e (Contains-get_or c.args.slots.now c.loop-step.at None c.loop-step.invariant.walked.in_range)))
 
 pub returns-in_default-clause-found : goal.returns-in_default-clause-found
-returns-in_default-clause-found g c = sym (Walked-empty _ _ _ _ _ c.requires.home c.loop-step.invariant.walked (omega arith) c.in_default.ensures.empty).0
+returns-in_default-clause-found g c = sym (Walked-empty _ _ _ _ _ (mod_less _ _ c.requires.some) c.loop-step.invariant.walked (omega arith) c.in_default.ensures.empty).0
 
-pub returns-in_default-clause-free : goal.returns-in_default-clause-free
-returns-in_default-clause-free g c = λ _ _. free_at c.args.slots.now c.args.home c.requires.home _ _ _ c.loop-step.invariant.walked (omega arith) c.in_default.ensures.empty
+pub returns-in_default-clause-vacant : goal.returns-in_default-clause-vacant
+returns-in_default-clause-vacant g c = record {
+  code_is = refl;
+  before = omega arith;
+  free = λ same some. free_at c.args.slots.now (c.args.code % length c.args.slots.now) (mod_less _ _ c.requires.some) _ _ _ c.loop-step.invariant.walked (omega arith) c.in_default.ensures.empty;
+}
 
-pub returns-clause-free : goal.returns-clause-free
-returns-clause-free g c = λ _ room. absurd (no_end c.args.slots.now c.args.home c.requires.home _ _ _ c.loop-step.invariant.walked (omega arith) room)
+pub returns-clause-vacant : goal.returns-clause-vacant
+returns-clause-vacant g c = rw c.by_code.ensures (by_code_IsVacant _ _)
+
+pub loop-step-init : goal.loop-step-init
+loop-step-init g c = record {
+  walked = rw (c.home_of-at.ensures, c.len-count.ensures) (Walked-start _ _ _ (mod_less _ _ c.requires.some));
+  backend = refl;
+  count = omega arith;
+}
 
 pub returns-then-seen-clause-found : goal.returns-then-seen-clause-found
 returns-then-seen-clause-found g c =
     let h = c.in-Some in
     let same = ap (λ b. has_text (entry_text g.S.Symbol.number g.B.Backend.place (g.B.Backend.texts b)) c.args.text.now h.seen.symbol) c.loop-step.invariant.backend in
-    sym (Walked-hit _ _ _ _ _ c.requires.home c.loop-step.invariant.walked h.seen.symbol (omega arith) h.ensures.symbol (sym same ∙ sym h.ensures.matches ∙ c.if-seen.true)).0
+    sym (Walked-hit _ _ _ _ _ (mod_less _ _ c.requires.some) c.loop-step.invariant.walked h.seen.symbol (omega arith) h.ensures.symbol (sym same ∙ sym h.ensures.matches ∙ c.if-seen.true)).0
 
 pub loop-step-preserved : goal.loop-step-preserved
 loop-step-preserved g c =
     let h = c.in-Some in
     let same = ap (λ b. has_text (entry_text g.S.Symbol.number g.B.Backend.place (g.B.Backend.texts b)) c.args.text.now h.seen.symbol) c.loop-step.invariant.backend in
-    let next : (c.if-at-count.at ≡ c.loop-step.at + 1) ⊎ ((c.if-at-count.at ≡ 0) × (c.loop-step.at + 1 ≡ length c.args.slots.now)) =
-    elim c.if-at-count.branch [ then-at-count w ↦ inl w.at-is | else-at-count w ↦ let l = c.loop-step.invariant.walked.in_range in inr (w.at-is, omega arith) ] in
-    let in_range : c.if-at-count.at < length c.args.slots.now =
-    elim c.if-at-count.branch [ then-at-count w ↦ omega arith | else-at-count w ↦ omega arith ] in
+    let after : Follows (length c.args.slots.now) c.loop-step.at c.slot_after-at.result = subst (λ n. Follows n c.loop-step.at c.slot_after-at.result) c.len-count.ensures c.slot_after-at.ensures in
     record {
-      walked = Walked-more _ _ _ _ _ c.requires.home c.loop-step.invariant.walked h.seen.symbol _ (omega arith) h.ensures.symbol (sym same ∙ sym h.ensures.matches ∙ c.if-seen.false) in_range next;
+      walked = Walked-more _ _ _ _ _ (mod_less _ _ c.requires.some) c.loop-step.invariant.walked h.seen.symbol _ (omega arith) h.ensures.symbol (sym same ∙ sym h.ensures.matches ∙ c.if-seen.false) after.within after.one_on;
       backend = c.look.ensures.backend ∙ c.loop-step.invariant.backend;
       count = omega arith;
     }

@@ -1,4 +1,4 @@
-use Rattle.std.proofs.Common.{rules}
+use Rattle.std.proofs.Common.{refl, rules}
 use Rattle.string_interner.specs.Interner.{GrowsFor}
 use Rattle.string_interner.proofs.Collecting.{item-taken, interned-slots, extends-refused}
 use Rattle.string_interner.proofs.Growing.{grown-more}
@@ -7,13 +7,24 @@ use Rattle.string_interner.proofs.interner.StringInterner.extend.Goals as goal
 pub loop-text-preserved : goal.loop-text-preserved
 loop-text-preserved g c =
     let mid = c.loop-text.invariant in let call = c.in_ok-get_or_intern.ensures in record {
-      taken = item-taken g.B.Symbol.Symbol.symbol_of g.B.Backend.place g.B.Backend.cost _ _ _ _ _ _ mid.taken call.interns call.known call.spent;
-      grown = interned-slots g.B.Symbol.Symbol.symbol_of g.B.Backend.place (λ len count. GrowsFor len c.args.self.now.slot_count count) _ _ _ _ call.interns call.known c.keeps-in-loop-text.ensures.loaded
+      taken = item-taken g.B.Symbol.Symbol.symbol_of g.B.Backend.place g.B.Backend.cost _ _ _ _ _ _ mid.taken call;
+      grown = interned-slots g.B.Symbol.Symbol.symbol_of g.B.Backend.place g.B.Backend.cost (λ len count. GrowsFor len c.args.self.now.slot_count count) _ _ _ _ call c.len-in-loop-text.ensures.loaded
           (grown-more _ _ _ _ mid.loaded.allowed mid.grown call.slots) mid.grown;
-      loaded = c.keeps-in-loop-text.ensures.loaded;
+      loaded = c.len-in-loop-text.ensures.loaded;
     }
 
 pub returns-in_err-get_or_intern : goal.returns-in_err-get_or_intern
 returns-in_err-get_or_intern g c = extends-refused g.B.Symbol.Symbol.symbol_of g.B.Backend.place g.B.Backend.cost g.I.IntoIterator.into_iter_gives g.I.IntoIter.Iterator.next_gives _ c.into_iter-text-iterator.result c.next.new.self c.loop-text.yielded c.in-Some.text _ _ _ c.in_err-get_or_intern.field-0.0 c.from_residual.result
     c.into_iter-text-iterator.ensures.into_iter_gives (search rules) (search rules)
-    c.loop-text.invariant.taken c.in_err-get_or_intern.ensures.interns c.in_err-get_or_intern.ensures.granted c.in_err-get_or_intern.ensures.unspent c.loop-text.invariant.grown c.in_err-get_or_intern.ensures.slots
+    c.loop-text.invariant.taken c.in_err-get_or_intern.ensures c.loop-text.invariant.grown
+
+pub returns : goal.returns
+returns g c = (
+  c.into_iter-text-iterator.result,
+  c.loop-text.yielded,
+  c.loop-text.self,
+  c.into_iter-text-iterator.ensures.into_iter_gives,
+  c.loop-text.invariant.taken,
+  c.loop-text.invariant.grown,
+  (search rules, refl),
+)

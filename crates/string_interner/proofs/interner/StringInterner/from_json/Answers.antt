@@ -14,7 +14,7 @@ loop-index-init g c = record {
 pub loop-index-preserved : goal.loop-index-preserved
 loop-index-preserved g c = let call = c.in_ok-get_or_intern.ensures in record {
   reads = λ outcome more. c.loop-index.invariant.reads outcome (reads_more g.B.Symbol.Symbol.symbol_of g.B.Backend.place _ _ _ _ _ _ (next_element _ _ _ c.loop-index-test.true c.element-item.is) _ _ _ (search rules) call.interns more);
-  slots = interned-slots g.B.Symbol.Symbol.symbol_of g.B.Backend.place IsLeastSlotCount _ _ _ _ call.interns call.known c.keeps.ensures.loaded (least-grown _ _ _ c.loop-index.invariant.slots call.slots) c.loop-index.invariant.slots;
+  slots = interned-slots g.B.Symbol.Symbol.symbol_of g.B.Backend.place g.B.Backend.cost IsLeastSlotCount _ _ _ _ call c.len.ensures.loaded (least-grown _ _ _ c.loop-index.invariant.slots call.slots) c.loop-index.invariant.slots;
 }
 
 pub returns-in_err-text-clause-gives_back : goal.returns-in_err-text-clause-gives_back

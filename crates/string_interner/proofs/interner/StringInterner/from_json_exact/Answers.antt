@@ -21,7 +21,7 @@ loop-index-preserved g c =
     let call = c.in_ok-get_or_intern.ensures in record {
       reads = λ outcome more. c.loop-index.invariant.reads outcome (exact_more g.B.Symbol.Symbol.symbol_of g.B.Backend.place _ _ _ _ _ _ (next_element _ _ _ c.loop-index-test.true c.element-item.is) _ (search rules) _ _ new more);
       each = ap length new.1.1 ∙ length_push _ _ ∙ ap (λ n. n + 1) c.loop-index.invariant.each;
-      slots = interned-slots g.B.Symbol.Symbol.symbol_of g.B.Backend.place IsLeastSlotCount _ _ _ _ call.interns call.known c.len.ensures.loaded (least-grown _ _ _ c.loop-index.invariant.slots call.slots) c.loop-index.invariant.slots;
+      slots = interned-slots g.B.Symbol.Symbol.symbol_of g.B.Backend.place g.B.Backend.cost IsLeastSlotCount _ _ _ _ call c.len.ensures.loaded (least-grown _ _ _ c.loop-index.invariant.slots call.slots) c.loop-index.invariant.slots;
     }
 
 pub returns-in_default-as_str-clause-reads : goal.returns-in_default-as_str-clause-reads

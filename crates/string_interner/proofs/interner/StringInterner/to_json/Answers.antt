@@ -12,6 +12,8 @@ loop-text-preserved g c = record {
   room = search rules;
 }
 
-pub returns-clause-value : goal.returns-clause-value
-returns-clause-value g c = c.from.ensures ∙ ap (λ xs. array (items_of xs)) (written_over view string c.loop-text.elements.items _ _ c.loop-text.invariant.so_far
-    (no_entry g.B.Symbol.Symbol.symbol_of g.B.Backend.place _ _ c.in-None.ensures.steps.0))
+pub returns : goal.returns
+returns g c = record {
+  value = c.from.ensures ∙ ap (λ xs. array (items_of xs)) (written_over view string c.loop-text.elements.items _ _ c.loop-text.invariant.so_far
+      (no_entry g.B.Symbol.Symbol.symbol_of g.B.Backend.place _ _ c.in-None.ensures.steps.0));
+}

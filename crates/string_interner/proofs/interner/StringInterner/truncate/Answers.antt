@@ -7,8 +7,8 @@ use Rattle.string_interner.proofs.interner.StringInterner.truncate.Goals as goal
 
 pub refill-requires-clause-room : goal.refill-requires-clause-room
 refill-requires-clause-room g c =
-    let n = length-take-le c.args.len (g.B.Backend.texts c.self.inside.backend) (omega (arith, c.if-len-count.true, c.count.ensures.value)) in
-    omega (arith, n, ap length c.truncate.ensures.texts, c.if-len-count.true, c.count.ensures.value, c.self.invariant.count, c.keeps.ensures.load)
+    let n = length-take-le c.args.len (g.B.Backend.texts c.self.inside.backend) (omega (arith, c.if-len.true, c.len.ensures.value, c.self.invariant.count)) in
+    omega (arith, n, ap length c.truncate.ensures.texts, c.if-len.true, c.len.ensures.value, c.self.invariant.count, c.len.ensures.bounded.load)
 
 pub invariant_of-self : goal.invariant_of-self
 invariant_of-self g c = record {

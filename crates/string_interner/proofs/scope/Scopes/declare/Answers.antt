@@ -3,7 +3,7 @@ use Rattle.string_interner.proofs.Scopes.{joined_layers-of_list, top-gains, step
 use Rattle.string_interner.proofs.scope.Scopes.declare.Goals as goal
 
 pub returns-clause-interns : goal.returns-clause-interns
-returns-clause-interns g c = rw (← c.self.view_is, joined_layers-of_list, joined_layers-of_list) c.get_or_intern.ensures.interns
+returns-clause-interns g c = rw (← c.self.view_is, joined_layers-of_list, joined_layers-of_list) c.get_or_intern.ensures
 
 pub returns-clause-new : goal.returns-clause-new
 returns-clause-new g c = rw (← c.self.view_is, joined_layers-of_list) (top-gains g.B.Symbol.Symbol.symbol_of g.B.Backend.place _ _ c.self.invariant _ _ _ c.get_or_intern.ensures.interns)
@@ -13,9 +13,3 @@ returns-clause-known g c = rw (← c.self.view_is, joined_layers-of_list) (λ h.
 
 pub returns-clause-step : goal.returns-clause-step
 returns-clause-step g c = rw (← c.self.view_is) (step-declares g.B.Symbol.Symbol.symbol_of g.B.Backend.place _ _ c.self.invariant _ _ _ c.get_or_intern.ensures.interns)
-
-pub returns-clause-slots : goal.returns-clause-slots
-returns-clause-slots g c = rw (← c.self.view_is, joined_layers-of_list) c.get_or_intern.ensures.slots
-
-pub returns-clause-granted : goal.returns-clause-granted
-returns-clause-granted g c = rw (← c.self.view_is, joined_layers-of_list) c.get_or_intern.ensures.granted

@@ -1,5 +1,7 @@
-use Rattle.std.proofs.Common.{arith, rules, ap}
-use Rattle.string_interner.specs.BucketBackend.{BucketContents, IsInBuckets}
+use Rattle.std.proofs.Common.{◌≡◌, ◌++◌, ◌∷◌, [], map, arith, rules, ap, ◌∙◌}
+use Rattle.std.proofs.lemmas.List.{map_push}
+use Rattle.string_interner.specs.declared.backend.bucket.interned_str.InternedStr.TheVariants.{Static}
+use Rattle.string_interner.specs.BucketBackend.{BucketContents, buckets_of, interned_text, IsInBuckets}
 use Rattle.string_interner.proofs.Buckets.{stored-static}
 use Rattle.string_interner.proofs.backend.bucket.BucketBackendBackend.intern_static.Goals as goal
 use Rattle.string_interner.proofs.backend.bucket.BucketBackendBackend.intern_static.Goals.{After-push_reserved}
@@ -12,5 +14,13 @@ stored g c = stored-static g.S.Symbol.symbol_of c.args.text _ _ _ _ c.self.invar
 pub invariant_of-self-2 : goal.invariant_of-self-2
 invariant_of-self-2 g c = stored g c
 
-pub returns-clause-kept : goal.returns-clause-kept
-returns-clause-kept g c = (stored g c).kept
+pub returns-clause-appends : goal.returns-clause-appends
+returns-clause-appends g c =
+    let text_of = interned_text (buckets_of c.self.inside.full.items c.self.inside.head) in
+    let more : c.push_reserved.new.self.items ≡ c.self.inside.entries.items ++ Static c.args.text ∷ [] = search rules in
+    record {
+      appends = (search rules, ap (map text_of) more ∙ map_push text_of c.self.inside.entries.items (Static c.args.text) ∙ ap (λ (b : BucketContents). b.texts ++ c.args.text.now ∷ []) c.self.view_is);
+      kept = (stored g c).kept;
+      buckets = search rules;
+      room = record { granted = search rules; spent = omega (arith, ap (λ (b : BucketContents). b.room) c.self.view_is); unspent = search rules };
+    }

@@ -17,8 +17,10 @@ overflow_add-self g c = omega (arith, count_below g.S.Symbol.symbol_of _ _ c.sel
 pub invariant_of-self-2 : goal.invariant_of-self-2
 invariant_of-self-2 g c = (spelled g (goal.at.invariant_of-self-2 g c).After-unwrap).1
 
-pub returns-clause-appends : goal.returns-clause-appends
-returns-clause-appends g c = (search rules, (spelled g (goal.at.returns-clause-appends g c).After-unwrap).0 ∙ ap (λ (b : Contents). b.texts ++ c.args.text.now ∷ []) c.self.view_is)
-
-pub returns-clause-kept : goal.returns-clause-kept
-returns-clause-kept g c = (spelled g (goal.at.returns-clause-kept g c).After-unwrap).1.kept
+pub returns : goal.returns
+returns g c = let is = spelled g (goal.at.returns g c).After-unwrap in record {
+  appends = (search rules, is.0 ∙ ap (λ (b : Contents). b.texts ++ c.args.text.now ∷ []) c.self.view_is);
+  kept = is.1.kept;
+  buckets = search rules;
+  room = search rules;
+}

@@ -14,8 +14,10 @@ stored g c = stored-more g.S.Symbol.symbol_of _ _ _ _ _ c.self.invariant c.utf8.
 pub invariant_of-self-2 : goal.invariant_of-self-2
 invariant_of-self-2 g c = (stored g c).1
 
-pub returns-clause-appends : goal.returns-clause-appends
-returns-clause-appends g c = (search rules, (stored g c).0 ∙ ap (λ (b : Contents). b.texts ++ c.args.text.now ∷ []) c.self.view_is)
-
-pub returns-clause-kept : goal.returns-clause-kept
-returns-clause-kept g c = (stored g c).1.kept
+pub returns : goal.returns
+returns g c = record {
+  appends = (search rules, (stored g c).0 ∙ ap (λ (b : Contents). b.texts ++ c.args.text.now ∷ []) c.self.view_is);
+  kept = (stored g c).1.kept;
+  buckets = search rules;
+  room = search rules;
+}

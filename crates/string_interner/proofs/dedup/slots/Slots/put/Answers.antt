@@ -1,8 +1,8 @@
-use Rattle.std.proofs.Common.{sym, ◌≡◌, ◌⊎◌, ◌+◌, ◌<◌, None, true, length, get_or, arith, ap, ◌∙◌, inl, inr}
+use Rattle.std.proofs.Common.{sym, subst, ◌≡◌, None, true, length, get_or, arith, ap, ◌∙◌}
 use Rattle.std.specs.Option.{is_some}
+use Rattle.string_interner.specs.Probe.{Follows}
 use Rattle.string_interner.proofs.Putting.{puts_at, passes, comes_to_empty, empty_from}
 use Rattle.string_interner.proofs.dedup.slots.Slots.put.Goals as goal
-use Rattle.string_interner.proofs.dedup.slots.Slots.put.Goals.{then-at-count, else-at-count}
 
 pub returns-then-is_none : goal.returns-then-is_none
 returns-then-is_none g c =
@@ -13,15 +13,12 @@ returns-then-is_none g c =
 
 pub loop-step-preserved : goal.loop-step-preserved
 loop-step-preserved g c =
-    let inv = c.loop-step.invariant in let slots = c.args.self.now in let l = inv.walked.in_range in
+    let inv = c.loop-step.invariant in let slots = c.args.self.now in
+    let after : Follows (length slots) c.loop-step.at c.slot_after-at.result = subst (λ n. Follows n c.loop-step.at c.slot_after-at.result) c.len-count.ensures c.slot_after-at.ensures in
     let n : c.len-count.result ≡ length slots = c.len-count.ensures in
     let e : is_some (get_or slots c.loop-step.at None) ≡ true =
     ap is_some (ap (λ xs. get_or xs c.loop-step.at None) (sym inv.same) ∙ sym c.symbol_at.ensures.symbol) ∙ c.if-is_none.ensures in
-    let next : (c.if-at-count.at ≡ c.loop-step.at + 1) ⊎ ((c.if-at-count.at ≡ 0) × (c.loop-step.at + 1 ≡ length slots)) =
-    elim c.if-at-count.branch [ then-at-count w ↦ inl w.at-is | else-at-count w ↦ inr (w.at-is, omega arith) ] in
-    let in_range : c.if-at-count.at < length slots =
-    elim c.if-at-count.branch [ then-at-count w ↦ omega arith | else-at-count w ↦ omega arith ] in
-    record { walked = passes slots _ c.requires.home _ _ _ inv.walked (omega arith) e in_range next; same = c.symbol_at.ensures.same ∙ inv.same }
+    record { walked = passes slots _ c.requires.home _ _ _ inv.walked (omega arith) e after.within after.one_on; same = c.symbol_at.ensures.same ∙ inv.same }
 
 pub returns : goal.returns
 returns g c =

@@ -1,7 +1,7 @@
 use Rattle.string_interner.specs.Entry.{entry_text}
 use Rattle.std.proofs.Common.{◌≡◌, length, take}
 use Rattle.string_interner.specs.Probe.{Rebuilt}
-use Rattle.string_interner.proofs.dedup.growing.rebuilt.Given as goal
+use Rattle.string_interner.proofs.dedup.growing.rehash.Given as goal
 
 abbrev pub invariant-loop-at : goal.invariant-loop-at
 invariant-loop-at g l = record {

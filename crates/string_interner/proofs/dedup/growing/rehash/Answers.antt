@@ -1,12 +1,13 @@
 use Rattle.string_interner.specs.Entry.{entry_text}
-use Rattle.std.proofs.Common.{◌≡◌, None, get_or, length, refl, sym, ap, ◌∙◌, arith}
+use Rattle.std.proofs.Common.{◌≡◌, None, get_or, length, refl, sym, ap, subst, ◌∙◌, arith}
 use Rattle.std.proofs.lemmas.List.{length-replicate}
+use Rattle.string_interner.specs.Index.{IsSlotCount}
 use Rattle.string_interner.proofs.Indexing.{puts_at}
 use Rattle.string_interner.proofs.LookUp.{FillsSlot-length}
 use Rattle.string_interner.proofs.EntryTexts.{entry_text-IsPlace, text_of-resolved}
 use Rattle.string_interner.proofs.Rebuilding.{slot_entry, Rebuilt-start, skipped, placed_again, has_free}
-use Rattle.string_interner.proofs.dedup.growing.rebuilt.Goals as goal
-use Rattle.string_interner.proofs.dedup.growing.rebuilt.Goals.{in-Some, in_default}
+use Rattle.string_interner.proofs.dedup.growing.rehash.Goals as goal
+use Rattle.string_interner.proofs.dedup.growing.rehash.Goals.{in-Some, in_default}
 
 pub loop-at-init : goal.loop-at-init
 loop-at-init g c = record {
@@ -15,10 +16,11 @@ loop-at-init g c = record {
   rebuilt = rw c.in_ok-bigger.ensures (Rebuilt-start _ _ c.args.count);
 }
 
-pub put_by_code-requires-clause-free : goal.put_by_code-requires-clause-free
-put_by_code-requires-clause-free g c =
-    let inv = c.loop-at.invariant in
-    has_free _ _ _ c.requires.fits _ (omega arith) _ inv.rebuilt (omega arith)
+pub put_by_code-requires : goal.put_by_code-requires
+put_by_code-requires g c = let inv = c.loop-at.invariant in record {
+  allowed = subst IsSlotCount (sym inv.size) c.requires.count;
+  free = has_free _ _ _ c.requires.fits _ (omega arith) _ inv.rebuilt (omega arith);
+}
 
 pub loop-at-preserved : goal.loop-at-preserved
 loop-at-preserved g c =
@@ -29,10 +31,10 @@ loop-at-preserved g c =
     record {
       same = c.symbol_at.ensures.same ∙ inv.same;
       size = elim c.match-symbol_at.branch
-          [ in-Some w ↦ ap length w.bigger-is ∙ FillsSlot-length _ _ _ _ w.put_by_code.ensures.puts ∙ inv.size | in_default w ↦ ap length w.bigger-is ∙ inv.size ];
+          [ in-Some w ↦ ap length w.bigger-is ∙ FillsSlot-length _ _ _ _ w.put_by_code.ensures ∙ inv.size | in_default w ↦ ap length w.bigger-is ∙ inv.size ];
       rebuilt = elim c.match-symbol_at.branch [
         | in-Some w ↦ rw w.bigger-is (placed_again entry code slots c.requires.fits c.loop-at.at (omega arith) c.loop-at.bigger inv.rebuilt w.in-Some.symbol
-            w.put_by_code.new.slots (sym slot ∙ w.in-Some.is) (puts_at _ _ _ _ _ (w.hash_text.ensures ∙ ap code (text_of-resolved g.S.Symbol.number _ _ w.in-Some.symbol _ (slot_entry entry code slots c.requires.fits c.loop-at.at (omega arith) w.in-Some.symbol (sym slot ∙ w.in-Some.is)) w.resolve_unchecked-text.ensures)) w.put_by_code.ensures.puts))
+            w.put_by_code.new.slots (sym slot ∙ w.in-Some.is) (puts_at _ _ _ _ _ (w.hash_text.ensures ∙ ap code (text_of-resolved g.S.Symbol.number _ _ w.in-Some.symbol _ (slot_entry entry code slots c.requires.fits c.loop-at.at (omega arith) w.in-Some.symbol (sym slot ∙ w.in-Some.is)) w.resolve_unchecked-text.ensures)) w.put_by_code.ensures))
         | in_default w ↦ let h = w.in_default in rw w.bigger-is (skipped entry code slots c.requires.fits c.loop-at.at (omega arith) c.loop-at.bigger inv.rebuilt (sym slot ∙ h.is))
       ];
     }
