@@ -1,11 +1,11 @@
-//! Why the program ends without answering every command.
+//! Errors that end the program.
 
 ghost use Rattle.std.specs.Prelude.{◌≡◌};
 ghost use Rattle.intern.specs.Fault.{status_of};
 
 use thiserror::Error;
 
-/// Why the program failed. Its text is the message for standard error.
+/// Why the program failed. It is displayed as the message for standard error.
 #[derive(Debug, Drop, Error)]
 pub enum Fault {
     /// The arguments are not one word that names a backend.
@@ -14,10 +14,10 @@ pub enum Fault {
     /// Reading failed, or the input is not UTF-8.
     #[error("cannot read input")]
     Input,
-    /// The line with this number, counted from 1, is the first that states no command.
+    /// The line with this number (1-based) is the first that states no command.
     #[error("bad line {0}")]
     BadLine(usize),
-    /// Memory was refused for the input, the commands or the replies.
+    /// An allocation failed, for the input, the commands or the replies.
     #[error("out of memory")]
     Memory,
     /// Writing failed.
@@ -26,7 +26,7 @@ pub enum Fault {
 }
 
 impl Fault {
-    /// The exit status: 2 where the caller's words or lines are wrong, 1 where the system refused.
+    /// Returns the exit status: 2 if the arguments or lines are wrong, 1 if the system failed.
     pub fn status(&self) -> u8
         ensures { result ≡ status_of self.now }
     {

@@ -11,7 +11,7 @@ use std::io::Write;
 use std::{fmt, io};
 use string_interner::run::{Command, Reply};
 
-/// The number that digits write. A plus, which `parse` lets stand first, is no digit.
+/// Parses decimal digits. A leading plus, which `parse` accepts, is no digit.
 fn number(digits: &str) -> Option<usize>
     ensures { SomeIff result (IsNumber digits.now) (digits_value 10 digits.now) }
 {
@@ -21,7 +21,7 @@ fn number(digits: &str) -> Option<usize>
     digits.parse().ok()
 }
 
-/// The command that a line states, which borrows the line's text. `None` for a bad line.
+/// Parses a line as a command, which borrows the line's text. Returns `None` exactly if the line states no command.
 pub fn command(line: &str) -> Option<Command<'_>>
     ensures stated { IfSome result (λ command. States command line.now) }
     ensures bad { IsNone result → (command : Command) → ¬ (States command line.now) }
@@ -37,7 +37,7 @@ pub fn command(line: &str) -> Option<Command<'_>>
     }
 }
 
-/// What a reply prints, without the newline.
+/// A reply, displayed as its line without the newline.
 #[derive(Drop)]
 struct Line<'r>(&'r Reply);
 
@@ -61,7 +61,7 @@ impl fmt::Display for Line<'_> {
     }
 }
 
-/// Writes the line of a reply.
+/// Writes the line of a reply, with its newline.
 pub fn write_reply<W: Write>(output: &mut W, reply: &Reply) -> io::Result<()>
     ensures { OnOk result (Appends (W.contents output.old) (W.contents output.new) (reply_line reply.now)) }
 {

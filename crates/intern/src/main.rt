@@ -1,4 +1,4 @@
-//! The program `intern`: it runs a list of commands on an empty interner, and prints a line for each reply.
+//! The program `intern`: runs a list of commands on an empty interner, and prints one line for each reply.
 #![tactic(auto)]
 
 mod fault;
@@ -10,7 +10,7 @@ use std::env;
 use std::io::BufWriter;
 use std::process::ExitCode;
 
-/// Serves standard input. Without memory for a buffer the lines go to standard output one by one:
+/// Runs `serve` on standard input and output. If the output buffer cannot be allocated, lines are written one by one:
 /// whether the run fails is for `serve` alone to find.
 fn run(rt: &HostRuntime) -> Result<(), Fault> {
     let alloc = rt.alloc();

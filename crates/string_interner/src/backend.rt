@@ -1,4 +1,4 @@
-//! Backends: what keeps the texts, and gives each a symbol.
+//! Backends: how the texts lie in memory, and which symbol each gets.
 
 mod bucket;
 mod buffer;
@@ -17,13 +17,13 @@ pub use string::StringBackend;
 use thiserror::Error;
 pub use walk::Iter;
 
-/// Why a text was not interned. That text left the list as it was.
+/// Why interning a text failed. That text left the list unchanged.
 #[derive(Clone, Copy, Debug, PartialEq, Eq, Error)]
 pub enum InternError {
     /// The symbol type has no symbol for the next place.
     #[error("no symbol is left")]
     NoSymbol,
-    /// Memory was refused, or the next place does not fit a `usize`.
+    /// An allocation failed, or the next place does not fit a `usize`.
     #[error("out of memory")]
     Memory(AllocError),
 }
@@ -31,103 +31,104 @@ pub enum InternError {
 /// The backend that serves most uses well.
 pub type DefaultBackend = StringBackend<DefaultSymbol>;
 
-/// Keeps a list of texts, in the order in which they came, and gives each a symbol.
+/// Holds a list of texts in insertion order, each with a symbol.
 ///
-/// A backend looks for no repeats: a text that is interned twice stands in its list twice. The number of an entry's
-/// symbol is the *place* of the entry, which rests on the texts before it alone.
+/// A backend does not deduplicate: a text that is interned twice is in its list twice. The number of an entry's symbol
+/// is the *place* of the entry, which depends on the texts before it alone.
 pub trait Backend {
-    /// What stands for a text.
+    /// The type of the symbols.
     type Symbol: Symbol;
 
     ghost use Rattle.string_interner.specs.Backend.{Bucket, BeginsAt, IsPlace, IsKept, AppendsInto};
 
-    /// The texts, in the order in which they came.
+    /// The texts, in insertion order.
     ghost texts: { Self → List Text };
 
-    /// The place of the entry that comes after a list.
+    /// The place of the next entry after a list of texts.
     ghost place: { List Text → ℕ };
 
-    /// What resolving a number gives, by the list alone.
+    /// What resolving a symbol with this number returns, by the list alone.
     ghost read: { List Text → ℕ → Option Text };
 
-    /// How much more the backend takes without asking for memory, as costs of texts.
+    /// Spare capacity, counted in costs: appending a text whose cost fits does not fail for memory.
     ghost room: { Self → ℕ };
 
-    /// What a text takes of the room.
+    /// The most that appending a text takes of the spare capacity.
     ghost cost: { Text → ℕ };
 
-    /// The room that a capacity grants.
+    /// The spare capacity that `with_capacity` grants, at least.
     ghost grant: { ℕ → ℕ };
 
-    /// The buckets of bytes, where a backend has such.
+    /// The buckets of bytes: none, unless the backend has buckets.
     ghost buckets: { Self → List Bucket } = { λ _. [] };
 
-    /// The empty list. Takes no memory.
+    /// Makes an empty backend. Allocates nothing.
     fn new(alloc: Global) -> Self
         ensures { texts result ≡ [] };
 
-    /// The empty list, with room for `capacity` texts of usual length, as each backend says.
+    /// Makes an empty backend with spare capacity for `capacity` texts of usual length, as each backend says.
     ///
-    /// Refuses only where memory was refused or a size does not fit a `usize`.
+    /// Returns `Err` only if an allocation fails or a size does not fit a `usize`.
     fn with_capacity(alloc: Global, capacity: usize) -> Result<Self, AllocError>
         ensures texts { IfOk result (λ backend. texts backend ≡ []) }
         ensures room { IfOk result (λ backend. grant capacity ≤ room backend) };
 
-    /// How many texts there are.
+    /// Returns the number of texts, repeats included.
     fn count(&self) -> usize
         ensures value { result ≡ length (texts self.now) }
         ensures kept { IsKept Self.Symbol.symbol_of place (texts self.now) };
 
-    /// The symbol of the next place, or `None` exactly where the symbol type has no such number.
+    /// Returns the symbol of the next place: `None` exactly if the symbol type has no symbol with that number.
     fn next_symbol(&self) -> Option<Self::Symbol>
         ensures { result ≡ Self.Symbol.symbol_of (place (texts self.now)) };
 
-    /// Appends a text, without looking for it, and returns the symbol of its place.
+    /// Appends a text, without looking for an equal one, and returns the symbol of its place.
     ///
-    /// Refuses with `NoSymbol` exactly where `next_symbol` is `None`, before it asks for memory, and else only where
-    /// memory was refused or the place after the text does not fit a `usize`. A refused text changes no text and no
-    /// bucket.
+    /// Returns `NoSymbol` exactly if `next_symbol` is `None`, before any allocation. Returns `Memory` only if an
+    /// allocation fails or the place after the text does not fit a `usize`. On `Err` texts and buckets are unchanged.
     fn intern(&mut self, text: &str) -> Result<Self::Symbol, InternError>
         ensures { AppendsInto Self.Symbol.symbol_of place cost texts buckets room self.old text.now result self.new };
 
-    /// Appends a text as `intern` does, where a backend may keep the text itself in the place of a copy.
+    /// Appends a text as `intern` does. A backend may store the reference instead of a copy.
     fn intern_static(&mut self, text: &'static str) -> Result<Self::Symbol, InternError>
         ensures { AppendsInto Self.Symbol.symbol_of place cost texts buckets room self.old text.now result self.new }
     {
         self.intern(text)
     }
 
-    /// The text that is read at a symbol's number, if any: at the symbol of an entry, the text of that entry.
+    /// Returns the text at a symbol's number, if any. For the symbol of an entry this is the entry's text.
     fn resolve(&self, symbol: Self::Symbol) -> Option<&str>
         ensures { option_copied result ≡ read (texts self.now) (Self.Symbol.number symbol) };
 
-    /// The text of an entry, by its symbol, with no test of the symbol.
+    /// Returns the text of an entry by its symbol, without checking the symbol: it must be that of an entry.
     fn resolve_unchecked(&self, symbol: Self::Symbol) -> &str
         requires { IsPlace place (texts self.now) (Self.Symbol.number symbol) }
         ensures { (i : ℕ) → BeginsAt place (texts self.now) (Self.Symbol.number symbol) i
             → slice_get (texts self.now) i ≡ Some result.now };
 
-    /// The entry that begins at a place: its symbol, its text, and the place after it.
+    /// Returns the entry that begins at a place: its symbol, its text, and the place of the next entry. An entry must
+    /// begin there.
     fn entry_at(&self, at: usize) -> (Self::Symbol, &str, usize)
         requires { IsPlace place (texts self.now) at }
         ensures symbol { Self.Symbol.symbol_of at ≡ Some result.0 }
         ensures text { (i : ℕ) → BeginsAt place (texts self.now) at i → slice_get (texts self.now) i ≡ Some result.1.now }
         ensures next { (i : ℕ) → BeginsAt place (texts self.now) at i → result.2 ≡ place (take (i + 1) (texts self.now)) };
 
-    /// Gives back memory that no text needs, where that can be had. Texts, symbols and buckets stay.
+    /// Releases memory that no text needs, if it can; a backend need not release any. Texts, symbols and buckets are
+    /// unchanged.
     fn shrink_to_fit(&mut self)
         ensures texts { texts self.new ≡ texts self.old }
         ensures buckets { buckets self.new ≡ buckets self.old };
 
-    /// Keeps the first `len` texts with their symbols, and drops the others. Changes nothing where there are not more
-    /// than that. Takes no memory; buckets stay, with the bytes of dropped texts.
+    /// Keeps the first `len` texts with their symbols, and drops the rest. Does nothing if there are at most `len`.
+    /// Allocates nothing. Buckets are unchanged, and keep the bytes of dropped texts.
     fn truncate(&mut self, len: usize)
         ensures texts { texts self.new ≡ take len (texts self.old) }
         ensures same { length (texts self.old) ≤ len → self.new ≡ self.old }
         ensures buckets { buckets self.new ≡ buckets self.old }
         ensures room { room self.old ≤ room self.new };
 
-    /// The entries in order, each with its symbol.
+    /// Iterates over the entries in insertion order, each with its symbol.
     final fn iter(&self) -> Iter<'_, Self>
     where
         Self: Sized,
@@ -139,22 +140,22 @@ pub trait Backend {
     /// The first entry is at place 0.
     ghost starts: { place [] ≡ 0 };
 
-    /// A text takes up a place.
+    /// Each text raises the next place.
     ghost grows: { (texts : List Text) (text : Text) → place texts < place (texts ++ text ∷ []) };
 
-    /// A text costs something.
+    /// Each text costs more than 0.
     ghost costs: { (text : Text) → 0 < cost text };
 
-    /// At the place of each entry its text is read.
+    /// Reading at the place of an entry gives its text.
     ghost reads: { (texts : List Text) (i : ℕ) → IsKept Self.Symbol.symbol_of place texts → i < length texts
         → read texts (place (take i texts)) ≡ slice_get texts i };
 }
 
 /// A backend that can be copied.
 pub trait CopyBackend: Backend {
-    /// A backend with an equal list, and so with the same symbols.
+    /// Returns a backend with an equal list, and so with the same symbols.
     ///
-    /// Refuses only where memory was refused or a size does not fit a `usize`.
+    /// Returns `Err` only if an allocation fails or a size does not fit a `usize`.
     fn try_copy(&self) -> Result<Self, AllocError>
         ensures { IfOk result (λ copy. Self.texts copy ≡ Self.texts self.now) };
 }

@@ -1,4 +1,4 @@
-//! Finding the symbol of a text: hashers, and the index of a backend's entries by their texts.
+//! Looking up the symbol of a text: hashers, and the hash index of a backend's entries.
 
 mod count;
 mod growing;
@@ -26,9 +26,9 @@ use std::marker::Model;
 
 /// A hash index of the entries of a backend: it finds the symbol of a text.
 ///
-/// It holds symbols and no texts, and asks the backend for the text of each symbol that a probe reads, so it is right
-/// under every hasher. Probing is linear: from the text's home on, slot by slot, up to the first empty slot. At most
-/// three quarters of the slots are filled.
+/// It holds symbols and no texts, and asks the backend for the text of each symbol that a probe reads, so it is correct
+/// under every hasher. Probing is linear: from the text's home on, slot by slot, up to the first empty slot. The load
+/// factor is at most three quarters.
 ///
 /// Its calls take a backend and a hasher that it *fits*: its symbols are of that backend's entries, with distinct
 /// texts, and were put into slots under that hasher. Without entries it fits every backend and hasher.
@@ -41,7 +41,7 @@ pub struct Index<S: Symbol> {
     alloc: Global,
 }
 
-/// Contracts see the slots, how many symbols were rehashed as the table grew, and the greatest number of entries so far.
+/// Contracts see the slots, how many symbols growth rehashed, and the greatest number of entries so far.
 impl<S: Symbol> Model for Index<S> {
     ghost use Rattle.string_interner.specs.Index.{Indexed, IsSound};
 
@@ -70,10 +70,11 @@ impl<S: Symbol> Index<S> {
         }
     }
 
-    /// Makes an index without entries, with the least allowed count of slots that has room for `capacity` of them: none
-    /// for 0, and else a power of two from 8 on, of which `capacity` is at most three quarters: 8 for 6 entries, 16 for 7.
+    /// Makes an index without entries, with the least slot count that the load factor allows for `capacity` of them:
+    /// none for 0, and else a power of two from 8 on, of which `capacity` is at most three quarters: 8 for 6 entries,
+    /// 16 for 7.
     ///
-    /// Returns `Err` only where memory was refused or that count does not fit a `usize`.
+    /// Returns `Err` only if an allocation fails or that count does not fit a `usize`.
     pub fn with_capacity(alloc: Global, capacity: usize) -> Result<Self, AllocError>
         ensures slots { IfOk result (λ index. IsLeastSlotCount capacity (length index.slots)) }
         ensures count { IfOk result (λ index. entry_count index ≡ 0) }
@@ -129,8 +130,8 @@ impl<S: Symbol> Index<S> {
 
     /// Returns the symbol whose text this is, if any.
     ///
-    /// Takes at most one look more than there are slots in the probe cluster from the text's home on, and so at most one
-    /// more than there are entries; takes none where there are no slots.
+    /// Takes at most one look more than there are slots in the probe cluster from the text's home on, and so at most
+    /// one more than there are entries; takes none if there are no slots.
     pub fn find<H: TextHasher, B: Backend<Symbol = S>>(
         &self,
         hasher: &H,
@@ -148,10 +149,10 @@ impl<S: Symbol> Index<S> {
         }
     }
 
-    /// Makes room for one more entry: does nothing where the load factor allows one more, and else grows from no slots to
+    /// Makes room for one more entry: does nothing if the load factor allows one more, and else grows from no slots to
     /// 8, or to twice as many, and rehashes the symbols.
     ///
-    /// Returns `Err` only where memory was refused or the count of slots does not fit a `usize`. All is then as it was.
+    /// Returns `Err` only if an allocation fails or the slot count does not fit a `usize`. Nothing changes then.
     pub fn reserve_one<H: TextHasher, B: Backend<Symbol = S>>(
         &mut self,
         hasher: &H,
@@ -180,7 +181,7 @@ impl<S: Symbol> Index<S> {
         Ok(())
     }
 
-    /// Adds the symbol of a text that was not found, where there is room for one more. Hashes nothing and takes no memory.
+    /// Adds the symbol of a text that was not found. There must be room for one more. Hashes and allocates nothing.
     #[inline]
     pub(crate) fn insert_at(&mut self, vacancy: Vacancy, symbol: S)
         requires room { HasRoom self.old }
@@ -235,7 +236,7 @@ impl<S: Symbol> Index<S> {
         self.greatest
     }
 
-    /// Adds the symbol of an entry whose text is not in the index, where there is room for one more. Takes no memory.
+    /// Adds the symbol of an entry whose text is not in the index. There must be room for one more. Allocates nothing.
     pub fn insert<H: TextHasher, B: Backend<Symbol = S>>(
         &mut self,
         hasher: &H,

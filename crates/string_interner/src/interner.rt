@@ -21,7 +21,7 @@ use std::marker::Model;
 
 /// A list of distinct texts over a backend, each found by its text and by its symbol.
 ///
-/// A text is found by an index of the entries by their texts, which is right under every hasher.
+/// Texts are looked up in a hash index of the entries, which is correct under every hasher.
 ///
 /// ```
 /// let mut names = <DefaultStringInterner>::new(alloc);
@@ -67,7 +67,7 @@ impl<B: Backend, H: TextHasher + Default> StringInterner<B, H> {
 impl<B: Backend, H: TextHasher + Default + Drop> StringInterner<B, H> {
     /// Makes an empty interner, under the hasher's default, whose backend and index have room for `capacity` texts.
     ///
-    /// Returns `Err` only where memory was refused or a size does not fit a `usize`.
+    /// Returns `Err` only if an allocation fails or a size does not fit a `usize`.
     pub fn with_capacity(alloc: Global, capacity: usize) -> Result<Self, AllocError>
         ensures { IfOk result (IsMadeFor capacity (B.grant capacity)) }
     {
@@ -78,7 +78,7 @@ impl<B: Backend, H: TextHasher + Default + Drop> StringInterner<B, H> {
 impl<B: Backend, H: TextHasher + Drop> StringInterner<B, H> {
     /// Makes an empty interner, under this hasher, whose backend and index have room for `capacity` texts.
     ///
-    /// Returns `Err` only where memory was refused or a size does not fit a `usize`.
+    /// Returns `Err` only if an allocation fails or a size does not fit a `usize`.
     pub fn with_capacity_and_hasher(
         alloc: Global,
         capacity: usize,
@@ -108,7 +108,7 @@ impl<B: Backend, H: TextHasher> StringInterner<B, H> {
         }
     }
 
-    /// Returns how many texts there are.
+    /// Returns the number of texts.
     pub fn len(&self) -> usize
         ensures value { result ≡ length self.now.texts }
 
@@ -127,7 +127,7 @@ impl<B: Backend, H: TextHasher> StringInterner<B, H> {
         self.len() == 0
     }
 
-    /// Returns the symbol of a text: some exactly where the text is known. Takes no memory.
+    /// Returns the symbol of a text: `Some` exactly if the text is known. Allocates nothing.
     pub fn get(&self, text: &str) -> Option<B::Symbol>
         ensures symbol { result ≡ known_symbol B.Symbol.symbol_of B.place self.now.texts text.now }
         ensures known { IsSome result ↔ IsSome (first self.now.texts text.now) }
@@ -138,9 +138,9 @@ impl<B: Backend, H: TextHasher> StringInterner<B, H> {
 
     /// Returns the symbol of a text. A new text is appended.
     ///
-    /// A known text takes no memory and changes nothing. A new one is refused with `NoSymbol` exactly where the symbol
-    /// type has no symbol for the next place, before memory is asked for, and else only for want of memory; a refused
-    /// text leaves texts and buckets as they were.
+    /// A known text allocates nothing and changes nothing. A new one returns `NoSymbol` exactly if the symbol type has
+    /// no symbol for the next place, before any allocation, and `Memory` only if an allocation fails or a size does not
+    /// fit a `usize`. On `Err` texts and buckets are unchanged.
     pub fn get_or_intern(&mut self, text: &str) -> Result<B::Symbol, InternError>
         ensures { InternsInto B.Symbol.symbol_of B.place B.cost self.old text.now result self.new }
     {
@@ -148,14 +148,14 @@ impl<B: Backend, H: TextHasher> StringInterner<B, H> {
     }
 
     /// Returns the symbol of a text, as `get_or_intern` does. A new text is appended by the backend's `intern_static`,
-    /// which may keep the text itself in the place of a copy.
+    /// which may store the reference instead of a copy.
     pub fn get_or_intern_static(&mut self, text: &'static str) -> Result<B::Symbol, InternError>
         ensures { InternsInto B.Symbol.symbol_of B.place B.cost self.old text.now result self.new }
     {
         self.intern_given(Given::Static(text))
     }
 
-    /// Returns the symbol of a text, which is appended where it is new.
+    /// Returns the symbol of a text, and appends the text if it is new.
     #[inline(always)]
     fn intern_given(&mut self, given: Given<'_>) -> Result<B::Symbol, InternError>
         ensures { InternsInto B.Symbol.symbol_of B.place B.cost self.old (given_text given.entry) result self.new }
@@ -177,7 +177,7 @@ impl<B: Backend, H: TextHasher> StringInterner<B, H> {
         Ok(symbol)
     }
 
-    /// Gives back memory of the backend that no text needs, where that can be had. As many slots stay.
+    /// Releases memory of the backend that no text needs, if it can. The slot count is unchanged.
     pub fn shrink_to_fit(&mut self)
         ensures texts { self.new.texts ≡ self.old.texts }
         ensures buckets { self.new.buckets ≡ self.old.buckets }
@@ -186,10 +186,10 @@ impl<B: Backend, H: TextHasher> StringInterner<B, H> {
         self.backend.shrink_to_fit();
     }
 
-    /// Keeps the first `len` texts with their symbols, and drops the others, which are then new again. Changes nothing
-    /// where there are not more than that.
+    /// Keeps the first `len` texts with their symbols, and drops the rest, which are then new again. Does nothing if
+    /// there are at most `len`.
     ///
-    /// Takes no memory, and gives none back. Costs putting each kept text into the index.
+    /// Allocates and releases nothing. Costs rehashing each kept text.
     pub fn truncate(&mut self, len: usize)
         ensures texts { self.new.texts ≡ take len self.old.texts }
         ensures same { length self.old.texts ≤ len → self.new ≡ self.old }
@@ -201,14 +201,15 @@ impl<B: Backend, H: TextHasher> StringInterner<B, H> {
         }
     }
 
-    /// What the backend reads at a symbol's number, for any symbol: at the symbol of an entry, its text.
+    /// Returns what the backend reads at a symbol's number, for any symbol. For the symbol of an entry this is its
+    /// text.
     pub fn resolve(&self, symbol: B::Symbol) -> Option<&str>
         ensures { option_copied result ≡ B.read self.now.texts (B.Symbol.number symbol) }
     {
         self.backend.resolve(symbol)
     }
 
-    /// The text of an entry, by its symbol, with no test of the symbol.
+    /// Returns the text of an entry by its symbol, without checking the symbol: it must be that of an entry.
     pub fn resolve_unchecked(&self, symbol: B::Symbol) -> &str
         requires { IsPlace B.place self.now.texts (B.Symbol.number symbol) }
         ensures { (i : ℕ) → BeginsAt B.place self.now.texts (B.Symbol.number symbol) i
@@ -217,7 +218,7 @@ impl<B: Backend, H: TextHasher> StringInterner<B, H> {
         self.backend.resolve_unchecked(symbol)
     }
 
-    /// The entries in order of first interning, each with its symbol.
+    /// Iterates over the entries in insertion order, each with its symbol.
     pub fn iter(&self) -> Iter<'_, B>
         ensures { result ≡ record { behind = []; ahead = self.now.texts } }
     {
@@ -229,7 +230,7 @@ impl<B: CopyBackend + Drop, H: TextHasher + Clone + Drop> StringInterner<B, H> {
     /// Makes an interner with an equal list, and so with the same symbols. Its index is made anew under the clone's own
     /// hasher, whatever codes that gives, with the least slots for its texts.
     ///
-    /// Returns `Err` only where memory was refused or a size does not fit a `usize`.
+    /// Returns `Err` only if an allocation fails or a size does not fit a `usize`.
     pub fn clone(&self) -> Result<Self, AllocError>
         ensures texts { IfOk result (λ copy. copy.texts ≡ self.now.texts) }
         ensures slots { IfOk result (λ copy. IsLeastSlotCount (length self.now.texts) copy.slot_count) }
@@ -258,7 +259,7 @@ impl<'a, B: Backend, H: TextHasher> IntoIterator for &'a StringInterner<B, H> {
     }
 }
 
-/// Whether the next text of a walk is this one. Steps over it.
+/// Reports whether the next text of an iterator is this one, and advances past it.
 fn next_is<B: Backend>(walk: &mut Iter<'_, B>, text: &str) -> bool
     ensures { (texts : List Text) → texts_eq (text.now ∷ texts) walk.old.ahead ≡ (result && texts_eq texts walk.new.ahead) }
 {
@@ -268,7 +269,7 @@ fn next_is<B: Backend>(walk: &mut Iter<'_, B>, text: &str) -> bool
     }
 }
 
-/// Equal exactly where the lists of texts are, whatever room and hashers there are.
+/// Equal exactly if the lists of texts are, whatever the spare capacities and hashers.
 impl<B: Backend, H: TextHasher> PartialEq for StringInterner<B, H> {
     ghost eq = { λ a b. texts_eq a.texts b.texts };
 

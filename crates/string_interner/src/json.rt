@@ -1,4 +1,4 @@
-//! JSON forms: of an interner the array of its texts, and of a symbol its number.
+//! JSON: an interner is the array of its texts, and a symbol its number.
 
 ghost use Rattle.std.specs.Prelude.{◌≡◌, length, Ok, IfOk, IsOkAnd};
 ghost use Rattle.serde_json.specs.View.{view};
@@ -13,31 +13,30 @@ use serde_json::Value;
 use std::alloc::{AllocError, Global};
 use thiserror::Error;
 
-/// Why a JSON value was not read. Nothing was made then.
+/// Why a JSON value could not be read.
 #[derive(Clone, Copy, Debug, PartialEq, Eq, Error)]
 pub enum JsonError {
-    /// The symbol type has no symbol for the text, or none with the number.
+    /// The symbol type has no symbol for the text, or none with this number.
     #[error("no symbol is left")]
     NoSymbol,
-    /// Memory was refused, or the next place does not fit a `usize`.
+    /// An allocation failed, or the next place does not fit a `usize`.
     #[error("out of memory")]
     Memory(AllocError),
     /// The value is not an array.
     #[error("not a list")]
     NotAList,
-    /// The element with this index, counted from 0, is not a string.
+    /// The element at this index (0-based) is not a string.
     #[error("element {index} is not a text")]
     NotAText { index: usize },
-    /// The element with this index, counted from 0, is a string that is equal to an earlier one, where each must be
-    /// another.
+    /// The element at this index (0-based) is a string equal to an earlier one, where all must differ.
     #[error("element {index} is repeated")]
     Repeated { index: usize },
-    /// The value is not a whole number from 0 to 2^64 - 1.
+    /// The value is not an integer from 0 to 2^64 - 1.
     #[error("not a number")]
     NotANumber,
 }
 
-/// A text that an interner refused is refused for the same reason.
+/// Keeps the reason: `NoSymbol` stays `NoSymbol`, and `Memory` stays `Memory`.
 impl From<InternError> for JsonError {
     ghost from_gives = { λ error refusal. refusal ≡ refused error };
 
@@ -50,9 +49,9 @@ impl From<InternError> for JsonError {
 }
 
 impl<B: Backend, H: TextHasher> StringInterner<B, H> {
-    /// The array of the texts in order of first interning, each a JSON string.
+    /// Returns the array of the texts in insertion order, each a JSON string.
     ///
-    /// Refuses only where memory was refused.
+    /// Returns `Err` only if an allocation fails.
     pub fn to_json(&self, alloc: Global) -> Result<Value, AllocError>
         ensures value { IfOk result (λ value. view value ≡ json_of_texts self.now.texts) }
     {
@@ -65,13 +64,13 @@ impl<B: Backend, H: TextHasher> StringInterner<B, H> {
 }
 
 impl<B: Backend + Drop, H: TextHasher + Default + Drop> StringInterner<B, H> {
-    /// An interner of the texts of an array of JSON strings, under the hasher's default.
+    /// Makes an interner from a JSON array of strings, under the hasher's default.
     ///
-    /// It starts empty and interns element after element, so that repeats fold into one text: `["a", "b", "a"]` is read
-    /// as the texts a and b. What is read has the least count of slots for its texts.
+    /// It interns the elements in order, so a repeat adds no text: `["a", "b", "a"]` gives the texts a and b. The index
+    /// has the least slot count for its texts.
     ///
-    /// Refuses a value that is not an array with `NotAList`. Else the first refused element decides: with `NotAText`
-    /// where it is not a string, and as `get_or_intern` refuses where it is.
+    /// Returns `NotAList` if the value is not an array. Else the first element that fails decides: it returns
+    /// `NotAText` if it is not a string, and fails as in `get_or_intern` if it is.
     pub fn from_json(alloc: Global, value: &Value) -> Result<Self, JsonError>
         ensures reads { ReadsArray B.Symbol.symbol_of B.place (view value.now) result }
         ensures slots { IfOk result (λ interner. IsLeastSlotCount (length interner.texts) interner.slot_count) }
@@ -90,11 +89,11 @@ impl<B: Backend + Drop, H: TextHasher + Default + Drop> StringInterner<B, H> {
         Ok(interner)
     }
 
-    /// An interner of the texts of an array of JSON strings that are all different, under the hasher's default: the array
-    /// is then what `to_json` gives.
+    /// Makes an interner from a JSON array of distinct strings, under the hasher's default. The array is then what
+    /// `to_json` returns.
     ///
-    /// Reads and refuses as `from_json` does, but folds no repeats: a string that is equal to an earlier element is
-    /// refused with `Repeated`, before a symbol or memory is asked for it: `["a", "b", "a"]` at the index 2.
+    /// Reads and fails as `from_json` does, but accepts no repeats: a string equal to an earlier element returns
+    /// `Repeated`, before a symbol or memory is asked for it. `["a", "b", "a"]` fails at index 2.
     pub fn from_json_exact(alloc: Global, value: &Value) -> Result<Self, JsonError>
         ensures reads { ReadsArrayExactly B.Symbol.symbol_of B.place (view value.now) result }
         ensures form { IfOk result (λ interner. view value.now ≡ json_of_texts interner.texts) }
@@ -121,7 +120,7 @@ impl<B: Backend + Drop, H: TextHasher + Default + Drop> StringInterner<B, H> {
     }
 }
 
-/// The number of a symbol, as a JSON number. A number takes no memory, so this always answers.
+/// Returns the number of a symbol as a JSON number. Always returns `Ok`, since a JSON number needs no memory.
 pub fn symbol_to_json<S: Symbol>(_alloc: Global, symbol: S) -> Result<Value, AllocError>
     ensures value { IsOkAnd result (λ value. view value ≡ json_of_number (S.number symbol)) }
 
@@ -131,10 +130,10 @@ pub fn symbol_to_json<S: Symbol>(_alloc: Global, symbol: S) -> Result<Value, All
     Ok(Value::from(symbol.to_usize()))
 }
 
-/// The symbol with the number that the JSON value is. Takes no memory.
+/// Returns the symbol whose number the JSON value is. Allocates nothing.
 ///
-/// Refuses with `NotANumber` what is not a whole number from 0 to 2^64 - 1, and with `NoSymbol` a number that the symbol
-/// type does not have.
+/// Returns `NotANumber` if the value is not an integer from 0 to 2^64 - 1, and `NoSymbol` if the symbol type has no
+/// symbol with that number.
 pub fn symbol_from_json<S: Symbol>(value: &Value) -> Result<S, JsonError>
     ensures { result ≡ symbol_read S.symbol_of (view value.now) }
 {

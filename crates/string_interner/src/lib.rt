@@ -1,8 +1,8 @@
-//! Texts that are kept once each, and stood for by small symbols that are copied freely.
+//! A string interner: each text is stored once, and small `Copy` symbols stand for the texts.
 //!
-//! A [`StringInterner`] answers for each text the symbol of that text: the same symbol for an equal text, and another
-//! one for any other. Texts are then compared, hashed and stored as symbols. How the texts lie in memory is the choice
-//! of a [`backend`], and how symbols are numbered that of a [`Symbol`].
+//! A [`StringInterner`] returns a symbol for each text: the same for equal texts, another for different ones. Texts are
+//! then compared, hashed and stored as symbols. A [`backend`] chooses how the texts lie in memory, and a [`Symbol`]
+//! type which numbers symbols may have.
 #![tactic(auto)]
 
 pub mod backend;

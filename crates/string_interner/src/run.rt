@@ -1,4 +1,4 @@
-//! Commands to an interner, run in order, with a reply to each.
+//! Running a list of commands on an interner, with one reply for each.
 
 ghost use Rattle.std.specs.Prelude.{◌≡◌, [], slice_get, Option, Some, None, IfOk, OnErr};
 ghost use Rattle.std.specs.Option.{option_copied};
@@ -12,34 +12,33 @@ use crate::interner::StringInterner;
 use crate::symbol::Symbol;
 use std::alloc::{AllocError, Global};
 
-/// What to do with an interner.
+/// A command to an interner, and how it is replied to.
 #[derive(Clone, Copy, Debug, PartialEq, Eq)]
 pub enum Command<'c> {
-    /// Intern the text: replied by its `Symbol`, or by `NoSymbol` or `NoMemory`.
+    /// Interns the text. Replies `Symbol`, or on failure `NoSymbol` or `NoMemory`.
     Intern(&'c str),
-    /// Intern the text by `get_or_intern_static`: replied as `Intern`.
+    /// Interns the text by `get_or_intern_static`. Replies as `Intern` does.
     InternStatic(&'static str),
-    /// Look for the text: replied by its `Symbol`, or by `Nothing` where it is new.
+    /// Looks the text up. Replies `Symbol`, or `Nothing` if the text is new.
     Get(&'c str),
-    /// Resolve the symbol that the reply with this index told, counted from 0: replied as its `Number`, or by `NoReply`
-    /// where no such reply stands before this command or it told no symbol. Where its entry was dropped, something else
-    /// or nothing may be read there.
+    /// Resolves the symbol in the reply with this index (0-based), replying as `Number` would; `NoReply` if there is no
+    /// such reply yet or it holds no symbol. If the entry was dropped since, another text or nothing may be read there.
     Resolve(usize),
-    /// Resolve the symbol with this number: replied by `Text`, or by `Nothing` where the symbol type has no such number
-    /// or nothing is read there, or by `NoMemory` for the copy.
+    /// Resolves the symbol with this number. Replies `Text`; `Nothing` if the symbol type has no such number or nothing
+    /// is read there; `NoMemory` if the copy cannot be allocated.
     Number(usize),
-    /// Count the texts: replied by `Len`.
+    /// Counts the texts. Replies `Len`.
     Len,
-    /// Give back memory that no text needs: replied by `Done`.
+    /// Releases memory that no text needs, if it can. Replies `Done`.
     Shrink,
-    /// Keep this many texts, the first ones, and drop the others: replied by `Done`. Dropped texts are new again.
+    /// Keeps this many of the first texts and drops the rest, which are then new again. Replies `Done`.
     Truncate(usize),
-    /// Intern the texts in order: replied by `Done`, or by `NoSymbol` or `NoMemory` of the first that is refused. Those
-    /// before it stay.
+    /// Interns the texts in order. Replies `Done`, or `NoSymbol` or `NoMemory` for the first that fails. Those before
+    /// it stay.
     Extend(&'c [&'c str]),
 }
 
-/// What a command was answered.
+/// The reply to a command.
 #[derive(Debug, PartialEq, Eq, Drop)]
 pub enum Reply {
     /// The number of the text's symbol.
@@ -48,19 +47,19 @@ pub enum Reply {
     Nothing,
     /// A copy of the text.
     Text(String),
-    /// How many texts there are.
+    /// The number of texts.
     Len(usize),
-    /// It is done, and there is nothing to tell.
+    /// The command is done, and returns no value.
     Done,
-    /// No earlier reply told the symbol that was asked for.
+    /// There is no earlier reply with that index, or it holds no symbol.
     NoReply,
     /// The text is new, and the symbol type has no symbol for it.
     NoSymbol,
-    /// Memory was refused, for this command alone.
+    /// An allocation failed, for this command alone.
     NoMemory,
 }
 
-/// The reply that tells why a text was refused.
+/// Returns the reply for an error.
 fn refusal(error: InternError) -> Reply
     ensures { result ≡ refusal error }
 {
@@ -70,7 +69,7 @@ fn refusal(error: InternError) -> Reply
     }
 }
 
-/// The reply that tells how an interning ended.
+/// Returns the reply for the outcome of interning a text.
 fn intern_reply<S: Symbol>(outcome: Result<S, InternError>) -> Reply
     ensures { result ≡ intern_reply S.number outcome }
 {
@@ -80,7 +79,7 @@ fn intern_reply<S: Symbol>(outcome: Result<S, InternError>) -> Reply
     }
 }
 
-/// Interns the texts in order. The reply tells how that ended.
+/// Interns the texts in order, and returns the reply for the outcome.
 fn extend_reply<B: Backend, H: TextHasher>(
     interner: &mut StringInterner<B, H>,
     texts: &[&str],
@@ -94,14 +93,14 @@ fn extend_reply<B: Backend, H: TextHasher>(
     }
 }
 
-/// A copy of the text. Asks for memory once.
+/// Returns a copy of the text, or `NoMemory` if it cannot be allocated. Asks for memory once.
 fn copy_reply(alloc: Global, text: &str) -> Reply
     ensures { CopyReply text.now result }
 {
     String::from_str(alloc, text).map_or(Reply::NoMemory, Reply::Text)
 }
 
-/// The number that the reply `k` told, if it told one.
+/// Returns the number of the symbol in reply `k`, if it holds one.
 fn number_told(earlier: &[Reply], k: usize) -> Option<usize>
     ensures { result ≡ number_told (slice_get earlier.now k) }
 {
@@ -111,14 +110,14 @@ fn number_told(earlier: &[Reply], k: usize) -> Option<usize>
     }
 }
 
-/// What is read at a number that has a symbol.
+/// Returns the text at a number, if the number has a symbol and a text is read there.
 fn number_read<B: Backend, H: TextHasher>(interner: &StringInterner<B, H>, n: usize) -> Option<&str>
     ensures { option_copied result ≡ number_read B.Symbol.symbol_of B.Symbol.number B.place B.read interner.now.texts n }
 {
     interner.resolve(B::Symbol::try_from_usize(n)?)
 }
 
-/// The reply to a number.
+/// Returns the reply to `Number`: a copy of the text, or `Nothing`.
 fn number_reply<B: Backend, H: TextHasher>(
     alloc: Global,
     interner: &StringInterner<B, H>,
@@ -132,7 +131,7 @@ fn number_reply<B: Backend, H: TextHasher>(
     }
 }
 
-/// Runs one command, after the earlier replies.
+/// Runs one command. `earlier` holds the replies so far.
 fn step<B: Backend, H: TextHasher>(
     alloc: Global,
     interner: &mut StringInterner<B, H>,
@@ -167,19 +166,21 @@ fn step<B: Backend, H: TextHasher>(
     }
 }
 
-/// Runs the commands in order, and answers one reply to each.
+/// Runs the commands in order, and returns one reply for each.
 ///
-/// The replies are those of a list of distinct texts: a known text answers the number of its entry and changes
-/// nothing; a new one goes last, under the next place of the backend. It is refused for want of a symbol exactly where
-/// the symbol type has none for that place, and else only for want of memory; a refused text leaves the list alone.
+/// The replies are those of a list of distinct texts: a known text is replied to with the number of its entry and
+/// changes nothing; a new one is appended, at the next place of the backend. Its reply is `NoSymbol` exactly if the
+/// symbol type has none for that place, and `NoMemory` only if an allocation fails or a size does not fit a `usize`;
+/// the list is then unchanged.
 ///
-/// Where no command is a `Number` or a `Truncate` and nothing is refused, the replies are one function of the list and
-/// the commands, told by the places of the entries; so all backends answer alike.
+/// If no command is a `Number` or a `Truncate` and none fails, the replies are one function of the list and the
+/// commands, with each symbol's number the place of its entry. So all backends reply alike, but for these numbers.
 ///
-/// Room for all replies is taken first, in one growth. Where that is refused, nothing ran.
+/// Memory for all replies is reserved first, in one allocation. Returns `Err` only if that fails; no command has run
+/// then.
 ///
-/// On an empty interner over strings `Intern("a")`, `Intern("b")`, `Intern("a")`, `Resolve(1)` and `Len` are replied by
-/// `Symbol(0)`, `Symbol(1)`, `Symbol(0)`, `Text("b")` and `Len(2)`.
+/// On an empty interner over strings, the replies to `Intern("a")`, `Intern("b")`, `Intern("a")`, `Resolve(1)` and
+/// `Len` are `Symbol(0)`, `Symbol(1)`, `Symbol(0)`, `Text("b")` and `Len(2)`.
 pub fn run<B: Backend, H: TextHasher>(
     alloc: Global,
     interner: &mut StringInterner<B, H>,

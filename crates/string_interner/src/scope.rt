@@ -1,4 +1,4 @@
-//! Scopes over an interner: what is declared in a scope is forgotten where the scope is left.
+//! Nested scopes over an interner: leaving a scope drops the texts that were declared in it.
 
 ghost use Rattle.std.specs.Prelude.{◌≡◌, ◌+◌, ◌↔◌, [], ◌∷◌, ◌++◌, length, None, IsSome, OnOk, OnErr};
 ghost use Rattle.string_interner.specs.Text.{first};
@@ -11,20 +11,20 @@ use crate::interner::StringInterner;
 use std::alloc::{AllocError, Global};
 use std::marker::Model;
 
-/// An interner whose texts are declared in scopes, one within another.
+/// An interner whose texts are declared in nested scopes.
 ///
-/// A scope is opened by `enter` and left by `leave`, which forgets the texts that were declared since. Those that were
-/// there before keep their symbols; a text that is declared again in an inner scope has its symbol already. After
-/// `enter`, `declare("a")` and `leave`, `find("a")` is `None`, unless `a` was there at `enter`.
+/// `enter` opens a scope, and `leave` closes it and drops the texts declared since. Texts that were there before keep
+/// their symbols; declaring one of them again in an inner scope returns the symbol that it has. After `enter`,
+/// `declare("a")` and `leave`, `find("a")` is `None`, unless `a` was there at `enter`.
 #[derive(Drop)]
 pub struct Scopes<B: Backend, H: TextHasher = DefaultHashBuilder> {
     interner: StringInterner<B, H>,
-    /// How many texts there were as each open scope was entered, the outermost scope first.
+    /// The number of texts when each open scope was entered, the outermost scope first.
     starts: Vec<usize>,
 }
 
-/// Contracts see a stack of layers, one for each open scope over the texts that no scope holds, and the interner's
-/// buckets, room and slots.
+/// Contracts see a stack of layers, one for each open scope above the texts that are in no scope, and the interner's
+/// buckets, room and slot count.
 impl<B: Backend, H: TextHasher> Model for Scopes<B, H> {
     ghost use Rattle.std.specs.Prelude.{length, reverse};
     ghost use Rattle.string_interner.specs.Scopes.{Scoped, top_layer, layers_below, AreStarts};
@@ -43,7 +43,7 @@ impl<B: Backend, H: TextHasher> Model for Scopes<B, H> {
 }
 
 impl<B: Backend, H: TextHasher> Scopes<B, H> {
-    /// The interner with no open scope: all its texts are in the bottom layer. Takes no memory.
+    /// Wraps an interner, with no open scope: all its texts are in the bottom layer. Allocates nothing.
     pub fn new(alloc: Global, interner: StringInterner<B, H>) -> Self
         ensures layers { layers result ≡ interner.texts ∷ [] }
         ensures interner { interned result ≡ interner }
@@ -54,9 +54,9 @@ impl<B: Backend, H: TextHasher> Scopes<B, H> {
         }
     }
 
-    /// Opens a scope, which has no texts yet.
+    /// Opens a scope, with no texts yet.
     ///
-    /// Refuses only where memory for one more scope was refused. Nothing is changed then.
+    /// Returns `Err` only if memory for one more scope cannot be allocated. Nothing changes then.
     pub fn enter(&mut self) -> Result<(), AllocError>
         ensures layers { OnOk result (layers self.new ≡ [] ∷ layers self.old) }
         ensures interner { interned self.new ≡ interned self.old }
@@ -67,11 +67,10 @@ impl<B: Backend, H: TextHasher> Scopes<B, H> {
         Ok(())
     }
 
-    /// Leaves the innermost open scope and forgets the texts that were declared in it: the list is what it was at the
-    /// matching `enter`, with every symbol of it. Answers whether there was an open scope; where there was none, nothing
-    /// is changed.
+    /// Closes the innermost open scope and drops the texts declared in it: the list and its symbols are what they were
+    /// at the matching `enter`. Returns whether there was an open scope; if there was none, nothing changes.
     ///
-    /// Takes no memory, and gives none back. Costs what `StringInterner::truncate` does.
+    /// Allocates and releases nothing. Costs what `StringInterner::truncate` costs.
     pub fn leave(&mut self) -> bool
         ensures layers { Leaves (layers self.old) result (layers self.new) }
         ensures none { self.old.below ≡ [] → self.new ≡ self.old }
@@ -87,9 +86,9 @@ impl<B: Backend, H: TextHasher> Scopes<B, H> {
         }
     }
 
-    /// The symbol of a text, which is looked for in all layers. A new text is put at the end of the top one.
+    /// Returns the symbol of a text, which is looked up in all layers. A new text is appended to the top one.
     ///
-    /// Refuses as `StringInterner::get_or_intern` does. No layer is changed then.
+    /// Fails as `StringInterner::get_or_intern` does. No layer changes then.
     pub fn declare(&mut self, text: &str) -> Result<B::Symbol, InternError>
         ensures interns { InternsInto B.Symbol.symbol_of B.place B.cost (interned self.old) text.now result
             (interned self.new) }
@@ -105,7 +104,8 @@ impl<B: Backend, H: TextHasher> Scopes<B, H> {
         self.interner.get_or_intern(text)
     }
 
-    /// The symbol of a text, which is looked for in all layers: some exactly where the text is known. Takes no memory.
+    /// Returns the symbol of a text, which is looked up in all layers: `Some` exactly if the text is known. Allocates
+    /// nothing.
     pub fn find(&self, text: &str) -> Option<B::Symbol>
         ensures symbol { result ≡ known_symbol B.Symbol.symbol_of B.place (joined_layers (layers self.now)) text.now }
         ensures known { IsSome result ↔ IsSome (first (joined_layers (layers self.now)) text.now) }
@@ -113,14 +113,14 @@ impl<B: Backend, H: TextHasher> Scopes<B, H> {
         self.interner.get(text)
     }
 
-    /// How many scopes are open: as many as there are layers, less one.
+    /// Returns the number of open scopes: one less than there are layers.
     pub fn depth(&self) -> usize
         ensures { length (layers self.now) ≡ result + 1 }
     {
         self.starts.len()
     }
 
-    /// The interner, whose list is all layers joined.
+    /// Returns the interner, whose list is all layers joined.
     pub fn interner(&self) -> &StringInterner<B, H>
         ensures { result.now ≡ interned self.now }
     {
@@ -128,8 +128,8 @@ impl<B: Backend, H: TextHasher> Scopes<B, H> {
     }
 }
 
-/// Does nothing. Its clause is the law of leaving: whatever calls stand between an `enter` and the `leave` that matches
-/// it, the layers are then what they were.
+/// Does nothing. Its clause is the law of leaving: whatever calls come between an `enter` and the matching `leave`, the
+/// layers are then what they were before the `enter`.
 pub fn scope_law()
     ensures { LeavingGivesBack }
 {}

@@ -1,7 +1,7 @@
-//! Symbols: what stands for a text. A symbol is known by its number.
+//! Symbols: small `Copy` values that stand for texts. A symbol is determined by its number.
 //!
-//! The symbol types here have all numbers below a limit. Each tests the number before it casts it: 70,000 has a symbol
-//! in [`SymbolU32`], and none in [`SymbolU16`].
+//! The symbol types here have all numbers below a limit, and check it before they cast: 70,000 has a symbol in
+//! [`SymbolU32`], and none in [`SymbolU16`].
 
 ghost use Rattle.std.specs.Prelude.{◌≡◌, ℕ, ◌^◌, ◌<◌, ◌-◌, ◌↔◌, Option, Some, IsTrue};
 ghost use Rattle.std.proofs.Common.{rules, lit≤};
@@ -9,22 +9,22 @@ ghost use Rattle.string_interner.specs.Symbol.{number_below, number_below-some};
 
 use std::marker::Model;
 
-/// The symbol type of a backend for which no other is named.
+/// The default symbol type of a backend.
 pub type DefaultSymbol = SymbolU32;
 
-/// A symbol, known by its number. A type may have gaps in its numbers, and its last number ends what it can name.
+/// A symbol, determined by its number. The numbers of a type fit a `usize`, and may have gaps.
 pub trait Symbol: Copy + Eq {
     /// The number of a symbol.
     ghost number: { Self → ℕ };
 
-    /// The symbol with a number, where the type has that number.
+    /// The symbol with a number, if the type has one.
     ghost symbol_of: { ℕ → Option Self };
 
-    /// The symbol with the number `index`, or `None` exactly where the type has no such number.
+    /// Returns the symbol with the number `index`: `None` exactly if the type has no such symbol.
     fn try_from_usize(index: usize) -> Option<Self>
         ensures { result ≡ symbol_of index };
 
-    /// The number of this symbol. `try_from_usize` of it is this symbol again.
+    /// Returns the number of this symbol. `try_from_usize` of it returns this symbol.
     fn to_usize(self) -> usize
         ensures value { result ≡ number self }
         ensures found_again { symbol_of result ≡ Some self };
@@ -35,7 +35,7 @@ pub trait Symbol: Copy + Eq {
     /// `==` compares numbers.
     ghost equal_by_number: { (a b : Self) → IsTrue (Self.eq a b) ↔ (number a ≡ number b) };
 
-    /// Symbols with one number are one symbol.
+    /// Symbols with equal numbers are equal.
     ghost injective: { (a b : Self) → number a ≡ number b → a ≡ b };
 }
 

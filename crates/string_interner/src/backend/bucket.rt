@@ -1,4 +1,4 @@
-//! Texts in buckets that are never rewritten, and static texts where they are.
+//! Texts in append-only buckets of bytes, and static texts by reference.
 
 mod buckets;
 mod copies;
@@ -24,18 +24,18 @@ use interned_str::InternedStr;
 use std::alloc::{AllocError, Global};
 use std::marker::{Model, PhantomData};
 
-/// Keeps the texts in buckets of bytes, and static texts where they are.
+/// Stores texts in append-only buckets of bytes, and static texts by reference.
 ///
-/// Serves best where texts are long or many, since a text is copied once and never moved after that, and where static
-/// texts are common, since those are not copied at all. The entries are numbered 0, 1, 2, .. without gaps. Each takes
-/// four `usize`, and a text that is not static its bytes; resolving reads the entry and makes the slice.
+/// Best where texts are long or many, since a text is copied once and not moved after that, and where static texts are
+/// common, since those are not copied at all. Places are 0, 1, 2, .. without gaps. An entry takes four `usize`, and a
+/// text that is not static also its bytes. Resolving reads the entry and makes the slice.
 ///
-/// A text goes to the end of the last bucket, the head, where the capacity of the head allows it. Else it begins a new
-/// head, of the least power of two above both the capacity of the old head and the length of the text: the rule of the
-/// Rust crate string-interner. A capacity is what was asked for, whatever more was granted. All capacities together are
-/// at most that of the first bucket or four times the bytes that stand in buckets.
+/// A text is appended to the last bucket, the head, if it fits the head's capacity. Else it begins a new head, whose
+/// capacity in bytes is the least power of two above both the old head's capacity and the text's length: the rule of
+/// the Rust crate string-interner. A capacity is the one that was requested, whatever more was granted. All capacities
+/// add up to at most that of the first bucket or four times the bytes in buckets, whichever is more.
 ///
-/// So from `new` on `"abc"` begins a head of the capacity 4, and `"de"`, for which one byte is left, one of 8.
+/// So after `new`, `"abc"` begins a head of capacity 4, and `"de"`, for which one byte is left, one of 8.
 #[derive(Drop)]
 pub struct BucketBackend<S: Symbol = DefaultSymbol> {
     entries: Vec<InternedStr>,
@@ -44,8 +44,8 @@ pub struct BucketBackend<S: Symbol = DefaultSymbol> {
     symbols: PhantomData<S>,
 }
 
-/// Contracts see the texts, which of them are static, the buckets, and as room the lesser of the free bytes of the head
-/// and the free entries.
+/// Contracts see the texts, which of them are static, the buckets, and as room the smaller of the head's spare bytes
+/// and the spare entries.
 impl<S: Symbol> Model for BucketBackend<S> {
     ghost use Rattle.std.specs.Prelude.{◌-◌, min, length, map, vec_len, vec_capacity};
     ghost use Rattle.string_interner.specs.BucketBackend.{BucketContents, buckets_of, interned_text, is_static, IsInBuckets};
@@ -64,7 +64,7 @@ impl<S: Symbol> Model for BucketBackend<S> {
 }
 
 impl<S: Symbol> BucketBackend<S> {
-    /// The text of the entry `index`.
+    /// Returns the text of entry `index`.
     #[inline]
     fn text_at(&self, index: usize) -> &str
         requires { index < length self.now.texts }
@@ -92,7 +92,7 @@ impl<S: Symbol> Backend for BucketBackend<S> {
 
     ghost buckets = { λ b. buckets_of b.full b.head };
 
-    /// With a head of capacity 0.
+    /// Makes an empty backend, with a head of capacity 0. Allocates nothing.
     fn new(alloc: Global) -> Self
         ensures { result ≡ empty_contents 0 result.room }
     {
@@ -104,7 +104,7 @@ impl<S: Symbol> Backend for BucketBackend<S> {
         }
     }
 
-    /// With room for `capacity` entries, and a head of that capacity.
+    /// Makes an empty backend with capacity for `capacity` entries, and a head of `capacity` bytes.
     fn with_capacity(alloc: Global, capacity: usize) -> Result<Self, AllocError>
         ensures room { IfOk result (λ backend. capacity ≤ backend.room) }
         ensures empty { IfOk result (λ backend. backend ≡ empty_contents capacity backend.room) }
@@ -117,7 +117,8 @@ impl<S: Symbol> Backend for BucketBackend<S> {
         })
     }
 
-    /// Its clause `bounded` is what holds of the buckets of every backend.
+    /// Returns the number of texts, repeats included. Its clause `bounded` holds of the buckets of every
+    /// `BucketBackend`.
     fn count(&self) -> usize
         ensures value { result ≡ length self.now.texts }
         ensures kept { IsKept S.symbol_of length self.now.texts }
@@ -180,7 +181,7 @@ impl<S: Symbol> Backend for BucketBackend<S> {
         (S::try_from_usize(at).unwrap(), text, at + 1)
     }
 
-    /// Gives back free places in the lists of entries and of older buckets. The buckets stay as they are, with the free
+    /// Releases spare capacity of the lists of entries and of older buckets. The buckets are unchanged, with the spare
     /// bytes of the head and the bytes of dropped texts.
     fn shrink_to_fit(&mut self)
         ensures room { self.new.room ≤ self.old.room }
@@ -213,10 +214,11 @@ impl<S: Symbol> Backend for BucketBackend<S> {
 }
 
 impl<S: Symbol> BucketBackend<S> {
-    /// A backend with an equal list, whose bucket texts stand in one head. Static texts stay where they are.
+    /// Returns a backend with an equal list, whose texts in buckets are copied into one head. Static texts stay
+    /// references.
     ///
-    /// The head has the capacity of this head and, beside that, of all bytes in the older buckets. Refuses only where
-    /// memory was refused, or that capacity does not fit a `usize`.
+    /// The capacity of that head is this head's capacity plus the bytes in the older buckets. Returns `Err` only if an
+    /// allocation fails or that capacity does not fit a `usize`.
     pub fn clone(&self) -> Result<Self, AllocError>
         ensures { IfOk result (JoinsBuckets self.now) }
     {
@@ -252,7 +254,7 @@ impl<'a, S: Symbol> IntoIterator for &'a BucketBackend<S> {
     }
 }
 
-/// Equal exactly where the lists are, wherever the texts stand.
+/// Equal exactly if the lists of texts are, wherever the texts lie in memory.
 impl<S: Symbol> PartialEq for BucketBackend<S> {
     ghost eq = { λ a b. texts_eq a.texts b.texts };
 

@@ -1,4 +1,4 @@
-//! All texts in one buffer of bytes, each behind its length.
+//! All texts in one byte buffer, each behind its length.
 
 mod spelling;
 
@@ -17,21 +17,21 @@ use spelling::{digit_count, number_at, push_number};
 use std::alloc::{AllocError, Global};
 use std::marker::{Model, PhantomData};
 
-/// Keeps the texts in one buffer of bytes, each behind its length.
+/// Stores all texts in one byte buffer, each behind its length in unsigned LEB128.
 ///
-/// It is the smallest of the backends: a text shorter than 128 bytes takes one byte beside its own, and no list of ends
-/// stands beside the buffer. Choose it where memory counts most.
+/// The smallest of the backends: a text shorter than 128 bytes takes one byte beside its own, and there is no list of
+/// ends beside the buffer. Choose it where memory counts most.
 ///
-/// An entry is the length of its text in bytes, spelled in base 128, and then the text. The lowest digit comes first,
-/// and bit 7 is set on every digit but the last. A length has no more digits than it needs, and at least one, so long
-/// spellings start at the length 128. The format is that of the crate string-interner, widely known as LEB128.
+/// An entry is the length of its text in bytes, written in base 128, and then the text. The lowest digit comes first,
+/// and bit 7 is set on every byte of the length but the last. A length has the fewest digits, and at least one, so two
+/// digits start at the length 128. The format is that of the Rust crate string-interner.
 ///
-/// So `"ab"` and then `"c"` lie as the bytes 2, 97, 98, 1, 99, and their symbols have the numbers 0 and 3.
+/// So `"ab"` and then `"c"` are stored as the bytes 2, 97, 98, 1, 99, and their symbols have the numbers 0 and 3.
 ///
-/// The number of an entry is the offset of its first byte. So the numbers have gaps, and a symbol type runs out of them
-/// by bytes and not by texts. Interning is a copy to the end, and may move what stands. Resolving reads the length and
-/// makes the slice; since any number may be asked for, it also tests that the text is UTF-8, in time by its length.
-/// Where the entry is known, as in a walk, nothing is tested.
+/// The place of an entry is the offset of its first byte. So the numbers have gaps, and a symbol type runs out of them
+/// by bytes and not by texts. Interning appends a copy, and may move the buffer. Resolving reads the length and makes
+/// the slice; since any number may be asked for, it also validates UTF-8, in time linear in the text's length. Where
+/// the entry is known, as in iteration, nothing is validated.
 #[derive(Drop)]
 pub struct BufferBackend<S: Symbol = DefaultSymbol> {
     count: usize,
@@ -39,7 +39,7 @@ pub struct BufferBackend<S: Symbol = DefaultSymbol> {
     symbols: PhantomData<S>,
 }
 
-/// Contracts see the texts, and as room the reserved bytes that are not used yet.
+/// Contracts see the texts, and as room the spare capacity in bytes.
 impl<S: Symbol> Model for BufferBackend<S> {
     ghost use Rattle.std.specs.Prelude.{◌-◌, vec_len, vec_capacity};
     ghost use Rattle.string_interner.specs.Backend.{Contents};
@@ -52,7 +52,8 @@ impl<S: Symbol> Model for BufferBackend<S> {
     ghost invariant = { λ b. IsSpelled S.symbol_of b.bytes.items (texts_in b.count b.bytes.items) };
 }
 
-/// The text at the front, behind its length, where all of it is there and is UTF-8.
+/// Returns the text at the front, behind its length: `None` unless the length can be decoded and the text is complete
+/// and UTF-8.
 #[inline]
 fn front_text(bytes: &[u8]) -> Option<&str>
     ensures { option_copied result ≡ read_front bytes.now }
@@ -62,7 +63,7 @@ fn front_text(bytes: &[u8]) -> Option<&str>
     str::from_utf8(text).ok()
 }
 
-/// The text of the entry that begins at a place, and the place after it.
+/// Returns the text of the entry at a place, and the place of the next entry.
 #[inline]
 fn text_and_next(bytes: &[u8], at: usize) -> (&str, usize)
     requires { HasEntryAt bytes.now at }
@@ -83,7 +84,7 @@ fn text_and_next(bytes: &[u8], at: usize) -> (&str, usize)
 }
 
 impl<S: Symbol> BufferBackend<S> {
-    /// The buffer: the entries of the texts, one after another. What reads the texts stands on this.
+    /// Returns the buffer: the entries of all texts in order, each a length in LEB128 and then the text.
     #[inline]
     pub fn as_bytes(&self) -> &[u8]
         ensures spelled { result.now ≡ bytes_of self.now.texts }
@@ -93,7 +94,7 @@ impl<S: Symbol> BufferBackend<S> {
         &self.bytes
     }
 
-    /// The place of the entry `index`, found by walking over those before it.
+    /// Returns the place of entry `index`. Reads the length of each entry before it.
     fn place_at(&self, index: usize) -> usize
         requires { index ≤ length self.now.texts }
         ensures { result ≡ place_of (take index self.now.texts) }
@@ -130,7 +131,7 @@ impl<S: Symbol> Backend for BufferBackend<S> {
         }
     }
 
-    /// With room for `13 * capacity` bytes: for each text 5, and 8 for its length.
+    /// Makes an empty backend with capacity for `13 * capacity` bytes: for each text 5, and 8 for its length.
     fn with_capacity(alloc: Global, capacity: usize) -> Result<Self, AllocError>
         ensures texts { IfOk result (λ backend. backend.texts ≡ []) }
         ensures room { IfOk result (λ backend. 13 * capacity ≤ backend.room) }
@@ -165,10 +166,10 @@ impl<S: Symbol> Backend for BufferBackend<S> {
         Ok(symbol)
     }
 
-    /// What is read from the number of the symbol on: for the symbol of an entry, its text.
+    /// Returns the text that is decoded at the symbol's number, if any. For the symbol of an entry this is its text.
     ///
-    /// From any other number there may be nothing, or a text out of the middle of an entry or across two: whatever
-    /// follows bytes that spell its length, in ten digits at most. Such a length may have more digits than it needs.
+    /// Any other number gives `None`, or a text from the middle of an entry or across two: whatever follows bytes that
+    /// decode as its length, in at most ten digits. Such a length may have more digits than it needs.
     fn resolve(&self, symbol: S) -> Option<&str>
         ensures value { option_copied result ≡ read_at self.now.texts (S.number symbol) }
         ensures reads { (text : Text) → (option_copied result ≡ Some text)
@@ -186,7 +187,7 @@ impl<S: Symbol> Backend for BufferBackend<S> {
         (S::try_from_usize(at).unwrap(), text, next)
     }
 
-    /// Leaves no more room than there was, and none where there is no text.
+    /// Reduces spare capacity if it can: leaves no more than there was, and none if there are no texts.
     fn shrink_to_fit(&mut self)
         ensures { Shrinks self.old self.new }
     {
@@ -211,7 +212,7 @@ impl<S: Symbol> Backend for BufferBackend<S> {
 }
 
 impl<S: Symbol> BufferBackend<S> {
-    /// A backend with an equal list. Refuses only where memory was refused.
+    /// Returns a backend with an equal list. Returns `Err` only if an allocation fails.
     pub fn clone(&self) -> Result<Self, AllocError>
         ensures { IfOk result (λ copy. copy.texts ≡ self.now.texts) }
     {
@@ -241,7 +242,7 @@ impl<'a, S: Symbol> IntoIterator for &'a BufferBackend<S> {
     }
 }
 
-/// Equal exactly where the lists are, whatever room there is. Compares the bytes, and reads no text.
+/// Equal exactly if the lists of texts are, whatever the spare capacities. Compares bytes and decodes nothing.
 impl<S: Symbol> PartialEq for BufferBackend<S> {
     ghost eq = { λ a b. texts_eq a.texts b.texts };
 
@@ -259,8 +260,8 @@ impl<S: Symbol> Eq for BufferBackend<S> {
     ghost laws = { on_equiv (λ (b : Contents). b.texts) texts_eq-IsEquivalence };
 }
 
-/// Does nothing. Its clauses are the laws of the spelled list, which `as_bytes` holds: no entry begins another one, so
-/// equal bytes spell equal lists, and a length has no more digits than it needs.
+/// Does nothing. Its clauses are laws of the bytes that `as_bytes` returns: no entry is a proper prefix of another, so
+/// equal bytes encode equal lists, and a length has the fewest digits.
 pub fn spelling_law()
     ensures entries { (t u : Text) (x y : List ℕ) → entry_of t ++ x ≡ entry_of u ++ y → t ≡ u }
     ensures bytes { (l m : List Text) → (bytes_of l ≡ bytes_of m) ↔ (l ≡ m) }

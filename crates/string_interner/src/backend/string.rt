@@ -1,4 +1,4 @@
-//! All texts in one, cut at a list of ends.
+//! All texts joined in one string, with a list of their ends.
 
 ghost use Rattle.std.specs.Prelude.{◌≡◌, ◌*◌, ◌^◌, max, ◌<◌, ◌≤◌, [], length, slice_get, Some, IfOk, OnOk, refl};
 ghost use Rattle.std.specs.Cmp.{partial_equiv_from_equiv, on_equiv};
@@ -13,10 +13,10 @@ use crate::symbol::{DefaultSymbol, Symbol};
 use std::alloc::{AllocError, Global};
 use std::marker::{Model, PhantomData};
 
-/// Keeps the texts joined in one, with the end of each.
+/// Stores all texts joined in one string, with the end of each.
 ///
-/// The entries are numbered 0, 1, 2, .. without gaps. A text takes its bytes and one `usize`. Interning is a copy to
-/// the end, and may move what stands; resolving reads two ends and makes the slice.
+/// Places are 0, 1, 2, .. without gaps. A text takes its bytes and one `usize`. Interning appends a copy, and may move
+/// the string; resolving reads two ends and makes the slice.
 #[derive(Drop)]
 pub struct StringBackend<S: Symbol = DefaultSymbol> {
     joined: String,
@@ -24,7 +24,7 @@ pub struct StringBackend<S: Symbol = DefaultSymbol> {
     symbols: PhantomData<S>,
 }
 
-/// Contracts see the texts, and as room the lesser of the free bytes and five times the free ends.
+/// Contracts see the texts, and as room the smaller of the spare bytes and five times the spare ends.
 impl<S: Symbol> Model for StringBackend<S> {
     ghost use Rattle.std.specs.Prelude.{◌-◌, ◌*◌, min, vec_len, vec_capacity};
     ghost use Rattle.std.specs.String.{string_bytes, string_len, string_capacity};
@@ -41,7 +41,7 @@ impl<S: Symbol> Model for StringBackend<S> {
     ghost invariant = { λ b. IsJoined S.symbol_of (string_bytes b.joined) b.ends.items (cut 0 (string_bytes b.joined) b.ends.items) };
 }
 
-/// Where the entry `index` begins: at the end of the one before it.
+/// Returns the byte at which entry `index` begins: the end of the entry before it, or 0.
 #[inline]
 fn start_at(ends: &[usize], index: usize) -> usize
     requires { index ≤ length ends.now }
@@ -50,7 +50,7 @@ fn start_at(ends: &[usize], index: usize) -> usize
     if index == 0 { 0 } else { ends[index - 1] }
 }
 
-/// The text of the entry `index`.
+/// Returns the text of entry `index`.
 #[inline]
 fn text_at<'a>(joined: &'a str, ends: &[usize], index: usize) -> &'a str
     requires parts { IsCut joined.now ends.now (cut 0 joined.now ends.now) }
@@ -84,7 +84,7 @@ impl<S: Symbol> Backend for StringBackend<S> {
         }
     }
 
-    /// With room for `capacity` ends and five times as many bytes.
+    /// Makes an empty backend with capacity for `capacity` ends and five times as many bytes.
     fn with_capacity(alloc: Global, capacity: usize) -> Result<Self, AllocError>
         ensures texts { IfOk result (λ backend. backend.texts ≡ []) }
         ensures room { IfOk result (λ backend. 5 * capacity ≤ backend.room) }
@@ -136,7 +136,7 @@ impl<S: Symbol> Backend for StringBackend<S> {
         (S::try_from_usize(at).unwrap(), text, at + 1)
     }
 
-    /// Leaves no more room than there was, and none where there is no text.
+    /// Reduces spare capacity if it can: leaves no more than there was, and none if there are no texts.
     fn shrink_to_fit(&mut self)
         ensures { Shrinks self.old self.new }
     {
@@ -161,7 +161,7 @@ impl<S: Symbol> Backend for StringBackend<S> {
 }
 
 impl<S: Symbol> StringBackend<S> {
-    /// A backend with an equal list. Refuses only where memory was refused.
+    /// Returns a backend with an equal list. Returns `Err` only if an allocation fails.
     pub fn clone(&self) -> Result<Self, AllocError>
         ensures { IfOk result (λ copy. copy.texts ≡ self.now.texts) }
     {
@@ -191,7 +191,7 @@ impl<'a, S: Symbol> IntoIterator for &'a StringBackend<S> {
     }
 }
 
-/// Equal exactly where the lists are, whatever room there is.
+/// Equal exactly if the lists of texts are, whatever the spare capacities.
 impl<S: Symbol> PartialEq for StringBackend<S> {
     ghost eq = { λ a b. texts_eq a.texts b.texts };
 

@@ -1,4 +1,4 @@
-//! Walking over the entries of a backend.
+//! Iterating over the entries of a backend.
 
 ghost use Rattle.std.specs.Prelude.{◌≡◌, [], Some};
 ghost use Rattle.std.specs.Iterator.{YieldsFirstBy, item_count};
@@ -8,9 +8,10 @@ use crate::backend::Backend;
 use std::iter::ExactSizeIterator;
 use std::marker::Model;
 
-/// The entries of a backend in order, each with its symbol. How many are still to come is known at each moment.
+/// Iterates over the entries of a backend in insertion order, each with its symbol. Its exact length is known at each
+/// step.
 ///
-/// A step costs what `entry_at` of the backend costs.
+/// A step costs one `entry_at` of the backend.
 #[derive(Drop)]
 pub struct Iter<'a, B: Backend> {
     backend: &'a B,
@@ -18,7 +19,7 @@ pub struct Iter<'a, B: Backend> {
     left: usize,
 }
 
-/// Contracts see the texts that were walked over, and those that are ahead.
+/// Contracts see the texts already yielded, and those ahead.
 impl<'a, B: Backend> Model for Iter<'a, B> {
     ghost use Rattle.std.specs.Prelude.{take, drop, length, ◌-◌, ◌≤◌, ◌≡◌};
     ghost use Rattle.string_interner.specs.Walk.{Walk};
@@ -35,7 +36,7 @@ impl<'a, B: Backend> Model for Iter<'a, B> {
 }
 
 impl<'a, B: Backend> Iter<'a, B> {
-    /// Before the first entry.
+    /// Makes an iterator that starts at the first entry.
     pub fn new(backend: &'a B) -> Self
         ensures { result ≡ record { behind = []; ahead = B.texts backend.now } }
     {

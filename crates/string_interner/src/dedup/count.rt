@@ -1,11 +1,11 @@
-//! A count that contracts see and no call tells. It takes no bytes.
+//! A ghost counter: contracts see it, no method returns it, and it takes no space.
 
 ghost use Rattle.std.specs.Prelude.{◌≡◌, ℕ, ◌+◌};
 ghost use base.Fml.{ftrue};
 
 use std::marker::Model;
 
-/// A whole number without a greatest value, kept for contracts alone.
+/// A ghost counter without a greatest value, kept for contracts alone.
 #[derive(Drop)]
 pub struct Count {
     pub ghost value: { ℕ },
@@ -16,7 +16,7 @@ impl Model for Count {
 }
 
 impl Count {
-    /// Nothing is counted.
+    /// Makes a counter at 0.
     #[inline(always)]
     pub fn new() -> Count
         ensures { result.value ≡ 0 }
@@ -24,7 +24,7 @@ impl Count {
         Count {}
     }
 
-    /// Counts one more.
+    /// Adds one.
     #[inline(always)]
     pub fn add_one(&mut self)
         ensures { self.new.value ≡ self.old.value + 1 }

@@ -1,4 +1,4 @@
-//! How many slots an index has, and filling new ones.
+//! Slot counts and growth: how many slots there are, and rehashing into new ones.
 
 ghost use Rattle.std.specs.Prelude.{◌≡◌, ◌*◌, ◌<◌, ◌≤◌, ◌^◌, length, IfNone, IfOk, IfSome, OnSome, [], Some};
 ghost use Rattle.string_interner.specs.Entry.{entry_text};
@@ -15,9 +15,10 @@ use crate::dedup::slots::Slots;
 use crate::symbol::Symbol;
 use std::alloc::{AllocError, Global};
 
-/// Returns more slots, into which the symbols of these are rehashed.
+/// Returns `count` slots, more than before, into which all symbols are rehashed. Returns `Err` only if an allocation
+/// fails.
 ///
-/// Takes `&mut`, since a reading through a shared reference counts as a look. Changes nothing.
+/// Takes `&mut`, since a read through a shared reference counts as a look. Changes nothing.
 pub fn rehash<S: Symbol, H: TextHasher, B: Backend<Symbol = S>>(
     slots: &mut Slots<S>,
     count: usize,
@@ -43,7 +44,7 @@ pub fn rehash<S: Symbol, H: TextHasher, B: Backend<Symbol = S>>(
     Ok(bigger)
 }
 
-/// Puts the symbol of each entry of a backend into slots that are empty, in the order of the entries.
+/// Puts the symbol of each entry of a backend into empty slots, in insertion order.
 pub fn put_all<S: Symbol, H: TextHasher, B: Backend<Symbol = S>>(
     slots: &mut Slots<S>,
     hasher: &H,
@@ -63,7 +64,7 @@ pub fn put_all<S: Symbol, H: TextHasher, B: Backend<Symbol = S>>(
     }
 }
 
-/// Returns the count of slots to grow to, where it fits a `usize`: 8 from none, and else twice as many.
+/// Returns the slot count to grow to: 8 from none, and else twice as many. `None` if it does not fit a `usize`.
 pub fn next_slot_count(count: usize) -> Option<usize>
     ensures some { IfSome result (GrowsTo count) }
     ensures none { IfNone result (2 ^ 63 ≤ count) }
@@ -75,7 +76,8 @@ pub fn next_slot_count(count: usize) -> Option<usize>
     }
 }
 
-/// Returns the least allowed count of slots that has room for so many entries, where it fits a `usize`.
+/// Returns the least slot count that the load factor allows for `capacity` entries. `None` if it does not fit a
+/// `usize`.
 pub fn least_slot_count(capacity: usize) -> Option<usize>
     ensures least { IfSome result (IsLeastSlotCount capacity) }
     ensures fits { OnSome result (Holds (2 ^ 63) capacity) }

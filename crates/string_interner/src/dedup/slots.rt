@@ -31,7 +31,7 @@ impl<'a, B> Model for Looks<'a, B> {
 }
 
 impl<'a, B> Looks<'a, B> {
-    /// Lends a backend, with no looks so far.
+    /// Borrows a backend, with no looks so far.
     #[inline(always)]
     pub fn new(backend: &'a B) -> Self
         ensures backend { result.backend ≡ backend.now }
@@ -44,7 +44,7 @@ impl<'a, B> Looks<'a, B> {
     }
 }
 
-/// What a look saw in a filled slot: its symbol, and whether that symbol's text is the one looked for.
+/// A filled slot that was read: its symbol, and whether that symbol's text is the one looked for.
 #[derive(Drop)]
 pub struct Seen<S> {
     pub symbol: S,
@@ -86,7 +86,7 @@ fn empty_all<S: Symbol>(slots: &mut [Option<S>])
 }
 
 impl<S: Symbol> Slots<S> {
-    /// Makes no slots. Takes no memory.
+    /// Makes an empty list of slots. Allocates nothing.
     pub fn new(alloc: Global) -> Self
         ensures { result ≡ [] }
     {
@@ -95,7 +95,7 @@ impl<S: Symbol> Slots<S> {
         }
     }
 
-    /// Makes empty slots. Returns `Err` only where memory was refused.
+    /// Makes `count` empty slots. Returns `Err` only if an allocation fails.
     pub fn empty(alloc: Global, count: usize) -> Result<Self, AllocError>
         ensures { IfOk result (λ slots. slots ≡ replicate count None) }
     {
@@ -164,7 +164,7 @@ impl<S: Symbol> Slots<S> {
         empty_all(&mut self.items);
     }
 
-    /// Puts the symbol into the first empty slot from its home on, round the end to the first slot.
+    /// Puts the symbol into the first empty slot from its home on, wrapping around at the end.
     pub fn put(&mut self, home: usize, symbol: S)
         requires home { home < length self.old }
         requires free { length (symbols self.old) < length self.old }

@@ -1,4 +1,4 @@
-//! Interning all that an iterator yields.
+//! Interning the texts of an iterator.
 
 ghost use Rattle.std.specs.Iterator.{IsFiniteIterable};
 ghost use Rattle.string_interner.specs.Collect.{Extends, Collects};
@@ -9,12 +9,12 @@ use crate::dedup::TextHasher;
 use std::alloc::Global;
 
 impl<B: Backend, H: TextHasher> StringInterner<B, H> {
-    /// Interns the texts of an iterator that ends, one after another, and stops at the first that is refused.
+    /// Interns the texts of a finite iterator in order, and stops at the first that fails.
     ///
-    /// The texts before a refused one stay, and none is asked for after it. It is refused as `get_or_intern` refuses it;
-    /// so none is refused for memory where the new ones fit the room of the backend and of the index. Where all went in,
-    /// there are as many slots as before if these hold all texts, and else the least count that does; a refused one may
-    /// leave one growth more.
+    /// The texts before it stay, and the iterator is not advanced after it. It fails as in `get_or_intern`; so none
+    /// fails for memory if the new texts fit the spare capacity of the backend and of the index. On `Ok` the slot count
+    /// is unchanged if the load factor allows all texts, and else the least that it allows; on `Err` there may be one
+    /// growth more.
     pub fn extend<'t, I: IntoIterator<Item = &'t str>>(
         &mut self,
         iter: I,
@@ -34,10 +34,10 @@ impl<B: Backend, H: TextHasher> StringInterner<B, H> {
 }
 
 impl<B: Backend + Drop, H: TextHasher + Default + Drop> StringInterner<B, H> {
-    /// An interner of the texts of an iterator that ends, under the hasher's default: `new`, and then `extend`. It has the
-    /// least count of slots for its texts.
+    /// Makes an interner from the texts of a finite iterator, under the hasher's default: `new`, and then `extend`. It
+    /// has the least slot count for its texts.
     ///
-    /// Refuses as `extend` does. No interner is then made.
+    /// Fails as `extend` does. No interner is then made.
     pub fn from_iter<'t, I: IntoIterator<Item = &'t str>>(
         alloc: Global,
         iter: I,

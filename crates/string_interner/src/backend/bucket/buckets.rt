@@ -1,4 +1,4 @@
-//! What stands in the buckets, and putting a text in.
+//! Reading texts from the buckets, and appending a text to them.
 
 ghost use Rattle.std.specs.Prelude.{◌≡◌, ◌+◌, max, ◌<◌, ◌≤◌, length, IsOk, IfOk, OnOk, OnErr};
 ghost use Rattle.std.specs.Int.{IsNextPowerOfTwo};
@@ -10,7 +10,7 @@ use crate::backend::bucket::interned_str::InternedStr;
 use std::alloc::{AllocError, Global};
 use std::mem;
 
-/// What stands in a bucket: the older ones are counted first.
+/// Returns the text of a bucket by its number: the older buckets come first, then the head.
 #[inline]
 fn bucket_text<'a>(full: &'a [FullBucket], head: &'a FixedString, bucket: usize) -> &'a str
     requires { bucket < length (buckets_of full.now head.now) }
@@ -22,7 +22,7 @@ fn bucket_text<'a>(full: &'a [FullBucket], head: &'a FixedString, bucket: usize)
     }
 }
 
-/// The text of an entry.
+/// Returns the text of an entry.
 #[inline]
 pub fn interned_text<'a>(
     full: &'a [FullBucket],
@@ -41,9 +41,10 @@ pub fn interned_text<'a>(
     }
 }
 
-/// A new head that begins with a text, after a head of the capacity `before`; and where the text stands.
+/// Makes a new head that holds a text, after a head of capacity `before`, and returns it with the text's span.
 ///
-/// Its capacity is the least power of two above both `before` and the length of the text.
+/// Its capacity in bytes is the least power of two above both `before` and the text's length. Returns `Err` only if an
+/// allocation fails or that capacity does not fit a `usize`.
 pub fn new_head(alloc: Global, before: usize, text: &str) -> Result<(FixedString, Span), AllocError>
     ensures bytes { IfOk result (λ made. made.0.bytes ≡ text.now) }
     ensures capacity { IfOk result (λ made. IsNextPowerOfTwo (max before (length text.now) + 1) made.0.capacity) }
@@ -56,9 +57,9 @@ pub fn new_head(alloc: Global, before: usize, text: &str) -> Result<(FixedString
     Ok((head, span))
 }
 
-/// Puts a text at the end of the head where its capacity allows it, and else into a new head.
+/// Appends a text to the head if it fits the head's capacity, else to a new head, and returns its entry.
 ///
-/// Both growths come before anything is stored, so that a refusal leaves all as it was.
+/// Allocates before it stores anything, so that nothing changes on `Err`.
 pub fn store(
     full: &mut Vec<FullBucket>,
     head: &mut FixedString,

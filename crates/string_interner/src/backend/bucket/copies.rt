@@ -1,4 +1,4 @@
-//! All texts of the buckets again, in one bucket.
+//! Copying the texts of all buckets into one.
 
 ghost use Rattle.std.specs.Prelude.{◌≡◌, ◌+◌, ◌^◌, ◌<◌, ◌≤◌, ◌↔◌, length, map, sum_by, All, IsSome, IfOk, IfSome};
 ghost use Rattle.std.specs.Str.{IsUtf8};
@@ -10,7 +10,8 @@ use crate::backend::bucket::full_bucket::FullBucket;
 use crate::backend::bucket::interned_str::InternedStr;
 use std::alloc::{AllocError, Global};
 
-/// The capacity of a head that takes what stands in all buckets, and keeps the room that the head has.
+/// Returns the capacity of a head that holds the bytes of all buckets and keeps this head's spare bytes: `None` exactly
+/// if it does not fit a `usize`.
 pub fn joint_capacity(full: &[FullBucket], head: &FixedString) -> Option<usize>
     ensures value { IfSome result (λ capacity. capacity ≡ head.now.capacity + byte_count full.now) }
     ensures fits { IsSome result ↔ (head.now.capacity + byte_count full.now < 2 ^ 64) }
@@ -22,7 +23,7 @@ pub fn joint_capacity(full: &[FullBucket], head: &FixedString) -> Option<usize>
     Some(capacity)
 }
 
-/// An entry again, with its text copied to the end of a bucket. A static text stays where it is.
+/// Copies an entry: its text is appended to `bucket`, and a static text stays a reference.
 fn copy_of(
     interned: InternedStr,
     full: &[FullBucket],
@@ -43,7 +44,7 @@ fn copy_of(
     }
 }
 
-/// The entries again, with the texts of all buckets copied into one of this capacity.
+/// Copies the entries, and appends the texts of all buckets to a new one of this capacity.
 pub fn copies_of(
     alloc: Global,
     entries: &[InternedStr],

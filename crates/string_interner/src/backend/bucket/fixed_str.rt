@@ -1,4 +1,4 @@
-//! A text that never outgrows the capacity that was asked for it.
+//! A string that never grows beyond the capacity that was requested for it.
 
 ghost use Rattle.std.specs.Prelude.{◌≡◌, ◌+◌, ◌<◌, ◌≤◌, [], ◌++◌, length, IfOk, None, Ok};
 ghost use Rattle.std.specs.String.{string_bytes};
@@ -6,21 +6,21 @@ ghost use Rattle.std.specs.String.{string_bytes};
 use std::alloc::{AllocError, Global};
 use std::marker::Model;
 
-/// A part of a text, from one of its bytes up to another, in bytes.
+/// A byte range of a bucket: `from` is included, `to` is not.
 #[derive(Clone, Copy)]
 pub struct Span {
     pub from: usize,
     pub to: usize,
 }
 
-/// A bucket that takes texts at its end. What stands in it is never changed or moved.
+/// A bucket: an append-only string of fixed capacity. Its bytes are never changed or moved.
 #[derive(Drop)]
 pub struct FixedString {
     contents: String,
     capacity: usize,
 }
 
-/// Contracts see the capacity that was asked for, and the bytes. The `String` may have more room than was asked for.
+/// Contracts see the requested capacity and the bytes. The `String` may have been granted more.
 impl Model for FixedString {
     ghost use Rattle.std.specs.Prelude.{◌≤◌};
     ghost use Rattle.std.specs.String.{string_bytes, string_len, string_capacity};
@@ -37,7 +37,7 @@ impl Model for FixedString {
 }
 
 impl FixedString {
-    /// An empty bucket of capacity 0. Takes no memory.
+    /// Makes an empty bucket of capacity 0. Allocates nothing.
     pub fn new(alloc: Global) -> Self
         ensures { result ≡ record { capacity = 0; bytes = [] } }
     {
@@ -47,7 +47,7 @@ impl FixedString {
         }
     }
 
-    /// An empty bucket for `capacity` bytes. Refuses only where memory was refused.
+    /// Makes an empty bucket of `capacity` bytes. Returns `Err` only if an allocation fails.
     pub fn with_capacity(alloc: Global, capacity: usize) -> Result<Self, AllocError>
         ensures { IfOk result (λ bucket. bucket ≡ record { capacity = capacity; bytes = [] }) }
     {
@@ -55,7 +55,7 @@ impl FixedString {
         Ok(FixedString { contents, capacity })
     }
 
-    /// The capacity in bytes that was asked for.
+    /// Returns the requested capacity in bytes.
     pub fn capacity(&self) -> usize
         ensures value { result ≡ self.now.capacity }
         ensures within { length self.now.bytes ≤ result }
@@ -65,7 +65,7 @@ impl FixedString {
         self.capacity
     }
 
-    /// How many bytes stand in the bucket.
+    /// Returns the length of the bucket's text in bytes.
     pub fn len(&self) -> usize
         ensures value { result ≡ length self.now.bytes }
         ensures within { result ≤ self.now.capacity }
@@ -73,7 +73,7 @@ impl FixedString {
         self.contents.len()
     }
 
-    /// What stands in the bucket.
+    /// Returns the bucket's text.
     #[inline]
     pub fn as_str(&self) -> &str
         ensures { result.now ≡ self.now.bytes }
@@ -81,17 +81,16 @@ impl FixedString {
         self.contents.as_str()
     }
 
-    /// What stands in the bucket, when it takes no more texts.
+    /// Turns the bucket into its text. Nothing can be appended to it then.
     pub fn finish(self) -> String
         ensures { string_bytes result ≡ self.bytes }
     {
         self.contents
     }
 
-    /// Puts a text at the end, and answers where it stands; `None` exactly where the capacity does not allow it, and
-    /// then nothing changes.
+    /// Appends a text and returns its span. Returns `None`, and changes nothing, exactly if the capacity is too small.
     ///
-    /// Never refuses, since the bytes of the capacity were reserved when the bucket was made.
+    /// Never returns `Err`, since the capacity was reserved when the bucket was made.
     #[inline]
     pub fn push_str(&mut self, text: &str) -> Result<Option<Span>, AllocError>
         ensures too_long { self.old.capacity < length self.old.bytes + length text.now

@@ -1,18 +1,18 @@
-//! A bucket that takes no more texts.
+//! A bucket to which nothing more is appended.
 
 ghost use Rattle.std.specs.Prelude.{◌≡◌};
 
 use crate::backend::bucket::fixed_str::FixedString;
 use std::marker::Model;
 
-/// A bucket that takes no more texts, with the capacity that it had.
+/// A bucket to which nothing more is appended, with the capacity that it had.
 #[derive(Drop)]
 pub struct FullBucket {
     text: String,
     capacity: usize,
 }
 
-/// Contracts see the capacity that was asked for, and the bytes.
+/// Contracts see the requested capacity and the bytes.
 impl Model for FullBucket {
     ghost use Rattle.std.specs.String.{string_bytes};
     ghost use Rattle.string_interner.specs.Backend.{Bucket};
@@ -23,7 +23,7 @@ impl Model for FullBucket {
 }
 
 impl FullBucket {
-    /// A bucket as it stands.
+    /// Makes a full bucket of a bucket, with the same capacity and bytes.
     pub fn new(bucket: FixedString) -> Self
         ensures { result ≡ bucket }
     {
@@ -32,7 +32,7 @@ impl FullBucket {
         FullBucket { text, capacity }
     }
 
-    /// What stands in the bucket.
+    /// Returns the bucket's text.
     #[inline]
     pub fn as_str(&self) -> &str
         ensures { result.now ≡ self.now.bytes }

@@ -1,22 +1,22 @@
-//! Numbers spelled in base 128, in bytes.
+//! Unsigned LEB128: numbers in base 128, one digit per byte.
 //!
-//! The lowest digit comes first, and bit 7 is set on every digit but the last. A number has no more digits than it
-//! needs, and at least one; what is read may have more.
+//! The lowest digit comes first, and bit 7 is set on every byte but the last. A number is written in the fewest digits,
+//! and at least one; what is read may have more, up to ten.
 
 ghost use Rattle.std.specs.Prelude.{◌≡◌, ◌+◌, ◌≤◌, ◌++◌, IsTrue, SomeIff, vec_len, vec_capacity};
 ghost use Rattle.string_interner.specs.Spelling.{spell, digits, front_len, front_value, has_front};
 
-/// The place of the last digit that a `usize` may have. It is worth 2^63, so the greatest such digit is 1.
+/// The index of the last digit that a `usize` may have. Its unit is 2^63, so that digit is at most 1.
 const LAST: usize = 9;
 
-/// A number that was read, and how many bytes spell it.
+/// A decoded number, and how many bytes it took.
 #[derive(Clone, Copy)]
 pub(super) struct Spelled {
     pub number: usize,
     pub len: usize,
 }
 
-/// How many digits a number has: 1 below 128, and 10 at most.
+/// Returns how many digits a number has: 1 below 128, and at most 10.
 #[inline]
 pub(super) fn digit_count(mut number: usize) -> usize
     ensures { result ≡ digits number }
@@ -29,7 +29,7 @@ pub(super) fn digit_count(mut number: usize) -> usize
     count
 }
 
-/// Writes a number at the end, into room that was reserved.
+/// Appends a number, within the capacity that was reserved.
 #[inline]
 pub(super) fn push_number(buffer: &mut Vec<u8>, mut number: usize)
     requires { vec_len buffer.old + digits number ≤ vec_capacity buffer.old }
@@ -44,7 +44,7 @@ pub(super) fn push_number(buffer: &mut Vec<u8>, mut number: usize)
     buffer.push_reserved(number as u8);
 }
 
-/// The number at the front, where one is spelled there in ten digits at most and fits a `usize`.
+/// Decodes the number at the front: `None` unless there is one, of at most ten digits, that fits a `usize`.
 #[inline]
 pub(super) fn number_at(bytes: &[u8]) -> Option<Spelled>
     ensures { SomeIff result (IsTrue (has_front bytes.now)) (record { number = front_value bytes.now; len = front_len bytes.now }) }
@@ -60,7 +60,7 @@ pub(super) fn number_at(bytes: &[u8]) -> Option<Spelled>
     long_number_at(bytes)
 }
 
-/// The same, digit after digit.
+/// The same, digit by digit.
 fn long_number_at(bytes: &[u8]) -> Option<Spelled>
     ensures { SomeIff result (IsTrue (has_front bytes.now)) (record { number = front_value bytes.now; len = front_len bytes.now }) }
 {
