@@ -8,11 +8,11 @@ use Rattle.string_interner.specs.declared.run.Command.TheVariants.{Intern, Inter
 use Rattle.string_interner.specs.declared.run.Reply.{Reply}
 use Rattle.string_interner.specs.declared.run.Reply.TheVariants.{Symbol, Nothing, Text, Len as LenReply, Done, NoReply, NoSymbol, NoMemory}
 
--- one or more digits, of a number that fits 64 bits
+-- one or more decimal digits, of a number that fits 64 bits
 abbrev pub IsNumber : List ℕ → Type 0
 IsNumber digits = IsNumeral 10 digits × (digits_value 10 digits < 2 ^ 64)
 
--- the line is the word, a space and digits that write n
+-- the line is the word, which ends in a space, and digits that write n
 abbrev pub StatesNumber : List ℕ → ℕ → List ℕ → Type 0
 StatesNumber word n line = (digits : List ℕ) × (line ≡ word ++ digits) × IsNumber digits × (n ≡ digits_value 10 digits)
 
@@ -28,7 +28,7 @@ States (InternStatic _) line = ⊥
 States (Truncate _) line = ⊥
 States (Extend _) line = ⊥
 
--- what a reply prints
+-- the text of a reply, without its newline
 abbrev pub reply_text : Reply → List ℕ
 reply_text (Symbol n) = codes "symbol " ++ decimal n
 reply_text Nothing = codes "none"

@@ -1,4 +1,4 @@
--- How a text is cut into lines, and which of them is the first bad one. `serve` and its steps cite it.
+-- How a text is split into lines, and which of them is the first bad one. `serve` and its steps cite it.
 use Rattle.std.specs.Prelude.{◌≡◌, ℕ, ◌+◌, ◌<◌, ◌==◌, if◌then◌else◌, List, [], ◌∷◌, length}
 use Rattle.std.specs.List.{AllWithin, HoldsAt, onto_first}
 use Rattle.intern.specs.Line.{States}
@@ -16,10 +16,10 @@ IsStated line = (command : Command) × States command line
 abbrev pub IsBad : List ℕ → Type 0
 IsBad line = (command : Command) → ¬ (States command line)
 
--- the line at index i is bad, and those before it are not
+-- the line at index i (0-based) is bad, and those before it are not
 abbrev pub IsFirstBad : List (List ℕ) → ℕ → Type 0
 IsFirstBad lines i = (i < length lines) × HoldsAt IsBad lines i × AllWithin IsStated lines 0 i
 
--- line n, counted from 1, is the first bad one
+-- line n (1-based) is the first bad one
 abbrev pub IsFirstBadLine : List (List ℕ) → ℕ → Type 0
 IsFirstBadLine lines n = (i : ℕ) × (n ≡ i + 1) × IsFirstBad lines i

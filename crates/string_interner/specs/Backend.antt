@@ -1,4 +1,4 @@
--- What is said of every backend: where its entries begin, what its list keeps to, putting a text last, and its room.
+-- What holds of every backend: where its entries begin, what its list satisfies, appending a text, and spare capacity.
 -- Cited by the trait `Backend`, its implementations, and all that stands on a backend.
 use Rattle.std.specs.Prelude.{◌≡◌, ℕ, ◌+◌, ◌<◌, ◌≤◌, ◌^◌, List, [], ◌∷◌, ◌++◌, length, take, All, Option, Some, None, IsSome, Result, Ok, Err, IsOk, OnOk, OnErr}
 use Rattle.std.specs.Str.{IsUtf8}
@@ -11,7 +11,7 @@ pub record Contents : Type 0 where
   pub texts : List Text
   pub room : ℕ
 
--- a bucket of bytes: the capacity that was asked for it, and the bytes that stand in it
+-- a bucket: the requested capacity in bytes, and the bytes stored in it
 pub record Bucket : Type 0 where
   pub capacity : ℕ
   pub bytes : List ℕ
@@ -25,39 +25,38 @@ pub record BeginsAt (place : List Text → ℕ) (texts : List Text) (at i : ℕ)
 abbrev pub IsPlace : (List Text → ℕ) → List Text → ℕ → Type 0
 IsPlace place texts at = (i : ℕ) × BeginsAt place texts at i
 
--- what the list of every backend keeps to: its entries are texts, each has a symbol, and the next place fits a `usize`
+-- what the list of every backend satisfies: its entries are UTF-8, each has a symbol, and the next place fits a `usize`
 pub record IsKept {S : Type 0} (symbol_of : ℕ → Option S) (place : List Text → ℕ) (texts : List Text) : Type 0 where
   pub utf8 : All IsUtf8 texts
   pub has_symbols : (i : ℕ) → i < length texts → IsSome (symbol_of (place (take i texts)))
   pub fits : place texts < 2 ^ 64
 
--- A text is put last in the old list, without looking for it, with this outcome and this new list.
+-- Appending a text to the old list, without looking for an equal one, has this outcome and gives this new list.
 abbrev pub Appends : {S : Type 0} → (ℕ → Option S) → (List Text → ℕ) → List Text → Text → Result S InternError → List Text → Type 0
--- its symbol is that of the next place
+-- `Ok` has the symbol of the next place
 Appends symbol_of place old text (Ok symbol) new = (symbol_of (place old) ≡ Some symbol) × (new ≡ old ++ text ∷ [])
--- the next place has no symbol
+-- `NoSymbol`: the next place has no symbol
 Appends symbol_of place old text (Err NoSymbol) new = (symbol_of (place old) ≡ None) × (new ≡ old)
--- it has one, and memory was refused
+-- `Memory`: it has one
 Appends symbol_of place old text (Err (Memory _)) new = IsSome (symbol_of (place old)) × (new ≡ old)
 
--- A text of this cost is not refused for memory within the old room, where it has a symbol. It takes no more of the
--- room than its cost, and a refused one takes nothing.
+-- Appending a text of this cost does not fail for memory within the old spare capacity, if there is a symbol. It takes
+-- at most its cost of the spare capacity, and nothing on `Err`.
 pub record UsesRoom {T E : Type 0} (has_symbol : Type 0) (cost old new : ℕ) (outcome : Result T E) : Type 0 where
   pub granted : has_symbol → cost ≤ old → IsOk outcome
   pub spent : OnOk outcome (old ≤ new + cost)
   pub unspent : OnErr outcome (old ≤ new)
 
--- The same of a backend that has these texts, buckets and room, where a text takes its cost of the room. A refused text
--- leaves the buckets.
+-- The same of a backend that has these texts, buckets and spare capacity. On `Err` the buckets are unchanged.
 pub record AppendsInto {S B : Type 0} (symbol_of : ℕ → Option S) (place : List Text → ℕ) (cost : Text → ℕ) (texts_of : B → List Text)
     (buckets_of : B → List Bucket) (room_of : B → ℕ) (old : B) (text : Text) (outcome : Result S InternError) (new : B) : Type 0 where
   pub appends : Appends symbol_of place (texts_of old) text outcome (texts_of new)
   pub kept : IsKept symbol_of place (texts_of new)
   pub buckets : OnErr outcome (buckets_of new ≡ buckets_of old)
-  -- within the room, memory is not refused
+  -- within the spare capacity it does not fail for memory
   pub room : UsesRoom (IsSome (symbol_of (place (texts_of old)))) (cost text) (room_of old) (room_of new) outcome
 
--- memory is given back: the texts stay, with no more room than there was, and with none where there is no text
+-- the texts are unchanged, with no more spare capacity than there was, and none if there are no texts
 pub record Shrinks (old new : Contents) : Type 0 where
   pub texts : new.texts ≡ old.texts
   pub room : new.room ≤ old.room

@@ -1,4 +1,5 @@
--- How texts lie in buckets: where the text of an entry stands, how a text is put in, and what bounds the capacities.
+-- How texts lie in buckets: where the text of an entry is stored, how a text is appended, and what bounds the
+-- capacities.
 -- Cited by the model and the contracts of `BucketBackend`.
 use Rattle.std.specs.Prelude.{◌≡◌, ℕ, ◌+◌, ◌-◌, ◌*◌, ◌^◌, ◌<◌, ◌≤◌, max, List, [], ◌∷◌, ◌++◌, length, map, sum_by, slice_index_or, slice_range, All, Bool, true, false, Option, Result}
 use Rattle.std.specs.Str.{IsCharBoundary}
@@ -12,11 +13,11 @@ use Rattle.string_interner.specs.declared.backend.bucket.interned_str.InternedSt
 -- what contracts see of a `BucketBackend`
 pub record BucketContents : Type 0 where
   pub texts : List Text
-  -- of each text, whether it is a static one, which stands in no bucket
+  -- for each text, whether it is static, and so stored in no bucket
   pub statics : List Bool
   -- the older buckets, in the order in which they were filled
   pub full : List Bucket
-  -- the bucket that takes texts
+  -- the bucket to which texts are appended
   pub head : Bucket
   pub room : ℕ
 
@@ -28,60 +29,61 @@ empty_contents capacity room = record { texts = []; statics = []; full = []; hea
 abbrev pub buckets_of : List Bucket → Bucket → List Bucket
 buckets_of full head = full ++ head ∷ []
 
--- the bucket of this number
+-- the bucket with this number
 abbrev pub bucket_at : List Bucket → ℕ → Bucket
 bucket_at buckets number = slice_index_or buckets number (record { capacity = 0; bytes = [] })
 
--- the capacities that were asked for, added up
+-- the sum of the requested capacities
 abbrev pub total_capacity : List Bucket → ℕ
 total_capacity buckets = sum_by (λ bucket. bucket.capacity) buckets
 
--- how many bytes stand in the buckets
+-- how many bytes are stored in the buckets
 abbrev pub byte_count : List Bucket → ℕ
 byte_count buckets = sum_by (λ bucket. length bucket.bytes) buckets
 
--- the capacities that were asked for are together at most that of the first bucket, or four times the bytes that stand
+-- the requested capacities add up to at most that of the first bucket, or four times the bytes stored
 abbrev pub AreBounded : List Bucket → Type 0
 AreBounded buckets = total_capacity buckets ≤ max (bucket_at buckets 0).capacity (4 * byte_count buckets)
 
--- A text is put last, where it takes its length of the room, and at least one.
+-- A text is appended. Its cost is its length in bytes, and at least one.
 abbrev pub AppendsText : {S : Type 0} → (ℕ → Option S) → BucketContents → Text → Result S InternError → BucketContents → Type 0
 AppendsText symbol_of = AppendsInto symbol_of length (λ text. max 1 (length text)) (λ b. b.texts) (λ b. buckets_of b.full b.head) (λ b. b.room)
 
--- A text is put into the buckets: at the end of the head where the capacity of the head allows it. Else the head joins
--- the older buckets, and the text begins a new head, whose capacity is the least power of two above both.
+-- A text is stored in the buckets: appended to the head, if it fits the head's capacity. Else the head joins the older
+-- buckets, and the text begins a new head, whose capacity is the least power of two above both the old head's capacity
+-- and the text's length.
 pub record Puts (text : Text) (full : List Bucket) (head : Bucket) (new_full : List Bucket) (new_head : Bucket) : Type 0 where
   pub fits : length head.bytes + length text ≤ head.capacity → (new_full ≡ full) × (new_head ≡ record head { bytes = head.bytes ++ text })
   pub too_long : head.capacity < length head.bytes + length text
       → (new_full ≡ full ++ head ∷ []) × (new_head.bytes ≡ text) × IsNextPowerOfTwo (max head.capacity (length text) + 1) new_head.capacity
 
--- a bucket has its capacity and its bytes still, and maybe more bytes after them
+-- the bucket has the same capacity, and the same bytes or more after them
 pub record StaysIn (old new : Bucket) : Type 0 where
   pub capacity : new.capacity ≡ old.capacity
   pub more : List ℕ
   pub bytes : new.bytes ≡ old.bytes ++ more
 
--- each byte that stood in a bucket stands where it stood
+-- each byte of a bucket stays at its index in its bucket
 pub record Stays (old new : List Bucket) : Type 0 where
   pub count : length old ≤ length new
   pub each : (k : ℕ) → k < length old → StaysIn (bucket_at old k) (bucket_at new k)
 
--- the texts that stand in buckets, one after another
+-- the texts stored in buckets, one after another: all but the static ones
 abbrev pub copied_bytes : List Text → List Bool → List ℕ
 copied_bytes (text ∷ texts) (false ∷ statics) = text ++ copied_bytes texts statics
 copied_bytes (text ∷ texts) (true ∷ statics) = copied_bytes texts statics
 copied_bytes _ _ = []
 
--- the buckets stay as they are
+-- the buckets are unchanged
 pub record KeepsBuckets (old new : BucketContents) : Type 0 where
   pub full : new.full ≡ old.full
   pub head : new.head ≡ old.head
 
--- the capacity of a head that takes the bytes of all buckets, and keeps the room of this head
+-- the capacity of a head that holds the bytes of all buckets and keeps the spare bytes of this head
 abbrev pub joint_capacity : BucketContents → ℕ
 joint_capacity contents = contents.head.capacity + byte_count contents.full
 
--- the copy has all texts that stand in buckets in one head, and static texts where they are
+-- the copy has the same texts, with all that were in buckets in one head, and static texts by reference
 pub record JoinsBuckets (old copy : BucketContents) : Type 0 where
   pub texts : copy.texts ≡ old.texts
   pub statics : copy.statics ≡ old.statics
@@ -89,7 +91,7 @@ pub record JoinsBuckets (old copy : BucketContents) : Type 0 where
   pub head : copy.head ≡ record { capacity = joint_capacity old; bytes = copied_bytes old.texts old.statics }
   pub fits : joint_capacity old < 2 ^ 64
 
--- whether an entry is a static text
+-- whether an entry is static
 abbrev pub is_static : InternedStr → Bool
 is_static (InBucket bucket span) = false
 is_static (Static text) = true
@@ -99,51 +101,50 @@ abbrev pub interned_text : List Bucket → InternedStr → Text
 interned_text buckets (InBucket bucket span) = slice_range (bucket_at buckets bucket).bytes span.from span.to
 interned_text buckets (Static text) = text.now
 
--- a part of a bucket, from one character to another
+-- a byte range of a bucket, between two character boundaries
 pub record IsPart (buckets : List Bucket) (bucket from to : ℕ) : Type 0 where
   pub there : bucket < length buckets
   pub ordered : from ≤ to
   pub begins : IsCharBoundary (bucket_at buckets bucket).bytes from
   pub ends : IsCharBoundary (bucket_at buckets bucket).bytes to
 
--- an entry has a text in the buckets, or is a static one
+-- the entry is a part of a bucket, or static
 abbrev pub IsEntry : List Bucket → InternedStr → Type 0
 IsEntry buckets (InBucket bucket span) = IsPart buckets bucket span.from span.to
 IsEntry buckets (Static text) = Unit {0}
 
--- how many bytes of the buckets are those of an entry
+-- how many bytes of the buckets an entry takes
 abbrev pub interned_len : InternedStr → ℕ
 interned_len (InBucket bucket span) = span.to - span.from
 interned_len (Static text) = 0
 
--- the entry names the text at the end of the head
+-- the entry is the text at the end of the head
 pub record IsLast (text : Text) (full : List Bucket) (head : Bucket) (entry : InternedStr) : Type 0 where
   pub before : List ℕ
   pub bytes_are : head.bytes ≡ before ++ text
   pub entry_is : entry ≡ InBucket (length full) (record { from = length before; to = length before + length text })
 
--- What keeps the capacities low: a new head is made only where the one before was nearly full.
+-- What bounds the capacities: a new head is made only for a text that does not fit the old one.
 pub record IsTight (full : List Bucket) (head : Bucket) : Type 0 where
   pub within : length head.bytes ≤ head.capacity
   pub older : 0 < length full → total_capacity full + 1 ≤ 2 * byte_count full + length head.bytes
   pub newest : 0 < length full → head.capacity ≤ 2 * (byte_count full + length head.bytes) + 1
 
--- What a `BucketBackend` keeps to. Bytes of the buckets may be those of no entry.
+-- The invariant of a `BucketBackend`. Buckets may hold bytes that are of no entry.
 pub record IsInBuckets {S : Type 0} (symbol_of : ℕ → Option S) (full : List Bucket) (head : Bucket) (entries : List InternedStr) : Type 0 where
   pub standing : All (IsEntry (buckets_of full head)) entries
   pub shared : sum_by interned_len entries ≤ byte_count (buckets_of full head)
   pub tight : IsTight full head
   pub kept : IsKept symbol_of length (map (interned_text (buckets_of full head)) entries)
 
--- An entry is copied: a text that stands in a bucket is put at the end of this bucket, which was old and is now new,
--- and a static text stays where it is.
+-- An entry is copied: a text stored in a bucket is appended to this one, and a static text stays a reference.
 abbrev pub IsCopy : List Bucket → InternedStr → Bucket → Bucket → InternedStr → Type 0
 IsCopy buckets (InBucket bucket span) old new copy =
     let text = interned_text buckets (InBucket bucket span) in
     (new ≡ record old { bytes = old.bytes ++ text }) × IsLast text [] new copy
 IsCopy buckets (Static text) old new copy = (new ≡ old) × (copy ≡ Static text)
 
--- the copies are the entries again, with the texts that stood in buckets put into this one in order
+-- the copies have the texts of the entries, of which those in buckets were appended to this one in order
 pub record AreCopies (buckets : List Bucket) (entries copies : List InternedStr) (bucket : Bucket) : Type 0 where
   pub standing : All (IsEntry (bucket ∷ [])) copies
   pub texts : map (interned_text (bucket ∷ [])) copies ≡ map (interned_text buckets) entries

@@ -1,5 +1,6 @@
--- The laws of the byte buffer, with their proofs: a text takes a place, and at the place of an entry its text is read.
--- Cited by `BufferBackend` as the laws of its numbering. Nothing here needs to be believed: each line is proved.
+-- The laws of the byte buffer, with their proofs: each text raises the next place, and reading at the place of an entry
+-- gives its text.
+-- Cited by `BufferBackend` as the laws of its places. Nothing here is assumed: each line is proved.
 use Rattle.std.proofs.Common.{◌≡◌, ℕ, zero, suc, ◌+◌, ◌*◌, ◌/◌, ◌%◌, ◌^◌, ◌<◌, ◌≤◌, List, [], ◌∷◌, ◌++◌, length, take, drop, get_or, Option, Some, true, refl, sym, ap, ◌∙◌, inl, inr, append_assoc, arith}
 use Rattle.std.specs.Prelude.{slice_get, nat_le, nat_lt}
 use Rattle.std.specs.Str.{IsUtf8, is_utf8}
@@ -16,7 +17,7 @@ use Rattle.string_interner.specs.Backend.{IsKept}
 use Rattle.string_interner.specs.Spelling.{spell_within, spell, digits, IsLeastDigitCount, IsChain, value, front_len, front_value, after_front}
 use Rattle.string_interner.specs.BufferBackend.{entry_of, bytes_of, entry_len, place_of, read_front, read_at}
 
--- Spelling a number.
+-- Encoding a number.
 
 within-small : (more n : ℕ) → n < 128 → spell_within more n ≡ n ∷ []
 unfolding spell_within
@@ -27,7 +28,7 @@ within-large : (more n : ℕ) → 128 ≤ n → spell_within (suc more) n ≡ (1
 unfolding spell_within
 within-large more n large = rw (le-ltb n 128 large) refl
 
--- from the number itself on, any bound on the digits will do
+-- from the number itself on, any bound on the digits gives the same
 within_any : (more other n : ℕ) → n ≤ more → n ≤ other → spell_within more n ≡ spell_within other n
 within_any zero other n a b = within-small zero n (omega arith) ∙ sym (within-small other n (omega arith))
 within_any (suc more) zero n a b = within-small (suc more) n (omega arith) ∙ sym (within-small zero n (omega arith))
@@ -109,7 +110,7 @@ spell-IsChain = by_digits (λ n. IsChain (spell n)) (λ n small. rw (spell-small
 value-spell_large : (n : ℕ) → 128 ≤ n → value (spell (n / 128)) ≡ n / 128 → value (spell n) ≡ n
 value-spell_large n large h = rw (spell-large n large, h) (omega arith)
 
--- what is spelled has the value of the number
+-- the value of an encoded number is the number
 pub value-spell : (n : ℕ) → value (spell n) ≡ n
 value-spell = by_digits (λ n. value (spell n) ≡ n) (λ n small. rw (spell-small n small) (omega arith)) value-spell_large
 
@@ -132,7 +133,7 @@ front_value-chain chain x is = ap value (take_at chain x (front_len (chain ++ x)
 pub after_front-chain : (chain x : List ℕ) → IsChain chain → after_front (chain ++ x) ≡ x
 after_front-chain chain x is = drop_at chain x (front_len (chain ++ x)) (sym (front_len-chain chain x is))
 
--- a text behind a chain that stands for its length is read
+-- a text behind a chain whose value is its length is read
 pub read_front-chain : (chain t x : List ℕ) → IsChain chain → length chain ≤ 10 → value chain ≡ length t → length t < 2 ^ 64 → IsUtf8 t → read_front (chain ++ (t ++ x)) ≡ Some t
 unfolding read_front
 read_front-chain chain t x is short counts fits utf8 =
@@ -167,7 +168,7 @@ length-bytes_of (t ∷ ts) =
     ap length (flat_map-cons entry_of t ts)
     ∙ omega (arith, length-append (entry_of t) (bytes_of ts), length-append (spell (length t)) t, length-spell (length t), length-bytes_of ts, sum_by-cons entry_len t ts)
 
--- what stands from the place of the entry `i` on
+-- the buffer from the place of entry `i` on
 pub from_place : (texts : List Text) (i : ℕ) → i < length texts → drop (place_of (take i texts)) (bytes_of texts) ≡ entry_of (get_or texts i []) ++ bytes_of (drop (i + 1) texts)
 from_place texts i h =
     let split : bytes_of texts ≡ bytes_of (take i texts) ++ bytes_of (drop i texts) = ap bytes_of (sym (take-append-drop i texts)) ∙ flat_map-append entry_of (take i texts) (drop i texts) in
@@ -176,7 +177,7 @@ from_place texts i h =
     ∙ ap bytes_of (drop_more texts i [] h)
     ∙ flat_map-cons entry_of (get_or texts i []) (drop (i + 1) texts)
 
--- at the place of an entry its text is read
+-- reading at the place of an entry gives its text
 pub reads_at_place : {S : Type 0} (symbol_of : ℕ → Option S) (texts : List Text) (i : ℕ) → IsKept symbol_of place_of texts → i < length texts → read_at texts (place_of (take i texts)) ≡ slice_get texts i
 reads_at_place symbol_of texts i kept h =
     let t : Text = get_or texts i [] in

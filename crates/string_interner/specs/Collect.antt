@@ -1,4 +1,4 @@
--- Interning many texts, one after another: all of them, or those in front of the first that is refused.
+-- Interning many texts in order: all of them, or those before the first that fails.
 -- Cited by `StringInterner::extend`, `StringInterner::from_iter` and `run`.
 use Rattle.std.specs.Prelude.{◌≡◌, ℕ, ◌+◌, ◌≤◌, List, [], ◌∷◌, ◌++◌, length, map, Option, Some, Result, Ok, Err, MatchResult, ⊤}
 use Rattle.std.specs.Borrow.{Bor}
@@ -11,52 +11,52 @@ use Rattle.string_interner.specs.Interner.{Interned, IsNew, Interns, InternsInto
 use Rattle.string_interner.specs.declared.backend.InternError.{InternError}
 use Rattle.string_interner.specs.declared.backend.InternError.TheVariants.{NoSymbol, Memory}
 
--- the texts that are borrowed
+-- the borrowed texts
 abbrev pub texts_of : List (Bor Text) → List Text
 texts_of items = map (λ item. item.now) items
 
--- the texts that are new when they come, one after another, to the list: each once, in the order in which it first came
+-- the texts that are new to the list when they come, each once, in the order of first occurrence
 abbrev pub fresh : List Text → List Text → List Text
 fresh old [] = []
 fresh old (text ∷ texts) = option_map_or (λ _. fresh old texts) (first old text) (text ∷ fresh (old ++ text ∷ []) texts)
 
--- memory was refused
+-- the error is `Memory`
 abbrev pub IsMemory : InternError → Type 0
 IsMemory NoSymbol = ⊥
 IsMemory (Memory _) = ⊤
 
 module _ {S : Type 0} (symbol_of : ℕ → Option S) (place : List Text → ℕ) where
-  -- the texts are interned one after another, each with a symbol
+  -- the texts are interned in order, each with a symbol
   abbrev pub InternsAll : List Text → List Text → List Text → Type 0
   InternsAll old [] new = new ≡ old
   InternsAll old (text ∷ texts) new =
       (mid : List Text) × ((symbol : S) × Interns symbol_of place old text (Ok symbol) mid) × InternsAll mid texts new
 
-  -- the texts are interned in order: all of them, or those in front of the first that is refused, and so refused
+  -- the texts are interned in order: all of them, or those before the first that fails, which fails with this error
   abbrev pub InternsInOrder : List Text → List Text → Result (Unit {0}) InternError → List Text → Type 0
   InternsInOrder old texts (Ok _) new = InternsAll old texts new
   InternsInOrder old texts (Err error) new = (front : List Text) × (refused : Text) × (rest : List Text)
       × (texts ≡ front ++ refused ∷ rest) × InternsAll old front new × Interns symbol_of place new refused (Err error) new
 
   module _ (cost : Text → ℕ) where
-    -- The texts fit the room of the backend and of the index: those that are fresh.
+    -- Those of the texts that are fresh fit the spare capacity of the backend and of the index.
     pub record HasRoomFor (interner : Interned) (texts : List Text) : Type 0 where
       pub backend : sum_by cost (fresh interner.texts texts) ≤ interner.room
       pub index : Holds interner.slot_count (length interner.texts + length (fresh interner.texts texts))
 
-    -- The texts are interned. They take no more of the room than the fresh ones cost.
+    -- The texts are interned. They take at most the cost of the fresh ones of the spare capacity.
     pub record TakesIn (old : Interned) (texts : List Text) (new : Interned) : Type 0 where
       pub interned : InternsAll old.texts texts new.texts
       pub spent : old.room ≤ new.room + sum_by cost (fresh old.texts texts)
 
-    -- After the texts went in, the next one is refused as interning it is: for memory only where they and it do not fit the
-    -- old room.
+    -- After these texts the next one fails as interning it does: for memory only if they and it do not fit the old
+    -- spare capacity.
     pub record StopsAt (old : Interned) (texts : List Text) (mid : Interned) (refused : Text) (error : InternError) (new : Interned) : Type 0 where
       pub refuses : InternsInto symbol_of place cost mid refused (Err error) new
       pub beyond : IsMemory error → ¬ HasRoomFor old (texts ++ refused ∷ [])
 
-    -- Items of what `iter` became are interned, and the slots grow for them: all that it yields, or those in front of the
-    -- first that is refused, and then none was asked for after that.
+    -- Items that the iterator yields are interned, and the slots grow for them: all that it yields, or those before the
+    -- first that fails, after which it is not advanced.
     abbrev pub Extends : {I W : Type 0} → (I → W → Type 0) → (W → Option (Bor Text) → W → Type 0) → I → Interned → Result (Unit {0}) InternError → Interned → Type 0
     Extends {I} {W} becomes steps iter old outcome new =
         (walk : W) × (items : List (Bor Text)) × (mid : Interned) × becomes iter walk × TakesIn old (texts_of items) mid
@@ -64,7 +64,7 @@ module _ {S : Type 0} (symbol_of : ℕ → Option S) (place : List Text → ℕ)
         (λ _. Drains steps walk items × (new ≡ mid))
         (λ error. (refused : Bor Text) × (rest : W) × YieldsThen steps walk items (Some refused) rest × StopsAt old (texts_of items) mid refused.now error new)
 
-    -- An interner that has no texts and no slots is extended by the items. Where one is refused, no interner is made.
+    -- An interner without texts and slots is extended by the items. If one fails, no interner is made.
     abbrev pub Collects : {I W : Type 0} → (I → W → Type 0) → (W → Option (Bor Text) → W → Type 0) → I → Result Interned InternError → Type 0
     Collects becomes steps iter outcome = (empty : Interned) × IsNew empty × MatchResult outcome
         (λ made. Extends becomes steps iter empty (Ok tt) made)

@@ -1,4 +1,4 @@
--- The laws of a backend that numbers its texts 0, 1, 2, .. without gaps: the place after some texts is their count.
+-- The laws of a backend whose places are 0, 1, 2, .. without gaps: the next place is the count of texts.
 -- Cited by `StringBackend` and `BucketBackend`.
 use Rattle.std.specs.Prelude.{◌≡◌, ℕ, ◌<◌, List, [], ◌∷◌, ◌++◌, length, take, slice_get, refl}
 use Rattle.std.proofs.Common.{◌≤◌, arith}
@@ -9,6 +9,6 @@ use Rattle.string_interner.specs.Text.{Text}
 pub length_grows : (texts : List Text) (text : Text) → length texts < length (texts ++ text ∷ [])
 length_grows texts text = rw (length_push texts text) (omega arith)
 
--- at the count of the texts before an entry that entry is read
+-- reading at the count of texts before an entry gives that entry
 pub reads_at_length : (texts : List Text) (i : ℕ) → i < length texts → slice_get texts (length (take i texts)) ≡ slice_get texts i
 reads_at_length texts i h = let l : i ≤ length texts = omega arith in rw (length-take-le i texts l) refl

@@ -3,12 +3,12 @@
 use Rattle.std.specs.Prelude.{ℕ, List, [], ◌∷◌, ◌++◌, Option, Some, None, if◌then◌else◌, ◌==◌}
 use Rattle.string_interner.specs.Text.{Text}
 
--- the text among those ahead, which come after those behind, whose entry begins at the place `at`
+-- The text whose entry begins at the place `at`, among those ahead, which come after those behind.
 abbrev pub text_ahead : (List Text → ℕ) → List Text → List Text → ℕ → Option Text
 text_ahead place behind [] at = None
 text_ahead place behind (text ∷ ahead) at =
     if place behind == at then Some text else text_ahead place (behind ++ text ∷ []) ahead at
 
--- the text of the entry that has the symbol, if one has: of the entry that begins at the symbol's number
+-- the text of the entry that begins at the symbol's number, if one does
 abbrev pub entry_text : {S : Type 0} → (S → ℕ) → (List Text → ℕ) → List Text → S → Option Text
 entry_text number place texts symbol = text_ahead place [] texts (number symbol)

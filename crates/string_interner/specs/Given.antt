@@ -1,4 +1,4 @@
--- The text that is handed to an interner, to be copied or kept.
+-- The text to intern, copied or static.
 -- Cited by the private functions of the interner alone.
 use Rattle.string_interner.specs.Text.{Text}
 use Rattle.string_interner.specs.declared.interner.given.Given.{Given}

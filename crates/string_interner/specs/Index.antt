@@ -1,7 +1,7 @@
--- What is said of every index: the map from text to symbol that its slots hold, when it fits a backend's entries and
--- a hasher, and how its slots grow.
--- Cited by `Index` and by all that stands on it. In what follows `entry` is the text of the entry that has a symbol,
--- if one has, and `code` is that of a text under a hasher.
+-- What holds of every index: the map from text to symbol that its slots hold, when it fits a backend's entries and a
+-- hasher, and how its slots grow.
+-- Cited by `Index` and by all that stands on it. Below, `entry` gives the text of the entry that has a symbol, if one
+-- has, and `code` the code of a text under a hasher.
 use Rattle.std.specs.Prelude.{◌≡◌, ℕ, ◌+◌, ◌*◌, ◌^◌, ◌<◌, ◌≤◌, ◌%◌, ◌⊎◌, max, List, [], length, slice_index_or, Contains, Bool, false, if◌then◌else◌, Option, Some, None, IsSome, unwrap_or, option_and_then}
 use Rattle.std.specs.Option.{option_map_or}
 use Rattle.std.specs.Str.{bytes_eq}
@@ -11,54 +11,54 @@ use Rattle.string_interner.specs.Slots.{Looking, IsFilledRun, symbols, filled_ru
 -- what contracts see of an index
 pub record Indexed (S : Type 0) : Type 0 where
   pub slots : List (Option S)
-  -- how many symbols doublings put back, since it was made
+  -- how many symbols growth rehashed, since it was made
   pub put_back : ℕ
-  -- the greatest number of entries that it had, since it was made
+  -- the greatest number of entries, since it was made
   pub greatest : ℕ
 
--- how many entries an index has
+-- the number of entries
 abbrev pub entry_count : {S : Type 0} → Indexed S → ℕ
 entry_count index = length (symbols index.slots)
 
--- so many slots hold so many entries: at most three quarters of the slots are filled
+-- the load factor allows so many entries in so many slots: at most three quarters of them are filled
 abbrev pub Holds : ℕ → ℕ → Type 0
 Holds slots entries = 4 * entries ≤ 3 * slots
 
--- one more entry is allowed
+-- the load factor allows one more entry
 abbrev pub HasRoom : {S : Type 0} → Indexed S → Type 0
 HasRoom index = Holds (length index.slots) (entry_count index + 1)
 
--- an allowed count of slots: none, or a power of two from 8 on
+-- an allowed slot count: none, or a power of two from 8 on
 abbrev pub IsSlotCount : ℕ → Type 0
 IsSlotCount n = (n ≡ 0) ⊎ ((k : ℕ) × (n ≡ 8 * 2 ^ k))
 
--- an allowed count of slots, of which these entries fill at most three quarters
+-- an allowed slot count, within the load factor
 pub record IsLoaded (slots entries : ℕ) : Type 0 where
   pub allowed : IsSlotCount slots
   pub load : Holds slots entries
 
--- the least allowed count of slots that has room for this many entries
+-- the least slot count that the load factor allows for so many entries
 pub record IsLeastSlotCount (capacity n : ℕ) : Type 0 where
   pub allowed : IsSlotCount n
   pub room : Holds n capacity
   pub least : (m : ℕ) → IsSlotCount m → Holds m capacity → n ≤ m
 
--- what is so at all times
+-- what holds of every index
 pub record IsBounded {S : Type 0} (index : Indexed S) : Type 0 where
   pub allowed : IsSlotCount (length index.slots)
   pub load : Holds (length index.slots) (entry_count index)
   pub put_back : index.put_back ≤ 2 * index.greatest
   pub greatest : entry_count index ≤ index.greatest
 
--- what an index keeps to, beside its count of entries
+-- the invariant of an index, with the count of entries that it stores
 pub record IsSound {S : Type 0} (index : Indexed S) (len : ℕ) : Type 0 where
   pub counted : len ≡ entry_count index
   pub bounded : IsBounded index
-  -- so that the next doubling leaves what was put back within bounds
+  -- so that the next growth keeps `put_back` within its bound
   pub put_back : 4 * index.put_back ≤ 3 * length index.slots
 
--- A text with this code was looked for: at most one look more than there are slots in the filled run from its home on,
--- and so at most one more than there are entries, and none without slots. The backend stays lent.
+-- A look-up of a text with this code takes at most one look more than there are slots in the probe cluster from its
+-- home on, and so at most one more than there are entries, and none without slots. The backend is unchanged.
 pub record CountsLooks {S B : Type 0} (index : Indexed S) (code : ℕ) (old new : Looking B) : Type 0 where
   pub backend : new.backend ≡ old.backend
   pub counts : old.count ≤ new.count
@@ -66,7 +66,7 @@ pub record CountsLooks {S B : Type 0} (index : Indexed S) (code : ℕ) (old new 
   pub at_most : new.count ≤ old.count + entry_count index + 1
   pub no_slots : length index.slots ≡ 0 → new.count ≡ old.count
 
--- the symbols from a text's home on, up to the first empty slot
+-- the probe cluster of a text: the symbols from its home on, up to the first empty slot
 abbrev pub filled_run_of : {S : Type 0} → (Text → ℕ) → List (Option S) → Text → List S
 filled_run_of code slots text = filled_run (probed slots (code text % length slots))
 
@@ -75,11 +75,11 @@ module _ {S : Type 0} (entry : S → Option Text) where
   abbrev pub has_text : Text → S → Bool
   has_text text symbol = option_map_or (λ found. bytes_eq found text) (entry symbol) false
 
-  -- the text of a symbol that is an entry's
+  -- the text of an entry's symbol
   abbrev pub text_of : S → Text
   text_of symbol = unwrap_or (entry symbol) []
 
-  -- the text of the symbol in the slot `k`
+  -- the text of the symbol in slot `k`
   abbrev pub text_in : List (Option S) → ℕ → Option Text
   text_in slots k = option_and_then entry (slice_index_or slots k None)
 
@@ -91,7 +91,7 @@ module _ {S : Type 0} (entry : S → Option Text) where
   abbrev pub SameMap : List (Option S) → List (Option S) → Type 0
   SameMap old new = (text : Text) → look_up new text ≡ look_up old text
 
-  -- the new map is the old one with the symbol under its text
+  -- the new map is the old one with this symbol under its text
   abbrev pub AddsPair : List (Option S) → List (Option S) → S → Type 0
   AddsPair old new symbol =
       (text : Text) → look_up new text ≡ (if bytes_eq text (text_of symbol) then Some symbol else look_up old text)
@@ -108,7 +108,7 @@ module _ {S : Type 0} (entry : S → Option Text) where
       pub entries : (symbol : S) → Contains slots (Some symbol) → IsSome (entry symbol)
       -- no two slots have one text
       pub distinct : (j k : ℕ) (text : Text) → text_in slots j ≡ Some text → text_in slots k ≡ Some text → j ≡ k
-      -- each symbol is in the filled run of its text
+      -- each symbol is in the probe cluster of its text
       pub placed : (symbol : S) (text : Text) → Contains slots (Some symbol) → entry symbol ≡ Some text → Contains (filled_run_of code slots text) symbol
 
     -- the symbol is added, and nothing else changes but the counts of entries
@@ -120,7 +120,7 @@ module _ {S : Type 0} (entry : S → Option Text) where
       pub put_back : new.put_back ≡ old.put_back
       pub greatest : new.greatest ≡ max old.greatest (entry_count new)
 
-    -- the slots fit, and have the text of each entry under its symbol
+    -- the slots fit, and map the text of each entry to its symbol
     pub record IsWhole (slots : List (Option S)) : Type 0 where
       pub fits : Fits slots
       pub whole : (symbol : S) (text : Text) → entry symbol ≡ Some text → look_up slots text ≡ Some symbol
@@ -129,23 +129,23 @@ module _ {S : Type 0} (entry : S → Option Text) where
 abbrev pub FitsAll : {S : Type 0} → List (Option S) → Type 0
 FitsAll {S} slots = (entry : S → Option Text) (code : Text → ℕ) → Fits entry code slots
 
--- The symbol is added where texts with this code go: under its text, if that has this code, whatever entries and hasher
--- the slots fit.
+-- The symbol of a text with this code is added, whatever entries and hasher the slots fit.
 abbrev pub InsertsByCode : {S : Type 0} → ℕ → Indexed S → Indexed S → S → Type 0
 InsertsByCode {S} known_code old new symbol = (entry : S → Option Text) (code : Text → ℕ) → Fits entry code old.slots → IsAbsent entry old.slots symbol
     → known_code ≡ code (text_of entry symbol) → Inserts entry code old new symbol
 
--- what a count of slots grows to: 8 from none, or twice as many
+-- what a slot count grows to: 8 from none, or twice as many
 abbrev pub GrowsTo : ℕ → ℕ → Type 0
 GrowsTo count more = ((count ≡ 0) × (more ≡ 8)) ⊎ ((0 < count) × (more ≡ 2 * count))
 
--- the slots grow, and all symbols are put back
+-- the slots grow, and all symbols are rehashed
 pub record Grows {S : Type 0} (old new : Indexed S) : Type 0 where
   pub slots : GrowsTo (length old.slots) (length new.slots)
   pub put_back : new.put_back ≡ old.put_back + entry_count old
   pub greatest : new.greatest ≡ old.greatest
 
--- The slots of the old index have each entry under its symbol, and nothing else: `count` entries. As many slots stay.
+-- The index is filled anew: the slots map each entry's text to its symbol and hold nothing else, `count` entries. The
+-- slot count is unchanged.
 pub record Refills {S : Type 0} (entry : S → Option Text) (code : Text → ℕ) (old new : Indexed S) (count : ℕ) : Type 0 where
   pub whole : IsWhole entry code new.slots
   pub count_is : entry_count new ≡ count

@@ -1,4 +1,4 @@
--- What is said of every interner: a list of distinct texts, each with its symbol, and interning a text.
+-- What holds of every interner: a list of distinct texts, each with its symbol, and interning a text.
 -- Cited by `StringInterner` and by all that stands on it.
 use Rattle.std.specs.Prelude.{◌≡◌, ℕ, ◌+◌, ◌≤◌, ◌⊎◌, List, [], length, take, Option, Some, IsSome, MatchOption, IsOkAnd, IsErrOf, OnErr, Result, option_and_then}
 use Rattle.string_interner.specs.Text.{Text, IsDistinct, first}
@@ -13,9 +13,9 @@ use Rattle.string_interner.specs.declared.backend.InternError.TheVariants.{NoSym
 pub record Interned : Type 0 where
   pub texts : List Text
   pub buckets : List Bucket
-  -- what the backend takes without asking for memory, as costs of texts
+  -- the backend's spare capacity, counted in costs of texts
   pub room : ℕ
-  -- how many slots the index has
+  -- the slot count of the index
   pub slot_count : ℕ
 
 -- one that was just made
@@ -23,26 +23,26 @@ pub record IsNew (interner : Interned) : Type 0 where
   pub texts : interner.texts ≡ []
   pub slots : interner.slot_count ≡ 0
 
--- one that was just made with a capacity, for which its backend grants this room
+-- a new interner made with a capacity, for which its backend grants this spare capacity
 pub record IsMadeFor (capacity grant : ℕ) (interner : Interned) : Type 0 where
   pub texts : interner.texts ≡ []
   pub room : grant ≤ interner.room
   pub slots : IsLeastSlotCount capacity interner.slot_count
 
--- no memory is given back: buckets and slots stay, and there is no less room
+-- no memory is released: buckets and slot count are unchanged, and there is no less spare capacity
 pub record KeepsMemory (old new : Interned) : Type 0 where
   pub buckets : new.buckets ≡ old.buckets
   pub room : old.room ≤ new.room
   pub slots : new.slot_count ≡ old.slot_count
 
--- Slot count after interning into a list of this length: unchanged where the load factor allows one more entry, and else
--- unchanged or grown once.
+-- Slot count after interning into a list of `len`: unchanged if the load factor allows one more entry, else unchanged
+-- or grown once.
 pub record GrowsIfFull (len old new : ℕ) : Type 0 where
   pub allowed : Holds old (len + 1) → new ≡ old
   pub grown : (new ≡ old) ⊎ GrowsTo old new
 
--- How many slots there are once a list got this long: as many as before where so many entries were allowed, and else the
--- least allowed count that has room for them.
+-- Slot count of a list that grew to `len`: unchanged if the load factor allows so many entries, else the least that it
+-- allows.
 pub record GrowsFor (len old new : ℕ) : Type 0 where
   pub allowed : Holds old len → new ≡ old
   pub least : ¬ Holds old len → IsLeastSlotCount len new
@@ -56,26 +56,26 @@ module _ {S : Type 0} (symbol_of : ℕ → Option S) (place : List Text → ℕ)
   abbrev pub known_symbol : List Text → Text → Option S
   known_symbol texts text = option_and_then (entry_symbol texts) (first texts text)
 
-  -- A text is interned in the old list, with this outcome and this new list: a known text answers the symbol of its
-  -- first entry and changes nothing, and a new one is put last.
+  -- Interning a text in the old list has this outcome and gives this new list: for a known text `Ok` with the symbol of
+  -- its first entry, and nothing changes; a new one is appended.
   abbrev pub Interns : List Text → Text → Result S InternError → List Text → Type 0
   Interns old text outcome new = MatchOption (first old text)
       (Appends symbol_of place old text outcome new)
       (λ i. IsOkAnd outcome (λ symbol. entry_symbol old i ≡ Some symbol) × (new ≡ old))
 
-  -- The same of an interner, where a text takes this of the room of its backend.
+  -- The same of an interner, where a text has this cost.
   pub record InternsInto (cost : Text → ℕ) (old : Interned) (text : Text) (outcome : Result S InternError) (new : Interned) : Type 0 where
     pub interns : Interns old.texts text outcome new.texts
-    -- a known text changes nothing, and neither does one for which there is no symbol
+    -- a known text changes nothing, and neither does `NoSymbol`
     pub known : IsSome (first old.texts text) → new ≡ old
     pub no_symbol : IsErrOf outcome NoSymbol → new ≡ old
-    -- a refused one leaves the buckets
+    -- on `Err` the buckets are unchanged
     pub buckets : OnErr outcome (new.buckets ≡ old.buckets)
-    -- within the room of the backend and of the index, memory is not refused
+    -- within the spare capacity of the backend and of the index it does not fail for memory
     pub room : UsesRoom (IsSome (symbol_of (place old.texts)) × Holds old.slot_count (length old.texts + 1)) (cost text) old.room new.room outcome
     pub slots : GrowsIfFull (length old.texts) old.slot_count new.slot_count
 
-  -- what an interner keeps to: distinct texts that its backend keeps, and an index that has each under its symbol
+  -- the invariant of an interner: distinct texts that its backend may have, and an index that maps each to its symbol
   pub record IsInterned (number : S → ℕ) (code : Text → ℕ) (texts : List Text) (slots : List (Option S)) : Type 0 where
     pub distinct : IsDistinct texts
     pub kept : IsKept symbol_of place texts

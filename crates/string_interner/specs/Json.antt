@@ -21,19 +21,19 @@ json_of_texts texts = array (items_of (map string texts))
 abbrev pub json_of_number : ℕ → Data
 json_of_number n = number (unsigned n)
 
--- why an element is refused whose text an interner refused
+-- the error of an element whose text an interner refuses
 abbrev pub refused : InternError → JsonError
 refused InternNoSymbol = NoSymbol
 refused (InternMemory error) = Memory error
 
 module _ {S : Type 0} (symbol_of : ℕ → Option S) where
-  -- the symbol with the number that the JSON value is, or why there is none
+  -- the symbol whose number the JSON value is, or the error
   abbrev pub symbol_read : Data → Result S JsonError
   symbol_read value = option_map_or (λ n. ok_or (symbol_of n) NoSymbol) (option_and_then as_u64 (as_number value)) (Err NotANumber)
 
   module _ (place : List Text → ℕ) where
-    -- The elements, the first of which has this index, are read into the old list one after another, with this outcome:
-    -- a string is interned, and the first refused element decides.
+    -- The elements, the first of which has this index, are read into the old list in order, with this outcome: a string
+    -- is interned, and the first element that fails decides.
     abbrev pub ReadsElements : List Text → ℕ → Items → Result Interned JsonError → Type 0
     ReadsElements old index no_items outcome = IsOkAnd outcome (λ interner. interner.texts ≡ old)
     ReadsElements old index (item element rest) outcome = MatchOption (as_str element)
@@ -41,8 +41,8 @@ module _ {S : Type 0} (symbol_of : ℕ → Option S) where
         (λ text. (interned : Result S InternError) × (mid : List Text) × Interns symbol_of place old text interned mid
         × MatchResult interned (λ _. ReadsElements mid (index + 1) rest outcome) (λ error. outcome ≡ Err (refused error)))
 
-    -- The elements are read likewise behind the old list, which are the elements before them, each once: a string that
-    -- is equal to one of those is refused, and any other is put last.
+    -- The same where all must differ: the old list are the elements before these. A string equal to one of them fails,
+    -- and any other is appended.
     abbrev pub ReadsElementsExactly : List Text → ℕ → Items → Result Interned JsonError → Type 0
     ReadsElementsExactly old index no_items outcome = IsOkAnd outcome (λ interner. interner.texts ≡ old)
     ReadsElementsExactly old index (item element rest) outcome = MatchOption (as_str element)
@@ -52,7 +52,7 @@ module _ {S : Type 0} (symbol_of : ℕ → Option S) where
         × MatchResult interned (λ _. ReadsElementsExactly mid (index + 1) rest outcome) (λ error. outcome ≡ Err (refused error)))
         (λ _. outcome ≡ Err (Repeated index)))
 
-    -- the elements of an array are read into the empty list, and what is no array is refused
+    -- the elements of an array are read into the empty list, and any other value fails
     abbrev pub ReadsArray : Data → Result Interned JsonError → Type 0
     ReadsArray value outcome = MatchOption (as_array value) (outcome ≡ Err NotAList) (λ elements. ReadsElements [] 0 elements outcome)
 
@@ -60,12 +60,12 @@ module _ {S : Type 0} (symbol_of : ℕ → Option S) where
     abbrev pub ReadsArrayExactly : Data → Result Interned JsonError → Type 0
     ReadsArrayExactly value outcome = MatchOption (as_array value) (outcome ≡ Err NotAList) (λ elements. ReadsElementsExactly [] 0 elements outcome)
 
--- what may come of reading a list back: the list, or want of memory
+-- the outcome of reading a list back: the list, or `Memory`
 abbrev pub GivesBack : List Text → Result Interned JsonError → Type 0
 GivesBack texts (Ok interner) = interner.texts ≡ texts
 GivesBack texts (Err (Memory _)) = ⊤
 GivesBack texts (Err _) = ⊥
 
--- where the value is what `to_json` writes of a list that an interner may have, that comes of reading it
+-- if the value is what `to_json` returns for a list that an interner may have, reading it gives that list back
 abbrev pub ReadsBack : {S : Type 0} → (ℕ → Option S) → (List Text → ℕ) → Data → Result Interned JsonError → Type 0
 ReadsBack symbol_of place value outcome = (texts : List Text) → IsDistinct texts → IsKept symbol_of place texts → value ≡ json_of_texts texts → GivesBack texts outcome

@@ -1,5 +1,5 @@
--- What a list of distinct texts answers to commands where nothing is refused: a function of the list and the commands
--- alone. An entry is told by its index; no backend, no symbol type, no hasher occurs.
+-- The answers of a list of distinct texts to commands, if none fails: a function of the list and the commands alone. An
+-- answer holds the index of an entry; no backend, symbol type or hasher occurs.
 -- Cited by `run`.
 use Rattle.std.specs.Prelude.{◌≡◌, ℕ, List, [], ◌∷◌, ◌++◌, length, slice_get, All, Option, Some, None, option_and_then, ⊤}
 use Rattle.std.specs.List.{AllZip}
@@ -13,7 +13,7 @@ use Rattle.string_interner.specs.declared.run.Command.TheVariants.{Intern, Inter
 use Rattle.string_interner.specs.declared.run.Reply.{Reply}
 use Rattle.string_interner.specs.declared.run.Reply.TheVariants.{Symbol, Nothing, Text as TextReply, Len as LenReply, Done, NoReply, NoSymbol, NoMemory}
 
--- a reply with the index of an entry in the place of its symbol
+-- a reply that holds the index of an entry instead of its symbol
 pub data Answer : Type 0 where
   entry : ℕ → Answer
   nothing : Answer
@@ -22,18 +22,18 @@ pub data Answer : Type 0 where
   done : Answer
   no_reply : Answer
 
--- the index that an answer told, if there is such an answer and it told one
+-- the index that an earlier answer holds, if there is such an answer and it holds one
 abbrev pub index_told : Option Answer → Option ℕ
 index_told (Some (entry i)) = Some i
 index_told _ = None
 
--- what the list answers, after the earlier answers, to a command that names no number and drops no text
+-- the answer of the list, after the earlier answers, to a command that names no number and drops no text
 abbrev pub list_answer : List Text → List Answer → Command → Answer
 list_answer texts earlier (Intern t) = entry (unwrap_or (first texts t.now) (length texts))
 list_answer texts earlier (InternStatic t) = entry (unwrap_or (first texts t.now) (length texts))
 list_answer texts earlier (Get t) = option_map_or entry (first texts t.now) nothing
 list_answer texts earlier (Resolve k) = option_map_or text (option_and_then (slice_get texts) (index_told (slice_get earlier k))) no_reply
--- nothing is said of lists of commands that have this one or `Truncate`: `KeepsToTexts`
+-- nothing is claimed of lists of commands with this one or `Truncate`: `KeepsToTexts`
 list_answer texts earlier (Number n) = nothing
 list_answer texts earlier Len = count (length texts)
 list_answer texts earlier Shrink = done
@@ -47,14 +47,14 @@ texts_interned (InternStatic t) = t.now ∷ []
 texts_interned (Extend ts) = texts_of ts.now
 texts_interned _ = []
 
--- the answers to the commands one after another, each of which puts last the texts that are new
+-- the answers to the commands in order, each of which appends the texts that are new
 abbrev pub list_answers : List Text → List Answer → List Command → List Answer
 list_answers texts earlier [] = []
 list_answers texts earlier (command ∷ commands) =
     let answer = list_answer texts earlier command in
     answer ∷ list_answers (texts ++ fresh texts (texts_interned command)) (earlier ++ answer ∷ []) commands
 
--- the reply is the answer, with the place of the entry in this list in the place of its index
+-- the reply is the answer, with the place of the entry in this list instead of its index
 abbrev pub Tells : (List Text → ℕ) → List Text → Reply → Answer → Type 0
 Tells place texts (Symbol n) (entry i) = BeginsAt place texts n i
 Tells place texts Nothing nothing = ⊤
@@ -64,7 +64,7 @@ Tells place texts Done done = ⊤
 Tells place texts NoReply no_reply = ⊤
 Tells place texts _ _ = ⊥
 
--- nothing was refused
+-- the reply is no failure
 abbrev pub IsGranted : Reply → Type 0
 IsGranted NoSymbol = ⊥
 IsGranted NoMemory = ⊥
@@ -76,7 +76,7 @@ KeepsToTexts (Number n) = ⊥
 KeepsToTexts (Truncate len) = ⊥
 KeepsToTexts _ = ⊤
 
--- Where no command names a number or drops texts and nothing was refused, the replies are those that the old list
--- answers, each index told by the place of that entry in the new list.
+-- If no command names a number or drops texts and none fails, the replies are the answers of the old list, with each
+-- index replaced by the place of that entry in the new list.
 abbrev pub AnswersAsAList : (List Text → ℕ) → List Text → List Command → List Reply → List Text → Type 0
 AnswersAsAList place old commands replies new = All KeepsToTexts commands → All IsGranted replies → AllZip (Tells place new) replies (list_answers old [] commands)

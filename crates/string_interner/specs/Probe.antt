@@ -8,12 +8,12 @@ use Rattle.string_interner.specs.declared.dedup.probe.Entry.{Entry}
 use Rattle.string_interner.specs.declared.dedup.probe.Entry.TheVariants.{Occupied, Vacant}
 use Rattle.string_interner.specs.declared.dedup.probe.Vacancy.{Vacancy}
 
--- the count of slots is allowed, and a slot is empty
+-- the slot count is allowed, and a slot is empty
 pub record HasFreeSlot {S : Type 0} (slots : List (Option S)) : Type 0 where
   pub allowed : IsSlotCount (length slots)
   pub free : length (symbols slots) < length slots
 
--- the new slots are the old ones with the symbol in one that was empty, in the filled run from its home on
+-- the new slots are the old ones with the symbol in an empty one, in the probe cluster from its home on
 pub record FillsSlot {S : Type 0} (old new : List (Option S)) (home : ℕ) (symbol : S) : Type 0 where
   pub at : ℕ
   pub in_range : at < length old
@@ -21,17 +21,17 @@ pub record FillsSlot {S : Type 0} (old new : List (Option S)) (home : ℕ) (symb
   pub written : new ≡ slice_set old at (Some symbol)
   pub placed : Contains (filled_run (probed new home)) symbol
 
--- the slot that comes after this one, round the end
+-- the next slot, round the end to the first
 pub record Follows (count at next : ℕ) : Type 0 where
   pub within : next < count
   pub one_on : (next ≡ at + 1) ⊎ ((next ≡ 0) × (at + 1 ≡ count))
 
--- the slot is empty, and in the filled run from the home on once a symbol stands there
+-- the slot is empty, and in the probe cluster from the home on once it is filled
 abbrev pub IsFree : {S : Type 0} → List (Option S) → ℕ → ℕ → Type 0
 IsFree {S} slots home at = (at < length slots) × ((symbol : S) → FillsSlot slots (slice_set slots at (Some symbol)) home symbol)
 
--- The symbol of a text with this code goes there: into the slot where probing stopped, as long as there are as many
--- slots as there were then, and else where the code leads.
+-- The symbol of a text with this code goes there: into the slot where the probe ended, while the slot count is
+-- unchanged, and else into the first empty slot from the code's home on.
 pub record IsVacant {S : Type 0} (slots : List (Option S)) (code : ℕ) (vacancy : Vacancy) : Type 0 where
   pub code_is : vacancy.code ≡ code
   pub before : vacancy.slot_count ≤ length slots
@@ -42,12 +42,12 @@ abbrev pub found_by : {S : Type 0} → Entry S → Option S
 found_by (Occupied symbol) = Some symbol
 found_by (Vacant _) = None
 
--- what is so of the vacancy, where nothing was found
+-- what holds of the vacancy, if nothing was found
 abbrev pub IfVacant : {S : Type 0} → Entry S → (Vacancy → Type 0) → Type 0
 IfVacant (Occupied _) P = ⊤
 IfVacant (Vacant vacancy) P = P vacancy
 
--- the new slots have the symbols of the old ones, and fit
+-- the new slots have the same symbols, and fit
 pub record Rebuilt {S : Type 0} (entry : S → Option Text) (code : Text → ℕ) (old new : List (Option S)) : Type 0 where
   pub fits : Fits entry code new
   pub count : length (symbols new) ≡ length (symbols old)

@@ -1,4 +1,4 @@
--- What a list of commands may be answered: a step for each command, and a run of steps.
+-- The possible replies to a list of commands: a step for each command, and a run of steps.
 -- Cited by `run`.
 use Rattle.std.specs.Prelude.{◌≡◌, ℕ, List, [], ◌∷◌, ◌++◌, length, take, slice_get, Option, Some, None, MatchOption, option_and_then, Result, Ok, Err, ⊤}
 use Rattle.std.specs.Option.{option_map_or}
@@ -13,56 +13,56 @@ use Rattle.string_interner.specs.declared.run.Command.TheVariants.{Intern, Inter
 use Rattle.string_interner.specs.declared.run.Reply.{Reply}
 use Rattle.string_interner.specs.declared.run.Reply.TheVariants.{Symbol, Nothing, Text as TextReply, Len as LenReply, Done, NoReply, NoSymbol, NoMemory}
 
--- the reply that tells why a text was refused
+-- the reply for an error
 abbrev pub refusal : InternError → Reply
 refusal InternNoSymbol = NoSymbol
 refusal (Memory _) = NoMemory
 
--- the reply that tells how an interning ended
+-- the reply for the outcome of interning a text
 abbrev pub intern_reply : {S : Type 0} → (S → ℕ) → Result S InternError → Reply
 intern_reply number (Ok symbol) = Symbol (number symbol)
 intern_reply number (Err error) = refusal error
 
--- the reply that tells how the interning of many texts ended
+-- the reply for the outcome of interning many texts
 abbrev pub extend_reply : Result (Unit {0}) InternError → Reply
 extend_reply (Ok _) = Done
 extend_reply (Err error) = refusal error
 
--- the number that a reply told, if there is such a reply and it told one
+-- the number that a reply holds, if there is such a reply and it holds one
 abbrev pub number_told : Option Reply → Option ℕ
 number_told (Some (Symbol n)) = Some n
 number_told _ = None
 
--- the reply is a copy of the text, or memory for the copy was refused
+-- the reply is a copy of the text, or the copy could not be allocated
 abbrev pub CopyReply : Text → Reply → Type 0
 CopyReply text (TextReply copy) = string_bytes copy ≡ text
 CopyReply text NoMemory = ⊤
 CopyReply text _ = ⊥
 
 module _ {S : Type 0} (symbol_of : ℕ → Option S) (number : S → ℕ) (place : List Text → ℕ) (read : List Text → ℕ → Option Text) where
-  -- what is read at a number that has a symbol
+  -- the text at a number, if the number has a symbol and a text is read there
   abbrev pub number_read : List Text → ℕ → Option Text
   number_read texts n = option_and_then (λ _. read texts n) (symbol_of n)
 
-  -- the reply to a number: a copy of what is read there, or nothing
+  -- the reply to a number: a copy of the text, or nothing
   abbrev pub NumberReply : List Text → ℕ → Reply → Type 0
   NumberReply texts n reply = MatchOption (number_read texts n) (reply ≡ Nothing) (λ text. CopyReply text reply)
 
-  -- the text is interned, and the reply tells how that ended
+  -- the text is interned, and the reply is for the outcome
   abbrev pub InternReply : List Text → Text → Reply → List Text → Type 0
   InternReply old text reply new = (outcome : Result S InternError) × Interns symbol_of place old text outcome new × (reply ≡ intern_reply number outcome)
 
-  -- the texts are interned in order, and the reply tells how that ended
+  -- the texts are interned in order, and the reply is for the outcome
   abbrev pub ExtendReply : List Text → List Text → Reply → List Text → Type 0
   ExtendReply old texts reply new = (outcome : Result (Unit {0}) InternError) × InternsInOrder symbol_of place old texts outcome new × (reply ≡ extend_reply outcome)
 
-  -- From the old list, and after the earlier replies of the run, the command may have this reply and leave the new list.
+  -- From the old list, after the earlier replies of the run, the command may have this reply and leave the new list.
   abbrev pub Step : List Text → List Reply → Command → Reply → List Text → Type 0
   Step old earlier (Intern text) reply new = InternReply old text.now reply new
   Step old earlier (InternStatic text) reply new = InternReply old text.now reply new
-  -- the place of a known text
+  -- the place of a known text, as the number of its symbol
   Step old earlier (Get text) reply new = (reply ≡ option_map_or (λ i. Symbol (place (take i old))) (first old text.now) Nothing) × (new ≡ old)
-  -- the reply to the number that an earlier reply told
+  -- the reply to the number that reply `k` holds
   Step old earlier (Resolve k) reply new = MatchOption (number_told (slice_get earlier k)) (reply ≡ NoReply) (λ n. NumberReply old n reply) × (new ≡ old)
   Step old earlier (Number n) reply new = NumberReply old n reply × (new ≡ old)
   Step old earlier Len reply new = (reply ≡ LenReply (length old)) × (new ≡ old)
@@ -70,8 +70,8 @@ module _ {S : Type 0} (symbol_of : ℕ → Option S) (number : S → ℕ) (place
   Step old earlier (Truncate len) reply new = (reply ≡ Done) × (new ≡ take len old)
   Step old earlier (Extend texts) reply new = ExtendReply old (texts_of texts.now) reply new
 
-  -- From the old list, and after the earlier replies, the commands may have these replies, one to each, and leave the
-  -- new list.
+  -- From the old list, after the earlier replies, the commands may have these replies, one for each, and leave the new
+  -- list.
   abbrev pub Run : List Text → List Reply → List Command → List Reply → List Text → Type 0
   Run old earlier [] [] new = new ≡ old
   Run old earlier (command ∷ commands) (reply ∷ replies) new =

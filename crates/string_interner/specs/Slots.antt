@@ -1,14 +1,14 @@
--- A list of slots, each empty or with a symbol, as probing sees it, and looks at slots.
+-- A list of slots, each empty or with a symbol, as probing reads it, and the count of looks.
 -- Cited by `Looks`, by `Index` and by what the index is made of.
 use Rattle.std.specs.Prelude.{ℕ, ◌+◌, ◌%◌, ◌<◌, ◌≤◌, List, [], ◌∷◌, ◌++◌, take, drop, length, slice_index_or, Option, Some, None, IsSome, IsNone, Bool, if◌then◌else◌}
 
--- what contracts see of `Looks`: the backend that is lent, and how many looks were taken
+-- what contracts see of `Looks`: the borrowed backend, and how many looks were taken
 pub record Looking (B : Type 0) : Type 0 where
   pub backend : B
   pub count : ℕ
 
--- The filled run from a home on has `f` slots: it is the greatest count, at most that of all slots, such that the
--- slots home, home + 1, .., round the end to the first, are filled.
+-- The probe cluster from a home on has `f` slots: the greatest count, at most all, such that the slots home, home + 1,
+-- .., wrapping around at the end, are filled.
 pub record IsFilledRun {S : Type 0} (slots : List (Option S)) (home f : ℕ) : Type 0 where
   pub within : f ≤ length slots
   pub filled : (i : ℕ) → i < f → IsSome (slice_index_or slots ((home + i) % length slots) None)
@@ -20,13 +20,13 @@ symbols [] = []
 symbols (None ∷ rest) = symbols rest
 symbols (Some symbol ∷ rest) = symbol ∷ symbols rest
 
--- the same, up to the first empty slot
+-- the same, up to the first empty slot: the probe cluster at the front
 abbrev pub filled_run : {S : Type 0} → List (Option S) → List S
 filled_run [] = []
 filled_run (None ∷ rest) = []
 filled_run (Some symbol ∷ rest) = symbol ∷ filled_run rest
 
--- the slots in the order in which they are probed from a home on: round the end to the first
+-- the slots in probe order from a home on, wrapping around at the end
 abbrev pub probed : {S : Type 0} → List (Option S) → ℕ → List (Option S)
 probed slots home = drop home slots ++ take home slots
 

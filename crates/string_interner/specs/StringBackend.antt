@@ -1,11 +1,11 @@
--- How texts lie in one: joined, with the end of each.
+-- How texts lie in one string: joined, with a list of their ends.
 -- Cited by the model of `StringBackend`.
 use Rattle.std.specs.Prelude.{◌≡◌, ℕ, zero, suc, ◌+◌, ◌-◌, List, [], ◌∷◌, ◌++◌, length, take, drop, slice_index, Option, All}
 use Rattle.std.specs.Str.{IsUtf8}
 use Rattle.string_interner.specs.Text.{Text}
 use Rattle.string_interner.specs.Backend.{IsKept}
 
--- the texts that the bytes give where they are cut at the ends, the first text beginning at `from`
+-- the texts between the ends, the first text beginning at `from`
 abbrev pub cut : ℕ → List ℕ → List ℕ → List Text
 cut from bytes [] = []
 cut from bytes (e ∷ es) = take (e - from) bytes ∷ cut e (drop (e - from) bytes) es
@@ -20,7 +20,7 @@ abbrev pub ends_of : ℕ → List Text → List ℕ
 ends_of from [] = []
 ends_of from (text ∷ texts) = (from + length text) ∷ ends_of (from + length text) texts
 
--- where the text begins that ends at the end `i`: at the end before it
+-- where text `i` begins: at the end before it, or at 0
 abbrev pub start_at : List ℕ → ℕ → ℕ
 start_at ends zero = 0
 start_at ends (suc i) = slice_index ends i
@@ -31,7 +31,7 @@ pub record IsCut (bytes ends : List ℕ) (texts : List Text) : Type 0 where
   pub ends_are : ends ≡ ends_of 0 texts
   pub utf8 : All IsUtf8 texts
 
--- and they are texts that a backend may keep whose places are counts
+-- and a backend whose places are counts may have this list
 pub record IsJoined {S : Type 0} (symbol_of : ℕ → Option S) (bytes ends : List ℕ) (texts : List Text) : Type 0 where
   pub parts : IsCut bytes ends texts
   pub kept : IsKept symbol_of length texts

@@ -1,10 +1,10 @@
--- Symbol types that have all numbers below a limit, each symbol seen as its number.
+-- Symbol types that have all numbers below a limit. A symbol is seen as its number.
 -- Cited by the symbol types of the library.
 use Rattle.std.specs.Prelude.{◌≡◌, ℕ, ◌<◌, ◌≤◌, ◌^◌, Option, Some, None, nat_lt, if◌then◌else◌}
 use Rattle.std.proofs.Common.{arith}
 use Rattle.std.proofs.lemmas.Grind.{common_steps}
 
--- the symbol with a number, where that is below the limit
+-- the symbol with a number, if that is below the limit
 abbrev pub number_below : ℕ → ℕ → Option ℕ
 number_below limit i = if nat_lt i limit then Some i else None
 
