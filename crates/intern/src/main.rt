@@ -29,7 +29,7 @@ fn main(rt: HostRuntime) -> ExitCode {
     match run(&rt) {
         Ok(()) => ExitCode::SUCCESS,
         Err(fault) => {
-            // There is nowhere left to tell that standard error is closed.
+            // Nothing is left to do if standard error is closed.
             let _ = eprintln!(rt; "{fault}");
             ExitCode::from(fault.status())
         }

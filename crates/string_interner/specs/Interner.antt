@@ -18,7 +18,7 @@ pub record Interned : Type 0 where
   -- the slot count of the index
   pub slot_count : ℕ
 
--- one that was just made
+-- a new interner
 pub record IsNew (interner : Interned) : Type 0 where
   pub texts : interner.texts ≡ []
   pub slots : interner.slot_count ≡ 0

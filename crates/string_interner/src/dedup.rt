@@ -175,7 +175,7 @@ impl<S: Symbol> Index<S> {
             return Ok(());
         }
         let count = next_slot_count(self.slots.len()).ok_or(AllocError)?;
-        // The bigger slots are filled first, so that a refusal leaves all as it was.
+        // The bigger slots are filled first, so that nothing changes on `Err`.
         let bigger = rehash(&mut self.slots, count, hasher, backend, self.alloc)?;
         self.grow(bigger);
         Ok(())

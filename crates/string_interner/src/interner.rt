@@ -140,7 +140,8 @@ impl<B: Backend, H: TextHasher> StringInterner<B, H> {
     ///
     /// A known text allocates nothing and changes nothing. A new one returns `NoSymbol` exactly if the symbol type has
     /// no symbol for the next place, before any allocation, and `Memory` only if an allocation fails or a size does not
-    /// fit a `usize`. On `Err` texts and buckets are unchanged.
+    /// fit a `usize`. On `Err` texts and buckets are unchanged. The index grows at most once, and not if the load
+    /// factor allows one more entry.
     pub fn get_or_intern(&mut self, text: &str) -> Result<B::Symbol, InternError>
         ensures { InternsInto B.Symbol.symbol_of B.place B.cost self.old text.now result self.new }
     {

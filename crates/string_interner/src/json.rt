@@ -83,7 +83,7 @@ impl<B: Backend + Drop, H: TextHasher + Default + Drop> StringInterner<B, H> {
         for (index, element) in elements.iter().enumerate() {
             let text = element.as_str().ok_or(JsonError::NotAText { index })?;
             interner.get_or_intern(text)?;
-            // Tells the load.
+            // For the proof: states the load factor.
             let _ = interner.len();
         }
         Ok(interner)

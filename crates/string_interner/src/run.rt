@@ -197,7 +197,7 @@ pub fn run<B: Backend, H: TextHasher>(
         let reply = step(alloc, interner, &replies, command);
         replies.push_reserved(reply);
     }
-    // Tells that the list is one that a backend keeps.
+    // For the proof: states that a backend may have this list.
     let _ = interner.len();
     Ok(replies)
 }

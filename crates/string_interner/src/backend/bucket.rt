@@ -105,6 +105,8 @@ impl<S: Symbol> Backend for BucketBackend<S> {
     }
 
     /// Makes an empty backend with capacity for `capacity` entries, and a head of `capacity` bytes.
+    ///
+    /// Returns `Err` only if an allocation fails or a size does not fit a `usize`.
     fn with_capacity(alloc: Global, capacity: usize) -> Result<Self, AllocError>
         ensures room { IfOk result (λ backend. capacity ≤ backend.room) }
         ensures empty { IfOk result (λ backend. backend ≡ empty_contents capacity backend.room) }
@@ -142,7 +144,7 @@ impl<S: Symbol> Backend for BucketBackend<S> {
         ensures err { OnErr result (self.new ≡ record self.old { room = self.new.room }) }
     {
         let symbol = self.next_symbol().ok_or(InternError::NoSymbol)?;
-        // The growths come before anything is stored, so that a refusal leaves all as it was.
+        // Allocates before it stores anything, so that nothing changes on `Err`.
         self.entries.reserve(1).map_err(InternError::Memory)?;
         let interned = store(&mut self.full, &mut self.head, text).map_err(InternError::Memory)?;
         self.entries.push_reserved(interned);

@@ -132,6 +132,8 @@ impl<S: Symbol> Backend for BufferBackend<S> {
     }
 
     /// Makes an empty backend with capacity for `13 * capacity` bytes: for each text 5, and 8 for its length.
+    ///
+    /// Returns `Err` only if an allocation fails or a size does not fit a `usize`.
     fn with_capacity(alloc: Global, capacity: usize) -> Result<Self, AllocError>
         ensures texts { IfOk result (λ backend. backend.texts ≡ []) }
         ensures room { IfOk result (λ backend. 13 * capacity ≤ backend.room) }
@@ -158,7 +160,7 @@ impl<S: Symbol> Backend for BufferBackend<S> {
         let len = digit_count(text.len())
             .checked_add(text.len())
             .ok_or(InternError::Memory(AllocError))?;
-        // The one growth comes before anything is stored, so that a refusal leaves all as it was.
+        // Allocates before it stores anything, so that nothing changes on `Err`.
         self.bytes.reserve(len).map_err(InternError::Memory)?;
         push_number(&mut self.bytes, text.len());
         self.bytes.extend_from_slice(text.as_bytes()).unwrap();

@@ -85,6 +85,8 @@ impl<S: Symbol> Backend for StringBackend<S> {
     }
 
     /// Makes an empty backend with capacity for `capacity` ends and five times as many bytes.
+    ///
+    /// Returns `Err` only if an allocation fails or a size does not fit a `usize`.
     fn with_capacity(alloc: Global, capacity: usize) -> Result<Self, AllocError>
         ensures texts { IfOk result (λ backend. backend.texts ≡ []) }
         ensures room { IfOk result (λ backend. 5 * capacity ≤ backend.room) }
@@ -108,7 +110,7 @@ impl<S: Symbol> Backend for StringBackend<S> {
 
     fn intern(&mut self, text: &str) -> Result<S, InternError> {
         let symbol = self.next_symbol().ok_or(InternError::NoSymbol)?;
-        // Both growths come before anything is stored, so that a refusal leaves all as it was.
+        // Allocates before it stores anything, so that nothing changes on `Err`.
         self.joined
             .reserve(text.len())
             .map_err(InternError::Memory)?;

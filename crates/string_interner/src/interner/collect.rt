@@ -23,7 +23,7 @@ impl<B: Backend, H: TextHasher> StringInterner<B, H> {
         ensures { Extends B.Symbol.symbol_of B.place B.cost I.into_iter_gives I.IntoIter.next_gives iter self.old result
             self.new }
     {
-        // Tells the load before the first text.
+        // For the proof: states the load factor before the first text.
         let _ = self.len();
         for text in iter {
             self.get_or_intern(text)?;

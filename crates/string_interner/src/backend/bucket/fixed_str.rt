@@ -81,7 +81,7 @@ impl FixedString {
         self.contents.as_str()
     }
 
-    /// Turns the bucket into its text. Nothing can be appended to it then.
+    /// Turns the bucket into its text.
     pub fn finish(self) -> String
         ensures { string_bytes result ≡ self.bytes }
     {
