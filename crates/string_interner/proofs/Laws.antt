@@ -18,7 +18,7 @@ use Rattle.string_interner.specs.declared.run.Command.{Command}
 use Rattle.string_interner.specs.declared.run.Command.TheVariants.{Intern, InternStatic, Get, Resolve, Number, Len, Shrink, Truncate, Extend}
 use Rattle.string_interner.specs.declared.run.Reply.{Reply}
 use Rattle.string_interner.specs.declared.run.Reply.TheVariants.{Symbol, Nothing, Text as TextReply, Len as LenReply, Done, NoReply, NoSymbol, NoMemory}
-use Rattle.string_interner.proofs.Firsts.{first_within, first_is}
+use Rattle.string_interner.proofs.Lemmas.Texts.First.{first_within, first_is}
 
 -- memory was not refused
 abbrev pub HasMemory : {S : Type 0} → Result S InternError → Type 0

@@ -7,7 +7,7 @@ use Rattle.std.specs.List.{sum_by}
 use Rattle.std.specs.Option.{option_map_or}
 use Rattle.string_interner.specs.Text.{Text, first}
 use Rattle.string_interner.specs.Index.{Holds}
-use Rattle.string_interner.specs.Interner.{Interned, IsNew, Interns, InternsInto, GrowsFor}
+use Rattle.string_interner.specs.Interner.{InternerContents, IsNew, Interns, InternsInto, GrowsFor}
 use Rattle.string_interner.specs.declared.backend.InternError.{InternError}
 use Rattle.string_interner.specs.declared.backend.InternError.TheVariants.{NoSymbol, Memory}
 
@@ -40,32 +40,32 @@ module _ {S : Type 0} (symbol_of : ℕ → Option S) (place : List Text → ℕ)
 
   module _ (cost : Text → ℕ) where
     -- Those of the texts that are fresh fit the spare capacity of the backend and of the index.
-    pub record HasRoomFor (interner : Interned) (texts : List Text) : Type 0 where
+    pub record HasRoomFor (interner : InternerContents) (texts : List Text) : Type 0 where
       pub backend : sum_by cost (fresh interner.texts texts) ≤ interner.room
       pub index : Holds interner.slot_count (length interner.texts + length (fresh interner.texts texts))
 
     -- The texts are interned. They take at most the cost of the fresh ones of the spare capacity.
-    pub record TakesIn (old : Interned) (texts : List Text) (new : Interned) : Type 0 where
+    pub record TakesIn (old : InternerContents) (texts : List Text) (new : InternerContents) : Type 0 where
       pub interned : InternsAll old.texts texts new.texts
       pub spent : old.room ≤ new.room + sum_by cost (fresh old.texts texts)
 
     -- After these texts the next one fails as interning it does: for memory only if they and it do not fit the old
     -- spare capacity.
-    pub record StopsAt (old : Interned) (texts : List Text) (mid : Interned) (refused : Text) (error : InternError) (new : Interned) : Type 0 where
+    pub record StopsAt (old : InternerContents) (texts : List Text) (mid : InternerContents) (refused : Text) (error : InternError) (new : InternerContents) : Type 0 where
       pub refuses : InternsInto symbol_of place cost mid refused (Err error) new
       pub beyond : IsMemory error → ¬ HasRoomFor old (texts ++ refused ∷ [])
 
     -- Items that the iterator yields are interned, and the slots grow for them: all that it yields, or those before the
     -- first that fails, after which it is not advanced.
-    abbrev pub Extends : {I W : Type 0} → (I → W → Type 0) → (W → Option (Bor Text) → W → Type 0) → I → Interned → Result (Unit {0}) InternError → Interned → Type 0
+    abbrev pub Extends : {I W : Type 0} → (I → W → Type 0) → (W → Option (Bor Text) → W → Type 0) → I → InternerContents → Result (Unit {0}) InternError → InternerContents → Type 0
     Extends {I} {W} becomes steps iter old outcome new =
-        (walk : W) × (items : List (Bor Text)) × (mid : Interned) × becomes iter walk × TakesIn old (texts_of items) mid
+        (walk : W) × (items : List (Bor Text)) × (mid : InternerContents) × becomes iter walk × TakesIn old (texts_of items) mid
         × GrowsFor (length mid.texts) old.slot_count mid.slot_count × MatchResult outcome
         (λ _. Drains steps walk items × (new ≡ mid))
         (λ error. (refused : Bor Text) × (rest : W) × YieldsThen steps walk items (Some refused) rest × StopsAt old (texts_of items) mid refused.now error new)
 
     -- An interner without texts and slots is extended by the items. If one fails, no interner is made.
-    abbrev pub Collects : {I W : Type 0} → (I → W → Type 0) → (W → Option (Bor Text) → W → Type 0) → I → Result Interned InternError → Type 0
-    Collects becomes steps iter outcome = (empty : Interned) × IsNew empty × MatchResult outcome
+    abbrev pub Collects : {I W : Type 0} → (I → W → Type 0) → (W → Option (Bor Text) → W → Type 0) → I → Result InternerContents InternError → Type 0
+    Collects becomes steps iter outcome = (empty : InternerContents) × IsNew empty × MatchResult outcome
         (λ made. Extends becomes steps iter empty (Ok tt) made)
-        (λ error. (front : Interned) × Extends becomes steps iter empty (Err error) front)
+        (λ error. (front : InternerContents) × Extends becomes steps iter empty (Err error) front)

@@ -6,10 +6,10 @@ use Rattle.std.specs.Prelude.{◌≡◌, ℕ, ◌+◌, ◌*◌, ◌^◌, ◌<◌
 use Rattle.std.specs.Option.{option_map_or}
 use Rattle.std.specs.Str.{bytes_eq}
 use Rattle.string_interner.specs.Text.{Text}
-use Rattle.string_interner.specs.Slots.{Looking, IsFilledRun, symbols, filled_run, probed, first_passing}
+use Rattle.string_interner.specs.Slots.{LooksContents, IsFilledRun, symbols, filled_run, probed, first_passing}
 
 -- what contracts see of an index
-pub record Indexed (S : Type 0) : Type 0 where
+pub record IndexContents (S : Type 0) : Type 0 where
   pub slots : List (Option S)
   -- how many symbols growth rehashed, since it was made
   pub put_back : ℕ
@@ -17,7 +17,7 @@ pub record Indexed (S : Type 0) : Type 0 where
   pub greatest : ℕ
 
 -- the number of entries
-abbrev pub entry_count : {S : Type 0} → Indexed S → ℕ
+abbrev pub entry_count : {S : Type 0} → IndexContents S → ℕ
 entry_count index = length (symbols index.slots)
 
 -- the load factor allows so many entries in so many slots: at most three quarters of them are filled
@@ -25,7 +25,7 @@ abbrev pub Holds : ℕ → ℕ → Type 0
 Holds slots entries = 4 * entries ≤ 3 * slots
 
 -- the load factor allows one more entry
-abbrev pub HasRoom : {S : Type 0} → Indexed S → Type 0
+abbrev pub HasRoom : {S : Type 0} → IndexContents S → Type 0
 HasRoom index = Holds (length index.slots) (entry_count index + 1)
 
 -- an allowed slot count: none, or a power of two from 8 on
@@ -44,14 +44,14 @@ pub record IsLeastSlotCount (capacity n : ℕ) : Type 0 where
   pub least : (m : ℕ) → IsSlotCount m → Holds m capacity → n ≤ m
 
 -- what holds of every index
-pub record IsBounded {S : Type 0} (index : Indexed S) : Type 0 where
+pub record IsBounded {S : Type 0} (index : IndexContents S) : Type 0 where
   pub allowed : IsSlotCount (length index.slots)
   pub load : Holds (length index.slots) (entry_count index)
   pub put_back : index.put_back ≤ 2 * index.greatest
   pub greatest : entry_count index ≤ index.greatest
 
 -- the invariant of an index, with the count of entries that it stores
-pub record IsSound {S : Type 0} (index : Indexed S) (len : ℕ) : Type 0 where
+pub record IsSound {S : Type 0} (index : IndexContents S) (len : ℕ) : Type 0 where
   pub counted : len ≡ entry_count index
   pub bounded : IsBounded index
   -- so that the next growth keeps `put_back` within its bound
@@ -59,7 +59,7 @@ pub record IsSound {S : Type 0} (index : Indexed S) (len : ℕ) : Type 0 where
 
 -- A look-up of a text with this code takes at most one look more than there are slots in the probe cluster from its
 -- home on, and so at most one more than there are entries, and none without slots. The backend is unchanged.
-pub record CountsLooks {S B : Type 0} (index : Indexed S) (code : ℕ) (old new : Looking B) : Type 0 where
+pub record CountsLooks {S B : Type 0} (index : IndexContents S) (code : ℕ) (old new : LooksContents B) : Type 0 where
   pub backend : new.backend ≡ old.backend
   pub counts : old.count ≤ new.count
   pub run : (f : ℕ) → IsFilledRun index.slots (code % length index.slots) f → new.count ≤ old.count + f + 1
@@ -112,7 +112,7 @@ module _ {S : Type 0} (entry : S → Option Text) where
       pub placed : (symbol : S) (text : Text) → Contains slots (Some symbol) → entry symbol ≡ Some text → Contains (filled_run_of code slots text) symbol
 
     -- the symbol is added, and nothing else changes but the counts of entries
-    pub record Inserts (old new : Indexed S) (symbol : S) : Type 0 where
+    pub record Inserts (old new : IndexContents S) (symbol : S) : Type 0 where
       pub fits : Fits new.slots
       pub pair : AddsPair old.slots new.slots symbol
       pub count : entry_count new ≡ entry_count old + 1
@@ -130,7 +130,7 @@ abbrev pub FitsAll : {S : Type 0} → List (Option S) → Type 0
 FitsAll {S} slots = (entry : S → Option Text) (code : Text → ℕ) → Fits entry code slots
 
 -- The symbol of a text with this code is added, whatever entries and hasher the slots fit.
-abbrev pub InsertsByCode : {S : Type 0} → ℕ → Indexed S → Indexed S → S → Type 0
+abbrev pub InsertsByCode : {S : Type 0} → ℕ → IndexContents S → IndexContents S → S → Type 0
 InsertsByCode {S} known_code old new symbol = (entry : S → Option Text) (code : Text → ℕ) → Fits entry code old.slots → IsAbsent entry old.slots symbol
     → known_code ≡ code (text_of entry symbol) → Inserts entry code old new symbol
 
@@ -139,14 +139,14 @@ abbrev pub GrowsTo : ℕ → ℕ → Type 0
 GrowsTo count more = ((count ≡ 0) × (more ≡ 8)) ⊎ ((0 < count) × (more ≡ 2 * count))
 
 -- the slots grow, and all symbols are rehashed
-pub record Grows {S : Type 0} (old new : Indexed S) : Type 0 where
+pub record Grows {S : Type 0} (old new : IndexContents S) : Type 0 where
   pub slots : GrowsTo (length old.slots) (length new.slots)
   pub put_back : new.put_back ≡ old.put_back + entry_count old
   pub greatest : new.greatest ≡ old.greatest
 
 -- The index is filled anew: the slots map each entry's text to its symbol and hold nothing else, `count` entries. The
 -- slot count is unchanged.
-pub record Refills {S : Type 0} (entry : S → Option Text) (code : Text → ℕ) (old new : Indexed S) (count : ℕ) : Type 0 where
+pub record Refills {S : Type 0} (entry : S → Option Text) (code : Text → ℕ) (old new : IndexContents S) (count : ℕ) : Type 0 where
   pub whole : IsWhole entry code new.slots
   pub count_is : entry_count new ≡ count
   pub slots : length new.slots ≡ length old.slots

@@ -10,7 +10,7 @@ use Rattle.string_interner.specs.declared.backend.InternError.{InternError}
 use Rattle.string_interner.specs.declared.backend.InternError.TheVariants.{NoSymbol}
 
 -- what contracts see of an interner
-pub record Interned : Type 0 where
+pub record InternerContents : Type 0 where
   pub texts : List Text
   pub buckets : List Bucket
   -- the backend's spare capacity, counted in costs of texts
@@ -19,18 +19,18 @@ pub record Interned : Type 0 where
   pub slot_count : ℕ
 
 -- a new interner
-pub record IsNew (interner : Interned) : Type 0 where
+pub record IsNew (interner : InternerContents) : Type 0 where
   pub texts : interner.texts ≡ []
   pub slots : interner.slot_count ≡ 0
 
 -- a new interner made with a capacity, for which its backend grants this spare capacity
-pub record IsMadeFor (capacity grant : ℕ) (interner : Interned) : Type 0 where
+pub record IsMadeFor (capacity grant : ℕ) (interner : InternerContents) : Type 0 where
   pub texts : interner.texts ≡ []
   pub room : grant ≤ interner.room
   pub slots : IsLeastSlotCount capacity interner.slot_count
 
 -- no memory is released: buckets and slot count are unchanged, and there is no less spare capacity
-pub record KeepsMemory (old new : Interned) : Type 0 where
+pub record KeepsMemory (old new : InternerContents) : Type 0 where
   pub buckets : new.buckets ≡ old.buckets
   pub room : old.room ≤ new.room
   pub slots : new.slot_count ≡ old.slot_count
@@ -64,7 +64,7 @@ module _ {S : Type 0} (symbol_of : ℕ → Option S) (place : List Text → ℕ)
       (λ i. IsOkAnd outcome (λ symbol. entry_symbol old i ≡ Some symbol) × (new ≡ old))
 
   -- The same of an interner, where a text has this cost.
-  pub record InternsInto (cost : Text → ℕ) (old : Interned) (text : Text) (outcome : Result S InternError) (new : Interned) : Type 0 where
+  pub record InternsInto (cost : Text → ℕ) (old : InternerContents) (text : Text) (outcome : Result S InternError) (new : InternerContents) : Type 0 where
     pub interns : Interns old.texts text outcome new.texts
     -- a known text changes nothing, and neither does `NoSymbol`
     pub known : IsSome (first old.texts text) → new ≡ old

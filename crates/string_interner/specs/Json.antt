@@ -7,7 +7,7 @@ use Rattle.serde_json.specs.Find.{as_array, as_number, as_str, as_u64}
 use Rattle.serde_json.specs.View.{items_of}
 use Rattle.string_interner.specs.Text.{Text, IsDistinct, first}
 use Rattle.string_interner.specs.Backend.{Appends, IsKept}
-use Rattle.string_interner.specs.Interner.{Interned, Interns}
+use Rattle.string_interner.specs.Interner.{InternerContents, Interns}
 use Rattle.string_interner.specs.declared.backend.InternError.{InternError}
 use Rattle.string_interner.specs.declared.backend.InternError.TheVariants.{NoSymbol as InternNoSymbol, Memory as InternMemory}
 use Rattle.string_interner.specs.declared.json.JsonError.{JsonError}
@@ -34,7 +34,7 @@ module _ {S : Type 0} (symbol_of : ℕ → Option S) where
   module _ (place : List Text → ℕ) where
     -- The elements, the first of which has this index, are read into the old list in order, with this outcome: a string
     -- is interned, and the first element that fails decides.
-    abbrev pub ReadsElements : List Text → ℕ → Items → Result Interned JsonError → Type 0
+    abbrev pub ReadsElements : List Text → ℕ → Items → Result InternerContents JsonError → Type 0
     ReadsElements old index no_items outcome = IsOkAnd outcome (λ interner. interner.texts ≡ old)
     ReadsElements old index (item element rest) outcome = MatchOption (as_str element)
         (outcome ≡ Err (NotAText index))
@@ -43,7 +43,7 @@ module _ {S : Type 0} (symbol_of : ℕ → Option S) where
 
     -- The same where all must differ: the old list are the elements before these. A string equal to one of them fails,
     -- and any other is appended.
-    abbrev pub ReadsElementsExactly : List Text → ℕ → Items → Result Interned JsonError → Type 0
+    abbrev pub ReadsElementsExactly : List Text → ℕ → Items → Result InternerContents JsonError → Type 0
     ReadsElementsExactly old index no_items outcome = IsOkAnd outcome (λ interner. interner.texts ≡ old)
     ReadsElementsExactly old index (item element rest) outcome = MatchOption (as_str element)
         (outcome ≡ Err (NotAText index))
@@ -53,19 +53,19 @@ module _ {S : Type 0} (symbol_of : ℕ → Option S) where
         (λ _. outcome ≡ Err (Repeated index)))
 
     -- the elements of an array are read into the empty list, and any other value fails
-    abbrev pub ReadsArray : Data → Result Interned JsonError → Type 0
+    abbrev pub ReadsArray : Data → Result InternerContents JsonError → Type 0
     ReadsArray value outcome = MatchOption (as_array value) (outcome ≡ Err NotAList) (λ elements. ReadsElements [] 0 elements outcome)
 
     -- the same, where no string may be equal to an earlier one
-    abbrev pub ReadsArrayExactly : Data → Result Interned JsonError → Type 0
+    abbrev pub ReadsArrayExactly : Data → Result InternerContents JsonError → Type 0
     ReadsArrayExactly value outcome = MatchOption (as_array value) (outcome ≡ Err NotAList) (λ elements. ReadsElementsExactly [] 0 elements outcome)
 
 -- the outcome of reading a list back: the list, or `Memory`
-abbrev pub GivesBack : List Text → Result Interned JsonError → Type 0
+abbrev pub GivesBack : List Text → Result InternerContents JsonError → Type 0
 GivesBack texts (Ok interner) = interner.texts ≡ texts
 GivesBack texts (Err (Memory _)) = ⊤
 GivesBack texts (Err _) = ⊥
 
 -- if the value is what `to_json` returns for a list that an interner may have, reading it gives that list back
-abbrev pub ReadsBack : {S : Type 0} → (ℕ → Option S) → (List Text → ℕ) → Data → Result Interned JsonError → Type 0
+abbrev pub ReadsBack : {S : Type 0} → (ℕ → Option S) → (List Text → ℕ) → Data → Result InternerContents JsonError → Type 0
 ReadsBack symbol_of place value outcome = (texts : List Text) → IsDistinct texts → IsKept symbol_of place texts → value ≡ json_of_texts texts → GivesBack texts outcome

@@ -3,7 +3,7 @@
 use Rattle.std.specs.Prelude.{◌≡◌, ℕ, ◌<◌, ◌≤◌, Bool, true, false, List, [], ◌∷◌, ◌++◌, length, take, drop, ⊤}
 use Rattle.string_interner.specs.Text.{Text}
 use Rattle.string_interner.specs.Backend.{Bucket}
-use Rattle.string_interner.specs.Interner.{Interned}
+use Rattle.string_interner.specs.Interner.{InternerContents}
 
 -- the texts of one scope, in insertion order
 abbrev pub Layer : Type 0
@@ -11,7 +11,7 @@ Layer = List Text
 
 -- what contracts see of an interner in scopes: a stack of layers, which is never empty, and the interner's buckets,
 -- room and slot count
-pub record Scoped : Type 0 where
+pub record ScopesContents : Type 0 where
   -- the layer to which new texts are appended
   pub top : Layer
   -- the layers below it, the nearest first: as many as there are open scopes
@@ -21,7 +21,7 @@ pub record Scoped : Type 0 where
   pub slot_count : ℕ
 
 -- the whole stack, the top layer first
-abbrev pub layers : Scoped → List Layer
+abbrev pub layers : ScopesContents → List Layer
 layers scopes = scopes.top ∷ scopes.below
 
 -- the layers joined, from the bottom to the top
@@ -30,7 +30,7 @@ joined_layers [] = []
 joined_layers (top ∷ below) = joined_layers below ++ top
 
 -- the interner, whose list is the layers joined
-abbrev pub interned : Scoped → Interned
+abbrev pub interned : ScopesContents → InternerContents
 interned scopes = record { texts = joined_layers (layers scopes); buckets = scopes.buckets; room = scopes.room; slot_count = scopes.slot_count }
 
 -- Leaving a scope: the top layer goes, unless it is the only one, and the flag says which.

@@ -3,7 +3,7 @@
 use Rattle.std.specs.Prelude.{ℕ, ◌+◌, ◌%◌, ◌<◌, ◌≤◌, List, [], ◌∷◌, ◌++◌, take, drop, length, slice_index_or, Option, Some, None, IsSome, IsNone, Bool, if◌then◌else◌}
 
 -- what contracts see of `Looks`: the borrowed backend, and how many looks were taken
-pub record Looking (B : Type 0) : Type 0 where
+pub record LooksContents (B : Type 0) : Type 0 where
   pub backend : B
   pub count : ℕ
 

@@ -1,4 +1,4 @@
-//! Looking up the symbol of a text: hashers, and the hash index of a backend's entries.
+//! LooksContents up the symbol of a text: hashers, and the hash index of a backend's entries.
 
 mod count;
 mod growing;
@@ -43,9 +43,9 @@ pub struct Index<S: Symbol> {
 
 /// Contracts see the slots, how many symbols growth rehashed, and the greatest number of entries so far.
 impl<S: Symbol> Model for Index<S> {
-    ghost use Rattle.string_interner.specs.Index.{Indexed, IsSound};
+    ghost use Rattle.string_interner.specs.Index.{IndexContents, IsSound};
 
-    ghost Value = { Indexed S };
+    ghost Value = { IndexContents S };
 
     ghost view = { λ i. record { slots = i.slots; put_back = i.put_back; greatest = i.greatest } };
 

@@ -8,7 +8,7 @@ ghost use Rattle.std.specs.Option.{option_copied};
 ghost use Rattle.std.specs.Cmp.{partial_equiv_from_equiv, on_equiv};
 ghost use Rattle.string_interner.specs.Text.{Text, IsDistinct, first, texts_eq, texts_eq-IsEquivalence};
 ghost use Rattle.string_interner.specs.Backend.{BeginsAt, IsPlace, IsKept};
-ghost use Rattle.string_interner.specs.Interner.{Interned, InternsInto, IsMadeFor, IsNew, KeepsMemory, known_symbol};
+ghost use Rattle.string_interner.specs.Interner.{InternerContents, InternsInto, IsMadeFor, IsNew, KeepsMemory, known_symbol};
 ghost use Rattle.string_interner.specs.Given.{given_text};
 ghost use Rattle.string_interner.specs.Index.{IsLoaded, IsLeastSlotCount};
 
@@ -40,9 +40,9 @@ pub struct StringInterner<B: Backend, H: TextHasher = DefaultHashBuilder> {
 /// Contracts see the texts, the buckets and the room of the backend, and the count of slots.
 impl<B: Backend, H: TextHasher> Model for StringInterner<B, H> {
     ghost use Rattle.std.specs.Prelude.{length};
-    ghost use Rattle.string_interner.specs.Interner.{Interned, IsInterned};
+    ghost use Rattle.string_interner.specs.Interner.{InternerContents, IsInterned};
 
-    ghost Value = { Interned };
+    ghost Value = { InternerContents };
 
     ghost view = { λ i. record {
       texts = B.texts i.backend;
@@ -274,7 +274,7 @@ fn next_is<B: Backend>(walk: &mut Iter<'_, B>, text: &str) -> bool
 impl<B: Backend, H: TextHasher> PartialEq for StringInterner<B, H> {
     ghost eq = { λ a b. texts_eq a.texts b.texts };
 
-    ghost laws = { partial_equiv_from_equiv (on_equiv (λ (i : Interned). i.texts) texts_eq-IsEquivalence) };
+    ghost laws = { partial_equiv_from_equiv (on_equiv (λ (i : InternerContents). i.texts) texts_eq-IsEquivalence) };
 
     fn eq(&self, other: &Self) -> bool {
         if self.len() != other.len() {
@@ -291,5 +291,5 @@ impl<B: Backend, H: TextHasher> PartialEq for StringInterner<B, H> {
 }
 
 impl<B: Backend, H: TextHasher> Eq for StringInterner<B, H> {
-    ghost laws = { on_equiv (λ (i : Interned). i.texts) texts_eq-IsEquivalence };
+    ghost laws = { on_equiv (λ (i : InternerContents). i.texts) texts_eq-IsEquivalence };
 }

@@ -27,9 +27,9 @@ pub struct Scopes<B: Backend, H: TextHasher = DefaultHashBuilder> {
 /// buckets, room and slot count.
 impl<B: Backend, H: TextHasher> Model for Scopes<B, H> {
     ghost use Rattle.std.specs.Prelude.{length, reverse};
-    ghost use Rattle.string_interner.specs.Scopes.{Scoped, top_layer, layers_below, AreStarts};
+    ghost use Rattle.string_interner.specs.Scopes.{ScopesContents, top_layer, layers_below, AreStarts};
 
-    ghost Value = { Scoped };
+    ghost Value = { ScopesContents };
 
     ghost view = { λ s. record {
       top = top_layer (reverse s.starts.items) s.interner.texts;

@@ -3,7 +3,7 @@
 use Rattle.std.proofs.Common.{◌≡◌, ℕ, ◌%◌, List, [], ◌∷◌, length, Option, Some, None, refl, arith}
 use Rattle.string_interner.specs.Slots.{IsFilledRun}
 use Rattle.string_interner.specs.Probe.{FillsSlot}
-use Rattle.string_interner.proofs.FilledRuns.{filled_run-is}
+use Rattle.string_interner.proofs.Lemmas.Index.FilledRun.{filled_run-is}
 
 abbrev Eight : Type 0
 Eight = List (Option ℕ)

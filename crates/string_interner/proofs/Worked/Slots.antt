@@ -6,16 +6,16 @@ use Rattle.std.proofs.Math.Pow.{pow_mono}
 use Rattle.std.proofs.lemmas.Bool.{cases_lt, le-leb, lt-leb}
 use Rattle.string_interner.specs.Text.{Text}
 use Rattle.string_interner.specs.Slots.{symbols}
-use Rattle.string_interner.specs.Index.{Indexed, entry_count, Holds, HasRoom, IsSlotCount, IsLeastSlotCount, GrowsTo, Grows, Inserts, Refills}
-use Rattle.string_interner.proofs.Growing.{least_more, least-none}
+use Rattle.string_interner.specs.Index.{IndexContents, entry_count, Holds, HasRoom, IsSlotCount, IsLeastSlotCount, GrowsTo, Grows, Inserts, Refills}
+use Rattle.string_interner.proofs.Lemmas.Index.SlotCount.{least_more, least-none}
 
 -- An index to which so many entries came, one after another, with room made for each before: from no slots on, which
 -- stay where one more entry is allowed, and else grow.
-pub data Filled {S : Type 0} : ℕ → Indexed S → Type 0 where
-  no_entries : (index : Indexed S) → index.slots ≡ [] → index.put_back ≡ 0 → index.greatest ≡ 0 → Filled zero index
-  had_room : {n : ℕ} {old new : Indexed S} (entry : S → Option Text) (code : Text → ℕ) (symbol : S)
+pub data Filled {S : Type 0} : ℕ → IndexContents S → Type 0 where
+  no_entries : (index : IndexContents S) → index.slots ≡ [] → index.put_back ≡ 0 → index.greatest ≡ 0 → Filled zero index
+  had_room : {n : ℕ} {old new : IndexContents S} (entry : S → Option Text) (code : Text → ℕ) (symbol : S)
       → Filled n old → HasRoom old → Inserts entry code old new symbol → Filled (suc n) new
-  grew : {n : ℕ} {old bigger new : Indexed S} (entry : S → Option Text) (code : Text → ℕ) (symbol : S)
+  grew : {n : ℕ} {old bigger new : IndexContents S} (entry : S → Option Text) (code : Text → ℕ) (symbol : S)
       → Filled n old → (¬ HasRoom old) → Grows old bigger → entry_count bigger ≡ entry_count old → Inserts entry code bigger new symbol → Filled (suc n) new
 
 -- What so many slots grow to, and what slots and symbols put back come to as one entry joins so many others.
@@ -53,10 +53,10 @@ grow n slots put_back more is_full grows = rw (lt-leb (4 * (n + 1)) (3 * slots) 
 no_room_left : (n slots : ℕ) → (¬ (4 * (n + 1) ≤ 3 * slots)) → 3 * slots < 4 * (n + 1)
 no_room_left n slots none = elim (cases_lt (3 * slots) (4 * (n + 1))) as (λ _. 3 * slots < 4 * (n + 1)) [ inl l ↦ l | inr l ↦ absurd (none l) ]
 
-abbrev Counts : {S : Type 0} → Indexed S → ℕ → ℕ → ℕ → Type 0
+abbrev Counts : {S : Type 0} → IndexContents S → ℕ → ℕ → ℕ → Type 0
 Counts index n slots put_back = (entry_count index ≡ n) × (length index.slots ≡ slots) × (index.put_back ≡ put_back) × (index.greatest ≡ n)
 
-counts : {S : Type 0} {n : ℕ} {index : Indexed S} → Filled n index → Counts index n (slots_after n) (put_back_after n)
+counts : {S : Type 0} {n : ℕ} {index : IndexContents S} → Filled n index → Counts index n (slots_after n) (put_back_after n)
 counts (no_entries index none back most) = (ap (λ slots. length (symbols slots)) none, ap length none, back, most)
 counts (had_room {n = n} {old = old} {new = new} entry code symbol before room inserts) =
     let h = counts before in
@@ -75,7 +75,7 @@ counts (grew {n = n} {old = old} {bigger = bigger} {new = new} entry code symbol
 
 -- Of an index with so many entries: its slots, and how many symbols were put back.
 abbrev AfterEntries : Type 0 → ℕ → ℕ → ℕ → Type 0
-AfterEntries S n slots put_back = (index : Indexed S) → Filled n index → (length index.slots ≡ slots) × (index.put_back ≡ put_back)
+AfterEntries S n slots put_back = (index : IndexContents S) → Filled n index → (length index.slots ≡ slots) × (index.put_back ≡ put_back)
 
 pub after-no-entry : (S : Type 0) → AfterEntries S 0 0 0
 after-no-entry S index filled = let h = counts filled in (h.1, h.2)
@@ -102,7 +102,7 @@ pub after-twenty-five-entries : (S : Type 0) → AfterEntries S 25 64 42
 after-twenty-five-entries S index filled = let h = counts filled in (h.1, h.2)
 
 -- thirteen entries that gave way to two: slots and counts stay
-pub after-truncating : (S : Type 0) (entry : S → Option Text) (code : Text → ℕ) (old new : Indexed S) → Filled 13 old → Refills entry code old new 2
+pub after-truncating : (S : Type 0) (entry : S → Option Text) (code : Text → ℕ) (old new : IndexContents S) → Filled 13 old → Refills entry code old new 2
     → (length new.slots ≡ 32) × (new.put_back ≡ 18) × (new.greatest ≡ 13)
 after-truncating S entry code old new filled refills =
     let h = counts filled in (refills.slots ∙ h.1, refills.put_back ∙ h.2, refills.greatest ∙ ap (λ most. max most 2) h.3)

@@ -60,7 +60,7 @@ fn text_at<'a>(joined: &'a str, ends: &[usize], index: usize) -> &'a str
     &joined[start_at(ends, index)..ends[index]]
 }
 
-#[tactic(auto, using(crate::proofs::Cuts::cut_length))]
+#[tactic(auto, using(crate::proofs::Lemmas::StringBackend::IsCut::cut_length))]
 impl<S: Symbol> Backend for StringBackend<S> {
     type Symbol = S;
 

@@ -23,9 +23,9 @@ pub struct Looks<'a, B> {
 
 /// Contracts see the backend and the count of looks.
 impl<'a, B> Model for Looks<'a, B> {
-    ghost use Rattle.string_interner.specs.Slots.{Looking};
+    ghost use Rattle.string_interner.specs.Slots.{LooksContents};
 
-    ghost Value = { Looking B };
+    ghost Value = { LooksContents B };
 
     ghost view = { λ l. record { backend = l.backend.now; count = l.count.value } };
 }

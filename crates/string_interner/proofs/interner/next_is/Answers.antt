@@ -1,7 +1,7 @@
 use Rattle.std.proofs.Common.{refl, sym, ap}
 use Rattle.std.specs.Prelude.{◌&&◌}
 use Rattle.string_interner.specs.Text.{texts_eq}
-use Rattle.string_interner.proofs.Entries.{first_entry, no_entry}
+use Rattle.string_interner.proofs.Lemmas.Backend.Walk.{first_entry, no_entry}
 use Rattle.string_interner.proofs.interner.next_is.Goals as goal
 
 pub returns-in-Some : goal.returns-in-Some

@@ -3,7 +3,7 @@ use Rattle.std.specs.Slice.Iter.{iter_rest}
 use Rattle.std.specs.Iterator.Adapters.{copied_source}
 use Rattle.std.proofs.lemmas.Iterator.{YieldsList-from_slice}
 use Rattle.std.proofs.lemmas.Iterator.Consumers.{YieldsList-from_copied}
-use Rattle.string_interner.proofs.Collecting.{in-order}
+use Rattle.string_interner.proofs.Lemmas.Interner.Extends.{in-order}
 use Rattle.string_interner.proofs.run.extend_reply.Goals as goal
 
 pub returns-in-Ok : goal.returns-in-Ok

@@ -1,7 +1,7 @@
 use Rattle.std.proofs.Common.{rules}
 use Rattle.std.proofs.lemmas.List.{take_all}
-use Rattle.string_interner.proofs.ListAnswers.{Run-tells}
-use Rattle.string_interner.proofs.Runs.{Run-step}
+use Rattle.string_interner.proofs.Lemmas.Run.ListAnswers.{Run-tells}
+use Rattle.string_interner.proofs.Lemmas.Run.Run.{Run-step}
 use Rattle.string_interner.proofs.run.run.Goals as goal
 
 pub loop-command-preserved : goal.loop-command-preserved

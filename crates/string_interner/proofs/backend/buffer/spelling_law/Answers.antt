@@ -1,7 +1,7 @@
 use Rattle.std.proofs.Common.{ap}
 use Rattle.string_interner.specs.BufferBackend.{bytes_of}
 use Rattle.string_interner.specs.BufferLaws.{digits-least_count}
-use Rattle.string_interner.proofs.Buffers.{bytes_of-apart, entry_of-apart}
+use Rattle.string_interner.proofs.Lemmas.BufferBackend.Bytes.{bytes_of-apart, entry_of-apart}
 use Rattle.string_interner.proofs.backend.buffer.spelling_law.Goals as goal
 
 pub returns-clause-entries : goal.returns-clause-entries

@@ -7,7 +7,7 @@ use Rattle.std.proofs.lemmas.Option.{slice_get-get_or}
 use Rattle.string_interner.specs.Text.{Text}
 use Rattle.string_interner.specs.Backend.{BeginsAt}
 use Rattle.string_interner.specs.BufferBackend.{bytes_of, place_of}
-use Rattle.string_interner.proofs.BufferReads.{place_within, some_there, IsEntryRead, entry_has, entry_read}
+use Rattle.string_interner.proofs.Lemmas.BufferBackend.Reads.{place_within, some_there, IsEntryRead, entry_has, entry_read}
 use Rattle.string_interner.proofs.backend.buffer.text_and_next.Goals as goal
 use Rattle.string_interner.proofs.backend.buffer.text_and_next.Goals.{After-unwrap-spelled}
 

@@ -1,5 +1,5 @@
 use Rattle.std.proofs.Common.{suc, arith}
-use Rattle.string_interner.proofs.Cuts.{start_le_end, start_boundary, part_at, cut_length}
+use Rattle.string_interner.proofs.Lemmas.StringBackend.IsCut.{start_le_end, start_boundary, part_at, cut_length}
 use Rattle.string_interner.proofs.backend.string.text_at.Goals as goal
 
 pub range-requires-clause-start_le_end : goal.range-requires-clause-start_le_end

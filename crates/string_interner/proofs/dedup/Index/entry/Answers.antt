@@ -2,9 +2,9 @@ use Rattle.string_interner.specs.Entry.{entry_text}
 use Rattle.std.proofs.Common.{◌%◌, arith, ap, ◌∙◌, length, rules}
 use Rattle.string_interner.specs.Slots.{probed, filled_run, first_passing, symbols}
 use Rattle.string_interner.specs.Index.{has_text}
-use Rattle.string_interner.proofs.SlotSymbols.{run_within}
-use Rattle.string_interner.proofs.LookUp.{Fits-find}
-use Rattle.string_interner.proofs.FilledRuns.{run-le}
+use Rattle.string_interner.proofs.Lemmas.Index.Slots.{run_within}
+use Rattle.string_interner.proofs.Lemmas.Index.LookUp.{Fits-find}
+use Rattle.string_interner.proofs.Lemmas.Index.FilledRun.{run-le}
 use Rattle.string_interner.proofs.dedup.Index.entry.Goals as goal
 
 pub returns-clause-found : goal.returns-clause-found

@@ -1,6 +1,6 @@
 use Rattle.std.proofs.Common.{ap, subst, ◌+◌}
 use Rattle.string_interner.specs.Index.{IsSound}
-use Rattle.string_interner.proofs.Growing.{IsSound-grown}
+use Rattle.string_interner.proofs.Lemmas.Index.SlotCount.{IsSound-grown}
 use Rattle.string_interner.proofs.dedup.Index.grow.Goals as goal
 
 pub invariant_of-self : goal.invariant_of-self

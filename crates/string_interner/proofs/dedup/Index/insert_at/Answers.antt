@@ -1,9 +1,9 @@
 use Rattle.std.proofs.Common.{arith, refl, ap, subst, sym, length}
 use Rattle.string_interner.specs.Slots.{symbols}
 use Rattle.string_interner.specs.Index.{HasRoom}
-use Rattle.string_interner.proofs.Growing.{IsSound-more}
-use Rattle.string_interner.proofs.Indexing.{inserted, greatest-inserted, puts_at}
-use Rattle.string_interner.proofs.LookUp.{FillsSlot-symbols, FillsSlot-length}
+use Rattle.string_interner.proofs.Lemmas.Index.SlotCount.{IsSound-more}
+use Rattle.string_interner.proofs.Lemmas.Index.Inserts.{inserted, greatest-inserted, puts_at}
+use Rattle.string_interner.proofs.Lemmas.Index.LookUp.{FillsSlot-symbols, FillsSlot-length}
 use Rattle.string_interner.proofs.dedup.Index.insert_at.Goals as goal
 
 pub returns : goal.returns

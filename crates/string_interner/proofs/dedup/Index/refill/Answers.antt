@@ -1,5 +1,5 @@
 use Rattle.std.proofs.Common.{refl, max, ap, sym, ◌∙◌, arith, length}
-use Rattle.string_interner.proofs.Growing.{IsSound-refilled}
+use Rattle.string_interner.proofs.Lemmas.Index.SlotCount.{IsSound-refilled}
 use Rattle.string_interner.proofs.dedup.Index.refill.Goals as goal
 
 pub returns : goal.returns

@@ -2,9 +2,9 @@ use Rattle.std.proofs.Common.{ap, subst, arith, length}
 use Rattle.string_interner.specs.Entry.{entry_text}
 use Rattle.string_interner.specs.Index.{GrowsTo}
 use Rattle.string_interner.specs.Probe.{Rebuilt}
-use Rattle.string_interner.proofs.Rebuilding.{Rebuilt-same}
-use Rattle.string_interner.proofs.Vacancies.{IsVacant-grown}
-use Rattle.string_interner.proofs.Growing.{GrowsTo-more, IsSlotCount-grown}
+use Rattle.string_interner.proofs.Lemmas.Index.Rebuilt.{Rebuilt-same}
+use Rattle.string_interner.proofs.Lemmas.Index.Vacancy.{IsVacant-grown}
+use Rattle.string_interner.proofs.Lemmas.Index.SlotCount.{GrowsTo-more, IsSlotCount-grown}
 use Rattle.string_interner.proofs.dedup.Index.reserve_one.Goals as goal
 
 pub returns-clause-same : goal.returns-clause-same

@@ -2,7 +2,7 @@ use Rattle.std.proofs.Common.{◌≡◌, None, ap, sym, subst, ◌∙◌, arith,
 use Rattle.std.proofs.lemmas.List.{length-replicate}
 use Rattle.string_interner.specs.Index.{IsSlotCount}
 use Rattle.string_interner.specs.Slots.{symbols}
-use Rattle.string_interner.proofs.Rebuilding.{no_symbols}
+use Rattle.string_interner.proofs.Lemmas.Index.Rebuilt.{no_symbols}
 use Rattle.string_interner.proofs.dedup.Index.with_capacity.Goals as goal
 
 pub returns-clause-count : goal.returns-clause-count

@@ -1,7 +1,7 @@
 use Rattle.std.proofs.Common.{refl, ◌∙◌}
-use Rattle.string_interner.proofs.Indexing.{puts_at}
-use Rattle.string_interner.proofs.LookUp.{FillsSlot-length}
-use Rattle.string_interner.proofs.Placing.{placed-start, placed-next, placed-end}
+use Rattle.string_interner.proofs.Lemmas.Index.Inserts.{puts_at}
+use Rattle.string_interner.proofs.Lemmas.Index.LookUp.{FillsSlot-length}
+use Rattle.string_interner.proofs.Lemmas.Index.Refills.{placed-start, placed-next, placed-end}
 use Rattle.string_interner.proofs.dedup.growing.put_all.Goals as goal
 
 pub loop-symbol-init : goal.loop-symbol-init

@@ -1,5 +1,5 @@
 use Rattle.std.proofs.Common.{◌≡◌, length}
-use Rattle.string_interner.proofs.Placing.{IsPlaced}
+use Rattle.string_interner.proofs.Lemmas.Index.Refills.{IsPlaced}
 use Rattle.string_interner.proofs.dedup.growing.put_all.Given as goal
 
 -- the entries so far are in the slots

@@ -1,4 +1,4 @@
-use Rattle.string_interner.proofs.Growing.{masked}
+use Rattle.string_interner.proofs.Lemmas.Index.SlotCount.{masked}
 use Rattle.string_interner.proofs.dedup.probe.home_of.Goals as goal
 
 pub returns : goal.returns

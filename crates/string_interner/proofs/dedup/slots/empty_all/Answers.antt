@@ -1,5 +1,5 @@
 use Rattle.std.proofs.Common.{arith}
-use Rattle.string_interner.proofs.SlotSymbols.{symbols-none}
+use Rattle.string_interner.proofs.Lemmas.Index.Slots.{symbols-none}
 use Rattle.string_interner.proofs.dedup.slots.empty_all.Goals as goal
 
 pub returns-clause-empty : goal.returns-clause-empty

@@ -1,7 +1,7 @@
 use Rattle.std.proofs.Common.{refl, rules}
 use Rattle.string_interner.specs.Interner.{GrowsFor}
-use Rattle.string_interner.proofs.Collecting.{item-taken, interned-slots, extends-refused}
-use Rattle.string_interner.proofs.Growing.{grown-more}
+use Rattle.string_interner.proofs.Lemmas.Interner.Extends.{item-taken, interned-slots, extends-refused}
+use Rattle.string_interner.proofs.Lemmas.Index.SlotCount.{grown-more}
 use Rattle.string_interner.proofs.interner.StringInterner.extend.Goals as goal
 
 pub loop-text-preserved : goal.loop-text-preserved

@@ -1,8 +1,8 @@
 use Rattle.std.proofs.Common.{rules, ap, length, Ok}
 use Rattle.string_interner.specs.Index.{IsLeastSlotCount}
-use Rattle.string_interner.proofs.Growing.{least-none, least-grown}
-use Rattle.string_interner.proofs.Collecting.{interned-slots}
-use Rattle.string_interner.proofs.JsonForms.{next_element, reads_nothing, reads_no_text, reads_refused, reads_more, gives_back}
+use Rattle.string_interner.proofs.Lemmas.Index.SlotCount.{least-none, least-grown}
+use Rattle.string_interner.proofs.Lemmas.Interner.Extends.{interned-slots}
+use Rattle.string_interner.proofs.Lemmas.Json.Reads.{next_element, reads_nothing, reads_no_text, reads_refused, reads_more, gives_back}
 use Rattle.string_interner.proofs.interner.StringInterner.from_json.Goals as goal
 
 pub loop-index-init : goal.loop-index-init

@@ -2,10 +2,10 @@ use Rattle.std.proofs.Common.{rules, ◌+◌, length, refl, sym, ap, ◌∙◌, 
 use Rattle.std.proofs.lemmas.List.{length_push}
 use Rattle.string_interner.specs.declared.json.JsonError.TheVariants.{NotAText, Repeated}
 use Rattle.string_interner.specs.Index.{IsLeastSlotCount}
-use Rattle.string_interner.proofs.Growing.{least-none, least-grown}
-use Rattle.string_interner.proofs.Collecting.{interned-slots}
-use Rattle.string_interner.proofs.JsonForms.{next_element}
-use Rattle.string_interner.proofs.JsonExact.{lengthened, exact_nothing, exact_no_text, exact_refused, exact_repeated, exact_more, exact_form, exact_gives_back}
+use Rattle.string_interner.proofs.Lemmas.Index.SlotCount.{least-none, least-grown}
+use Rattle.string_interner.proofs.Lemmas.Interner.Extends.{interned-slots}
+use Rattle.string_interner.proofs.Lemmas.Json.Reads.{next_element}
+use Rattle.string_interner.proofs.Lemmas.Json.ReadsExactly.{lengthened, exact_nothing, exact_no_text, exact_refused, exact_repeated, exact_more, exact_form, exact_gives_back}
 use Rattle.string_interner.proofs.interner.StringInterner.from_json_exact.Goals as goal
 
 pub loop-index-init : goal.loop-index-init

@@ -1,5 +1,5 @@
 use Rattle.std.proofs.Common.{sym, ap}
-use Rattle.string_interner.proofs.Interning.{sought, sought_known}
+use Rattle.string_interner.proofs.Lemmas.Interner.IsInterned.{sought, sought_known}
 use Rattle.string_interner.proofs.interner.StringInterner.get.Goals as goal
 
 pub returns-clause-symbol : goal.returns-clause-symbol

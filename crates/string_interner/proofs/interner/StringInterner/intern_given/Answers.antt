@@ -4,9 +4,9 @@ use Rattle.string_interner.specs.Given.{given_text}
 use Rattle.string_interner.specs.Index.{Holds, Inserts}
 use Rattle.string_interner.specs.Entry.{entry_text}
 use Rattle.string_interner.specs.Interner.{IsInterned, GrowsIfFull}
-use Rattle.string_interner.proofs.Growing.{GrowsIfFull-reserved}
-use Rattle.string_interner.proofs.Interning.{sought, not_found, interned-same, inserts-more, interned-more}
-use Rattle.string_interner.proofs.InternsInto.{into-known, into-refused, into-unnamed, into-stored}
+use Rattle.string_interner.proofs.Lemmas.Index.SlotCount.{GrowsIfFull-reserved}
+use Rattle.string_interner.proofs.Lemmas.Interner.IsInterned.{sought, not_found, interned-same, inserts-more, interned-more}
+use Rattle.string_interner.proofs.Lemmas.Interner.InternsInto.{into-known, into-refused, into-unnamed, into-stored}
 use Rattle.string_interner.proofs.interner.StringInterner.intern_given.Goals as goal
 use Rattle.string_interner.proofs.interner.StringInterner.intern_given.Goals.{In-Vacant, After-reserve_one, After-insert_at}
 use Rattle.string_interner.proofs.interner.StringInterner.intern_given.Given.{Over}

@@ -1,8 +1,8 @@
 use Rattle.std.proofs.Common.{rules, ap, ◌∙◌}
 use Rattle.serde_json.specs.Data.{string, array}
 use Rattle.serde_json.specs.View.{view, items_of}
-use Rattle.string_interner.proofs.Entries.{first_entry, no_entry}
-use Rattle.string_interner.proofs.JsonForms.{written_on, written_over}
+use Rattle.string_interner.proofs.Lemmas.Backend.Walk.{first_entry, no_entry}
+use Rattle.string_interner.proofs.Lemmas.Json.Reads.{written_on, written_over}
 use Rattle.string_interner.proofs.interner.StringInterner.to_json.Goals as goal
 
 pub loop-text-preserved : goal.loop-text-preserved

@@ -2,7 +2,7 @@ use Rattle.std.proofs.Common.{length, ap, sym, subst, arith}
 use Rattle.std.proofs.lemmas.List.{length-take-le}
 use Rattle.string_interner.specs.Text.{IsDistinct}
 use Rattle.string_interner.specs.Backend.{IsKept}
-use Rattle.string_interner.proofs.Fronts.{kept-take, distinct-take}
+use Rattle.string_interner.proofs.Lemmas.Backend.IsKept.{kept-take, distinct-take}
 use Rattle.string_interner.proofs.interner.StringInterner.truncate.Goals as goal
 
 pub refill-requires-clause-room : goal.refill-requires-clause-room

@@ -1,7 +1,7 @@
 use Rattle.std.proofs.Common.{◌≡◌, sym, ap, ◌∙◌}
 use Rattle.std.specs.Prelude.{◌&&◌}
 use Rattle.string_interner.specs.Text.{texts_eq}
-use Rattle.string_interner.proofs.Entries.{first_entry, no_entry, no_more}
+use Rattle.string_interner.proofs.Lemmas.Backend.Walk.{first_entry, no_entry, no_more}
 use Rattle.string_interner.proofs.interner.StringInternerPartialEq.eq.Goals as goal
 use Rattle.string_interner.proofs.interner.StringInternerPartialEq.eq.Goals.{After-next_is}
 use Rattle.string_interner.proofs.interner.StringInternerPartialEq.eq.Given.{Over}

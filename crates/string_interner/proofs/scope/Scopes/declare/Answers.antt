@@ -1,5 +1,5 @@
 use Rattle.std.proofs.Common.{refl}
-use Rattle.string_interner.proofs.Scopes.{joined_layers-of_list, top-gains, step-declares}
+use Rattle.string_interner.proofs.Lemmas.Scopes.Layers.{joined_layers-of_list, top-gains, step-declares}
 use Rattle.string_interner.proofs.scope.Scopes.declare.Goals as goal
 
 pub returns-clause-interns : goal.returns-clause-interns

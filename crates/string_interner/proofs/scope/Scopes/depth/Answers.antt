@@ -1,6 +1,6 @@
 use Rattle.std.proofs.Common.{arith, reverse}
 use Rattle.std.proofs.lemmas.List.{length-reverse}
-use Rattle.string_interner.proofs.Scopes.{layers-count}
+use Rattle.string_interner.proofs.Lemmas.Scopes.Layers.{layers-count}
 use Rattle.string_interner.proofs.scope.Scopes.depth.Goals as goal
 
 pub returns : goal.returns

@@ -1,5 +1,5 @@
 use Rattle.std.proofs.Common.{rules}
-use Rattle.string_interner.proofs.Scopes.{step-stays, step-enters, opened}
+use Rattle.string_interner.proofs.Lemmas.Scopes.Layers.{step-stays, step-enters, opened}
 use Rattle.string_interner.proofs.scope.Scopes.enter.Goals as goal
 
 pub returns-in_err-push-clause-step : goal.returns-in_err-push-clause-step

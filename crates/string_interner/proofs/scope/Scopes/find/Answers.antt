@@ -1,4 +1,4 @@
-use Rattle.string_interner.proofs.Scopes.{joined_layers-of_list}
+use Rattle.string_interner.proofs.Lemmas.Scopes.Layers.{joined_layers-of_list}
 use Rattle.string_interner.proofs.scope.Scopes.find.Goals as goal
 
 pub returns-clause-symbol : goal.returns-clause-symbol

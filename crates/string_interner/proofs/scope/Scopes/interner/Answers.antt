@@ -1,5 +1,5 @@
 use Rattle.std.proofs.Common.{refl}
-use Rattle.string_interner.proofs.Scopes.{joined_layers-of_list}
+use Rattle.string_interner.proofs.Lemmas.Scopes.Layers.{joined_layers-of_list}
 use Rattle.string_interner.proofs.scope.Scopes.interner.Goals as goal
 
 pub returns : goal.returns

@@ -1,5 +1,5 @@
 use Rattle.std.proofs.Common.{rules}
-use Rattle.string_interner.proofs.Scopes.{step-stays, step-leaves}
+use Rattle.string_interner.proofs.Lemmas.Scopes.Layers.{step-stays, step-leaves}
 use Rattle.string_interner.proofs.scope.Scopes.leave.Goals as goal
 
 pub returns-in-Some-clause-step : goal.returns-in-Some-clause-step

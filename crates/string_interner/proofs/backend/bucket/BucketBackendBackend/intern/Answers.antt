@@ -1,6 +1,6 @@
 use Rattle.std.proofs.Common.{◌≡◌, ◌+◌, ◌-◌, ◌≤◌, ◌++◌, ◌∷◌, [], map, vec_len, vec_capacity, arith, rules, ap, ◌∙◌}
 use Rattle.string_interner.specs.BucketBackend.{BucketContents, Puts, buckets_of, interned_text, IsInBuckets}
-use Rattle.string_interner.proofs.Buckets.{stored-puts, spent-puts, Stays-puts}
+use Rattle.string_interner.proofs.Lemmas.BucketBackend.Buckets.{stored-puts, spent-puts, Stays-puts}
 use Rattle.string_interner.proofs.backend.bucket.BucketBackendBackend.intern.Goals as goal
 use Rattle.string_interner.proofs.backend.bucket.BucketBackendBackend.intern.Goals.{After-push_reserved}
 use Rattle.string_interner.proofs.backend.bucket.BucketBackendBackend.intern.Given.{Over}

@@ -2,7 +2,7 @@ use Rattle.std.proofs.Common.{◌≡◌, ◌++◌, ◌∷◌, [], map, arith, ru
 use Rattle.std.proofs.lemmas.List.{map_push}
 use Rattle.string_interner.specs.declared.backend.bucket.interned_str.InternedStr.TheVariants.{Static}
 use Rattle.string_interner.specs.BucketBackend.{BucketContents, buckets_of, interned_text, IsInBuckets}
-use Rattle.string_interner.proofs.Buckets.{stored-static}
+use Rattle.string_interner.proofs.Lemmas.BucketBackend.Buckets.{stored-static}
 use Rattle.string_interner.proofs.backend.bucket.BucketBackendBackend.intern_static.Goals as goal
 use Rattle.string_interner.proofs.backend.bucket.BucketBackendBackend.intern_static.Goals.{After-push_reserved}
 use Rattle.string_interner.proofs.backend.bucket.BucketBackendBackend.intern_static.Given.{Over}

@@ -1,5 +1,5 @@
 use Rattle.std.proofs.Common.{◌∙◌, sym, arith}
-use Rattle.string_interner.proofs.Compared.{texts_eq-differ, take-same_more, texts_eq-same}
+use Rattle.string_interner.proofs.Lemmas.Texts.Equal.{texts_eq-differ, take-same_more, texts_eq-same}
 use Rattle.string_interner.proofs.backend.bucket.BucketBackendPartialEq.eq.Goals as goal
 
 pub returns-then-ne : goal.returns-then-ne

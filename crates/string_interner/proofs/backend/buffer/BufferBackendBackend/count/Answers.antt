@@ -1,6 +1,6 @@
 use Rattle.std.proofs.Common.{length, ap, sym, ◌∙◌}
 use Rattle.string_interner.specs.Backend.{Contents}
-use Rattle.string_interner.proofs.Buffers.{length-texts_in}
+use Rattle.string_interner.proofs.Lemmas.BufferBackend.Bytes.{length-texts_in}
 use Rattle.string_interner.proofs.backend.buffer.BufferBackendBackend.count.Goals as goal
 
 pub returns-clause-value : goal.returns-clause-value

@@ -2,7 +2,7 @@ use Rattle.std.proofs.Common.{◌≡◌, ◌+◌, ◌++◌, ◌∷◌, [], lengt
 use Rattle.string_interner.specs.Backend.{Contents}
 use Rattle.string_interner.specs.BufferBackend.{texts_in, IsSpelled}
 use Rattle.string_interner.specs.BufferLaws.{digits-least_count}
-use Rattle.string_interner.proofs.Buffers.{spelled-more, count_below}
+use Rattle.string_interner.proofs.Lemmas.BufferBackend.Bytes.{spelled-more, count_below}
 use Rattle.string_interner.proofs.backend.buffer.BufferBackendBackend.intern.Goals as goal
 use Rattle.string_interner.proofs.backend.buffer.BufferBackendBackend.intern.Goals.{After-unwrap}
 use Rattle.string_interner.proofs.backend.buffer.BufferBackendBackend.intern.Given.{Over}

@@ -1,6 +1,6 @@
 use Rattle.std.proofs.Common.{length, ap, arith}
 use Rattle.std.proofs.lemmas.Grind.{common_steps}
-use Rattle.string_interner.proofs.BufferReads.{read_iff, read_past}
+use Rattle.string_interner.proofs.Lemmas.BufferBackend.Reads.{read_iff, read_past}
 use Rattle.string_interner.proofs.backend.buffer.BufferBackendBackend.resolve.Goals as goal
 
 pub returns-in_err-get-clause-value : goal.returns-in_err-get-clause-value

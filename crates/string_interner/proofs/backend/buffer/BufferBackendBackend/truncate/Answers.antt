@@ -2,7 +2,7 @@ use Rattle.std.proofs.Common.{◌≡◌, length, take, sym, ap, ◌∙◌, arith
 use Rattle.std.proofs.lemmas.List.{take_all}
 use Rattle.string_interner.specs.Backend.{Contents}
 use Rattle.string_interner.specs.BufferBackend.{texts_in, IsSpelled}
-use Rattle.string_interner.proofs.Buffers.{length-texts_in, spelled-take}
+use Rattle.string_interner.proofs.Lemmas.BufferBackend.Bytes.{length-texts_in, spelled-take}
 use Rattle.string_interner.proofs.backend.buffer.BufferBackendBackend.truncate.Goals as goal
 use Rattle.string_interner.proofs.backend.buffer.BufferBackendBackend.truncate.Goals.{After-truncate}
 use Rattle.string_interner.proofs.backend.buffer.BufferBackendBackend.truncate.Given.{Over}

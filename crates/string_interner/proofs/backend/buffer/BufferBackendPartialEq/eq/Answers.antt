@@ -1,5 +1,5 @@
-use Rattle.string_interner.proofs.Equal.{texts_eq-Decides}
-use Rattle.string_interner.proofs.Buffers.{bytes_of-eq}
+use Rattle.string_interner.proofs.Lemmas.Texts.Equal.{texts_eq-Decides}
+use Rattle.string_interner.proofs.Lemmas.BufferBackend.Bytes.{bytes_of-eq}
 use Rattle.string_interner.proofs.backend.buffer.BufferBackendPartialEq.eq.Goals as goal
 
 pub returns-clause-value : goal.returns-clause-value

@@ -1,6 +1,6 @@
 use Rattle.std.proofs.Common.{◌≡◌, ◌≤◌, get_or, sym, below_more, arith}
 use Rattle.std.proofs.lemmas.Grind.{pow_more}
-use Rattle.string_interner.proofs.Spelling.{value-take_more, digit_fits, front_len_goes, front_there, no_tenth, front_ends}
+use Rattle.string_interner.proofs.Lemmas.BufferBackend.Spelling.{value-take_more, digit_fits, front_len_goes, front_there, no_tenth, front_ends}
 use Rattle.string_interner.proofs.backend.buffer.spelling.long_number_at.Goals as goal
 use Rattle.string_interner.proofs.backend.buffer.spelling.long_number_at.Goals.{After-from, else-i-eq-LAST-via-then-i-eq-LAST+else-byte-gt1, else-i-eq-LAST-via-else-i-eq-LAST}
 

@@ -1,6 +1,6 @@
 use Rattle.std.proofs.Common.{◌≡◌, length, arith, ap, sym, ◌∙◌}
 use Rattle.string_interner.specs.Backend.{Contents}
-use Rattle.string_interner.proofs.Cuts.{cut_length, place_within, symbol_at}
+use Rattle.string_interner.proofs.Lemmas.StringBackend.IsCut.{cut_length, place_within, symbol_at}
 use Rattle.string_interner.proofs.backend.string.StringBackendBackend.entry_at.Goals as goal
 
 pub text_at-text-requires-clause-within : goal.text_at-text-requires-clause-within

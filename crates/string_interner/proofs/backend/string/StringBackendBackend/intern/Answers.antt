@@ -2,7 +2,7 @@ use Rattle.std.proofs.Common.{◌≡◌, ◌++◌, ◌∷◌, [], arith, rules, 
 use Rattle.std.specs.String.{string_bytes}
 use Rattle.string_interner.specs.StringBackend.{cut, IsJoined}
 use Rattle.string_interner.specs.Backend.{Contents}
-use Rattle.string_interner.proofs.Cuts.{stored-more}
+use Rattle.string_interner.proofs.Lemmas.StringBackend.IsCut.{stored-more}
 use Rattle.string_interner.proofs.backend.string.StringBackendBackend.intern.Goals as goal
 use Rattle.string_interner.proofs.backend.string.StringBackendBackend.intern.Goals.{After-push_reserved}
 use Rattle.string_interner.proofs.backend.string.StringBackendBackend.intern.Given.{Over}

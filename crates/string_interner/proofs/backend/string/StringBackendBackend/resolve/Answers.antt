@@ -1,7 +1,7 @@
 use Rattle.std.proofs.Common.{◌≡◌, length, arith, ap, sym, ◌∙◌}
 use Rattle.std.proofs.lemmas.Option.{slice_get_past}
 use Rattle.string_interner.specs.Backend.{Contents}
-use Rattle.string_interner.proofs.Cuts.{cut_length}
+use Rattle.string_interner.proofs.Lemmas.StringBackend.IsCut.{cut_length}
 use Rattle.string_interner.proofs.backend.string.StringBackendBackend.resolve.Goals as goal
 
 pub returns-else-index-len : goal.returns-else-index-len

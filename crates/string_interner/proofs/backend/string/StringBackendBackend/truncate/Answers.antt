@@ -3,7 +3,7 @@ use Rattle.std.specs.String.{string_bytes}
 use Rattle.std.proofs.lemmas.List.{take_all}
 use Rattle.string_interner.specs.StringBackend.{cut, IsJoined}
 use Rattle.string_interner.specs.Backend.{Contents}
-use Rattle.string_interner.proofs.Cuts.{cut_length, start_boundary, stored-take}
+use Rattle.string_interner.proofs.Lemmas.StringBackend.IsCut.{cut_length, start_boundary, stored-take}
 use Rattle.string_interner.proofs.backend.string.StringBackendBackend.truncate.Goals as goal
 use Rattle.string_interner.proofs.backend.string.StringBackendBackend.truncate.Goals.{After-truncate-then-len}
 use Rattle.string_interner.proofs.backend.string.StringBackendBackend.truncate.Given.{Over}

@@ -1,5 +1,5 @@
 use Rattle.std.proofs.Common.{rules}
-use Rattle.string_interner.proofs.Equal.{cut_eq}
+use Rattle.string_interner.proofs.Lemmas.Texts.Equal.{cut_eq}
 use Rattle.string_interner.proofs.backend.string.StringBackendPartialEq.eq.Goals as goal
 
 pub returns-then-eq : goal.returns-then-eq

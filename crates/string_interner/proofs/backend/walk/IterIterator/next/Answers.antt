@@ -1,5 +1,5 @@
 use Rattle.std.proofs.Common.{◌<◌, ◌-◌, length, arith, ◌∙◌, ap}
-use Rattle.string_interner.proofs.Entries.{entries-drop}
+use Rattle.string_interner.proofs.Lemmas.Backend.Walk.{entries-drop}
 use Rattle.string_interner.proofs.backend.walk.IterIterator.next.Goals as goal
 
 pub returns-clause-steps : goal.returns-clause-steps

@@ -1,4 +1,4 @@
-use Rattle.string_interner.proofs.Steps.{[], ◌∷◌, refl, ◌+◌, proved, ftrue, flft, named, vunit, ‵, ◌⊛◌, ◌$◌, ◌∵◌, !, qed, done, move, keep, split, join, fsplit3, feq_i, suffices, frame, group, enter, of_opd, unit_lit, returns, alloc_all, pass_all, free_all, look_at, sets, MutRef, mut_vals, mut_Tells, plain, nothing, opens, closes, Stays, says, stay_ref, Goes-ref, ends_at}
+use Rattle.string_interner.proofs.Lemmas.Index.Steps.{[], ◌∷◌, refl, ◌+◌, proved, ftrue, flft, named, vunit, ‵, ◌⊛◌, ◌$◌, ◌∵◌, !, qed, done, move, keep, split, join, fsplit3, feq_i, suffices, frame, group, enter, of_opd, unit_lit, returns, alloc_all, pass_all, free_all, look_at, sets, MutRef, mut_vals, mut_Tells, plain, nothing, opens, closes, Stays, says, stay_ref, Goes-ref, ends_at}
 use Rattle.string_interner.specs.contracts.dedup.count.Count.add_one as f
 use Rattle.string_interner.specs.contracts.dedup.count.Count.{the_row as R}
 use Rattle.string_interner.proofs.dedup.count.Count.add_one.Statement.{statement}

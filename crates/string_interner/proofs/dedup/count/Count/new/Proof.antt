@@ -1,4 +1,4 @@
-use Rattle.string_interner.proofs.Steps.{[], ◌∷◌, refl, proved, vstruct, vnil, Val, ‵, raw, ◌$◌, ◌∵◌, !, qed, done, keep, use0, suffices, enter, no_more, returns, agg, alloc_all, pass_all, free_all, look_at, sets, makes_shadow, nothing, on_entry, says, ends_at}
+use Rattle.string_interner.proofs.Lemmas.Index.Steps.{[], ◌∷◌, refl, proved, vstruct, vnil, Val, ‵, raw, ◌$◌, ◌∵◌, !, qed, done, keep, use0, suffices, enter, no_more, returns, agg, alloc_all, pass_all, free_all, look_at, sets, makes_shadow, nothing, on_entry, says, ends_at}
 use Rattle.string_interner.specs.contracts.dedup.count.Count.new as f
 use Rattle.string_interner.specs.contracts.dedup.count.Count.{the_row as R}
 use Rattle.string_interner.proofs.dedup.count.Count.new.Statement.{statement}

@@ -1,5 +1,5 @@
 use Rattle.std.proofs.Common.{◌∙◌, sym, refl}
-use Rattle.string_interner.proofs.Interning.{known_none, interned-same, fits-more, absent-more, interned-more}
+use Rattle.string_interner.proofs.Lemmas.Interner.IsInterned.{known_none, interned-same, fits-more, absent-more, interned-more}
 use Rattle.suite.proofs.indexes.filled.Filled.insert.Goals as goal
 
 pub insert-requires-clause-fits : goal.insert-requires-clause-fits

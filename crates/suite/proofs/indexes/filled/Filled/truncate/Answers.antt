@@ -1,7 +1,7 @@
 use Rattle.std.proofs.Common.{sym, subst}
 use Rattle.string_interner.specs.Text.{IsDistinct}
 use Rattle.string_interner.specs.Backend.{IsKept}
-use Rattle.string_interner.proofs.Fronts.{kept-take, distinct-take}
+use Rattle.string_interner.proofs.Lemmas.Backend.IsKept.{kept-take, distinct-take}
 use Rattle.suite.proofs.indexes.filled.Filled.truncate.Goals as goal
 
 pub invariant_of-self : goal.invariant_of-self

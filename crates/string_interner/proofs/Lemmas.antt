@@ -1,0 +1,10 @@
+pub mod Backend
+pub mod BucketBackend
+pub mod BufferBackend
+pub mod Index
+pub mod Interner
+pub mod Json
+pub mod Run
+pub mod Scopes
+pub mod StringBackend
+pub mod Texts

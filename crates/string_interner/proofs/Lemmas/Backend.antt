@@ -1,0 +1,2 @@
+pub mod IsKept
+pub mod Walk

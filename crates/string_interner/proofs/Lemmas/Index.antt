@@ -1,0 +1,13 @@
+pub mod EntryText
+pub mod FilledRun
+pub mod Fits
+pub mod Inserts
+pub mod IsWhole
+pub mod LookUp
+pub mod Rebuilt
+pub mod Refills
+pub mod SlotCount
+pub mod Slots
+pub mod Steps
+pub mod Vacancy
+pub mod Walked

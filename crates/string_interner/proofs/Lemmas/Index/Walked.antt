@@ -1,0 +1,132 @@
+-- Where a walk over slots stands, from a home on.
+-- The walk of a put, to the first empty slot.
+use Rattle.std.proofs.Common.{◌≡◌, ℕ, ◌+◌, ◌-◌, ◌<◌, ◌≤◌, ◌⊎◌, Bool, true, false, cond, List, ◌∷◌, Option, Some, None, length, get_or, take, drop, refl, sym, ap, ◌∙◌, inl, inr, arith, set, subst}
+use Rattle.std.proofs.lemmas.List.{drop_more, length-append, length-take-le, length-drop, get_or_append_left, get_or-append_right, get_or-take, get_or-drop, get_or_read}
+use Rattle.string_interner.specs.Slots.{probed, filled_run, first_passing, symbols}
+use Rattle.std.specs.List.{Contains}
+use Rattle.std.specs.Option.{is_some}
+use Rattle.string_interner.specs.Probe.{IsFree, FillsSlot}
+use Rattle.string_interner.proofs.Lemmas.Index.Slots.{run-set_end, probe-set, run_within}
+
+module _ {S : Type 0} where
+  pub length-probe : (slots : List (Option S)) (home : ℕ) → home ≤ length slots → length (probed slots home) ≡ length slots
+  length-probe slots home h = omega (arith, length-append (drop home slots) (take home slots), length-drop home slots, length-take-le home slots h)
+
+  -- the i-th slot that is looked at is the one at home + i, or at home + i - length past the end
+  pub get_or-probe :
+      (slots : List (Option S)) (home i at : ℕ) (d : Option S) → home < length slots → i < length slots → at < length slots
+      → (at ≡ home + i) ⊎ (at + length slots ≡ home + i) → get_or (probed slots home) i d ≡ get_or slots at d
+  get_or-probe slots home i at d h k l (inl e) =
+      let f : i < length (drop home slots) = omega (arith, length-drop home slots) in
+      get_or_append_left (drop home slots) (take home slots) d i f ∙ get_or-drop home slots i d ∙ ap (λ j. get_or slots j d) (sym e)
+  get_or-probe slots home i at d h k l (inr e) =
+      let f : length (drop home slots) ≤ i = omega (arith, length-drop home slots) in
+      let j : i - length (drop home slots) ≡ at = omega (arith, length-drop home slots) in
+      get_or-append_right (drop home slots) (take home slots) (length (drop home slots)) i d refl f
+      ∙ ap (λ m. get_or (take home slots) m d) j ∙ get_or-take home slots at d (omega arith)
+
+  -- what is known of the slots from home on once i of them were passed, and the next one is `at`
+  pub record Walked (test : S → Bool) (slots : List (Option S)) (home i at : ℕ) : Type 0 where
+    pub in_range : at < length slots
+    pub place : (at ≡ home + i) ⊎ (at + length slots ≡ home + i)
+    pub found :
+        first_passing test (filled_run (probed slots home)) ≡ first_passing test (filled_run (drop i (probed slots home)))
+    pub run : length (filled_run (probed slots home)) ≡ i + length (filled_run (drop i (probed slots home)))
+
+  pub Walked-start :
+      (test : S → Bool) (slots : List (Option S)) (home : ℕ) → home < length slots → Walked test slots home 0 home
+  Walked-start test slots home h = record { in_range = h; place = inl (omega arith); found = refl; run = omega arith }
+
+  -- the rest begins with the slot at `at`
+  rest : (slots : List (Option S)) (home i at : ℕ) → home < length slots → i < length slots → at < length slots
+      → (at ≡ home + i) ⊎ (at + length slots ≡ home + i)
+      → drop i (probed slots home) ≡ get_or slots at None ∷ drop (i + 1) (probed slots home)
+  rest slots home i at h k l p =
+      let m : i < length (probed slots home) = omega (arith, length-probe slots home (omega arith)) in
+      drop_more (probed slots home) i None m
+      ∙ ap (λ x. x ∷ drop (i + 1) (probed slots home)) (get_or-probe slots home i at None h k l p)
+
+  module _ (test : S → Bool) (slots : List (Option S)) (home i at : ℕ) (h : home < length slots) (w : Walked test slots home i at) where
+    -- the slot is empty: nothing was found, and the run has i slots
+    pub Walked-empty : i < length slots → get_or slots at None ≡ None
+        → (first_passing test (filled_run (probed slots home)) ≡ None) × (length (filled_run (probed slots home)) ≡ i)
+    Walked-empty k e =
+        let r = rest slots home i at h k w.in_range w.place ∙ ap (λ x. x ∷ drop (i + 1) (probed slots home)) e in (
+          w.found ∙ ap (λ xs. first_passing test (filled_run xs)) r,
+          w.run ∙ ap (λ xs. i + length (filled_run xs)) r ∙ (let z : i + 0 ≡ i = omega arith in z),
+        )
+
+    pub Walked-hit : (s : S) → i < length slots → get_or slots at None ≡ Some s → test s ≡ true
+        → (first_passing test (filled_run (probed slots home)) ≡ Some s) × (i < length (filled_run (probed slots home)))
+    Walked-hit s k e t =
+        let r = rest slots home i at h k w.in_range w.place ∙ ap (λ x. x ∷ drop (i + 1) (probed slots home)) e in
+        let more = filled_run (drop (i + 1) (probed slots home)) in
+        let n = ap (λ xs. length (filled_run xs)) r in let m = w.run in (
+          w.found ∙ ap (λ xs. first_passing test (filled_run xs)) r ∙ ap (λ b. cond b (Some s) (first_passing test more)) t,
+          omega arith,
+        )
+
+    pub Walked-more : (s : S) (next : ℕ) → i < length slots → get_or slots at None ≡ Some s → test s ≡ false
+        → next < length slots → (next ≡ at + 1) ⊎ ((next ≡ 0) × (at + 1 ≡ length slots)) → Walked test slots home (i + 1) next
+    Walked-more s next k e t l p =
+        let r = rest slots home i at h k w.in_range w.place ∙ ap (λ x. x ∷ drop (i + 1) (probed slots home)) e in
+        let more = filled_run (drop (i + 1) (probed slots home)) in
+        let n = ap (λ xs. length (filled_run xs)) r in let m = w.run in let q = w.place in
+        record {
+          in_range = l;
+          place = grind arith;
+          found = w.found ∙ ap (λ xs. first_passing test (filled_run xs)) r ∙ ap (λ b. cond b (Some s) (first_passing test more)) t;
+          run = omega arith;
+        }
+
+module _ {S : Type 0} (slots : List (Option S)) (home : ℕ) (h : home < length slots) where
+  abbrev pub On : ℕ → ℕ → Type 0
+  On i at = Walked (λ (_ : S). false) slots home i at
+
+  pub puts_at : (i at : ℕ) (s : S) → On i at → i < length slots → get_or slots at None ≡ None → FillsSlot slots (set slots at (Some s)) home s
+  puts_at i at s w k e =
+      let run = (Walked-empty (λ _. false) slots home i at h w k e).1 in
+      let m : i < length (probed slots home) = omega (arith, length-probe slots home (omega arith)) in
+      record {
+        at = at;
+        in_range = w.in_range;
+        was_empty = e;
+        written = refl;
+        placed = subst (λ (xs : List (Option S)). Contains (filled_run xs) s) (sym (probe-set slots home i at (Some s) h k w.in_range w.place))
+            (run-set_end (probed slots home) i s run m);
+      }
+
+  pub free_at : (test : S → Bool) (i at : ℕ) → Walked test slots home i at → i < length slots → get_or slots at None ≡ None → IsFree slots home at
+  free_at test i at w k e =
+      let run = (Walked-empty test slots home i at h w k e).1 in
+      let m : i < length (probed slots home) = omega (arith, length-probe slots home (omega arith)) in (
+        w.in_range,
+        λ s. record {
+          at = at;
+          in_range = w.in_range;
+          was_empty = e;
+          written = refl;
+          placed = subst (λ (xs : List (Option S)). Contains (filled_run xs) s) (sym (probe-set slots home i at (Some s) h k w.in_range w.place))
+              (run-set_end (probed slots home) i s run m);
+        },
+      )
+
+  pub passes : (i at next : ℕ) → On i at → i < length slots → is_some (get_or slots at None) ≡ true → next < length slots
+      → (next ≡ at + 1) ⊎ ((next ≡ 0) × (at + 1 ≡ length slots)) → On (i + 1) next
+  passes i at next w k e l p =
+      let by : (o : Option S) → get_or slots at None ≡ o → is_some o ≡ true → On (i + 1) next =
+      elim [ None ↦ λ q f. absurd (cc) | Some s ↦ λ q f. Walked-more (λ _. false) slots home i at h w s next k q refl l p ] in
+      by (get_or slots at None) refl e
+
+  -- one slot is empty, so the walk does not come to the end
+  pub comes_to_empty : (i at : ℕ) → On i at → length slots ≤ i → length (symbols slots) < length slots → ⊥
+  comes_to_empty i at w k free = let a = w.run in let b = run_within slots home in omega arith
+
+module _ {S : Type 0} where
+  pub empty_from : (o : Option S) → is_some o ≡ false → o ≡ None
+  empty_from None e = refl
+  empty_from (Some s) e = cc
+
+  pub slot_is : (xs slots : List (Option S)) (at : ℕ) (x : Option S) → xs ≡ slots → at < length slots → x ≡ get_or xs at x → get_or slots at None ≡ x
+  slot_is xs slots at x same l e =
+      let m : at < length xs = rw same l in sym (get_or_read xs at x m e None ∙ ap (λ ys. get_or ys at None) same)

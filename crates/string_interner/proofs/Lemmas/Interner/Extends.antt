@@ -1,0 +1,168 @@
+-- Interning text after text.
+use Rattle.std.proofs.Common.{◌≡◌, ℕ, ◌+◌, ◌≤◌, List, [], ◌∷◌, ◌++◌, length, refl, sym, ap, ◌∙◌, subst, arith, Option, Some, None, Ok, Err, Bor}
+use Rattle.std.specs.Prelude.{MatchOption, IsSome, Result}
+use Rattle.std.specs.Iterator.{Yields, YieldsThen, AlwaysYields}
+use Rattle.std.specs.List.{sum_by}
+use Rattle.std.specs.Option.{option_map_or}
+use Rattle.std.proofs.lemmas.List.{append_assoc, append-nil, map_push, map-append, length-append, length_push}
+use Rattle.std.proofs.lemmas.Iterator.{YieldsList}
+use Rattle.std.proofs.lemmas.List.Sums.{sum_by-append}
+use Rattle.string_interner.specs.Text.{Text, first}
+use Rattle.string_interner.specs.Backend.{Appends}
+use Rattle.string_interner.specs.Index.{Holds, IsLoaded}
+use Rattle.string_interner.specs.Interner.{InternerContents, Interns, InternsInto, GrowsFor, entry_symbol}
+use Rattle.string_interner.proofs.Lemmas.Index.SlotCount.{GrowsFor-more}
+use Rattle.string_interner.specs.Collect.{texts_of, fresh, IsMemory, InternsAll, TakesIn, StopsAt, Extends, InternsInOrder}
+use Rattle.string_interner.proofs.Laws.{refused-keeps}
+use Rattle.string_interner.specs.declared.backend.InternError.{InternError}
+use Rattle.string_interner.specs.declared.backend.InternError.TheVariants.{NoSymbol, Memory}
+
+-- the first text is fresh where it is new, and the others after it
+fresh-first : (old : List Text) (text : Text) (texts : List Text) → fresh old (text ∷ texts) ≡ fresh old (text ∷ []) ++ fresh (old ++ fresh old (text ∷ [])) texts
+fresh-first old text texts = of (first old text)
+  where
+    of : (o : Option ℕ) → option_map_or (λ _. fresh old texts) o (text ∷ fresh (old ++ text ∷ []) texts)
+        ≡ option_map_or (λ _. []) o (text ∷ []) ++ fresh (old ++ option_map_or (λ _. []) o (text ∷ [])) texts
+    of None = refl
+    of (Some i) = ap (λ xs. fresh xs texts) (sym (append-nil old))
+
+-- the fresh texts of a list that goes on
+pub fresh-append : (old xs ys : List Text) → fresh old (xs ++ ys) ≡ fresh old xs ++ fresh (old ++ fresh old xs) ys
+fresh-append old [] ys = ap (λ zs. fresh zs ys) (sym (append-nil old))
+fresh-append old (x ∷ xs) ys =
+    let now = fresh old (x ∷ []) in
+    let later = fresh (old ++ now) xs in
+    fresh-first old x (xs ++ ys)
+    ∙ ap (λ zs. now ++ zs) (fresh-append (old ++ now) xs ys)
+    ∙ sym (append_assoc now later (fresh ((old ++ now) ++ later) ys))
+    ∙ ap (λ zs. (now ++ later) ++ fresh zs ys) (append_assoc old now later)
+    ∙ ap (λ zs. zs ++ fresh (old ++ zs) ys) (sym (fresh-first old x xs))
+
+module _ {S : Type 0} (symbol_of : ℕ → Option S) (place : List Text → ℕ) where
+  -- a text that is interned is put last where it is fresh
+  pub interned-fresh : (old : List Text) (text : Text) (symbol : S) (new : List Text) → Interns symbol_of place old text (Ok symbol) new → new ≡ old ++ fresh old (text ∷ [])
+  interned-fresh old text symbol new i = of (first old text) i
+    where
+      of : (o : Option ℕ) → MatchOption o (Appends symbol_of place old text (Ok symbol) new) (λ i. (entry_symbol symbol_of place old i ≡ Some symbol) × (new ≡ old)) → new ≡ old ++ option_map_or (λ _. []) o (text ∷ [])
+      of None h = h.1
+      of (Some i) h = h.1 ∙ sym (append-nil old)
+
+  -- texts that are interned put the fresh ones last
+  pub all-fresh : (old texts new : List Text) → InternsAll symbol_of place old texts new → new ≡ old ++ fresh old texts
+  all-fresh old [] new h = h ∙ sym (append-nil old)
+  all-fresh old (text ∷ texts) new h =
+      let now = fresh old (text ∷ []) in
+      let mid : h.0 ≡ old ++ now = interned-fresh old text h.1.0 h.0 h.1.1 in
+      all-fresh h.0 texts new h.2
+      ∙ ap (λ zs. zs ++ fresh zs texts) mid
+      ∙ append_assoc old now (fresh (old ++ now) texts)
+      ∙ ap (λ zs. old ++ zs) (sym (fresh-first old text texts))
+
+  -- one more text is interned
+  pub all-more : (old texts mid : List Text) (text : Text) (symbol : S) (new : List Text) → InternsAll symbol_of place old texts mid → Interns symbol_of place mid text (Ok symbol) new → InternsAll symbol_of place old (texts ++ text ∷ []) new
+  all-more old [] mid text symbol new h i = (new, (symbol, subst (λ (xs : List Text). Interns symbol_of place xs text (Ok symbol) new) h i), refl)
+  all-more old (t ∷ ts) mid text symbol new h i = (h.0, h.1, all-more h.0 ts mid text symbol new h.2 i)
+
+  module _ (cost : Text → ℕ) where
+    -- what is so of a length and a count of slots, where one more entry keeps it, is so once a text was interned
+    pub interned-slots : (P : ℕ → ℕ → Type 0) (mid new : InternerContents) (text : Text) (symbol : S) → InternsInto symbol_of place cost mid text (Ok symbol) new → IsLoaded new.slot_count (length new.texts)
+        → (Holds new.slot_count (length mid.texts + 1) → P (length mid.texts + 1) new.slot_count) → P (length mid.texts) mid.slot_count → P (length new.texts) new.slot_count
+    interned-slots P mid new text symbol call loaded more now = of (first mid.texts text) call.interns call.known
+      where
+        of : (o : Option ℕ) → MatchOption o (Appends symbol_of place mid.texts text (Ok symbol) new.texts) (λ i. (entry_symbol symbol_of place mid.texts i ≡ Some symbol) × (new.texts ≡ mid.texts)) → (IsSome o → new ≡ mid) → P (length new.texts) new.slot_count
+        of None h known = let n : length new.texts ≡ length mid.texts + 1 = ap length h.1 ∙ length_push mid.texts text in
+            subst (λ k. P k new.slot_count) (sym n) (more (subst (λ k. Holds new.slot_count k) n loaded.load))
+        of (Some i) h known = subst (λ (it : InternerContents). P (length it.texts) it.slot_count) (sym (known refl)) now
+
+    -- a text that is interned takes its cost, and nothing where it was known
+    spent-fresh : (mid new : InternerContents) (text : Text) → (IsSome (first mid.texts text) → new ≡ mid) → mid.room ≤ new.room + cost text → mid.room ≤ new.room + sum_by cost (fresh mid.texts (text ∷ []))
+    spent-fresh mid new text known spent = of (first mid.texts text) known
+      where
+        of : (o : Option ℕ) → (IsSome o → new ≡ mid) → mid.room ≤ new.room + sum_by cost (option_map_or (λ _. []) o (text ∷ []))
+        of None known = let one : sum_by cost (text ∷ []) ≡ cost text = omega arith in omega (arith, spent, one)
+        of (Some i) known = let same : new.room ≡ mid.room = ap (λ (i : InternerContents). i.room) (known refl) in omega (arith, same)
+
+    -- what the fresh texts cost when one more text comes
+    cost-more : (old mid texts : List Text) (text : Text) → InternsAll symbol_of place old texts mid → sum_by cost (fresh old (texts ++ text ∷ [])) ≡ sum_by cost (fresh old texts) + sum_by cost (fresh mid (text ∷ []))
+    cost-more old mid texts text h = rw (fresh-append old texts (text ∷ []), ← all-fresh old texts mid h) (sum_by-append cost (fresh old texts) (fresh mid (text ∷ [])))
+
+    -- one more text goes in
+    taken-more : (old mid new : InternerContents) (texts : List Text) (text : Text) (symbol : S) → TakesIn symbol_of place cost old texts mid → InternsInto symbol_of place cost mid text (Ok symbol) new
+        → TakesIn symbol_of place cost old (texts ++ text ∷ []) new
+    taken-more old mid new texts text symbol taken call = record {
+      interned = all-more old.texts texts mid.texts text symbol new.texts taken.interned call.interns;
+      spent = omega (arith, taken.spent, cost-more old.texts mid.texts texts text taken.interned, spent-fresh mid new text call.known call.room.spent);
+    }
+
+    -- the same, of the item of an iteration
+    pub item-taken : (old mid new : InternerContents) (items : List (Bor Text)) (item : Bor Text) (symbol : S) → TakesIn symbol_of place cost old (texts_of items) mid → InternsInto symbol_of place cost mid item.now (Ok symbol) new
+        → TakesIn symbol_of place cost old (texts_of (items ++ item ∷ [])) new
+    item-taken old mid new items item symbol taken call = subst (λ (ts : List Text). TakesIn symbol_of place cost old ts new) (sym (map_push (λ (b : Bor Text). b.now) items item))
+        (taken-more old mid new (texts_of items) item.now symbol taken call)
+
+    -- memory is refused for a new text that has a symbol
+    memory-new : (mid new : List Text) (text : Text) (error : InternError) → IsMemory error → Interns symbol_of place mid text (Err error) new → (first mid text ≡ None) × IsSome (symbol_of (place mid))
+    memory-new mid new text NoSymbol m i = absurd m
+    memory-new mid new text (Memory e) m i = of (first mid text) i
+      where
+        of : (o : Option ℕ) → MatchOption o (IsSome (symbol_of (place mid)) × (new ≡ mid)) (λ i. ⊥ × (new ≡ mid)) → (o ≡ None) × IsSome (symbol_of (place mid))
+        of None h = (refl, h.0)
+        of (Some i) h = absurd h.0
+
+    -- a text that does not fit is refused
+    pub stopped : (old mid new : InternerContents) (texts : List Text) (text : Text) (error : InternError) → TakesIn symbol_of place cost old texts mid → InternsInto symbol_of place cost mid text (Err error) new
+        → GrowsFor (length mid.texts) old.slot_count mid.slot_count → StopsAt symbol_of place cost old texts mid text error new
+    stopped old mid new texts text error taken call grown = record {
+      refuses = call;
+      beyond = λ m fits.
+          let is_new = memory-new mid.texts new.texts text error m call.interns in
+          let one : fresh mid.texts (text ∷ []) ≡ text ∷ [] = rw is_new.0 refl in
+          let c : sum_by cost (fresh old.texts (texts ++ text ∷ [])) ≡ sum_by cost (fresh old.texts texts) + cost text = cost-more old.texts mid.texts texts text taken.interned ∙ (ap (λ ts. sum_by cost (fresh old.texts texts) + sum_by cost ts) one ∙ omega arith) in
+          let n : length (fresh old.texts (texts ++ text ∷ [])) ≡ length (fresh old.texts texts) + 1 = ap length (fresh-append old.texts texts (text ∷ []) ∙ ap (λ zs. fresh old.texts texts ++ fresh zs (text ∷ [])) (sym (all-fresh old.texts texts mid.texts taken.interned)) ∙ ap (λ ts. fresh old.texts texts ++ ts) one) ∙ length_push (fresh old.texts texts) text in
+          let l : length mid.texts ≡ length old.texts + length (fresh old.texts texts) = ap length (all-fresh old.texts texts mid.texts taken.interned) ∙ length-append old.texts (fresh old.texts texts) in
+          let granted_now = call.room.granted (is_new.1, omega (arith, fits.index, n, l, GrowsFor-more _ _ _ grown)) (omega (arith, fits.backend, c, taken.spent)) in cc;
+    }
+
+    -- an extension that a refused item ended
+    pub extends-refused : {I W : Type 0} (becomes : I → W → Type 0) (steps : W → Option (Bor Text) → W → Type 0) (iter : I) (walk rest : W) (items : List (Bor Text)) (item : Bor Text) (old mid new : InternerContents) (error : InternError) (outcome : Result (Unit {0}) InternError)
+        → becomes iter walk → YieldsThen steps walk items (Some item) rest → outcome ≡ Err error → TakesIn symbol_of place cost old (texts_of items) mid → InternsInto symbol_of place cost mid item.now (Err error) new
+        → GrowsFor (length mid.texts) old.slot_count mid.slot_count → Extends symbol_of place cost becomes steps iter old outcome new
+    extends-refused becomes steps iter walk rest items item old mid new error outcome b y e taken call grown = rw e (
+      walk,
+      items,
+      mid,
+      b,
+      taken,
+      grown,
+      (item, rest, y, stopped old mid new (texts_of items) item.now error taken call grown),
+    )
+
+-- an iteration that ended went over the whole list
+drained : {W A : Type 0} (steps : W → Option A → W → Type 0) (xs : List A) (s t u : W) (all : List A) → Yields steps s xs t → steps t None u → AlwaysYields steps (λ x. x) s all → all ≡ xs
+drained steps [] s t u [] e st always = refl
+drained steps [] s t u (y ∷ ys) e st always = absurd (always.0 u (subst (λ k. steps k None u) (sym e) st))
+drained steps (x ∷ xs) s t u [] (j, sj, more) st always = absurd (always x j sj)
+drained steps (x ∷ xs) s t u (y ∷ ys) (j, sj, more) st always = let m = always.1 x j sj in ap (λ k. k ∷ ys) (sym m.0) ∙ ap (λ l. x ∷ l) (drained steps xs j t u ys more st m.1)
+
+-- an iteration that did not end went over a front
+fronted : {W A : Type 0} (steps : W → Option A → W → Type 0) (xs : List A) (s t u : W) (x : A) (all : List A) → Yields steps s xs t → steps t (Some x) u → AlwaysYields steps (λ x. x) s all → (after : List A) × (all ≡ xs ++ x ∷ after)
+fronted steps [] s t u x [] e st always = absurd (always x u (subst (λ k. steps k (Some x) u) (sym e) st))
+fronted steps [] s t u x (y ∷ ys) e st always = let m = always.1 x u (subst (λ k. steps k (Some x) u) (sym e) st) in (ys, ap (λ k. k ∷ ys) (sym m.0))
+fronted steps (z ∷ zs) s t u x [] (j, sj, more) st always = absurd (always z j sj)
+fronted steps (z ∷ zs) s t u x (y ∷ ys) (j, sj, more) st always = let m = always.1 z j sj in let r = fronted steps zs j t u x ys more st m.1 in (r.0, ap (λ k. k ∷ ys) (sym m.0) ∙ ap (λ l. z ∷ l) r.1)
+
+-- an interner that is extended by what yields a list interns its texts in order
+pub in-order : {S : Type 0} (symbol_of : ℕ → Option S) (place : List Text → ℕ) (cost : Text → ℕ) {I W : Type 0} (becomes : I → W → Type 0) (steps : W → Option (Bor Text) → W → Type 0) (iter : I) (old new : InternerContents) (outcome : Result (Unit {0}) InternError) (all : List (Bor Text))
+    → Extends symbol_of place cost becomes steps iter old outcome new → ((walk : W) → becomes iter walk → YieldsList steps (λ x. x) walk all) → InternsInOrder symbol_of place old.texts (texts_of all) outcome new.texts
+in-order symbol_of place cost becomes steps iter old new (Ok done) all (walk, items, mid, b, taken, grown, drains) lists =
+    let ends = drains.0 in rw (ap (λ (i : InternerContents). i.texts) drains.1, drained steps items walk ends.1.0 ends.0 all ends.1.1 ends.1.2 (lists walk b).runs) taken.interned
+in-order symbol_of place cost becomes steps iter old new (Err error) all (walk, items, mid, b, taken, grown, (item, left, yields, stops)) lists =
+    let f = fronted steps items walk yields.0 left item all yields.1 yields.2 (lists walk b).runs in
+    let same = refused-keeps symbol_of place mid.texts new.texts item.now error stops.refuses.interns in (
+      texts_of items,
+      item.now,
+      texts_of f.0,
+      ap texts_of f.1 ∙ map-append (λ (b : Bor Text). b.now) items (item ∷ f.0),
+      rw same taken.interned,
+      subst (λ (xs : List Text). Interns symbol_of place xs item.now (Err error) new.texts) (sym same) stops.refuses.interns,
+    )

@@ -1,0 +1,105 @@
+-- What an interner keeps to, when a text is looked for and when one is put last.
+use Rattle.std.proofs.Common.{◌≡◌, ℕ, ◌<◌, List, [], ◌∷◌, ◌++◌, length, refl, sym, ap, subst, ◌∙◌, arith, Option, Some, None, Ok, IsSome}
+use Rattle.std.specs.Prelude.{◌↔◌, option_and_then, ◌≢◌, ◌^◌, take}
+use Rattle.std.proofs.lemmas.Grind.{common_steps}
+use Rattle.std.proofs.lemmas.List.{length_push}
+use Rattle.std.proofs.lemmas.List.Quantifiers.{all_pairs_push}
+use Rattle.string_interner.specs.Text.{Text, first}
+use Rattle.string_interner.specs.Backend.{IsKept, Appends}
+use Rattle.string_interner.specs.Entry.{entry_text}
+use Rattle.string_interner.specs.Slots.{symbols}
+use Rattle.string_interner.specs.Index.{AddsPair, Fits, IndexContents, Inserts, InsertsByCode, IsAbsent, SameMap, look_up, text_of}
+use Rattle.string_interner.specs.Interner.{IsInterned, entry_symbol, known_symbol}
+use Rattle.string_interner.proofs.Lemmas.Index.EntryText.{Adds, entry_text-adds}
+use Rattle.string_interner.proofs.Lemmas.Texts.First.{first_within, first_none}
+use Rattle.string_interner.proofs.Lemmas.Index.IsWhole.{Fits-added, text_of-added, IsAbsent-added, IsWhole-added, look_up-known}
+
+module _ {S : Type 0} (symbol_of : ℕ → Option S) (place : List Text → ℕ) where
+  -- with no symbol the text is new
+  pub known_none : (texts : List Text) (t : Text) → IsKept symbol_of place texts → known_symbol symbol_of place texts t ≡ None → first texts t ≡ None
+  known_none texts t kept h = none_of (first texts t) refl h
+    where
+      none_of : (o : Option ℕ) → first texts t ≡ o → option_and_then (entry_symbol symbol_of place texts) o ≡ None → first texts t ≡ None
+      none_of None e h = e
+      none_of (Some i) e h = let s : IsSome (symbol_of (place (take i texts))) = kept.has_symbols i (first_within texts t i e) in absurd (grind (arith, common_steps))
+
+  -- a text has a symbol exactly if it is known
+  pub known-symbol : (texts : List Text) (t : Text) → IsKept symbol_of place texts → IsSome (known_symbol symbol_of place texts t) ↔ IsSome (first texts t)
+  known-symbol texts t kept = of (first texts t) refl
+    where
+      of : (o : Option ℕ) → first texts t ≡ o → IsSome (option_and_then (entry_symbol symbol_of place texts) o) ↔ IsSome o
+      of None e = (λ h. h, λ h. h)
+      of (Some i) e = (λ _. refl, λ _. kept.has_symbols i (first_within texts t i e))
+
+module _ {S : Type 0} (symbol_of : ℕ → Option S) (number : S → ℕ) (place : List Text → ℕ)
+    (numbered : (i : ℕ) (s : S) → symbol_of i ≡ Some s → (number s ≡ i) × (i < 2 ^ 64))
+    (injective : (a b : S) → number a ≡ number b → a ≡ b)
+    (grows : (texts : List Text) (text : Text) → place texts < place (texts ++ text ∷ []))
+    (code : Text → ℕ) (texts : List Text) (slots : List (Option S)) (is : IsInterned symbol_of place number code texts slots) where
+  abbrev entries : List Text → S → Option Text
+  entries = entry_text number place
+
+  -- what is found under a text is its known symbol
+  pub finds : (t : Text) → look_up (entries texts) slots t ≡ known_symbol symbol_of place texts t
+  finds = look_up-known symbol_of number place numbered grows code texts slots is.kept is.whole
+
+  -- the same of a list that is known by an equation
+  pub sought : (lent : List Text) (found : Option S) (t : Text) → found ≡ look_up (entries lent) slots t → lent ≡ texts → known_symbol symbol_of place texts t ≡ found
+  sought lent found t e same = sym (finds t) ∙ ap (λ (xs : List Text). look_up (entries xs) slots t) (sym same) ∙ sym e
+
+  -- and something is found exactly if the text is known
+  pub sought_known : (lent : List Text) (found : Option S) (t : Text) → found ≡ look_up (entries lent) slots t → lent ≡ texts → IsSome found ↔ IsSome (first texts t)
+  sought_known lent found t e same = subst (λ o. IsSome o ↔ IsSome (first texts t)) (sought lent found t e same) (known-symbol symbol_of place texts t is.kept)
+
+  -- and where nothing is found, the text is new
+  pub sought_none : (lent : List Text) (found : Option S) (t : Text) → found ≡ look_up (entries lent) slots t → lent ≡ texts → found ≡ None → first texts t ≡ None
+  sought_none lent found t e same none = known_none symbol_of place texts t is.kept (sought lent found t e same ∙ none)
+
+  -- the same of a text that is known by an equation
+  pub not_found : (lent : List Text) (t u : Text) → None ≡ look_up (entries lent) slots t → lent ≡ texts → t ≡ u → first texts u ≡ None
+  not_found lent t u e same text = subst (λ x. first texts x ≡ None) text (sought_none lent None t e same refl)
+
+  -- slots that hold the same map, of as many symbols
+  pub interned-same : (bigger : List (Option S)) → Fits (entries texts) code bigger → SameMap (entries texts) slots bigger
+      → length (symbols bigger) ≡ length (symbols slots) → IsInterned symbol_of place number code texts bigger
+  interned-same bigger fits same count = record {
+    distinct = is.distinct;
+    kept = is.kept;
+    whole = record { fits = fits; whole = λ s u e. same u ∙ is.whole.whole s u e };
+    count = count ∙ is.count;
+  }
+
+  -- a text that is put last
+  module _ (t : Text) (s : S) (more : List Text) (new_text : first texts t ≡ None) (put : Appends symbol_of place texts t (Ok s) more) where
+    adds : Adds (entries texts) (entries more) s t
+    adds = rw put.1 (entry_text-adds symbol_of number place numbered injective grows texts t s put.0)
+
+    absent : look_up (entries texts) slots t ≡ None
+    absent = finds t ∙ ap (option_and_then (entry_symbol symbol_of place texts)) new_text
+
+    -- the index still fits
+    pub fits-more : Fits (entries more) code slots
+    fits-more = Fits-added (entries texts) (entries more) code slots slots s t is.whole is.whole.fits (λ u. refl) adds
+
+    -- its symbol may be inserted
+    pub absent-more : IsAbsent (entries more) slots s
+    absent-more = IsAbsent-added (entries texts) (entries more) code slots slots s t is.whole is.whole.fits (λ u. refl) adds absent
+
+    -- it has the text
+    pub text-more : text_of (entries more) s ≡ t
+    text-more = text_of-added (entries texts) (entries more) code slots slots s t is.whole is.whole.fits (λ u. refl) adds
+
+    -- once it is inserted the index has each text again
+    pub interned-more : (old new : IndexContents S) → IsKept symbol_of place more → old.slots ≡ slots → Inserts (entries more) code old new s
+        → IsInterned symbol_of place number code more new.slots
+    interned-more old new kept here i = record {
+      distinct = rw put.1 (all_pairs_push (λ a b. a ≢ b) texts t is.distinct (first_none texts t new_text));
+      kept = kept;
+      whole = IsWhole-added (entries texts) (entries more) code slots slots s t is.whole is.whole.fits (λ u. refl) adds absent new.slots i.fits
+          (subst (λ (xs : List (Option S)). AddsPair (entries more) xs new.slots s) here i.pair);
+      count = (let a = ap (λ xs. length (symbols xs)) here in let b = i.count in let d = is.count in let e = ap length put.1 ∙ length_push texts t in omega arith);
+    }
+
+    -- where it is put by the code of the text, it is inserted
+    pub inserts-more : (known_code : ℕ) (old new : IndexContents S) → old.slots ≡ slots → known_code ≡ code t → InsertsByCode known_code old new s → Inserts (entries more) code old new s
+    inserts-more known_code old new here is_code by = by (entries more) code (rw here fits-more) (rw here absent-more) (is_code ∙ ap code (sym text-more))

@@ -1,0 +1,2 @@
+pub mod ListAnswers
+pub mod Run
