@@ -30,7 +30,7 @@ enum Choice {
     Buffer,
 }
 
-/// The backend that the arguments name, if they are one known word.
+/// Returns the backend that the arguments name, if they are one known word.
 fn chosen(arguments: &[String]) -> Option<Choice>
     ensures named { IfSome result (Names arguments.now) }
     ensures unnamed { IsNone result → (choice : Choice) → ¬ (Names arguments.now choice) }
@@ -43,7 +43,7 @@ fn chosen(arguments: &[String]) -> Option<Choice>
     }
 }
 
-/// All of the input, which is UTF-8. Std tells a refused growth by its kind of error.
+/// Reads the whole input, which must be UTF-8. A failed allocation is a kind of read error, and reported as `Memory`.
 fn read_text<R: Read>(alloc: Global, input: &mut R) -> Result<String, Fault>
     ensures whole { IfOk result (λ text. IfSome (R.remaining input.old) (λ bytes. string_bytes text ≡ bytes)) }
     ensures fault { IfErr result IsReadFault }
@@ -56,7 +56,7 @@ fn read_text<R: Read>(alloc: Global, input: &mut R) -> Result<String, Fault>
     }
 }
 
-/// The lines. A newline at the very end ends the last one, and begins no further one.
+/// Splits a text into lines. A newline at the very end ends the last one, and begins no further one.
 fn lines(text: &str) -> SplitTerminator<'_, char>
     ensures pattern { split_terminator_pattern result ≡ 10 }
     ensures text { split_text (split_terminator_parts result) ≡ text.now }
@@ -65,7 +65,7 @@ fn lines(text: &str) -> SplitTerminator<'_, char>
     text.split_terminator('\n')
 }
 
-/// The index of the first bad line, if there is one.
+/// Returns the index of the first bad line, if there is one.
 fn first_bad(text: &str) -> Option<usize>
     ensures first { MatchOption result (All IsStated (lines_of text.now)) (IsFirstBad (lines_of text.now)) }
     ensures room { IfSome result (λ index. index + 1 < 2 ^ 64) }
@@ -73,7 +73,7 @@ fn first_bad(text: &str) -> Option<usize>
     lines(text).position(|line| line::command(line).is_none())
 }
 
-/// What is told where there is no memory for the commands: the first bad line, if there is one.
+/// Returns the fault where the commands cannot be allocated: the first bad line, if there is one, and else `Memory`.
 fn fault_without_memory(text: &str) -> Fault
     ensures { IsLineFault (lines_of text.now) result }
 {
@@ -83,7 +83,7 @@ fn fault_without_memory(text: &str) -> Fault
     }
 }
 
-/// The command of each line. A bad line is told even where there is no memory for the commands.
+/// Parses each line. A bad line is reported even where the commands cannot be allocated.
 fn commands_of(alloc: Global, text: &str) -> Result<Vec<Command<'_>>, Fault>
     ensures stated { IfOk result (λ commands. AllZip States commands.items (lines_of text.now)) }
     ensures fault { IfErr result (IsLineFault (lines_of text.now)) }
@@ -100,7 +100,7 @@ fn commands_of(alloc: Global, text: &str) -> Result<Vec<Command<'_>>, Fault>
     Ok(commands)
 }
 
-/// The replies of an empty interner over the backend `B`.
+/// Runs the commands on an empty interner over the backend `B`, and returns the replies.
 fn replies_over<B: Backend + Drop>(
     alloc: Global,
     commands: &[Command<'_>],
@@ -113,7 +113,7 @@ fn replies_over<B: Backend + Drop>(
     run(alloc, &mut interner, commands).map_err(|_| Fault::Memory)
 }
 
-/// The replies of an empty interner over the chosen backend.
+/// Runs the commands on an empty interner over the chosen backend, and returns the replies.
 fn replies_of(alloc: Global, choice: Choice, commands: &[Command<'_>]) -> Result<Vec<Reply>, Fault>
     ensures ran { IfOk result (λ replies. (texts : List Text) × RunOver choice commands.now replies.items texts) }
     ensures fault { IsOkUnless result Fault.Memory }
@@ -139,7 +139,7 @@ fn write_replies<W: Write>(output: &mut W, replies: &[Reply]) -> Result<(), Faul
 /// Runs the commands of the input on an empty interner over the backend that the arguments name,
 /// and writes a line for each reply.
 ///
-/// The faults are looked for in this order: the arguments, reading the input, the first bad line,
+/// Faults are looked for in this order: the arguments, reading the input, the first bad line,
 /// memory for the commands and the replies, writing. Nothing runs where a line is bad, and nothing
 /// is written before the last reply is known. The input is held in memory whole, beside a command
 /// and a reply for each line.
