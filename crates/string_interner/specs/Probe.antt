@@ -1,5 +1,5 @@
 -- What the steps of the index do to its slots.
--- Cited by the private functions of `dedup`.
+-- Cited by the functions of `dedup` that stay within the crate, and by the clause `vacant` of `Index::reserve_one`.
 use Rattle.std.specs.Prelude.{◌≡◌, ℕ, ◌<◌, ◌≤◌, ◌%◌, ◌+◌, ◌⊎◌, List, length, slice_index_or, slice_set, Contains, Option, Some, None, ⊤}
 use Rattle.string_interner.specs.Text.{Text}
 use Rattle.string_interner.specs.Slots.{symbols, filled_run, probed}

@@ -1,4 +1,4 @@
-//! LooksContents up the symbol of a text: hashers, and the hash index of a backend's entries.
+//! Looks up the symbol of a text: hashers, and the hash index of a backend's entries.
 
 mod count;
 mod growing;
