@@ -167,7 +167,7 @@ impl<S: Symbol> Index<S> {
         ensures grown { ¬ HasRoom self.old → OnOk result (Grows self.old self.new) }
         ensures err { OnErr result (self.new ≡ self.old) }
 
-        // So a caller may make room between a look-up and the insertion.
+        // The interner makes room between a look-up and the insertion.
         ensures vacant { (code : ℕ) (vacancy : Vacancy) → IsVacant self.old.slots code vacancy
             → IsVacant self.new.slots code vacancy }
     {
@@ -208,7 +208,7 @@ impl<S: Symbol> Index<S> {
     }
 }
 
-// What this index is beside that: slots, and counts of what happened to them.
+// Slots, counts of what happened to them, and insertion without a look-up.
 impl<S: Symbol> Index<S> {
     /// Returns how many slots there are.
     ///

@@ -6,7 +6,7 @@ ghost use Rattle.string_interner.specs.Given.{given_text};
 
 use crate::backend::{Backend, InternError};
 
-/// A text to intern: one that the backend copies, or a static one, which it may keep itself.
+/// A text to intern: one that the backend copies, or a static one, which it may keep by reference.
 #[derive(Clone, Copy)]
 pub enum Given<'t> {
     Copied(&'t str),
