@@ -4,7 +4,7 @@ from functools import partial
 from pathlib import Path
 
 from program.ends import differs
-from program.list_of_texts import ANY, OUT_OF_MEMORY, USAGE, Run, answer, command_of, is_text, lines_of
+from program.list_of_texts import ANY, OUT_OF_MEMORY, UNREADABLE, USAGE, Run, answer, command_of, is_text, lines_of
 
 CASES = Path(__file__).resolve().parent.parent.parent / "crates/intern/cases"
 
@@ -44,9 +44,11 @@ class Case:
             return
         yield from (("input", room) for room in rooms_of_input(self.data))
         count = len(lines_of(self.data))
-        if self.wanted[0] != 0 or count == 0:
+        if self.wanted == UNREADABLE or count == 0:
             return
         yield "commands", COMMAND * count
+        if self.wanted[0] != 0:
+            return
         yield "replies", REPLY * count
         for line, sizes in sorted(self.asks.items()):
             yield from ((line, size) for size in sizes)
@@ -75,6 +77,9 @@ def end_when_refused(case, purpose, is_last_of_words):
     """How the run must end with a request refused."""
     if purpose == "words" and not is_last_of_words:
         return USAGE
+    if purpose == "commands" and case.wanted[0] != 0:
+        # A bad line is reported whatever memory is refused for the commands.
+        return case.wanted
     if purpose in ("input", "commands", "replies"):
         return OUT_OF_MEMORY
     if purpose in ("words", "output"):
