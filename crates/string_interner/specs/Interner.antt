@@ -1,9 +1,10 @@
 -- What holds of every interner: a list of distinct texts, each with its symbol, and interning a text.
 -- Cited by `StringInterner` and by all that stands on it.
-use Rattle.std.specs.Prelude.{◌≡◌, ℕ, ◌+◌, ◌≤◌, ◌⊎◌, List, [], length, take, Option, Some, IsSome, MatchOption, IsOkAnd, IsErrOf, OnErr, Result, option_and_then}
+use Rattle.std.specs.Prelude.{◌≡◌, ℕ, ◌+◌, ◌≤◌, ◌↔◌, ◌⊎◌, List, [], length, take, Option, Some, IsSome, MatchOption, IfOk, IsOkAnd, IsErrOf, OnErr, Result, option_and_then}
 use Rattle.string_interner.specs.Text.{Text, IsDistinct, first}
 use Rattle.string_interner.specs.Backend.{Bucket, IsKept, Appends, UsesRoom}
 use Rattle.string_interner.specs.Entry.{entry_text}
+use Rattle.string_interner.specs.StandsFor.{StandsFor, KeepsSymbols, FindsSymbol}
 use Rattle.string_interner.specs.Slots.{symbols}
 use Rattle.string_interner.specs.Index.{GrowsTo, Holds, IsLeastSlotCount, IsWhole}
 use Rattle.string_interner.specs.declared.backend.InternError.{InternError}
@@ -56,6 +57,17 @@ module _ {S : Type 0} (symbol_of : ℕ → Option S) (place : List Text → ℕ)
   abbrev pub known_symbol : List Text → Text → Option S
   known_symbol texts text = option_and_then (entry_symbol texts) (first texts text)
 
+  -- what the texts of every interner satisfy: they are distinct, and its backend may have them
+  pub record AreInterned (texts : List Text) : Type 0 where
+    pub distinct : IsDistinct texts
+    pub kept : IsKept symbol_of place texts
+
+  -- Looking up a text finds this.
+  pub record Finds (texts : List Text) (text : Text) (found : Option S) : Type 0 where
+    pub symbol : found ≡ known_symbol texts text
+    pub known : IsSome found ↔ IsSome (first texts text)
+    pub stands : FindsSymbol symbol_of place texts text found
+
   -- Interning a text in the old list has this outcome and gives this new list: for a known text `Ok` with the symbol of
   -- its first entry, and nothing changes; a new one is appended.
   abbrev pub Interns : List Text → Text → Result S InternError → List Text → Type 0
@@ -66,6 +78,10 @@ module _ {S : Type 0} (symbol_of : ℕ → Option S) (place : List Text → ℕ)
   -- The same of an interner, where a text has this cost.
   pub record InternsInto (cost : Text → ℕ) (old : InternerContents) (text : Text) (outcome : Result S InternError) (new : InternerContents) : Type 0 where
     pub interns : Interns old.texts text outcome new.texts
+    pub texts : AreInterned new.texts
+    -- the symbol stands for the text, and each symbol for what it stood for, on `Err` too
+    pub stands : IfOk outcome (λ symbol. StandsFor symbol_of place new.texts symbol text)
+    pub keeps : KeepsSymbols symbol_of place old.texts new.texts
     -- a known text changes nothing, and neither does `NoSymbol`
     pub known : IsSome (first old.texts text) → new ≡ old
     pub no_symbol : IsErrOf outcome NoSymbol → new ≡ old

@@ -1,13 +1,14 @@
 -- The JSON forms of a list of texts and of a symbol, and reading them.
 -- Cited by `to_json`, `from_json` and `from_json_exact`, and by `symbol_to_json` and `symbol_from_json`.
-use Rattle.std.specs.Prelude.{◌≡◌, ℕ, ◌+◌, List, [], map, Option, MatchOption, MatchResult, option_and_then, Result, Ok, Err, IsOkAnd, ⊤}
+use Rattle.std.specs.Prelude.{◌≡◌, ℕ, ◌+◌, List, [], map, Option, MatchOption, MatchResult, option_and_then, Result, Ok, Err, IfOk, IsOkAnd, ⊤}
 use Rattle.std.specs.Option.{ok_or, option_map_or}
 use Rattle.serde_json.specs.Data.{Data, number, unsigned, string, array, Items, no_items, item}
 use Rattle.serde_json.specs.Find.{as_array, as_number, as_str, as_u64}
 use Rattle.serde_json.specs.View.{items_of}
-use Rattle.string_interner.specs.Text.{Text, IsDistinct, first}
-use Rattle.string_interner.specs.Backend.{Appends, IsKept}
-use Rattle.string_interner.specs.Interner.{InternerContents, Interns}
+use Rattle.string_interner.specs.Text.{Text, first}
+use Rattle.string_interner.specs.Backend.{Appends}
+use Rattle.string_interner.specs.StandsFor.{KeepsSymbols}
+use Rattle.string_interner.specs.Interner.{AreInterned, InternerContents, Interns}
 use Rattle.string_interner.specs.declared.backend.InternError.{InternError}
 use Rattle.string_interner.specs.declared.backend.InternError.TheVariants.{NoSymbol as InternNoSymbol, Memory as InternMemory}
 use Rattle.string_interner.specs.declared.json.JsonError.{JsonError}
@@ -66,6 +67,8 @@ GivesBack texts (Ok interner) = interner.texts ≡ texts
 GivesBack texts (Err (Memory _)) = ⊤
 GivesBack texts (Err _) = ⊥
 
--- if the value is what `to_json` returns for a list that an interner may have, reading it gives that list back
+-- if the value is what `to_json` returns for a list that an interner may have, reading it gives that list back, and each
+-- symbol stands for what it stood for
 abbrev pub ReadsBack : {S : Type 0} → (ℕ → Option S) → (List Text → ℕ) → Data → Result InternerContents JsonError → Type 0
-ReadsBack symbol_of place value outcome = (texts : List Text) → IsDistinct texts → IsKept symbol_of place texts → value ≡ json_of_texts texts → GivesBack texts outcome
+ReadsBack symbol_of place value outcome = (texts : List Text) → AreInterned symbol_of place texts → value ≡ json_of_texts texts
+    → GivesBack texts outcome × IfOk outcome (λ interner. KeepsSymbols symbol_of place texts interner.texts)

@@ -9,6 +9,7 @@ pub mod BufferBackend
 pub mod BufferLaws
 pub mod Walk
 pub mod Entry
+pub mod StandsFor
 pub mod Given
 pub mod Hasher
 pub mod Slots

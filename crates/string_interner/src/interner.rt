@@ -2,13 +2,15 @@
 
 mod collect;
 mod given;
+mod law;
 
-ghost use Rattle.std.specs.Prelude.{◌≡◌, ℕ, ◌≤◌, ◌&&◌, ◌↔◌, List, [], ◌∷◌, length, take, slice_get, Option, Some, IsTrue, IsSome, IfOk};
+ghost use Rattle.std.specs.Prelude.{◌≡◌, ℕ, ◌≤◌, ◌&&◌, ◌↔◌, List, [], ◌∷◌, length, take, slice_get, Some, IsTrue, IfOk};
 ghost use Rattle.std.specs.Option.{option_copied};
 ghost use Rattle.std.specs.Cmp.{partial_equiv_from_equiv, on_equiv};
-ghost use Rattle.string_interner.specs.Text.{Text, IsDistinct, first, texts_eq, texts_eq-IsEquivalence};
-ghost use Rattle.string_interner.specs.Backend.{BeginsAt, IsPlace, IsKept};
-ghost use Rattle.string_interner.specs.Interner.{InternerContents, InternsInto, IsMadeFor, IsNew, KeepsMemory, known_symbol};
+ghost use Rattle.string_interner.specs.Text.{Text, texts_eq, texts_eq-IsEquivalence};
+ghost use Rattle.string_interner.specs.Backend.{BeginsAt, IsPlace};
+ghost use Rattle.string_interner.specs.Interner.{AreInterned, Finds, InternerContents, InternsInto, IsMadeFor, IsNew, KeepsMemory};
+ghost use Rattle.string_interner.specs.StandsFor.{StandsFor, KeepsSymbols};
 ghost use Rattle.string_interner.specs.Given.{given_text};
 ghost use Rattle.string_interner.specs.Index.{IsLoaded, IsLeastSlotCount};
 
@@ -113,8 +115,7 @@ impl<B: Backend, H: TextHasher> StringInterner<B, H> {
         ensures value { result ≡ length self.now.texts }
 
         // What holds of every interner.
-        ensures distinct { IsDistinct self.now.texts }
-        ensures kept { IsKept B.Symbol.symbol_of B.place self.now.texts }
+        ensures texts { AreInterned B.Symbol.symbol_of B.place self.now.texts }
         ensures loaded { IsLoaded self.now.slot_count (length self.now.texts) }
     {
         self.index.len()
@@ -129,8 +130,7 @@ impl<B: Backend, H: TextHasher> StringInterner<B, H> {
 
     /// Returns the symbol of a text: `Some` exactly if the text is known. Allocates nothing.
     pub fn get(&self, text: &str) -> Option<B::Symbol>
-        ensures symbol { result ≡ known_symbol B.Symbol.symbol_of B.place self.now.texts text.now }
-        ensures known { IsSome result ↔ IsSome (first self.now.texts text.now) }
+        ensures { Finds B.Symbol.symbol_of B.place self.now.texts text.now result }
     {
         self.index
             .find(&self.hasher, &mut Looks::new(&self.backend), text)
@@ -183,6 +183,7 @@ impl<B: Backend, H: TextHasher> StringInterner<B, H> {
         ensures texts { self.new.texts ≡ self.old.texts }
         ensures buckets { self.new.buckets ≡ self.old.buckets }
         ensures slots { self.new.slot_count ≡ self.old.slot_count }
+        ensures keeps { KeepsSymbols B.Symbol.symbol_of B.place self.old.texts self.new.texts }
     {
         self.backend.shrink_to_fit();
     }
@@ -195,6 +196,7 @@ impl<B: Backend, H: TextHasher> StringInterner<B, H> {
         ensures texts { self.new.texts ≡ take len self.old.texts }
         ensures same { length self.old.texts ≤ len → self.new ≡ self.old }
         ensures memory { KeepsMemory self.old self.new }
+        ensures keeps { KeepsSymbols B.Symbol.symbol_of B.place (take len self.old.texts) self.new.texts }
     {
         if len < self.index.len() {
             self.backend.truncate(len);
@@ -205,7 +207,9 @@ impl<B: Backend, H: TextHasher> StringInterner<B, H> {
     /// Returns what the backend reads at a symbol's number, for any symbol. For the symbol of an entry this is its
     /// text.
     pub fn resolve(&self, symbol: B::Symbol) -> Option<&str>
-        ensures { option_copied result ≡ B.read self.now.texts (B.Symbol.number symbol) }
+        ensures value { option_copied result ≡ B.read self.now.texts (B.Symbol.number symbol) }
+        ensures stands { (text : Text) → StandsFor B.Symbol.symbol_of B.place self.now.texts symbol text
+            → option_copied result ≡ Some text }
     {
         self.backend.resolve(symbol)
     }
@@ -235,6 +239,7 @@ impl<B: CopyBackend + Drop, H: TextHasher + Clone + Drop> StringInterner<B, H> {
     pub fn clone(&self) -> Result<Self, AllocError>
         ensures texts { IfOk result (λ copy. copy.texts ≡ self.now.texts) }
         ensures slots { IfOk result (λ copy. IsLeastSlotCount (length self.now.texts) copy.slot_count) }
+        ensures keeps { IfOk result (λ copy. KeepsSymbols B.Symbol.symbol_of B.place self.now.texts copy.texts) }
     {
         let hasher = self.hasher.clone()?;
         let mut index = Index::with_capacity(self.index.allocator(), self.len())?;

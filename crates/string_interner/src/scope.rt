@@ -1,8 +1,9 @@
 //! Nested scopes over an interner: leaving a scope drops the texts that were declared in it.
 
-ghost use Rattle.std.specs.Prelude.{◌≡◌, ◌+◌, ◌↔◌, [], ◌∷◌, ◌++◌, length, None, IsSome, OnOk, OnErr};
+ghost use Rattle.std.specs.Prelude.{◌≡◌, ◌+◌, [], ◌∷◌, ◌++◌, length, None, IsSome, OnOk, OnErr};
 ghost use Rattle.string_interner.specs.Text.{first};
-ghost use Rattle.string_interner.specs.Interner.{InternsInto, KeepsMemory, known_symbol};
+ghost use Rattle.string_interner.specs.Interner.{Finds, InternsInto, KeepsMemory};
+ghost use Rattle.string_interner.specs.StandsFor.{KeepsSymbols};
 ghost use Rattle.string_interner.specs.Scopes.{layers, joined_layers, interned, Leaves, LayerStep, LeavingGivesBack};
 
 use crate::backend::{Backend, InternError};
@@ -76,6 +77,8 @@ impl<B: Backend, H: TextHasher> Scopes<B, H> {
         ensures none { self.old.below ≡ [] → self.new ≡ self.old }
         ensures step { LayerStep (layers self.old) (layers self.new) }
         ensures memory { KeepsMemory (interned self.old) (interned self.new) }
+        ensures keeps { KeepsSymbols B.Symbol.symbol_of B.place (joined_layers self.old.below)
+            (joined_layers (layers self.new)) }
     {
         match self.starts.pop() {
             Some(start) => {
@@ -107,8 +110,7 @@ impl<B: Backend, H: TextHasher> Scopes<B, H> {
     /// Returns the symbol of a text, which is looked up in all layers: `Some` exactly if the text is known. Allocates
     /// nothing.
     pub fn find(&self, text: &str) -> Option<B::Symbol>
-        ensures symbol { result ≡ known_symbol B.Symbol.symbol_of B.place (joined_layers (layers self.now)) text.now }
-        ensures known { IsSome result ↔ IsSome (first (joined_layers (layers self.now)) text.now) }
+        ensures { Finds B.Symbol.symbol_of B.place (joined_layers (layers self.now)) text.now result }
     {
         self.interner.get(text)
     }

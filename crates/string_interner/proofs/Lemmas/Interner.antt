@@ -1,3 +1,4 @@
 pub mod Extends
 pub mod InternsInto
 pub mod IsInterned
+pub mod StandsFor

@@ -1,6 +1,7 @@
 //! Interning the texts of an iterator.
 
 ghost use Rattle.std.specs.Iterator.{IsFiniteIterable};
+ghost use Rattle.string_interner.specs.StandsFor.{KeepsSymbols};
 ghost use Rattle.string_interner.specs.Collect.{Extends, Collects};
 
 use super::StringInterner;
@@ -20,8 +21,9 @@ impl<B: Backend, H: TextHasher> StringInterner<B, H> {
         iter: I,
     ) -> Result<(), InternError>
         requires { IsFiniteIterable I.into_iter_gives I.IntoIter.can_next I.IntoIter.remaining iter }
-        ensures { Extends B.Symbol.symbol_of B.place B.cost I.into_iter_gives I.IntoIter.next_gives iter self.old result
-            self.new }
+        ensures extends { Extends B.Symbol.symbol_of B.place B.cost I.into_iter_gives I.IntoIter.next_gives iter self.old
+            result self.new }
+        ensures keeps { KeepsSymbols B.Symbol.symbol_of B.place self.old.texts self.new.texts }
     {
         // For the proof: states the load factor before the first text.
         let _ = self.len();

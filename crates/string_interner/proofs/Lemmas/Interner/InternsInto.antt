@@ -2,10 +2,11 @@
 use Rattle.std.proofs.Common.{◌≡◌, ℕ, ◌+◌, List, length, refl, arith, Option, Some, None, Ok, Err}
 use Rattle.std.specs.Prelude.{MatchOption, IsSome, IsErrOf, OnErr, Result, option_and_then}
 use Rattle.string_interner.specs.Text.{Text, first}
-use Rattle.string_interner.specs.Backend.{Appends, UsesRoom}
+use Rattle.string_interner.specs.Backend.{Appends, IsKept, UsesRoom}
 use Rattle.string_interner.specs.Index.{Holds}
-use Rattle.string_interner.specs.Interner.{InternerContents, Interns, InternsInto, GrowsIfFull, entry_symbol, known_symbol}
+use Rattle.string_interner.specs.Interner.{AreInterned, InternerContents, Interns, InternsInto, GrowsIfFull, entry_symbol, known_symbol}
 use Rattle.string_interner.proofs.Lemmas.Index.SlotCount.{GrowsIfFull-same}
+use Rattle.string_interner.proofs.Lemmas.Interner.StandsFor.{keeps-same, keeps-interned, distinct-interned, stands-interned}
 use Rattle.string_interner.specs.declared.backend.InternError.{InternError}
 use Rattle.string_interner.specs.declared.backend.InternError.TheVariants.{NoSymbol, Memory}
 
@@ -31,10 +32,13 @@ module _ {S : Type 0} (symbol_of : ℕ → Option S) (place : List Text → ℕ)
 
   module _ (cost : Text → ℕ) where
     -- nothing changes where the text is known
-    pub into-known : (old : InternerContents) (count : ℕ) (text : Text) (symbol : S) → known_symbol symbol_of place old.texts text ≡ Some symbol → count ≡ old.slot_count
+    pub into-known : (old : InternerContents) (count : ℕ) (text : Text) (symbol : S) → AreInterned symbol_of place old.texts → known_symbol symbol_of place old.texts text ≡ Some symbol → count ≡ old.slot_count
         → InternsInto symbol_of place cost old text (Ok symbol) (record old { slot_count = count })
-    into-known old count text symbol e same = rw same (record {
-      interns = Interns-known old.texts text symbol e;
+    into-known old count text symbol are e same = let interns = Interns-known old.texts text symbol e in rw same (record {
+      interns = interns;
+      texts = are;
+      stands = stands-interned symbol_of place old.texts text (Ok symbol) old.texts interns;
+      keeps = keeps-same symbol_of place old.texts old.texts refl;
       known = λ h. refl;
       no_symbol = λ h. refl;
       buckets = tt;
@@ -43,11 +47,14 @@ module _ {S : Type 0} (symbol_of : ℕ → Option S) (place : List Text → ℕ)
     })
 
     -- a new text is refused before it is stored
-    pub into-refused : (old : InternerContents) (count : ℕ) (text : Text) (error : InternError) → first old.texts text ≡ None → Appends symbol_of place old.texts text (Err error) old.texts
+    pub into-refused : (old : InternerContents) (count : ℕ) (text : Text) (error : InternError) → AreInterned symbol_of place old.texts → first old.texts text ≡ None → Appends symbol_of place old.texts text (Err error) old.texts
         → (IsSome (symbol_of (place old.texts)) → Holds old.slot_count (length old.texts + 1) → ⊥) → count ≡ old.slot_count
         → InternsInto symbol_of place cost old text (Err error) (record old { slot_count = count })
-    into-refused old count text error is_new put no_room same = rw same (record {
+    into-refused old count text error are is_new put no_room same = rw same (record {
       interns = Interns-new old.texts text (Err error) old.texts is_new put;
+      texts = are;
+      stands = tt;
+      keeps = keeps-same symbol_of place old.texts old.texts refl;
       known = λ h. refl;
       no_symbol = λ h. refl;
       buckets = refl;
@@ -56,16 +63,19 @@ module _ {S : Type 0} (symbol_of : ℕ → Option S) (place : List Text → ℕ)
     })
 
     -- for want of a symbol
-    pub into-unnamed : (old : InternerContents) (text : Text) → first old.texts text ≡ None → symbol_of (place old.texts) ≡ None → InternsInto symbol_of place cost old text (Err NoSymbol) old
-    into-unnamed old text is_new none = into-refused old old.slot_count text NoSymbol is_new (none, refl) (λ some h. absurd (cc)) refl
+    pub into-unnamed : (old : InternerContents) (text : Text) → AreInterned symbol_of place old.texts → first old.texts text ≡ None → symbol_of (place old.texts) ≡ None → InternsInto symbol_of place cost old text (Err NoSymbol) old
+    into-unnamed old text are is_new none = into-refused old old.slot_count text NoSymbol are is_new (none, refl) (λ some h. absurd (cc)) refl
 
     -- a new text for which there is a symbol is stored, or memory is refused
-    pub into-stored : (old new : InternerContents) (text : Text) (stored outcome : Result S InternError) → outcome ≡ stored → first old.texts text ≡ None → IsSome (symbol_of (place old.texts))
+    pub into-stored : (old new : InternerContents) (text : Text) (stored outcome : Result S InternError) → outcome ≡ stored → AreInterned symbol_of place old.texts → IsKept symbol_of place new.texts → first old.texts text ≡ None → IsSome (symbol_of (place old.texts))
         → Appends symbol_of place old.texts text stored new.texts → OnErr stored (new.buckets ≡ old.buckets)
         → UsesRoom (IsSome (symbol_of (place old.texts))) (cost text) old.room new.room stored → GrowsIfFull (length old.texts) old.slot_count new.slot_count
         → InternsInto symbol_of place cost old text outcome new
-    into-stored old new text stored outcome e is_new some put buckets room slots = rw e (record {
-      interns = Interns-new old.texts text stored new.texts is_new put;
+    into-stored old new text stored outcome e are kept is_new some put buckets room slots = let interns = Interns-new old.texts text stored new.texts is_new put in rw e (record {
+      interns = interns;
+      texts = record { distinct = distinct-interned symbol_of place old.texts text stored new.texts interns are.distinct; kept = kept };
+      stands = stands-interned symbol_of place old.texts text stored new.texts interns;
+      keeps = keeps-interned symbol_of place old.texts text stored new.texts interns;
       known = λ h. absurd (cc);
       no_symbol = λ h. absurd (has_symbol old.texts text stored new.texts some put h);
       buckets = buckets;

@@ -7,13 +7,13 @@ use Rattle.serde_json.specs.Find.{as_str}
 use Rattle.serde_json.specs.View.{items_of, items_view}
 use Rattle.serde_json.specs.declared.value.Value.{Value}
 use Rattle.string_interner.specs.Text.{Text, IsDistinct, first}
-use Rattle.string_interner.specs.Backend.{IsKept, Appends}
+use Rattle.string_interner.specs.Backend.{Appends}
 use Rattle.string_interner.specs.Interner.{InternerContents, Interns, entry_symbol}
-use Rattle.string_interner.specs.Json.{json_of_texts, refused, ReadsElements, ReadsElementsExactly, ReadsArrayExactly, GivesBack}
+use Rattle.string_interner.specs.Json.{json_of_texts, refused, ReadsElements, ReadsElementsExactly, ReadsArrayExactly, ReadsBack}
 use Rattle.string_interner.specs.declared.backend.InternError.{InternError}
 use Rattle.string_interner.specs.declared.json.JsonError.{JsonError}
 use Rattle.string_interner.specs.declared.json.JsonError.TheVariants.{NotAText, Repeated}
-use Rattle.string_interner.proofs.Lemmas.Json.Reads.{new_text, gives_back}
+use Rattle.string_interner.proofs.Lemmas.Json.Reads.{new_text, gives_back, with_symbols}
 
 module _ {S : Type 0} (symbol_of : ℕ → Option S) (place : List Text → ℕ) where
   -- an interning that answers and lengthens the list puts a new text last
@@ -110,8 +110,7 @@ module _ {S : Type 0} (symbol_of : ℕ → Option S) (place : List Text → ℕ)
       goes_on (Ok symbol) mid put more on = rw put.1 (on (rw put.1 at more))
 
   -- what was written is given back by reading exactly too
-  pub exact_gives_back : (value : Data) (outcome : Result InternerContents JsonError) → ReadsArrayExactly symbol_of place value outcome
-      → (texts : List Text) → IsDistinct texts → IsKept symbol_of place texts → value ≡ json_of_texts texts → GivesBack texts outcome
-  exact_gives_back value outcome reads texts distinct kept is =
+  pub exact_reads_back : (value : Data) (outcome : Result InternerContents JsonError) → ReadsArrayExactly symbol_of place value outcome → ReadsBack symbol_of place value outcome
+  exact_reads_back value outcome reads texts are is =
       let read = rw is at reads in
-      gives_back symbol_of place (json_of_texts texts) outcome (exact_reads [] texts 0 outcome distinct read) texts distinct kept refl
+      with_symbols symbol_of place texts outcome (gives_back symbol_of place (json_of_texts texts) outcome (exact_reads [] texts 0 outcome are.distinct read) texts are.distinct are.kept refl)

@@ -12,5 +12,5 @@ loop-command-preserved g c = record {
 }
 
 pub returns-clause-as_a_list : goal.returns-clause-as_a_list
-returns-clause-as_a_list g c = Run-tells g.B.Symbol.Symbol.symbol_of g.B.Symbol.Symbol.number g.B.Backend.place g.B.Backend.read g.met.B.Symbol.Symbol.numbered g.met.B.Backend.grows g.met.B.Backend.reads _ _ _ _ c.len.ensures.kept
+returns-clause-as_a_list g c = Run-tells g.B.Symbol.Symbol.symbol_of g.B.Symbol.Symbol.number g.B.Backend.place g.B.Backend.read g.met.B.Symbol.Symbol.numbered g.met.B.Backend.grows g.met.B.Backend.reads _ _ _ _ c.len.ensures.texts.kept
     (rw (take_all c.loop-command.command-index c.args.commands.now c.loop-command-test.false) at c.loop-command.invariant.ran)

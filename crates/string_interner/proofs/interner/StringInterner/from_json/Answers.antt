@@ -2,7 +2,7 @@ use Rattle.std.proofs.Common.{rules, ap, length, Ok}
 use Rattle.string_interner.specs.Index.{IsLeastSlotCount}
 use Rattle.string_interner.proofs.Lemmas.Index.SlotCount.{least-none, least-grown}
 use Rattle.string_interner.proofs.Lemmas.Interner.Extends.{interned-slots}
-use Rattle.string_interner.proofs.Lemmas.Json.Reads.{next_element, reads_nothing, reads_no_text, reads_refused, reads_more, gives_back}
+use Rattle.string_interner.proofs.Lemmas.Json.Reads.{next_element, reads_nothing, reads_no_text, reads_refused, reads_more, reads_back}
 use Rattle.string_interner.proofs.interner.StringInterner.from_json.Goals as goal
 
 pub loop-index-init : goal.loop-index-init
@@ -18,7 +18,7 @@ loop-index-preserved g c = let call = c.in_ok-get_or_intern.ensures in record {
 }
 
 pub returns-in_err-text-clause-gives_back : goal.returns-in_err-text-clause-gives_back
-returns-in_err-text-clause-gives_back g c = gives_back g.B.Symbol.Symbol.symbol_of g.B.Backend.place _ _ (c.loop-index.invariant.reads c.from_residual-in_err-text.result
+returns-in_err-text-clause-gives_back g c = reads_back g.B.Symbol.Symbol.symbol_of g.B.Backend.place _ _ (c.loop-index.invariant.reads c.from_residual-in_err-text.result
     (reads_no_text g.B.Symbol.Symbol.symbol_of g.B.Backend.place _ _ _ _ _ _ (next_element _ _ _ c.loop-index-test.true c.element-item.is) (search rules) (search rules)))
 
 pub returns-in_err-get_or_intern-clause-reads : goal.returns-in_err-get_or_intern-clause-reads
@@ -26,7 +26,7 @@ returns-in_err-get_or_intern-clause-reads g c = c.loop-index.invariant.reads c.f
     (reads_refused g.B.Symbol.Symbol.symbol_of g.B.Backend.place _ _ _ _ _ _ (next_element _ _ _ c.loop-index-test.true c.element-item.is) _ _ _ (search rules) c.in_err-get_or_intern.ensures.interns (search rules))
 
 pub returns-in_err-get_or_intern-clause-gives_back : goal.returns-in_err-get_or_intern-clause-gives_back
-returns-in_err-get_or_intern-clause-gives_back g c = gives_back g.B.Symbol.Symbol.symbol_of g.B.Backend.place _ _ (returns-in_err-get_or_intern-clause-reads g c)
+returns-in_err-get_or_intern-clause-gives_back g c = reads_back g.B.Symbol.Symbol.symbol_of g.B.Backend.place _ _ (returns-in_err-get_or_intern-clause-reads g c)
 
 pub returns-clause-gives_back : goal.returns-clause-gives_back
-returns-clause-gives_back g c = gives_back g.B.Symbol.Symbol.symbol_of g.B.Backend.place _ (Ok c.loop-index.interner) (c.loop-index.invariant.reads (Ok c.loop-index.interner) (reads_nothing g.B.Symbol.Symbol.symbol_of g.B.Backend.place _ _ _ c.loop-index-test.false))
+returns-clause-gives_back g c = reads_back g.B.Symbol.Symbol.symbol_of g.B.Backend.place _ (Ok c.loop-index.interner) (c.loop-index.invariant.reads (Ok c.loop-index.interner) (reads_nothing g.B.Symbol.Symbol.symbol_of g.B.Backend.place _ _ _ c.loop-index-test.false))

@@ -1,9 +1,9 @@
-use Rattle.std.proofs.Common.{◌≡◌, ◌+◌, length, refl, sym, ap, subst, ◌∙◌, rules, None}
-use Rattle.string_interner.specs.Text.{first}
+use Rattle.std.proofs.Common.{◌≡◌, ℕ, ◌+◌, List, Option, length, refl, sym, ap, subst, ◌∙◌, rules, None}
+use Rattle.string_interner.specs.Text.{Text, first}
 use Rattle.string_interner.specs.Given.{given_text}
 use Rattle.string_interner.specs.Index.{Holds, Inserts}
 use Rattle.string_interner.specs.Entry.{entry_text}
-use Rattle.string_interner.specs.Interner.{IsInterned, GrowsIfFull}
+use Rattle.string_interner.specs.Interner.{AreInterned, IsInterned, GrowsIfFull}
 use Rattle.string_interner.proofs.Lemmas.Index.SlotCount.{GrowsIfFull-reserved}
 use Rattle.string_interner.proofs.Lemmas.Interner.IsInterned.{sought, not_found, interned-same, inserts-more, interned-more}
 use Rattle.string_interner.proofs.Lemmas.Interner.InternsInto.{into-known, into-refused, into-unnamed, into-stored}
@@ -11,8 +11,13 @@ use Rattle.string_interner.proofs.interner.StringInterner.intern_given.Goals as 
 use Rattle.string_interner.proofs.interner.StringInterner.intern_given.Goals.{In-Vacant, After-reserve_one, After-insert_at}
 use Rattle.string_interner.proofs.interner.StringInterner.intern_given.Given.{Over}
 
+-- what the invariant says of the texts
+interned : {S : Type 0} {symbol_of : ℕ → Option S} {place : List Text → ℕ} {number : S → ℕ} {code : Text → ℕ} {texts : List Text} {slots : List (Option S)}
+    → IsInterned symbol_of place number code texts slots → AreInterned symbol_of place texts
+interned is = record { distinct = is.distinct; kept = is.kept }
+
 pub returns-in-Occupied : goal.returns-in-Occupied
-returns-in-Occupied g c = rw (← c.self.view_is, ← c.text.ensures) (into-known g.B.Symbol.Symbol.symbol_of g.B.Backend.place g.B.Backend.cost _ _ c.text.result.now _
+returns-in-Occupied g c = rw (← c.self.view_is, ← c.text.ensures) (into-known g.B.Symbol.Symbol.symbol_of g.B.Backend.place g.B.Backend.cost _ _ c.text.result.now _ (interned c.self.invariant)
     (sought g.B.Symbol.Symbol.symbol_of g.B.Symbol.Symbol.number g.B.Backend.place g.met.B.Symbol.Symbol.numbered g.met.B.Symbol.Symbol.injective g.met.B.Backend.grows _ _ _ c.self.invariant _ _ _ c.in-Occupied.ensures.found (ap g.B.Backend.texts c.new-looks.ensures.backend)) refl)
 
 -- where no symbol was found, the text is new
@@ -20,10 +25,10 @@ is_new : (g : Over) (c : In-Vacant g) → first (g.B.Backend.texts c.self.inside
 is_new g c = not_found g.B.Symbol.Symbol.symbol_of g.B.Symbol.Symbol.number g.B.Backend.place g.met.B.Symbol.Symbol.numbered g.met.B.Symbol.Symbol.injective g.met.B.Backend.grows _ _ _ c.self.invariant _ _ _ c.in-Vacant.ensures.found (ap g.B.Backend.texts c.new-looks.ensures.backend) c.text.ensures
 
 pub returns-then-is_none : goal.returns-then-is_none
-returns-then-is_none g c = rw (← c.self.view_is) (into-unnamed g.B.Symbol.Symbol.symbol_of g.B.Backend.place g.B.Backend.cost _ _ (is_new g (goal.at.returns-then-is_none g c).In-Vacant) (search rules))
+returns-then-is_none g c = rw (← c.self.view_is) (into-unnamed g.B.Symbol.Symbol.symbol_of g.B.Backend.place g.B.Backend.cost _ _ (interned c.self.invariant) (is_new g (goal.at.returns-then-is_none g c).In-Vacant) (search rules))
 
 pub returns-in-Err : goal.returns-in-Err
-returns-in-Err g c = rw (← c.self.view_is) (into-refused g.B.Symbol.Symbol.symbol_of g.B.Backend.place g.B.Backend.cost _ _ _ _ (is_new g (goal.at.returns-in-Err g c).In-Vacant) (search rules, refl)
+returns-in-Err g c = rw (← c.self.view_is) (into-refused g.B.Symbol.Symbol.symbol_of g.B.Backend.place g.B.Backend.cost _ _ _ _ (interned c.self.invariant) (is_new g (goal.at.returns-in-Err g c).In-Vacant) (search rules, refl)
     (λ some h. let e = (c.in-Err.ensures.had_room (subst (λ n. Holds (length c.self.inside.index.slots) (n + 1)) (sym c.self.invariant.count) h)).0 in cc) (ap (λ x. length x.slots) c.in-Err.ensures.err))
 
 -- the slots grew, if they were full
@@ -33,7 +38,7 @@ grown g c = subst (λ n. GrowsIfFull n (length c.self.inside.index.slots) (lengt
 
 pub returns-in_err-symbol : goal.returns-in_err-symbol
 returns-in_err-symbol g c = let at = goal.at.returns-in_err-symbol g c in let put = c.in_err-symbol.ensures in
-    rw (← c.self.view_is) (into-stored g.B.Symbol.Symbol.symbol_of g.B.Backend.place g.B.Backend.cost _ _ _ _ _ (search rules) (is_new g at.In-Vacant) (search rules) put.appends put.buckets put.room (grown g at.After-reserve_one))
+    rw (← c.self.view_is) (into-stored g.B.Symbol.Symbol.symbol_of g.B.Backend.place g.B.Backend.cost _ _ _ _ _ (search rules) (interned c.self.invariant) put.kept (is_new g at.In-Vacant) (search rules) put.appends put.buckets put.room (grown g at.After-reserve_one))
 
 -- the index has the old texts, and room
 same : (g : Over) (c : After-reserve_one g) → IsInterned g.B.Symbol.Symbol.symbol_of g.B.Backend.place g.B.Symbol.Symbol.number (g.H.TextHasher.code c.self.inside.hasher) (g.B.Backend.texts c.self.inside.backend) c.reserve_one.new.self.slots
@@ -51,5 +56,5 @@ invariant_of-self-2 g c = let at = goal.at.invariant_of-self-2 g c in
 
 pub returns : goal.returns
 returns g c = let at = goal.at.returns g c in let put = c.in_ok-symbol.ensures in
-    rw (← c.self.view_is) (into-stored g.B.Symbol.Symbol.symbol_of g.B.Backend.place g.B.Backend.cost _ _ _ _ _ refl (is_new g at.In-Vacant) (search rules) put.appends put.buckets put.room
+    rw (← c.self.view_is) (into-stored g.B.Symbol.Symbol.symbol_of g.B.Backend.place g.B.Backend.cost _ _ _ _ _ refl (interned c.self.invariant) put.kept (is_new g at.In-Vacant) (search rules) put.appends put.buckets put.room
     (subst (GrowsIfFull (length (g.B.Backend.texts c.self.inside.backend)) (length c.self.inside.index.slots)) (sym (inserts g at.After-insert_at (is_new g at.In-Vacant) (same g at.After-reserve_one)).slots) (grown g at.After-reserve_one)))

@@ -1,0 +1,19 @@
+//! The laws of the symbols of texts.
+
+ghost use Rattle.string_interner.specs.StandsFor.{TellsApart, NumbersInOrder};
+
+use super::StringInterner;
+use crate::backend::Backend;
+use crate::dedup::TextHasher;
+
+impl<B: Backend, H: TextHasher> StringInterner<B, H> {
+    /// Does nothing. Its clauses are the laws of symbols that stand for texts of this interner: two are equal exactly if
+    /// their texts are, and of two entries the later has the greater number.
+    pub fn symbol_law(&self)
+        ensures equal { TellsApart B.Symbol.symbol_of B.place B.Symbol.eq self.now.texts }
+        ensures order { NumbersInOrder B.Symbol.symbol_of B.place B.Symbol.number self.now.texts }
+    {
+        // For the proof: states that the texts are distinct.
+        let _ = self.len();
+    }
+}
