@@ -28,6 +28,17 @@ pub enum InternError {
     Memory(AllocError),
 }
 
+/// A refused allocation is `Memory`, so that `?` turns an `AllocError` into an `InternError`.
+impl From<AllocError> for InternError {
+    ghost use Rattle.string_interner.specs.declared.backend.InternError.TheVariants.{Memory};
+
+    ghost from_gives = { λ error refusal. refusal ≡ Memory error };
+
+    fn from(error: AllocError) -> InternError {
+        InternError::Memory(error)
+    }
+}
+
 /// The backend that serves most uses well.
 pub type DefaultBackend = StringBackend<DefaultSymbol>;
 

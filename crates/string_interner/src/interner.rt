@@ -136,6 +136,21 @@ impl<B: Backend, H: TextHasher> StringInterner<B, H> {
             .find(&self.hasher, &mut Looks::new(&self.backend), text)
     }
 
+    /// Reports whether a text is known. Allocates nothing.
+    pub fn contains(&self, text: &str) -> bool
+        ensures { IsTrue result ↔ IsSome (first self.now.texts text.now) }
+    {
+        self.get(text).is_some()
+    }
+
+    /// Returns the symbol that the next new text gets: `None` exactly if the symbol type has no symbol for the next
+    /// place, and interning a new text then returns `NoSymbol`.
+    pub fn next_symbol(&self) -> Option<B::Symbol>
+        ensures { result ≡ B.Symbol.symbol_of (B.place self.now.texts) }
+    {
+        self.backend.next_symbol()
+    }
+
     /// Returns the symbol of a text. A new text is appended.
     ///
     /// A known text allocates nothing and changes nothing. A new one returns `NoSymbol` exactly if the symbol type has

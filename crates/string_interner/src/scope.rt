@@ -1,12 +1,13 @@
 //! Nested scopes over an interner: leaving a scope drops the texts that were declared in it.
 
-ghost use Rattle.std.specs.Prelude.{◌≡◌, ◌+◌, [], ◌∷◌, ◌++◌, length, None, IsSome, OnOk, OnErr};
+ghost use Rattle.std.specs.Prelude.{◌≡◌, ◌+◌, ◌↔◌, [], ◌∷◌, ◌++◌, length, None, IsTrue, IsSome, OnOk, OnErr};
+ghost use Rattle.std.specs.Option.{option_copied};
 ghost use Rattle.string_interner.specs.Text.{first};
-ghost use Rattle.string_interner.specs.Interner.{Finds, InternsInto, KeepsMemory};
+ghost use Rattle.string_interner.specs.Interner.{AreInterned, Finds, InternsInto, KeepsMemory, Resolves};
 ghost use Rattle.string_interner.specs.StandsFor.{KeepsSymbols};
 ghost use Rattle.string_interner.specs.Scopes.{layers, joined_layers, interned, Leaves, LayerStep, LeavingGivesBack};
 
-use crate::backend::{Backend, InternError};
+use crate::backend::{Backend, InternError, Iter};
 use crate::dedup::{DefaultHashBuilder, TextHasher};
 use crate::interner::StringInterner;
 use std::alloc::{AllocError, Global};
@@ -120,6 +121,40 @@ impl<B: Backend, H: TextHasher> Scopes<B, H> {
         ensures { length (layers self.now) ≡ result + 1 }
     {
         self.starts.len()
+    }
+
+    /// Returns what the backend reads at a symbol's number, for any symbol. For the symbol of a text in any layer this
+    /// is that text.
+    pub fn resolve(&self, symbol: B::Symbol) -> Option<&str>
+        ensures { Resolves B.Symbol.symbol_of B.place B.read B.Symbol.number (joined_layers (layers self.now)) symbol
+            (option_copied result) }
+    {
+        self.interner.resolve(symbol)
+    }
+
+    /// Returns the number of texts in all layers.
+    pub fn len(&self) -> usize
+        ensures value { result ≡ length (joined_layers (layers self.now)) }
+
+        // What holds of all scopes.
+        ensures texts { AreInterned B.Symbol.symbol_of B.place (joined_layers (layers self.now)) }
+    {
+        self.interner.len()
+    }
+
+    /// Reports whether there is no text in any layer.
+    pub fn is_empty(&self) -> bool
+        ensures { IsTrue result ↔ (joined_layers (layers self.now) ≡ []) }
+    {
+        self.interner.is_empty()
+    }
+
+    /// Iterates over the texts of all layers in insertion order, from the bottom layer to the top one, each with its
+    /// symbol.
+    pub fn iter(&self) -> Iter<'_, B>
+        ensures { result ≡ record { behind = []; ahead = joined_layers (layers self.now) } }
+    {
+        self.interner.iter()
     }
 
     /// Returns the interner, whose list is all layers joined.

@@ -1,0 +1,11 @@
+use Rattle.string_interner.proofs.Lemmas.Scopes.Layers.{joined_layers-of_list}
+use Rattle.string_interner.proofs.scope.Scopes.len.Goals as goal
+
+pub returns-clause-value : goal.returns-clause-value
+returns-clause-value g c = rw (← c.self.view_is, joined_layers-of_list) c.len.ensures.value
+
+pub returns-clause-distinct : goal.returns-clause-distinct
+returns-clause-distinct g c = rw (← c.self.view_is, joined_layers-of_list) c.len.ensures.distinct
+
+pub returns-clause-kept : goal.returns-clause-kept
+returns-clause-kept g c = rw (← c.self.view_is, joined_layers-of_list) c.len.ensures.kept
