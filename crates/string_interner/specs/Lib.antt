@@ -17,6 +17,7 @@ pub mod Index
 pub mod Probe
 pub mod Interner
 pub mod Collect
+pub mod Encode
 pub mod Json
 pub mod Scopes
 pub mod Run

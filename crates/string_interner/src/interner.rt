@@ -1,6 +1,7 @@
 //! An interner: each text once, with the symbol that stands for it.
 
 mod collect;
+mod encode;
 mod given;
 mod law;
 

@@ -1,3 +1,4 @@
+pub mod Encodes
 pub mod Extends
 pub mod InternsInto
 pub mod IsInterned

@@ -1,0 +1,43 @@
+//! Interning the texts of an iterator into a list of their symbols.
+
+ghost use Rattle.std.specs.Iterator.{IsFiniteIterable};
+ghost use Rattle.std.specs.Prelude.{vec_capacity};
+ghost use Rattle.string_interner.specs.Encode.{EncodesAll};
+
+use super::StringInterner;
+use crate::backend::{Backend, InternError};
+use crate::dedup::TextHasher;
+
+impl<B: Backend, H: TextHasher> StringInterner<B, H> {
+    /// Interns the texts of a finite iterator in order, as `extend` does, and appends the symbol of each to a list: the
+    /// texts of a column become its codes. Stops at the first text that fails.
+    ///
+    /// On `Err` the list has one symbol more for each text before that one, and these texts stay interned; so how much
+    /// longer the list is tells how many were done. Memory for a symbol is asked for before its text is interned, so
+    /// that no text is interned whose symbol is lost. Beyond what `extend` returns `Err` for, this returns `Memory` if
+    /// the list is full and cannot grow: never, if it has spare capacity for all texts.
+    ///
+    /// ```
+    /// let mut codes = Vec::new(alloc);
+    /// interner.intern_all(["red", "green", "red"].iter().copied(), &mut codes)?; // two texts, three symbols
+    /// ```
+    pub fn intern_all<'t, I: IntoIterator<Item = &'t str>>(
+        &mut self,
+        texts: I,
+        symbols: &mut Vec<B::Symbol>,
+    ) -> Result<(), InternError>
+        requires { IsFiniteIterable I.into_iter_gives I.IntoIter.can_next I.IntoIter.remaining texts }
+        ensures { EncodesAll B.Symbol.symbol_of B.place B.cost I.into_iter_gives I.IntoIter.next_gives texts self.old
+            symbols.old.items (vec_capacity symbols.old) result self.new symbols.new.items }
+    {
+        // For the proof: states the load factor before the first text.
+        let _ = self.len();
+        for text in texts {
+            symbols.reserve(1)?;
+            let symbol = self.get_or_intern(text)?;
+            let _ = self.len();
+            symbols.push_reserved(symbol);
+        }
+        Ok(())
+    }
+}
