@@ -247,6 +247,21 @@ impl<B: Backend, H: TextHasher> StringInterner<B, H> {
     }
 }
 
+impl<B: Backend + Drop, H: TextHasher + Drop> StringInterner<B, H> {
+    /// Returns the backend, with all texts and their symbols, and drops the index and the hasher. This is for a program
+    /// that has interned its last text, and from then on resolves symbols.
+    ///
+    /// Releases the memory of the slots: for each slot the size of an `Option<B::Symbol>`. Allocates nothing.
+    pub fn into_backend(self) -> B
+        ensures texts { B.texts result ≡ self.texts }
+        ensures buckets { B.buckets result ≡ self.buckets }
+        ensures room { B.room result ≡ self.room }
+        ensures distinct { IsDistinct (B.texts result) }
+    {
+        self.backend
+    }
+}
+
 impl<B: CopyBackend + Drop, H: TextHasher + Clone + Drop> StringInterner<B, H> {
     /// Makes an interner with an equal list, and so with the same symbols. Its index is made anew under the clone's own
     /// hasher, whatever codes that gives, with the least slots for its texts.
