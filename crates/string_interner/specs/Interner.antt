@@ -68,6 +68,11 @@ module _ {S : Type 0} (symbol_of : ℕ → Option S) (place : List Text → ℕ)
     pub known : IsSome found ↔ IsSome (first texts text)
     pub stands : FindsSymbol symbol_of place texts text found
 
+  -- What a symbol resolves to: what the backend reads at its number, which is the text that the symbol stands for, if any.
+  pub record Resolves (read : List Text → ℕ → Option Text) (number : S → ℕ) (texts : List Text) (symbol : S) (found : Option Text) : Type 0 where
+    pub value : found ≡ read texts (number symbol)
+    pub stands : (text : Text) → StandsFor symbol_of place texts symbol text → found ≡ Some text
+
   -- Interning a text in the old list has this outcome and gives this new list: for a known text `Ok` with the symbol of
   -- its first entry, and nothing changes; a new one is appended.
   abbrev pub Interns : List Text → Text → Result S InternError → List Text → Type 0

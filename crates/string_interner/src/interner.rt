@@ -5,13 +5,13 @@ mod encode;
 mod given;
 mod law;
 
-ghost use Rattle.std.specs.Prelude.{◌≡◌, ℕ, ◌≤◌, ◌&&◌, ◌↔◌, List, [], ◌∷◌, length, take, slice_get, Some, IsTrue, IfOk};
+ghost use Rattle.std.specs.Prelude.{◌≡◌, ℕ, ◌≤◌, ◌&&◌, ◌↔◌, List, [], ◌∷◌, length, take, slice_get, Some, IsTrue, IsSome, IfOk};
 ghost use Rattle.std.specs.Option.{option_copied};
 ghost use Rattle.std.specs.Cmp.{partial_equiv_from_equiv, on_equiv};
-ghost use Rattle.string_interner.specs.Text.{Text, texts_eq, texts_eq-IsEquivalence};
+ghost use Rattle.string_interner.specs.Text.{Text, first, texts_eq, texts_eq-IsEquivalence};
 ghost use Rattle.string_interner.specs.Backend.{BeginsAt, IsPlace};
-ghost use Rattle.string_interner.specs.Interner.{AreInterned, Finds, InternerContents, InternsInto, IsMadeFor, IsNew, KeepsMemory};
-ghost use Rattle.string_interner.specs.StandsFor.{StandsFor, KeepsSymbols};
+ghost use Rattle.string_interner.specs.Interner.{AreInterned, Finds, InternerContents, InternsInto, IsMadeFor, IsNew, KeepsMemory, Resolves};
+ghost use Rattle.string_interner.specs.StandsFor.{KeepsSymbols};
 ghost use Rattle.string_interner.specs.Given.{given_text};
 ghost use Rattle.string_interner.specs.Index.{IsLoaded, IsLeastSlotCount};
 
@@ -223,9 +223,8 @@ impl<B: Backend, H: TextHasher> StringInterner<B, H> {
     /// Returns what the backend reads at a symbol's number, for any symbol. For the symbol of an entry this is its
     /// text.
     pub fn resolve(&self, symbol: B::Symbol) -> Option<&str>
-        ensures value { option_copied result ≡ B.read self.now.texts (B.Symbol.number symbol) }
-        ensures stands { (text : Text) → StandsFor B.Symbol.symbol_of B.place self.now.texts symbol text
-            → option_copied result ≡ Some text }
+        ensures { Resolves B.Symbol.symbol_of B.place B.read B.Symbol.number self.now.texts symbol
+            (option_copied result) }
     {
         self.backend.resolve(symbol)
     }
@@ -256,7 +255,7 @@ impl<B: Backend + Drop, H: TextHasher + Drop> StringInterner<B, H> {
         ensures texts { B.texts result ≡ self.texts }
         ensures buckets { B.buckets result ≡ self.buckets }
         ensures room { B.room result ≡ self.room }
-        ensures distinct { IsDistinct (B.texts result) }
+        ensures interned { AreInterned B.Symbol.symbol_of B.place (B.texts result) }
     {
         self.backend
     }

@@ -4,8 +4,5 @@ use Rattle.string_interner.proofs.scope.Scopes.len.Goals as goal
 pub returns-clause-value : goal.returns-clause-value
 returns-clause-value g c = rw (← c.self.view_is, joined_layers-of_list) c.len.ensures.value
 
-pub returns-clause-distinct : goal.returns-clause-distinct
-returns-clause-distinct g c = rw (← c.self.view_is, joined_layers-of_list) c.len.ensures.distinct
-
-pub returns-clause-kept : goal.returns-clause-kept
-returns-clause-kept g c = rw (← c.self.view_is, joined_layers-of_list) c.len.ensures.kept
+pub returns-clause-texts : goal.returns-clause-texts
+returns-clause-texts g c = rw (← c.self.view_is, joined_layers-of_list) c.len.ensures.texts
