@@ -89,7 +89,19 @@ pub record JoinsBuckets (old copy : BucketContents) : Type 0 where
   pub statics : copy.statics ≡ old.statics
   pub full : copy.full ≡ []
   pub head : copy.head ≡ record { capacity = joint_capacity old; bytes = copied_bytes old.texts old.statics }
+  pub shared : length copy.head.bytes ≤ byte_count (buckets_of old.full old.head)
   pub fits : joint_capacity old < 2 ^ 64
+
+-- What the buckets of a copy are, by the texts and the buckets that are copied: one, with the joint capacity and the
+-- texts that are not static. No static text was copied: its bytes are no more than those that were in buckets.
+pub record CopiesBuckets (texts : List Text) (old copy : List Bucket) : Type 0 where
+  pub statics : List Bool
+  pub full : List Bucket
+  pub head : Bucket
+  pub each : length statics ≡ length texts
+  pub old_are : old ≡ buckets_of full head
+  pub copy_is : copy ≡ record { capacity = head.capacity + byte_count full; bytes = copied_bytes texts statics } ∷ []
+  pub shared : byte_count copy ≤ byte_count old
 
 -- whether an entry is static
 abbrev pub is_static : InternedStr → Bool

@@ -44,10 +44,12 @@ module _ {S : Type 0} (symbol_of : ℕ → Option S) (place : List Text → ℕ)
       pub backend : sum_by cost (fresh interner.texts texts) ≤ interner.room
       pub index : Holds interner.slot_count (length interner.texts + length (fresh interner.texts texts))
 
-    -- The texts are interned. They take at most the cost of the fresh ones of the spare capacity.
+    -- The texts are interned. They take at most the cost of the fresh ones of the spare capacity, and if all are known
+    -- nothing changes.
     pub record TakesIn (old : InternerContents) (texts : List Text) (new : InternerContents) : Type 0 where
       pub interned : InternsAll old.texts texts new.texts
       pub spent : old.room ≤ new.room + sum_by cost (fresh old.texts texts)
+      pub known : fresh old.texts texts ≡ [] → new ≡ old
 
     -- After these texts the next one fails as interning it does: for memory only if they and it do not fit the old
     -- spare capacity.

@@ -1,6 +1,6 @@
 -- What holds of every interner: a list of distinct texts, each with its symbol, and interning a text.
 -- Cited by `StringInterner` and by all that stands on it.
-use Rattle.std.specs.Prelude.{◌≡◌, ℕ, ◌+◌, ◌≤◌, ◌↔◌, ◌⊎◌, List, [], length, take, Option, Some, IsSome, MatchOption, IfOk, IsOkAnd, IsErrOf, OnErr, Result, option_and_then}
+use Rattle.std.specs.Prelude.{◌≡◌, ℕ, ◌+◌, ◌^◌, ◌<◌, ◌≤◌, ◌↔◌, ◌⊎◌, List, [], length, take, Option, Some, IsSome, MatchOption, IfOk, IsOkAnd, IsErrOf, OnErr, Result, option_and_then}
 use Rattle.string_interner.specs.Text.{Text, IsDistinct, first}
 use Rattle.string_interner.specs.Backend.{Bucket, IsKept, Appends, UsesRoom}
 use Rattle.string_interner.specs.Entry.{entry_text}
@@ -22,6 +22,7 @@ pub record InternerContents : Type 0 where
 -- a new interner
 pub record IsNew (interner : InternerContents) : Type 0 where
   pub texts : interner.texts ≡ []
+  pub room : interner.room ≡ 0
   pub slots : interner.slot_count ≡ 0
 
 -- a new interner made with a capacity, for which its backend grants this spare capacity
@@ -29,6 +30,9 @@ pub record IsMadeFor (capacity grant : ℕ) (interner : InternerContents) : Type
   pub texts : interner.texts ≡ []
   pub room : grant ≤ interner.room
   pub slots : IsLeastSlotCount capacity interner.slot_count
+  -- no size beyond a `usize` was asked for
+  pub grant_fits : grant < 2 ^ 64
+  pub slots_fit : Holds (2 ^ 63) capacity
 
 -- no memory is released: buckets and slot count are unchanged, and there is no less spare capacity
 pub record KeepsMemory (old new : InternerContents) : Type 0 where

@@ -1,4 +1,5 @@
 pub mod Symbol
+pub mod SymbolOrder
 pub mod Text
 pub mod Backend
 pub mod StringBackend

@@ -5,7 +5,7 @@ mod buffer;
 mod string;
 mod walk;
 
-ghost use Rattle.std.specs.Prelude.{◌≡◌, ℕ, ◌+◌, ◌<◌, ◌≤◌, List, [], ◌∷◌, ◌++◌, length, take, slice_get, Option, Some, IfOk};
+ghost use Rattle.std.specs.Prelude.{◌≡◌, ℕ, ◌+◌, ◌^◌, ◌<◌, ◌≤◌, List, [], ◌∷◌, ◌++◌, length, take, slice_get, Option, Some, IfOk, OnOk};
 ghost use Rattle.std.specs.Option.{option_copied};
 ghost use Rattle.string_interner.specs.Text.{Text};
 
@@ -73,16 +73,18 @@ pub trait Backend {
     /// The buckets of bytes: none, unless the backend has buckets.
     ghost buckets: { Self → List Bucket } = { λ _. [] };
 
-    /// Makes an empty backend. Allocates nothing.
+    /// Makes an empty backend without spare capacity. Allocates nothing.
     fn new(alloc: Global) -> Self
-        ensures { texts result ≡ [] };
+        ensures texts { texts result ≡ [] }
+        ensures room { room result ≡ 0 };
 
     /// Makes an empty backend with spare capacity for `capacity` texts of usual length, as each backend says.
     ///
-    /// Returns `Err` only if an allocation fails or a size does not fit a `usize`.
+    /// Returns `Err` if a size does not fit a `usize`, and else only if an allocation fails.
     fn with_capacity(alloc: Global, capacity: usize) -> Result<Self, AllocError>
         ensures texts { IfOk result (λ backend. texts backend ≡ []) }
-        ensures room { IfOk result (λ backend. grant capacity ≤ room backend) };
+        ensures room { IfOk result (λ backend. grant capacity ≤ room backend) }
+        ensures fits { OnOk result (grant capacity < 2 ^ 64) };
 
     /// Returns the number of texts, repeats included.
     fn count(&self) -> usize
@@ -164,9 +166,17 @@ pub trait Backend {
 
 /// A backend that can be copied.
 pub trait CopyBackend: Backend {
+    ghost use Rattle.string_interner.specs.Backend.{Bucket};
+
+    /// What the buckets of a copy are, by the texts and the buckets that are copied: none, unless the backend has
+    /// buckets.
+    ghost copies: { List Text → List Bucket → List Bucket → Type 0 } = { λ _ _ buckets. buckets ≡ [] };
+
     /// Returns a backend with an equal list, and so with the same symbols.
     ///
     /// Returns `Err` only if an allocation fails or a size does not fit a `usize`.
     fn try_copy(&self) -> Result<Self, AllocError>
-        ensures { IfOk result (λ copy. Self.texts copy ≡ Self.texts self.now) };
+        ensures texts { IfOk result (λ copy. Self.texts copy ≡ Self.texts self.now) }
+        ensures buckets { IfOk result (λ copy. copies (Self.texts self.now) (Self.buckets self.now)
+            (Self.buckets copy)) };
 }

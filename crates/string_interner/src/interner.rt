@@ -59,7 +59,7 @@ impl<B: Backend, H: TextHasher> Model for StringInterner<B, H> {
 }
 
 impl<B: Backend, H: TextHasher + Default> StringInterner<B, H> {
-    /// Makes an empty interner, under the hasher's default. Takes no memory.
+    /// Makes an empty interner without spare capacity, under the hasher's default. Takes no memory.
     pub fn new(alloc: Global) -> Self
         ensures { IsNew result }
     {
@@ -70,7 +70,7 @@ impl<B: Backend, H: TextHasher + Default> StringInterner<B, H> {
 impl<B: Backend, H: TextHasher + Default + Drop> StringInterner<B, H> {
     /// Makes an empty interner, under the hasher's default, whose backend and index have room for `capacity` texts.
     ///
-    /// Returns `Err` only if an allocation fails or a size does not fit a `usize`.
+    /// Returns `Err` if a size does not fit a `usize`, and else only if an allocation fails.
     pub fn with_capacity(alloc: Global, capacity: usize) -> Result<Self, AllocError>
         ensures { IfOk result (IsMadeFor capacity (B.grant capacity)) }
     {
@@ -81,7 +81,7 @@ impl<B: Backend, H: TextHasher + Default + Drop> StringInterner<B, H> {
 impl<B: Backend, H: TextHasher + Drop> StringInterner<B, H> {
     /// Makes an empty interner, under this hasher, whose backend and index have room for `capacity` texts.
     ///
-    /// Returns `Err` only if an allocation fails or a size does not fit a `usize`.
+    /// Returns `Err` if a size does not fit a `usize`, and else only if an allocation fails.
     pub fn with_capacity_and_hasher(
         alloc: Global,
         capacity: usize,
@@ -100,7 +100,7 @@ impl<B: Backend, H: TextHasher + Drop> StringInterner<B, H> {
 }
 
 impl<B: Backend, H: TextHasher> StringInterner<B, H> {
-    /// Makes an empty interner, under this hasher. Takes no memory.
+    /// Makes an empty interner without spare capacity, under this hasher. Takes no memory.
     pub fn with_hasher(alloc: Global, hasher: H) -> Self
         ensures { IsNew result }
     {
@@ -263,11 +263,13 @@ impl<B: Backend + Drop, H: TextHasher + Drop> StringInterner<B, H> {
 
 impl<B: CopyBackend + Drop, H: TextHasher + Clone + Drop> StringInterner<B, H> {
     /// Makes an interner with an equal list, and so with the same symbols. Its index is made anew under the clone's own
-    /// hasher, whatever codes that gives, with the least slots for its texts.
+    /// hasher, whatever codes that gives, with the least slots for its texts. Its buckets are those of a copy of the
+    /// backend, where static texts stay references.
     ///
     /// Returns `Err` only if an allocation fails or a size does not fit a `usize`.
     pub fn clone(&self) -> Result<Self, AllocError>
         ensures texts { IfOk result (λ copy. copy.texts ≡ self.now.texts) }
+        ensures buckets { IfOk result (λ copy. B.copies self.now.texts self.now.buckets copy.buckets) }
         ensures slots { IfOk result (λ copy. IsLeastSlotCount (length self.now.texts) copy.slot_count) }
         ensures keeps { IfOk result (λ copy. KeepsSymbols B.Symbol.symbol_of B.place self.now.texts copy.texts) }
     {

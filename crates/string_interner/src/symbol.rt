@@ -3,10 +3,13 @@
 //! The symbol types here have all numbers below a limit, and check it before they cast: 70,000 has a symbol in
 //! [`SymbolU32`], and none in [`SymbolU16`].
 
+mod law;
+
 ghost use Rattle.std.specs.Prelude.{◌≡◌, ℕ, ◌^◌, ◌<◌, ◌-◌, ◌↔◌, Option, Some, IsTrue};
 ghost use Rattle.std.proofs.Common.{rules, lit≤};
 ghost use Rattle.string_interner.specs.Symbol.{number_below, number_below-some};
 
+pub use law::symbol_law;
 use std::marker::Model;
 
 /// The default symbol type of a backend.

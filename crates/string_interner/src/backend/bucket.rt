@@ -6,13 +6,13 @@ mod fixed_str;
 mod full_bucket;
 mod interned_str;
 
-ghost use Rattle.std.specs.Prelude.{◌≡◌, ◌+◌, max, ◌<◌, ◌≤◌, [], ◌∷◌, ◌++◌, length, take, map, slice_get, true, false, Some, IfOk, OnOk, OnErr, refl};
+ghost use Rattle.std.specs.Prelude.{◌≡◌, ◌+◌, ◌^◌, max, ◌<◌, ◌≤◌, [], ◌∷◌, ◌++◌, length, take, map, slice_get, true, false, Some, IfOk, OnOk, OnErr, refl};
 ghost use Rattle.std.specs.Cmp.{partial_equiv_from_equiv, on_equiv};
 ghost use Rattle.std.proofs.Common.{rules};
 ghost use Rattle.string_interner.specs.Backend.{IsKept};
 ghost use Rattle.string_interner.specs.Text.{texts_eq, texts_eq-IsEquivalence};
 ghost use Rattle.string_interner.specs.CountLaws.{length_grows, reads_at_length};
-ghost use Rattle.string_interner.specs.BucketBackend.{BucketContents, empty_contents, buckets_of, AppendsText, AreBounded, JoinsBuckets, KeepsBuckets, Puts, Stays, interned_text};
+ghost use Rattle.string_interner.specs.BucketBackend.{BucketContents, empty_contents, buckets_of, AppendsText, AreBounded, CopiesBuckets, JoinsBuckets, KeepsBuckets, Puts, Stays, interned_text};
 
 use crate::backend::{Backend, CopyBackend, InternError, Iter};
 use crate::symbol::{DefaultSymbol, Symbol};
@@ -94,7 +94,7 @@ impl<S: Symbol> Backend for BucketBackend<S> {
 
     /// Makes an empty backend, with a head of capacity 0. Allocates nothing.
     fn new(alloc: Global) -> Self
-        ensures { result ≡ empty_contents 0 result.room }
+        ensures { result ≡ empty_contents 0 0 }
     {
         BucketBackend {
             entries: Vec::new(alloc),
@@ -109,6 +109,7 @@ impl<S: Symbol> Backend for BucketBackend<S> {
     /// Returns `Err` only if an allocation fails or a size does not fit a `usize`.
     fn with_capacity(alloc: Global, capacity: usize) -> Result<Self, AllocError>
         ensures room { IfOk result (λ backend. capacity ≤ backend.room) }
+        ensures fits { OnOk result (capacity < 2 ^ 64) }
         ensures empty { IfOk result (λ backend. backend ≡ empty_contents capacity backend.room) }
     {
         Ok(BucketBackend {
@@ -143,8 +144,8 @@ impl<S: Symbol> Backend for BucketBackend<S> {
         ensures stays { Stays (buckets_of self.old.full self.old.head) (buckets_of self.new.full self.new.head) }
         ensures err { OnErr result (self.new ≡ record self.old { room = self.new.room }) }
     {
+        // Asks for the symbol and allocates before it stores anything, so that nothing changes on `Err`.
         let symbol = self.next_symbol().ok_or(InternError::NoSymbol)?;
-        // Allocates before it stores anything, so that nothing changes on `Err`.
         self.entries.reserve(1).map_err(InternError::Memory)?;
         let interned = store(&mut self.full, &mut self.head, text).map_err(InternError::Memory)?;
         self.entries.push_reserved(interned);
@@ -237,9 +238,16 @@ impl<S: Symbol> BucketBackend<S> {
 }
 
 impl<S: Symbol> CopyBackend for BucketBackend<S> {
+    ghost copies = { CopiesBuckets };
+
     fn try_copy(&self) -> Result<Self, AllocError>
-        ensures { IfOk result (JoinsBuckets self.now) }
+        ensures joins { IfOk result (JoinsBuckets self.now) }
+        ensures texts { IfOk result (λ copy. copy.texts ≡ self.now.texts) }
+        ensures buckets { IfOk result (λ copy. CopiesBuckets self.now.texts (buckets_of self.now.full self.now.head)
+            (buckets_of copy.full copy.head)) }
     {
+        // For the proof: states that each text is told as static or not.
+        let _ = self.count();
         self.clone()
     }
 }

@@ -1,7 +1,8 @@
 //! Iterating over the entries of a backend.
 
-ghost use Rattle.std.specs.Prelude.{◌≡◌, [], Some};
-ghost use Rattle.std.specs.Iterator.{YieldsFirstBy, item_count};
+ghost use Rattle.std.specs.Prelude.{◌≡◌, [], length, Some, IfSome};
+ghost use Rattle.std.specs.Iterator.{UpTo, YieldsFirstBy, item_count};
+ghost use Rattle.std.specs.Iterator.SizeHint.{IsWithinCount};
 ghost use Rattle.string_interner.specs.Walk.{entries};
 
 use crate::backend::Backend;
@@ -66,7 +67,12 @@ impl<'a, B: Backend> Iterator for Iter<'a, B> {
         Some((symbol, text))
     }
 
-    fn size_hint(&self) -> (usize, Option<usize>) {
+    /// Returns the exact number of entries ahead, as both bounds.
+    fn size_hint(&self) -> (usize, Option<usize>)
+        ensures lower { IsWithinCount result.0 (item_count (λ walk. walk.ahead) self.now) }
+        ensures upper { IfSome result.1 (UpTo (item_count (λ walk. walk.ahead) self.now)) }
+        ensures exact { result ≡ (length self.now.ahead, Some (length self.now.ahead)) }
+    {
         (self.left, Some(self.left))
     }
 }

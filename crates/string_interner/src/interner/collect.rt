@@ -13,9 +13,10 @@ impl<B: Backend, H: TextHasher> StringInterner<B, H> {
     /// Interns the texts of a finite iterator in order, and stops at the first that fails.
     ///
     /// The texts before it stay, and the iterator is not advanced after it. It fails as in `get_or_intern`; so none
-    /// fails for memory if the new texts fit the spare capacity of the backend and of the index. On `Ok` the slot count
-    /// is unchanged if the load factor allows all texts, and else the least that it allows; on `Err` there may be one
-    /// growth more.
+    /// fails for memory if the new texts fit the spare capacity of the backend and of the index. If all texts are
+    /// known, nothing changes. On `Ok` the slot count is unchanged if the load factor allows all texts, and else the
+    /// least that it allows. So it is for the texts before one that fails; `NoSymbol` leaves it there, and `Memory` may
+    /// come after one growth more.
     pub fn extend<'t, I: IntoIterator<Item = &'t str>>(
         &mut self,
         iter: I,

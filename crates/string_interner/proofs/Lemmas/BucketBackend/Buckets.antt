@@ -1,6 +1,6 @@
 -- What stands in buckets stays while they are put texts, and so do the entries.
 use Rattle.std.proofs.Common.{◌≡◌, ℕ, ◌+◌, ◌-◌, ◌*◌, ◌^◌, ◌<◌, ◌≤◌, min, max, List, [], ◌∷◌, ◌++◌, length, take, drop, get_or, map, All, false, Option, IsSome, refl, sym, ap, subst, ◌∙◌, inl, inr, arith, Bor}
-use Rattle.std.specs.Prelude.{slice_range}
+use Rattle.std.specs.Prelude.{slice_range, Result, Ok, Err, IfOk}
 use Rattle.std.specs.Str.{IsUtf8, IsCharBoundary}
 use Rattle.std.proofs.lemmas.Bool.{cases_lt, cases_eq}
 use Rattle.std.proofs.lemmas.Str.{IsCharBoundary-at_seam, IsCharBoundary-end, IsUtf8-nil}
@@ -10,7 +10,7 @@ use Rattle.std.proofs.lemmas.List.Sums.{sum_by_push, sum_by-take-le}
 use Rattle.string_interner.specs.Text.{Text}
 use Rattle.string_interner.specs.Backend.{Bucket, IsKept}
 use Rattle.string_interner.specs.CountLaws.{length_grows}
-use Rattle.string_interner.specs.BucketBackend.{buckets_of, bucket_at, total_capacity, byte_count, Puts, Stays, is_static, copied_bytes, interned_text, IsPart, IsEntry, interned_len, IsLast, IsTight, IsInBuckets, IsCopy, AreCopies}
+use Rattle.string_interner.specs.BucketBackend.{buckets_of, bucket_at, total_capacity, byte_count, Puts, Stays, is_static, copied_bytes, interned_text, IsPart, IsEntry, interned_len, IsLast, IsTight, IsInBuckets, IsCopy, AreCopies, BucketContents, JoinsBuckets, CopiesBuckets}
 use Rattle.string_interner.specs.declared.backend.bucket.interned_str.InternedStr.{InternedStr}
 use Rattle.string_interner.specs.declared.backend.bucket.interned_str.InternedStr.TheVariants.{InBucket, Static}
 use Rattle.string_interner.proofs.Lemmas.Backend.IsKept.{kept-take, kept-more}
@@ -303,3 +303,17 @@ spent-puts text full new_full head new_head free left puts entry =
           let bytes = ap (λ (b : Bucket). length b.bytes) h ∙ length-append head.bytes text in
           omega (arith, fits, entry, capacity, bytes))
     ]
+
+-- the buckets of a copy by texts and buckets alone
+pub copies-joined : {E : Type 0} (old : BucketContents) (outcome : Result BucketContents E) → length old.statics ≡ length old.texts → IfOk outcome (JoinsBuckets old)
+    → IfOk outcome (λ copy. CopiesBuckets old.texts (buckets_of old.full old.head) (buckets_of copy.full copy.head))
+copies-joined old (Err e) each joins = tt
+copies-joined old (Ok copy) each joins = record {
+  statics = old.statics;
+  full = old.full;
+  head = old.head;
+  each = each;
+  old_are = refl;
+  copy_is = rw (joins.full, joins.head) refl;
+  shared = rw joins.full (let one : byte_count (copy.head ∷ []) ≡ length copy.head.bytes = omega arith in omega (arith, one, joins.shared));
+}

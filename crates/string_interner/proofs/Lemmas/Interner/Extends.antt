@@ -17,6 +17,11 @@ use Rattle.string_interner.proofs.Laws.{refused-keeps}
 use Rattle.string_interner.specs.declared.backend.InternError.{InternError}
 use Rattle.string_interner.specs.declared.backend.InternError.TheVariants.{NoSymbol, Memory}
 
+-- two lists that make none together are empty
+append-empty : (xs ys : List Text) → xs ++ ys ≡ [] → (xs ≡ []) × (ys ≡ [])
+append-empty [] ys h = (refl, h)
+append-empty (x ∷ xs) ys h = absurd (cc)
+
 -- the first text is fresh where it is new, and the others after it
 fresh-first : (old : List Text) (text : Text) (texts : List Text) → fresh old (text ∷ texts) ≡ fresh old (text ∷ []) ++ fresh (old ++ fresh old (text ∷ [])) texts
 fresh-first old text texts = of (first old text)
@@ -82,6 +87,14 @@ module _ {S : Type 0} (symbol_of : ℕ → Option S) (place : List Text → ℕ)
         of None known = let one : sum_by cost (text ∷ []) ≡ cost text = omega arith in omega (arith, spent, one)
         of (Some i) known = let same : new.room ≡ mid.room = ap (λ (i : InternerContents). i.room) (known refl) in omega (arith, same)
 
+    -- a text that is not fresh changes nothing
+    known-same : (mid new : InternerContents) (text : Text) → (IsSome (first mid.texts text) → new ≡ mid) → fresh mid.texts (text ∷ []) ≡ [] → new ≡ mid
+    known-same mid new text known none = of (first mid.texts text) known none
+      where
+        of : (o : Option ℕ) → (IsSome o → new ≡ mid) → option_map_or (λ _. []) o (text ∷ []) ≡ [] → new ≡ mid
+        of None known none = absurd (cc)
+        of (Some i) known none = known refl
+
     -- what the fresh texts cost when one more text comes
     cost-more : (old mid texts : List Text) (text : Text) → InternsAll symbol_of place old texts mid → sum_by cost (fresh old (texts ++ text ∷ [])) ≡ sum_by cost (fresh old texts) + sum_by cost (fresh mid (text ∷ []))
     cost-more old mid texts text h = rw (fresh-append old texts (text ∷ []), ← all-fresh old texts mid h) (sum_by-append cost (fresh old texts) (fresh mid (text ∷ [])))
@@ -92,6 +105,9 @@ module _ {S : Type 0} (symbol_of : ℕ → Option S) (place : List Text → ℕ)
     taken-more old mid new texts text symbol taken call = record {
       interned = all-more old.texts texts mid.texts text symbol new.texts taken.interned call.interns;
       spent = omega (arith, taken.spent, cost-more old.texts mid.texts texts text taken.interned, spent-fresh mid new text call.known call.room.spent);
+      known = λ none.
+          let parts = append-empty _ _ (sym (fresh-append old.texts texts (text ∷ [])) ∙ none) in
+          known-same mid new text call.known (ap (λ xs. fresh xs (text ∷ [])) (all-fresh old.texts texts mid.texts taken.interned) ∙ parts.1) ∙ taken.known parts.0;
     }
 
     -- the same, of the item of an iteration
