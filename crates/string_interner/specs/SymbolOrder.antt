@@ -1,5 +1,5 @@
 -- How the symbol types of the library are ordered and hashed.
--- Cited by `symbol_law`.
+-- Cited by `order_law`.
 use Rattle.std.specs.Prelude.{◌≡◌, ℕ, List}
 use Rattle.std.specs.Ordering.{nat_cmp}
 use Rattle.std.specs.declared.cmp.Ordering.{Ordering}

@@ -9,7 +9,7 @@ ghost use Rattle.std.specs.Prelude.{◌≡◌, ℕ, ◌^◌, ◌<◌, ◌-◌, �
 ghost use Rattle.std.proofs.Common.{rules, lit≤};
 ghost use Rattle.string_interner.specs.Symbol.{number_below, number_below-some};
 
-pub use law::symbol_law;
+pub use law::order_law;
 use std::marker::Model;
 
 /// The default symbol type of a backend.
