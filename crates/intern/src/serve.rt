@@ -3,7 +3,7 @@
 ghost use Rattle.std.specs.Prelude.{◌≡◌, ℕ, List, [], ◌+◌, ◌<◌, ◌^◌, ◌↔◌, ◌⊎◌, true, flat_map, string_bytes, All, IfErr, IfOk, IfSome, IsErrOf, IsNone, IsOk, IsOkUnless, MatchOption, OnOk};
 ghost use Rattle.std.specs.List.{AllZip};
 ghost use Rattle.std.specs.Str.Iter.{split_has_more, split_terminator_parts, split_terminator_pattern, split_text};
-ghost use Rattle.std.specs.Io.KnownBytes.{Appends};
+ghost use Rattle.std.specs.Io.KnownBytes.{Appends, IsAtEnd};
 ghost use Rattle.intern.specs.Arguments.{Names};
 ghost use Rattle.intern.specs.Fault.{IsReadFault, IsLineFault};
 ghost use Rattle.intern.specs.Line.{States, reply_line};
@@ -46,6 +46,7 @@ fn chosen(arguments: &[String]) -> Option<Choice>
 /// Reads the whole input, which must be UTF-8. A failed allocation is a kind of read error, and reported as `Memory`.
 fn read_text<R: Read>(alloc: Global, input: &mut R) -> Result<String, Fault>
     ensures whole { IfOk result (λ text. IfSome (R.remaining input.old) (λ bytes. string_bytes text ≡ bytes)) }
+    ensures end { OnOk result (IsAtEnd (R.remaining input.new)) }
     ensures fault { IfErr result IsReadFault }
 {
     let mut text = String::new(alloc);
@@ -153,6 +154,10 @@ pub fn serve<R: Read, W: Write>(
 
     // Wrong arguments are told before any input is read.
     ensures untouched { IsErrOf result Fault.Usage → input.new ≡ input.old }
+
+    // A bad line and writing are blamed only where the input was read to its end.
+    ensures read { IsErrOf result Fault.Usage ⊎ (IsErrOf result Fault.Input ⊎ (IsErrOf result Fault.Memory
+        ⊎ IsAtEnd (R.remaining input.new))) }
 
     // Of a reader whose bytes are known: what a bad line and a whole answer say of them.
     ensures bad_line { (n : ℕ) → IsErrOf result (Fault.BadLine n) → IfSome (R.remaining input.old) (λ bytes. IsFirstBadLine (lines_of bytes) n) }
