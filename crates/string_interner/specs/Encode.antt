@@ -1,10 +1,11 @@
 -- Interning many texts and appending their symbols to a list.
 -- Cited by `StringInterner::intern_all`.
-use Rattle.std.specs.Prelude.{◌≡◌, ℕ, ◌≤◌, ◌⊎◌, List, ◌++◌, length, map, Option, Some, Result, MatchResult}
+use Rattle.std.specs.Prelude.{◌≡◌, ℕ, ◌≤◌, ◌⊎◌, List, ◌++◌, length, Option, Some, Result, MatchResult}
 use Rattle.std.specs.Borrow.{Bor}
 use Rattle.std.specs.Iterator.{Drains, YieldsThen}
 use Rattle.string_interner.specs.Text.{Text}
-use Rattle.string_interner.specs.Interner.{InternerContents, GrowsFor, known_symbol}
+use Rattle.string_interner.specs.Interner.{InternerContents, GrowsFor}
+use Rattle.string_interner.specs.StandsFor.{StandInOrder, KeepsSymbols}
 use Rattle.string_interner.specs.Collect.{texts_of, IsMemory, TakesIn, StopsAt}
 use Rattle.string_interner.specs.declared.backend.InternError.{InternError}
 
@@ -16,12 +17,13 @@ pub record IsFull {S : Type 0} (capacity : ℕ) (symbols : List S) (mid : Intern
   pub same : new ≡ mid
 
 module _ {S : Type 0} (symbol_of : ℕ → Option S) (place : List Text → ℕ) (cost : Text → ℕ) where
-  -- The texts are interned, and the symbol that each then has is appended to a list, in their order.
+  -- The texts are interned, and a symbol that stands for each is appended to a list, in their order.
   pub record Encodes (old : InternerContents) (symbols : List S) (texts : List Text) (new : InternerContents) (longer : List S) : Type 0 where
     pub taken : TakesIn symbol_of place cost old texts new
     pub grown : GrowsFor (length new.texts) old.slot_count new.slot_count
     pub added : List S
-    pub codes : map (known_symbol symbol_of place new.texts) texts ≡ map Some added
+    pub stand : StandInOrder symbol_of place new.texts added texts
+    pub keeps : KeepsSymbols symbol_of place old.texts new.texts
     pub appended : longer ≡ symbols ++ added
 
   -- Items that the iterator yields are interned, and their symbols appended: all that it yields, or those before the

@@ -1,6 +1,6 @@
 -- Which text a symbol stands for.
 -- Cited by the calls of `StringInterner` and `Scopes` that take or return symbols, and by callers.
-use Rattle.std.specs.Prelude.{◌≡◌, ℕ, ◌<◌, ◌↔◌, Bool, IsTrue, List, take, slice_get, Option, Some, MatchOption}
+use Rattle.std.specs.Prelude.{◌≡◌, ℕ, ◌<◌, ◌↔◌, Bool, IsTrue, List, [], ◌∷◌, take, slice_get, Option, Some, MatchOption}
 use Rattle.string_interner.specs.Text.{Text}
 
 module _ {S : Type 0} (symbol_of : ℕ → Option S) (place : List Text → ℕ) where
@@ -13,6 +13,12 @@ module _ {S : Type 0} (symbol_of : ℕ → Option S) (place : List Text → ℕ)
   -- what stood for a text in the old list stands for it in the new one
   abbrev pub KeepsSymbols : List Text → List Text → Type 0
   KeepsSymbols old new = (symbol : S) (text : Text) → StandsFor old symbol text → StandsFor new symbol text
+
+  -- the symbols stand for these texts, one for each, in their order
+  pub data StandInOrder (texts : List Text) : List S → List Text → Type 0 where
+    none : StandInOrder texts [] []
+    next : {symbol : S} {text : Text} {symbols : List S} {rest : List Text} → StandsFor texts symbol text → StandInOrder texts symbols rest
+        → StandInOrder texts (symbol ∷ symbols) (text ∷ rest)
 
   -- `Some` has the symbol that stands for the text, and `None` says that none does
   abbrev pub FindsSymbol : List Text → Text → Option S → Type 0

@@ -1,11 +1,9 @@
 -- Where a text first stands in a list.
-use Rattle.std.proofs.Common.{◌≡◌, ℕ, ◌+◌, ◌<◌, List, ◌∷◌, ◌++◌, length, get_or, arith, refl, Some, None, Bool, true, false}
+use Rattle.std.proofs.Common.{◌≡◌, ℕ, ◌<◌, List, length, get_or, arith, refl, Some, None, Bool, true, false}
 use Rattle.std.specs.Prelude.{◌≢◌, [], nat_lt, cond}
 use Rattle.std.specs.List.{position_or_len}
 use Rattle.std.specs.Str.{bytes_eq}
-use Rattle.std.proofs.Math.Seq.{get_or-append_seam}
 use Rattle.std.proofs.lemmas.Bool.Decides.{nat_tests}
-use Rattle.std.proofs.lemmas.List.{length_push, get_or_append_left}
 use Rattle.std.proofs.lemmas.List.Quantifiers.{position-Some}
 use Rattle.std.proofs.lemmas.List.Sums.{position_or_len_is, fails_before_first}
 use Rattle.std.proofs.lemmas.Slice.Eq.{bytes_eq-Decides}
@@ -39,31 +37,3 @@ first_none xs t new k d h = λ e.
     let f : bytes_eq (get_or xs k d) t ≡ false = fails_before_first (λ x. bytes_eq x t) xs k d l in
     let s : bytes_eq (get_or xs k d) t ≡ true = (bytes_eq-Decides (get_or xs k d) t).1 e in
     cc
-
--- a known text stands first where it stood, when one more is put last
-pub first_push : (xs : List Text) (more t : Text) (i : ℕ) → first xs t ≡ Some i → first (xs ++ more ∷ []) t ≡ Some i
-first_push xs more t i h =
-    let p = position-Some (λ x. bytes_eq x t) xs i [] h in
-    let long : length (xs ++ more ∷ []) ≡ length xs + 1 = length_push xs more in
-    let e : position_or_len (λ x. bytes_eq x t) (xs ++ more ∷ []) ≡ i = position_or_len_is (λ x. bytes_eq x t) (xs ++ more ∷ []) i [] (omega (arith, p.0, long))
-    (λ k below. rw (get_or_append_left xs (more ∷ []) [] k (omega (arith, p.0, below))) (p.2 k below))
-    (λ _. rw (get_or_append_left xs (more ∷ []) [] i p.0) p.1) in
-    let b : nat_lt i (length (xs ++ more ∷ [])) ≡ true = grind (arith, nat_tests, long, p.0) in
-    rw (e, b) refl
-
-differs : (a b : Text) → a ≢ b → bytes_eq a b ≡ false
-differs a b apart = of (bytes_eq a b) (bytes_eq-Decides a b).0
-  where
-    of : (is : Bool) → (is ≡ true → a ≡ b) → is ≡ false
-    of true same = absurd (apart (same refl))
-    of false same = refl
-
--- a new text that is put last stands there first
-pub first_pushed : (xs : List Text) (t : Text) → first xs t ≡ None → first (xs ++ t ∷ []) t ≡ Some (length xs)
-first_pushed xs t new =
-    let long : length (xs ++ t ∷ []) ≡ length xs + 1 = length_push xs t in
-    let e : position_or_len (λ x. bytes_eq x t) (xs ++ t ∷ []) ≡ length xs = position_or_len_is (λ x. bytes_eq x t) (xs ++ t ∷ []) (length xs) [] (omega (arith, long))
-    (λ k below. rw (get_or_append_left xs (t ∷ []) [] k below) (differs (get_or xs k []) t (first_none xs t new k [] below)))
-    (λ _. (bytes_eq-Decides (get_or (xs ++ t ∷ []) (length xs) []) t).1 (get_or-append_seam xs t [] [])) in
-    let b : nat_lt (length xs) (length (xs ++ t ∷ [])) ≡ true = grind (arith, nat_tests, long) in
-    rw (e, b) refl
