@@ -29,7 +29,7 @@ enum InternerCall {
 }
 
 /// The calls on an interner by their names.
-const CALLS: [Row<InternerCall>; 32] = [
+const CALLS: [Row<InternerCall>; 37] = [
     ("new", Argument::Nothing, InternerCall::Make(Maker::New)),
     (
         "with_hasher",
@@ -67,6 +67,11 @@ const CALLS: [Row<InternerCall>; 32] = [
         InternerCall::Make(Maker::FromJsonExact),
     ),
     (
+        "into_backend",
+        Argument::Nothing,
+        InternerCall::Make(Maker::IntoBackend),
+    ),
+    (
         "get_or_intern",
         Argument::Text,
         InternerCall::Change(Change::GetOrIntern),
@@ -102,6 +107,16 @@ const CALLS: [Row<InternerCall>; 32] = [
         InternerCall::Change(Change::ExtendNumbers),
     ),
     (
+        "intern_all",
+        Argument::Text,
+        InternerCall::Change(Change::InternAll),
+    ),
+    (
+        "intern_all_numbers",
+        Argument::Number,
+        InternerCall::Change(Change::InternAllNumbers),
+    ),
+    (
         "shrink_to_fit",
         Argument::Nothing,
         InternerCall::Change(Change::ShrinkToFit),
@@ -112,6 +127,16 @@ const CALLS: [Row<InternerCall>; 32] = [
         InternerCall::Change(Change::Truncate),
     ),
     ("get", Argument::Text, InternerCall::Look(Look::Get)),
+    (
+        "contains",
+        Argument::Text,
+        InternerCall::Look(Look::Contains),
+    ),
+    (
+        "next_symbol",
+        Argument::Nothing,
+        InternerCall::Look(Look::NextSymbol),
+    ),
     (
         "get_numbers",
         Argument::Number,

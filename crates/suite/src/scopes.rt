@@ -1,17 +1,19 @@
 //! Calls on scopes.
 
 use crate::fault::Fault;
+use crate::interners::walk_over;
 use crate::line::{Argument, Call, Row, call_of};
 use crate::sight::{Sight, sight_of};
 use crate::tell::{
     is_refused, number_found, numbered, tell_answer, tell_bool, tell_count, tell_done,
-    tell_no_memory, tell_number, tell_refusal,
+    tell_no_memory, tell_number, tell_refusal, tell_text,
 };
 use std::io;
 use string_interner::StringInterner;
 use string_interner::backend::Backend;
 use string_interner::dedup::TextHasher;
 use string_interner::scope::Scopes;
+use string_interner::symbol::Symbol;
 
 /// A call on scopes.
 #[derive(Clone, Copy)]
@@ -22,16 +24,24 @@ enum ScopeCall {
     Find,
     Depth,
     Interner,
+    Resolve,
+    Len,
+    IsEmpty,
+    Iter,
 }
 
 /// The calls on scopes by their names.
-const CALLS: [Row<ScopeCall>; 6] = [
+const CALLS: [Row<ScopeCall>; 10] = [
     ("enter", Argument::Nothing, ScopeCall::Enter),
     ("leave", Argument::Nothing, ScopeCall::Leave),
     ("declare", Argument::Text, ScopeCall::Declare),
     ("find", Argument::Text, ScopeCall::Find),
     ("depth", Argument::Nothing, ScopeCall::Depth),
     ("interner", Argument::Nothing, ScopeCall::Interner),
+    ("resolve", Argument::Number, ScopeCall::Resolve),
+    ("len", Argument::Nothing, ScopeCall::Len),
+    ("is_empty", Argument::Nothing, ScopeCall::IsEmpty),
+    ("iter", Argument::Nothing, ScopeCall::Iter),
 ];
 
 /// What is seen of scopes: how many are open, and the interner.
@@ -73,6 +83,18 @@ fn declare<B: Backend, H: TextHasher>(
     tell_answer(rt, answer)
 }
 
+/// Resolves the symbol with a number.
+fn resolve<B: Backend, H: TextHasher>(
+    rt: &HostRuntime,
+    scopes: &Scopes<B, H>,
+    number: usize,
+) -> io::Result<()> {
+    match B::Symbol::try_from_usize(number) {
+        Some(symbol) => tell_text(rt, scopes.resolve(symbol)),
+        None => println!(rt; "no such symbol"),
+    }
+}
+
 /// Makes a call on scopes.
 fn on_scopes<B: Backend, H: TextHasher>(
     rt: &HostRuntime,
@@ -87,6 +109,10 @@ fn on_scopes<B: Backend, H: TextHasher>(
         ScopeCall::Find => tell_number(rt, number_found(scopes.find(call.text))),
         ScopeCall::Depth => tell_count(rt, scopes.depth()),
         ScopeCall::Interner => tell_count(rt, scopes.interner().len()),
+        ScopeCall::Resolve => resolve(rt, scopes, call.number),
+        ScopeCall::Len => tell_count(rt, scopes.len()),
+        ScopeCall::IsEmpty => tell_bool(rt, scopes.is_empty()),
+        ScopeCall::Iter => walk_over(rt, &mut scopes.iter()),
     }
 }
 

@@ -15,6 +15,8 @@ use string_interner::symbol::Symbol;
 #[derive(Clone, Copy)]
 pub enum Look {
     Get,
+    Contains,
+    NextSymbol,
     GetNumbers,
     Resolve,
     Len,
@@ -78,6 +80,8 @@ pub fn look_at<B: Backend, H: TextHasher>(
 ) -> io::Result<()> {
     match kind {
         Look::Get => tell_number(rt, number_found(one.get(call.text))),
+        Look::Contains => tell_bool(rt, one.contains(call.text)),
+        Look::NextSymbol => tell_number(rt, number_found(one.next_symbol())),
         Look::GetNumbers => get_numbers(rt, one, call.number),
         Look::Resolve => resolve(rt, one, call.number),
         Look::Len => tell_count(rt, one.len()),

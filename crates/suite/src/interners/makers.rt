@@ -1,11 +1,13 @@
 //! Calls that make an interner. It takes the place of the one that was there.
 
 use super::json::{ReadAs, from_json};
+use super::looks::walk_over;
 use crate::decimal::{call_with, joined_again};
 use crate::line::Call;
 use crate::tell::{is_refused, tell_done, tell_no_memory, tell_refusal};
 use std::alloc::AllocError;
 use std::io;
+use std::mem::replace;
 use string_interner::StringInterner;
 use string_interner::backend::Backend;
 use string_interner::dedup::TextHasher;
@@ -21,6 +23,7 @@ pub enum Maker {
     FromIterNumbers,
     FromJson,
     FromJsonExact,
+    IntoBackend,
 }
 
 /// Puts a new interner in the place of an interner.
@@ -98,6 +101,15 @@ fn from_iter_numbers<B: Backend + Drop, H: TextHasher + Default + Drop>(
     }
 }
 
+/// Calls `into_backend`, and walks over what is left. A new interner takes the place.
+fn into_backend<B: Backend + Drop, H: TextHasher + Default + Drop>(
+    rt: &HostRuntime,
+    interner: &mut StringInterner<B, H>,
+) -> io::Result<()> {
+    let backend = replace(interner, StringInterner::new(rt.alloc())).into_backend();
+    walk_over(rt, &mut backend.iter())
+}
+
 /// Makes an interner.
 pub fn make<B: Backend + Drop, H: TextHasher + Default + Drop>(
     rt: &HostRuntime,
@@ -118,5 +130,6 @@ pub fn make<B: Backend + Drop, H: TextHasher + Default + Drop>(
         Maker::FromIterNumbers => from_iter_numbers(rt, one, call),
         Maker::FromJson => from_json(rt, one, call, ReadAs::Any),
         Maker::FromJsonExact => from_json(rt, one, call, ReadAs::Exact),
+        Maker::IntoBackend => into_backend(rt, one),
     }
 }

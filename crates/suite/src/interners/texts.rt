@@ -12,6 +12,7 @@ use std::io;
 use string_interner::StringInterner;
 use string_interner::backend::{Backend, InternError};
 use string_interner::dedup::TextHasher;
+use string_interner::symbol::Symbol;
 
 /// A call that may change an interner.
 #[derive(Clone, Copy)]
@@ -23,6 +24,8 @@ pub enum Change {
     Numbers,
     Extend,
     ExtendNumbers,
+    InternAll,
+    InternAllNumbers,
     ShrinkToFit,
     Truncate,
     TextsAsked,
@@ -128,6 +131,41 @@ fn extend_numbers<B: Backend, H: TextHasher>(
     }
 }
 
+/// Calls `intern_all`, and if memory was refused again with the texts that were not done, as the list tells. The texts
+/// that were there before stay as they were.
+fn intern_all<B: Backend, H: TextHasher>(
+    rt: &HostRuntime,
+    interner: &mut StringInterner<B, H>,
+    call: Call<'_>,
+) -> io::Result<()> {
+    let before = sight_of(interner);
+    let mut symbols = Vec::new(rt.alloc());
+    let mut outcome = interner.intern_all(call.text.splitn(call.limit, ','), &mut symbols);
+    if is_refused(&outcome) {
+        let is_kept = sight_of_first(interner, before.count) == before;
+        let done = symbols.len();
+        let left = call.text.splitn(call.limit, ',').skip(done);
+        outcome = interner.intern_all(left, &mut symbols);
+        tell_refusal(rt, call.name, is_kept, !is_refused(&outcome))?;
+    }
+    for symbol in &symbols {
+        tell_answer(rt, Ok(symbol.to_usize()))?;
+    }
+    tell_outcome(rt, outcome)
+}
+
+/// Calls `intern_all` with the decimal numbers below a count.
+fn intern_all_numbers<B: Backend, H: TextHasher>(
+    rt: &HostRuntime,
+    interner: &mut StringInterner<B, H>,
+    call: Call<'_>,
+) -> io::Result<()> {
+    match joined_again(rt, call.name, call.number)? {
+        Some(texts) => intern_all(rt, interner, call_with(call, &texts)),
+        None => tell_no_memory(rt),
+    }
+}
+
 /// Makes a call that may change an interner.
 pub fn change_one<B: Backend, H: TextHasher>(
     rt: &HostRuntime,
@@ -143,6 +181,8 @@ pub fn change_one<B: Backend, H: TextHasher>(
         Change::Numbers => numbers(rt, one, call),
         Change::Extend => extend(rt, one, call),
         Change::ExtendNumbers => extend_numbers(rt, one, call),
+        Change::InternAll => intern_all(rt, one, call),
+        Change::InternAllNumbers => intern_all_numbers(rt, one, call),
         Change::ShrinkToFit => {
             one.shrink_to_fit();
             tell_done(rt)
