@@ -149,7 +149,7 @@ fn intern_all<B: Backend, H: TextHasher>(
         tell_refusal(rt, call.name, is_kept, !is_refused(&outcome))?;
     }
     for symbol in &symbols {
-        tell_answer(rt, Ok(symbol.to_usize()))?;
+        println!(rt; "  symbol {}", symbol.to_usize())?;
     }
     tell_outcome(rt, outcome)
 }
