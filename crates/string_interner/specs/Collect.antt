@@ -6,6 +6,7 @@ use Rattle.std.specs.Iterator.{Drains, YieldsThen}
 use Rattle.std.specs.List.{sum_by}
 use Rattle.std.specs.Option.{option_map_or}
 use Rattle.string_interner.specs.Text.{Text, first}
+use Rattle.string_interner.specs.StandsFor.{KeepsSymbols}
 use Rattle.string_interner.specs.Index.{Holds}
 use Rattle.string_interner.specs.Interner.{InternerContents, IsNew, Interns, InternsInto, GrowsFor}
 use Rattle.string_interner.specs.declared.backend.InternError.{InternError}
@@ -44,10 +45,11 @@ module _ {S : Type 0} (symbol_of : ℕ → Option S) (place : List Text → ℕ)
       pub backend : sum_by cost (fresh interner.texts texts) ≤ interner.room
       pub index : Holds interner.slot_count (length interner.texts + length (fresh interner.texts texts))
 
-    -- The texts are interned. They take at most the cost of the fresh ones of the spare capacity, and if all are known
-    -- nothing changes.
+    -- The texts are interned, and each symbol stands for what it stood for. They take at most the cost of the fresh ones
+    -- of the spare capacity, and if all are known nothing changes.
     pub record TakesIn (old : InternerContents) (texts : List Text) (new : InternerContents) : Type 0 where
       pub interned : InternsAll old.texts texts new.texts
+      pub keeps : KeepsSymbols symbol_of place old.texts new.texts
       pub spent : old.room ≤ new.room + sum_by cost (fresh old.texts texts)
       pub known : fresh old.texts texts ≡ [] → new ≡ old
 

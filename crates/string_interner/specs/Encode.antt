@@ -5,7 +5,7 @@ use Rattle.std.specs.Borrow.{Bor}
 use Rattle.std.specs.Iterator.{Drains, YieldsThen}
 use Rattle.string_interner.specs.Text.{Text}
 use Rattle.string_interner.specs.Interner.{InternerContents, GrowsFor}
-use Rattle.string_interner.specs.StandsFor.{StandInOrder, KeepsSymbols}
+use Rattle.string_interner.specs.StandsFor.{StandInOrder}
 use Rattle.string_interner.specs.Collect.{texts_of, IsMemory, TakesIn, StopsAt}
 use Rattle.string_interner.specs.declared.backend.InternError.{InternError}
 
@@ -23,7 +23,6 @@ module _ {S : Type 0} (symbol_of : ℕ → Option S) (place : List Text → ℕ)
     pub grown : GrowsFor (length new.texts) old.slot_count new.slot_count
     pub added : List S
     pub stand : StandInOrder symbol_of place new.texts added texts
-    pub keeps : KeepsSymbols symbol_of place old.texts new.texts
     pub appended : longer ≡ symbols ++ added
 
   -- Items that the iterator yields are interned, and their symbols appended: all that it yields, or those before the

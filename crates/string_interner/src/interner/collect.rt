@@ -1,7 +1,6 @@
 //! Interning the texts of an iterator.
 
 ghost use Rattle.std.specs.Iterator.{IsFiniteIterable};
-ghost use Rattle.string_interner.specs.StandsFor.{KeepsSymbols};
 ghost use Rattle.string_interner.specs.Collect.{Extends, Collects};
 
 use super::StringInterner;
@@ -22,9 +21,8 @@ impl<B: Backend, H: TextHasher> StringInterner<B, H> {
         iter: I,
     ) -> Result<(), InternError>
         requires { IsFiniteIterable I.into_iter_gives I.IntoIter.can_next I.IntoIter.remaining iter }
-        ensures extends { Extends B.Symbol.symbol_of B.place B.cost I.into_iter_gives I.IntoIter.next_gives iter self.old
-            result self.new }
-        ensures keeps { KeepsSymbols B.Symbol.symbol_of B.place self.old.texts self.new.texts }
+        ensures { Extends B.Symbol.symbol_of B.place B.cost I.into_iter_gives I.IntoIter.next_gives iter self.old result
+            self.new }
     {
         // For the proof: states the load factor before the first text.
         let _ = self.len();

@@ -24,11 +24,10 @@ module _ {S : Type 0} (symbol_of : ℕ → Option S) (place : List Text → ℕ)
     -- before the first text
     pub encodes-none : (old : InternerContents) (symbols : List S) → IsLoaded old.slot_count (length old.texts) → Encodes symbol_of place cost old symbols [] old symbols
     encodes-none old symbols loaded = record {
-      taken = record { interned = refl; spent = omega arith; known = λ none. refl };
+      taken = record { interned = refl; keeps = λ symbol text stands. stands; spent = omega arith; known = λ none. refl };
       grown = record { allowed = λ h. refl; least = λ none. absurd (none loaded.load) };
       added = [];
       stand = none;
-      keeps = λ symbol text stands. stands;
       appended = sym (append-nil symbols);
     }
 
@@ -43,7 +42,6 @@ module _ {S : Type 0} (symbol_of : ℕ → Option S) (place : List Text → ℕ)
           (grown-more _ _ _ _ was_loaded.allowed before.grown call.slots) before.grown;
       added = before.added ++ symbol ∷ [];
       stand = rw (map_push (λ (b : Bor Text). b.now) items item) (stand-more mid.texts new.texts call.keeps before.added (texts_of items) symbol item.now before.stand call.stands);
-      keeps = λ of text stands. call.keeps of text (before.keeps of text stands);
       appended = is ∙ ap (λ xs. xs ++ symbol ∷ []) before.appended ∙ append_assoc symbols before.added (symbol ∷ []);
     }
 

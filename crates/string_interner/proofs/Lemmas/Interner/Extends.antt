@@ -104,6 +104,7 @@ module _ {S : Type 0} (symbol_of : ℕ → Option S) (place : List Text → ℕ)
         → TakesIn symbol_of place cost old (texts ++ text ∷ []) new
     taken-more old mid new texts text symbol taken call = record {
       interned = all-more old.texts texts mid.texts text symbol new.texts taken.interned call.interns;
+      keeps = λ s t stands. call.keeps s t (taken.keeps s t stands);
       spent = omega (arith, taken.spent, cost-more old.texts mid.texts texts text taken.interned, spent-fresh mid new text call.known call.room.spent);
       known = λ none.
           let parts = append-empty _ _ (sym (fresh-append old.texts texts (text ∷ [])) ∙ none) in

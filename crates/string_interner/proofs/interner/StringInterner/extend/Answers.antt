@@ -11,16 +11,15 @@ loop-text-preserved g c =
       grown = interned-slots g.B.Symbol.Symbol.symbol_of g.B.Backend.place g.B.Backend.cost (λ len count. GrowsFor len c.args.self.now.slot_count count) _ _ _ _ call c.len-in-loop-text.ensures.loaded
           (grown-more _ _ _ _ mid.loaded.allowed mid.grown call.slots) mid.grown;
       loaded = c.len-in-loop-text.ensures.loaded;
-      keeps = λ symbol text stands. call.keeps symbol text (mid.keeps symbol text stands);
     }
 
-pub returns-in_err-get_or_intern-clause-extends : goal.returns-in_err-get_or_intern-clause-extends
-returns-in_err-get_or_intern-clause-extends g c = extends-refused g.B.Symbol.Symbol.symbol_of g.B.Backend.place g.B.Backend.cost g.I.IntoIterator.into_iter_gives g.I.IntoIter.Iterator.next_gives _ c.into_iter-text-iterator.result c.next.new.self c.loop-text.yielded c.in-Some.text _ _ _ c.in_err-get_or_intern.field-0.0 c.from_residual.result
+pub returns-in_err-get_or_intern : goal.returns-in_err-get_or_intern
+returns-in_err-get_or_intern g c = extends-refused g.B.Symbol.Symbol.symbol_of g.B.Backend.place g.B.Backend.cost g.I.IntoIterator.into_iter_gives g.I.IntoIter.Iterator.next_gives _ c.into_iter-text-iterator.result c.next.new.self c.loop-text.yielded c.in-Some.text _ _ _ c.in_err-get_or_intern.field-0.0 c.from_residual.result
     c.into_iter-text-iterator.ensures.into_iter_gives (search rules) (search rules)
     c.loop-text.invariant.taken c.in_err-get_or_intern.ensures c.loop-text.invariant.grown
 
-pub returns-clause-extends : goal.returns-clause-extends
-returns-clause-extends g c = (
+pub returns : goal.returns
+returns g c = (
   c.into_iter-text-iterator.result,
   c.loop-text.yielded,
   c.loop-text.self,

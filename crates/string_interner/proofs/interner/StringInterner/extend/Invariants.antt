@@ -1,15 +1,13 @@
 use Rattle.std.proofs.Common.{length}
 use Rattle.string_interner.specs.Index.{IsLoaded}
 use Rattle.string_interner.specs.Interner.{GrowsFor}
-use Rattle.string_interner.specs.StandsFor.{KeepsSymbols}
 use Rattle.string_interner.specs.Collect.{texts_of, TakesIn}
 use Rattle.string_interner.proofs.interner.StringInterner.extend.Given as goal
 
--- the items so far went in, the slots grew for the texts, they are loaded as those of every interner, and symbols are kept
+-- the items so far went in, the slots grew for the texts, and they are loaded as those of every interner
 abbrev pub invariant-loop-text : goal.invariant-loop-text
 invariant-loop-text g l = record {
   taken : TakesIn g.B.Symbol.Symbol.symbol_of g.B.Backend.place g.B.Backend.cost l.fn.self (texts_of l.yielded) l.self;
   grown : GrowsFor (length l.self.texts) l.fn.self.slot_count l.self.slot_count;
   loaded : IsLoaded l.self.slot_count (length l.self.texts);
-  keeps : KeepsSymbols g.B.Symbol.Symbol.symbol_of g.B.Backend.place l.fn.self.texts l.self.texts;
 }
