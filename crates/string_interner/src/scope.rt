@@ -129,7 +129,7 @@ impl<B: Backend, H: TextHasher> Scopes<B, H> {
         ensures { Resolves B.Symbol.symbol_of B.place B.read B.Symbol.number (joined_layers (layers self.now)) symbol
             (option_copied result) }
     {
-        self.interner.resolve(symbol)
+        self.interner().resolve(symbol)
     }
 
     /// Returns the number of texts in all layers.
@@ -139,14 +139,14 @@ impl<B: Backend, H: TextHasher> Scopes<B, H> {
         // What holds of all scopes.
         ensures texts { AreInterned B.Symbol.symbol_of B.place (joined_layers (layers self.now)) }
     {
-        self.interner.len()
+        self.interner().len()
     }
 
     /// Reports whether there is no text in any layer.
     pub fn is_empty(&self) -> bool
         ensures { IsTrue result ↔ (joined_layers (layers self.now) ≡ []) }
     {
-        self.interner.is_empty()
+        self.interner().is_empty()
     }
 
     /// Iterates over the texts of all layers in insertion order, from the bottom layer to the top one, each with its
@@ -154,7 +154,7 @@ impl<B: Backend, H: TextHasher> Scopes<B, H> {
     pub fn iter(&self) -> Iter<'_, B>
         ensures { result ≡ record { behind = []; ahead = joined_layers (layers self.now) } }
     {
-        self.interner.iter()
+        self.interner().iter()
     }
 
     /// Returns the interner, whose list is all layers joined.

@@ -1,5 +1,0 @@
-use Rattle.string_interner.proofs.Lemmas.Scopes.Layers.{joined_layers-of_list}
-use Rattle.string_interner.proofs.scope.Scopes.resolve.Goals as goal
-
-pub returns : goal.returns
-returns g c = rw (← c.self.view_is, joined_layers-of_list) c.resolve.ensures
