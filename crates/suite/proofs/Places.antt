@@ -20,7 +20,10 @@ appended-place symbol_of place number numbered old new text s h =
 pub standing-place : {S : Type 0} (symbol_of : ℕ → Option S) (place : List Text → ℕ) (number : S → ℕ)
     → ((i : ℕ) (s : S) → symbol_of i ≡ Some s → (number s ≡ i) × (i < 2 ^ 64))
     → (texts : List Text) (s : S) (text : Text) → StandsFor symbol_of place texts s text → IsPlace place texts (number s)
-standing-place symbol_of place number numbered texts s text stands = (stands.index, record {
-  within = slice_get_within texts stands.index text stands.entry;
-  begins = sym (numbered (place (take stands.index texts)) s stands.symbol_is).0;
-})
+standing-place symbol_of place number numbered texts s text stands = (
+  stands.index,
+  record {
+    within = slice_get_within texts stands.index text stands.entry;
+    begins = sym (numbered (place (take stands.index texts)) s stands.symbol_is).0;
+  },
+)
