@@ -1,0 +1,40 @@
+//! Whether two texts are equal, told by their symbols.
+
+ghost use Rattle.std.specs.Prelude.{◌≡◌, ◌↔◌, IsTrue, IfOk};
+
+use string_interner::StringInterner;
+use string_interner::backend::{Backend, InternError};
+use string_interner::dedup::TextHasher;
+
+/// Interns two texts, and reports whether they are equal by their symbols alone.
+///
+/// Fails as `get_or_intern` does.
+pub fn same_text<B: Backend, H: TextHasher>(
+    interner: &mut StringInterner<B, H>,
+    a: &str,
+    b: &str,
+) -> Result<bool, InternError>
+    ensures { IfOk result (λ same. IsTrue same ↔ (a.now ≡ b.now)) }
+{
+    let left = interner.get_or_intern(a)?;
+    let right = interner.get_or_intern(b)?;
+    // For the proof: states that symbols are equal exactly if their texts are.
+    interner.symbol_law();
+    Ok(left == right)
+}
+
+#[cfg(test)]
+mod tests {
+    use super::*;
+    use std::test::Fail;
+    use string_interner::DefaultStringInterner;
+
+    #[test]
+    fn equal_texts_have_one_symbol(rt: HostRuntime) -> Result<(), Fail> {
+        let mut interner = <DefaultStringInterner>::new(rt.alloc());
+        let same = same_text(&mut interner, "Tiger", "Tiger").map_err(|_| "refused")?;
+        let other = same_text(&mut interner, "Tiger", "Horse").map_err(|_| "refused")?;
+        assert_eq!(rt; (same, other), (true, false));
+        Ok(())
+    }
+}
