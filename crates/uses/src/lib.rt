@@ -3,4 +3,6 @@
 //! Each is generic over the backend and the hasher, and is proved for all of them.
 #![tactic(auto)]
 
+pub mod column;
+pub mod lines;
 pub mod same_text;

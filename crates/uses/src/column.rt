@@ -1,0 +1,108 @@
+//! A column of texts, encoded by a dictionary: each distinct text once, and a symbol for each row.
+
+ghost use Rattle.std.specs.Prelude.{◌≡◌, [], length, slice_get};
+ghost use Rattle.std.specs.Option.{option_copied};
+ghost use Rattle.std.specs.Iterator.{IsFiniteIterable};
+ghost use Rattle.string_interner.specs.Collect.{fresh};
+ghost use Rattle.uses.specs.Column.{AppendsRows};
+
+use std::alloc::Global;
+use std::marker::Model;
+use string_interner::StringInterner;
+use string_interner::backend::{Backend, DefaultBackend, InternError};
+use string_interner::dedup::{DefaultHashBuilder, TextHasher};
+
+/// A list of rows, each a text, of which equal ones are kept once.
+#[derive(Drop)]
+pub struct Column<B: Backend = DefaultBackend, H: TextHasher = DefaultHashBuilder> {
+    dictionary: StringInterner<B, H>,
+    /// The symbol of each row.
+    codes: Vec<B::Symbol>,
+}
+
+/// Contracts see the rows.
+impl<B: Backend, H: TextHasher> Model for Column<B, H> {
+    ghost use Rattle.std.specs.Prelude.{List};
+    ghost use Rattle.string_interner.specs.Text.{Text};
+    ghost use Rattle.uses.specs.Column.{decoded, IsColumn};
+
+    ghost Value = { List Text };
+
+    ghost view = { λ c. decoded B.read B.Symbol.number c.dictionary.texts c.codes.items };
+
+    ghost invariant = { λ c. IsColumn B.Symbol.symbol_of B.place c.dictionary.texts c.codes.items
+        (decoded B.read B.Symbol.number c.dictionary.texts c.codes.items) };
+}
+
+impl<B: Backend, H: TextHasher + Default> Column<B, H> {
+    /// Makes a column without rows. Takes no memory.
+    pub fn new(alloc: Global) -> Self
+        ensures { result ≡ [] }
+    {
+        Column {
+            dictionary: StringInterner::new(alloc),
+            codes: Vec::new(alloc),
+        }
+    }
+}
+
+impl<B: Backend, H: TextHasher> Column<B, H> {
+    /// Appends a row for each text of a finite iterator. Stops at the first text that fails, as interning it does; the
+    /// rows before it stay.
+    pub fn encode<'t, I: IntoIterator<Item = &'t str>>(
+        &mut self,
+        texts: I,
+    ) -> Result<(), InternError>
+        requires { IsFiniteIterable I.into_iter_gives I.IntoIter.can_next I.IntoIter.remaining texts }
+        ensures { AppendsRows I.into_iter_gives I.IntoIter.next_gives texts self.old result self.new }
+    {
+        let outcome = self.dictionary.intern_all(texts, &mut self.codes);
+        // For the proof: states what holds of every interner.
+        let _ = self.dictionary.len();
+        outcome
+    }
+
+    /// Returns the number of rows.
+    pub fn len(&self) -> usize
+        ensures { result ≡ length self.now }
+    {
+        self.codes.len()
+    }
+
+    /// Returns the text of a row: the one that was encoded.
+    pub fn text(&self, row: usize) -> Option<&str>
+        ensures { option_copied result ≡ slice_get self.now row }
+    {
+        match self.codes.get(row) {
+            Some(code) => self.dictionary.resolve(*code),
+            None => None,
+        }
+    }
+
+    /// Returns the number of distinct texts.
+    pub fn count_distinct(&self) -> usize
+        ensures { result ≡ length (fresh [] self.now) }
+    {
+        self.dictionary.len()
+    }
+}
+
+#[cfg(test)]
+mod tests {
+    use super::*;
+    use std::test::Fail;
+
+    #[test]
+    fn rows_are_decoded(rt: HostRuntime) -> Result<(), Fail> {
+        let mut colors = <Column>::new(rt.alloc());
+        let texts = ["red", "green", "red"];
+        colors.encode(texts.iter().copied()).map_err(|_| "refused")?;
+        assert_eq!(rt; (colors.len(), colors.count_distinct()), (3, 2));
+        assert_eq!(rt;
+            (colors.text(1), colors.text(2)),
+            (Some("green"), Some("red"))
+        );
+        assert_eq!(rt; colors.text(3), None);
+        Ok(())
+    }
+}

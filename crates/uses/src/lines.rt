@@ -1,0 +1,131 @@
+//! The lines of use that the README shows.
+
+ghost use Rattle.std.specs.Prelude.{◌≡◌, [], take, true, IfOk};
+
+use std::alloc::Global;
+use string_interner::backend::{BufferBackend, InternError};
+use string_interner::json::JsonError;
+use string_interner::scope::Scopes;
+use string_interner::{DefaultStringInterner, StringInterner};
+
+/// Interns texts, and compares them by symbol.
+pub fn intern_and_compare(alloc: Global) -> Result<bool, InternError>
+    ensures { IfOk result (λ same. same ≡ true) }
+{
+    let mut interner = <DefaultStringInterner>::new(alloc);
+    let tiger = interner.get_or_intern("Tiger")?;
+    let _ = interner.get_or_intern("Horse")?;
+    let again = interner.get_or_intern("Tiger")?;
+    // For the proof: states that symbols are equal exactly if their texts are.
+    interner.symbol_law();
+    Ok(again == tiger)
+}
+
+/// Finds the symbol of a text, and the text of a symbol.
+pub fn find_and_resolve(interner: &mut DefaultStringInterner) -> Result<bool, InternError>
+    ensures { IfOk result (λ found. found ≡ true) }
+{
+    let horse = interner.get_or_intern("Horse")?;
+    interner.symbol_law();
+    Ok(interner.get("Horse") == Some(horse) && interner.resolve(horse) == Some("Horse"))
+}
+
+/// Walks over all texts in the order of first interning, and counts their bytes.
+pub fn count_bytes(interner: &DefaultStringInterner) -> usize {
+    let mut bytes = 0_usize;
+    for (_, text) in interner {
+        bytes = bytes.saturating_add(text.len());
+    }
+    bytes
+}
+
+/// Collects over another backend. Stops at the first text that is refused; those before it stay.
+pub fn collect(alloc: Global) -> Result<StringInterner<BufferBackend>, InternError> {
+    let elements = ["Earth", "Water"];
+    let mut names = StringInterner::<BufferBackend>::from_iter(alloc, elements.iter().copied())?;
+    names.extend(["Fire", "Water", "Air"].iter().copied())?;
+    Ok(names)
+}
+
+/// Encodes a column: each text is kept once, and the list gets a symbol for each row.
+pub fn encode(alloc: Global) -> Result<usize, InternError> {
+    let mut colors = <DefaultStringInterner>::new(alloc);
+    let mut codes = Vec::new(alloc);
+    colors.intern_all(["red", "green", "red"].iter().copied(), &mut codes)?;
+    Ok(codes.len())
+}
+
+/// Reserves once: within this room no text is refused for memory.
+pub fn reserve(alloc: Global) -> Result<StringInterner<BufferBackend>, InternError>
+    ensures { IfOk result (λ names. names.texts ≡ []) }
+{
+    let names = StringInterner::<BufferBackend>::with_capacity(alloc, 1000)?;
+    Ok(names)
+}
+
+/// Keeps the first text alone; the others are new again.
+pub fn keep_the_first(names: &mut StringInterner<BufferBackend>) -> bool
+    ensures { names.new.texts ≡ take 1 names.old.texts }
+{
+    names.truncate(1);
+    names.contains("Water")
+}
+
+/// All texts are in: keeps them with their symbols, and lets the index go.
+pub fn finish(names: StringInterner<BufferBackend>) -> BufferBackend
+    ensures { result.texts ≡ names.texts }
+{
+    names.into_backend()
+}
+
+/// Writes the texts to JSON, and reads them back with the same symbols.
+pub fn to_json_and_back(
+    alloc: Global,
+    names: &StringInterner<BufferBackend>,
+) -> Result<StringInterner<BufferBackend>, JsonError>
+    ensures { IfOk result (λ again. again.texts ≡ names.now.texts) }
+{
+    // For the proof: states what holds of every interner.
+    let _ = names.len();
+    match names.to_json(alloc) {
+        Ok(value) => StringInterner::from_json(alloc, &value),
+        Err(error) => Err(JsonError::Memory(error)),
+    }
+}
+
+/// Names in nested scopes, as a small language has them: `let width; { let height; { width; } } height;`.
+pub fn nested_scopes(alloc: Global) -> Result<(bool, bool), InternError>
+    ensures { IfOk result (λ told. told.0 ≡ true) }
+{
+    let mut names = Scopes::new(alloc, <DefaultStringInterner>::new(alloc));
+    let width = names.declare("width")?;
+    names.enter()?;
+    names.declare("height")?;
+    names.interner().symbol_law();
+    let seen = names.find("width") == Some(width); // An inner block sees the names of the outer ones.
+    let _ = names.leave();
+    let gone = names.find("height").is_none(); // At the end of a block its names are forgotten.
+    Ok((seen, gone))
+}
+
+#[cfg(test)]
+mod tests {
+    use super::*;
+    use std::test::Fail;
+
+    #[test]
+    fn lines_answer_as_they_say(rt: HostRuntime) -> Result<(), Fail> {
+        let same = intern_and_compare(rt.alloc()).map_err(|_| "refused")?;
+        let codes = encode(rt.alloc()).map_err(|_| "refused")?;
+        let scopes = nested_scopes(rt.alloc()).map_err(|_| "refused")?;
+        assert_eq!(rt; (same, codes, scopes), (true, 3, (true, true)));
+        let mut names = collect(rt.alloc()).map_err(|_| "refused")?;
+        assert_eq!(rt; names.len(), 4);
+        let again = to_json_and_back(rt.alloc(), &names).map_err(|_| "refused")?;
+        assert_eq!(rt;
+            (again == names, keep_the_first(&mut names), names.len()),
+            (true, false, 1)
+        );
+        Ok(())
+    }
+}
