@@ -7,4 +7,5 @@ pub mod Probing
 pub mod Reading
 pub mod Slots
 pub mod Spelling
+pub mod StdHasher
 pub mod Strings

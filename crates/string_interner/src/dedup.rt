@@ -16,7 +16,7 @@ ghost use Rattle.string_interner.specs.Probe.{IfVacant, IsVacant, found_by};
 use crate::backend::Backend;
 use crate::symbol::Symbol;
 use growing::{least_slot_count, next_slot_count, put_all, rehash};
-pub use hasher::{DefaultHashBuilder, FixedState, TextHasher};
+pub use hasher::{DefaultHashBuilder, FixedState, FoldState, StdHasher, TextHasher};
 pub(crate) use probe::Entry;
 use probe::{Vacancy, occupy, probe};
 pub use slots::Looks;

@@ -2,7 +2,9 @@
 
 ghost use Rattle.std.specs.Prelude.{◌≡◌, ℕ};
 ghost use Rattle.string_interner.specs.Text.{Text};
-ghost use Rattle.string_interner.specs.Hasher.{fnv_1a};
+ghost use Rattle.string_interner.specs.Hasher.{fnv_1a, one_write};
+
+use std::hash::{BuildHasher, BuildHasherDefault, FoldHasher, Hasher};
 
 /// The default hasher of an interner.
 pub type DefaultHashBuilder = FixedState;
@@ -21,7 +23,8 @@ pub trait TextHasher {
 
 /// 64-bit FNV-1a over the bytes of the text: fast on short texts, with the same codes in each run.
 ///
-/// Not resistant to collisions: texts can be chosen to have one code.
+/// Not resistant to collisions: texts can be chosen to have one code. Where texts come from someone who may choose them,
+/// take [`StdHasher`] over `RandomState`.
 #[derive(Clone, Copy, Debug, Default, PartialEq, Eq)]
 pub struct FixedState;
 
@@ -40,5 +43,53 @@ impl TextHasher for FixedState {
             OFFSET_BASIS,
             |code: u64, byte| (code ^ u64::from(byte)).wrapping_mul(PRIME),
         )
+    }
+}
+
+/// Hashes texts by a hasher of the standard library: the code of a text is what that hasher finishes with, once all
+/// bytes of the text were written to it in one call.
+///
+/// It takes any `std::hash::BuildHasher`:
+///
+/// - `BuildHasherDefault<FoldHasher>`, which is [`FoldState`], reads 16 bytes at a time, where the default reads one: it
+///   is fast on long texts too. Its seed is fixed, so codes are the same in each run, and texts can be chosen to have
+///   one code.
+/// - `RandomState` is SipHash-1-3 under random keys: slower, with other codes in each run. It alone protects where texts
+///   come from someone who may choose them, as long as the keys stay secret.
+/// - `BuildHasherDefault<DefaultHasher>` is SipHash-1-3 under keys that are 0: the same codes in each run, and no
+///   protection.
+///
+/// An index takes the low bits of a code. These three spread them; a builder of your own should, too.
+///
+/// ```
+/// let keyed = StdHasher::new(RandomState::new(&rt)?);
+/// let names = StringInterner::<DefaultBackend, StdHasher<RandomState>>::with_hasher(alloc, keyed);
+/// ```
+#[derive(Clone, Copy, Debug, Default)]
+pub struct StdHasher<S> {
+    builder: S,
+}
+
+/// The hasher of the standard library's maps: fast, with the same codes in each run and no protection against chosen
+/// texts.
+pub type FoldState = StdHasher<BuildHasherDefault<FoldHasher>>;
+
+impl<S: BuildHasher> StdHasher<S> {
+    /// Makes a hasher that hashes each text by a hasher of this builder.
+    pub fn new(builder: S) -> Self
+        ensures { result ≡ record { builder = builder } }
+    {
+        StdHasher { builder }
+    }
+}
+
+impl<S: BuildHasher> TextHasher for StdHasher<S> {
+    ghost code = { λ hasher text. one_write S.Hasher.write S.Hasher.finish (S.build_hasher hasher.builder) text };
+
+    #[inline]
+    fn hash_text(&self, text: &str) -> u64 {
+        let mut state = self.builder.build_hasher();
+        state.write(text.as_bytes());
+        state.finish()
     }
 }
