@@ -3,6 +3,8 @@
 //! Each is generic over the backend and the hasher, and is proved for all of them.
 #![tactic(auto)]
 
+pub mod blocks;
 pub mod column;
+pub mod lexer;
 pub mod lines;
 pub mod same_text;

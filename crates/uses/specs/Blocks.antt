@@ -1,0 +1,28 @@
+-- The names of nested blocks, and what a use of a name means.
+-- Cited by `Blocks`.
+use Rattle.std.specs.Prelude.{ℕ, List, [], ◌∷◌, length, map, reverse, Option, Some, None}
+use Rattle.std.specs.Option.{option_map_or}
+use Rattle.string_interner.specs.Text.{Text}
+use Rattle.string_interner.specs.Interner.{InternerContents, known_symbol}
+
+-- what contracts see of open blocks
+pub record Open : Type 0 where
+  -- the names of the innermost block
+  pub innermost : List Text
+  -- those of the blocks around it, the nearest first
+  pub outer : List (List Text)
+
+-- all of them, the innermost first
+abbrev pub blocks : Open → List (List Text)
+blocks b = b.innermost ∷ b.outer
+
+-- a block and those around it, which stand the outermost first
+abbrev pub opened : InternerContents → List InternerContents → Open
+opened block outer = record { innermost = block.texts; outer = map (λ names. names.texts) (reverse outer) }
+
+-- What a use of a name means: the declaration in the innermost block that has the name, by how many blocks there are
+-- around that one, and by the symbol that the name has there.
+abbrev pub meant : {S : Type 0} → (ℕ → Option S) → (List Text → ℕ) → List (List Text) → Text → Option (ℕ × S)
+meant symbol_of place [] name = None
+meant symbol_of place (block ∷ outer) name =
+    option_map_or (λ symbol. Some (length outer, symbol)) (known_symbol symbol_of place block name) (meant symbol_of place outer name)

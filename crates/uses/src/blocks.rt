@@ -1,0 +1,132 @@
+//! Names in nested blocks, where a name of an inner block hides the same name of those around it.
+
+ghost use Rattle.std.specs.Prelude.{◌≡◌, [], ◌∷◌, IfOk, OnOk, OnErr};
+ghost use Rattle.string_interner.specs.Interner.{Interns};
+ghost use Rattle.string_interner.specs.StandsFor.{StandsFor, KeepsSymbols};
+ghost use Rattle.string_interner.specs.Scopes.{Leaves};
+ghost use Rattle.uses.specs.Blocks.{blocks, opened, meant};
+
+use std::alloc::{AllocError, Global};
+use std::marker::Model;
+use std::mem;
+use string_interner::StringInterner;
+use string_interner::backend::{Backend, DefaultBackend, InternError};
+use string_interner::dedup::{DefaultHashBuilder, TextHasher};
+
+/// The open blocks of a source. Each has an interner of its own, so that it may declare a name that one around it has.
+#[derive(Drop)]
+pub struct Blocks<B: Backend = DefaultBackend, H: TextHasher = DefaultHashBuilder> {
+    innermost: StringInterner<B, H>,
+    /// The blocks around it, the outermost first.
+    outer: Vec<StringInterner<B, H>>,
+}
+
+/// Contracts see the names of each block.
+impl<B: Backend, H: TextHasher> Model for Blocks<B, H> {
+    ghost use Rattle.uses.specs.Blocks.{Open, opened};
+
+    ghost Value = { Open };
+
+    ghost view = { λ b. opened b.innermost b.outer.items };
+}
+
+impl<B: Backend, H: TextHasher + Default> Blocks<B, H> {
+    /// Begins with one block, which declares no name. Takes no memory.
+    pub fn new(alloc: Global) -> Self
+        ensures { blocks result ≡ [] ∷ [] }
+    {
+        Blocks {
+            innermost: StringInterner::new(alloc),
+            outer: Vec::new(alloc),
+        }
+    }
+
+    /// Enters a block within the innermost one, which declares no name yet.
+    ///
+    /// Returns `Err` only if memory for one more block cannot be allocated. Nothing changes then.
+    pub fn enter(&mut self, alloc: Global) -> Result<(), AllocError>
+        ensures ok { OnOk result (blocks self.new ≡ [] ∷ blocks self.old) }
+        ensures err { OnErr result (self.new ≡ self.old) }
+    {
+        self.outer.reserve(1)?;
+        let around = mem::replace(&mut self.innermost, StringInterner::new(alloc));
+        self.outer.push_reserved(around);
+        Ok(())
+    }
+}
+
+impl<B: Backend + Drop, H: TextHasher + Drop> Blocks<B, H> {
+    /// Leaves the innermost block, with its names, and returns whether there is one around it; if not, it stays.
+    pub fn leave(&mut self) -> bool
+        ensures { Leaves (blocks self.old) result (blocks self.new) }
+    {
+        match self.outer.pop() {
+            Some(around) => {
+                self.innermost = around;
+                true
+            }
+            None => false,
+        }
+    }
+}
+
+impl<B: Backend, H: TextHasher> Blocks<B, H> {
+    /// Declares a name in the innermost block, and returns its symbol there.
+    ///
+    /// Fails as `get_or_intern` does. No block changes then.
+    pub fn declare(&mut self, name: &str) -> Result<B::Symbol, InternError>
+        ensures interns { Interns B.Symbol.symbol_of B.place self.old.innermost name.now result self.new.innermost }
+        ensures stands { IfOk result (λ symbol. StandsFor B.Symbol.symbol_of B.place self.new.innermost symbol name.now) }
+        ensures keeps { KeepsSymbols B.Symbol.symbol_of B.place self.old.innermost self.new.innermost }
+        ensures outer { self.new.outer ≡ self.old.outer }
+    {
+        self.innermost.get_or_intern(name)
+    }
+
+    /// Returns which declaration a use of a name means, if any: that of the innermost block which has the name, as the
+    /// number of blocks around that one and the name's symbol there.
+    pub fn resolve(&self, name: &str) -> Option<(usize, B::Symbol)>
+        ensures { result ≡ meant B.Symbol.symbol_of B.place (blocks self.now) name.now }
+    {
+        resolve_in(&self.innermost, &self.outer, name)
+    }
+}
+
+/// Looks for a name in a block, and then in those around it, which stand the outermost first.
+fn resolve_in<B: Backend, H: TextHasher>(
+    block: &StringInterner<B, H>,
+    outer: &[StringInterner<B, H>],
+    name: &str,
+) -> Option<(usize, B::Symbol)>
+    ensures { result ≡ meant B.Symbol.symbol_of B.place (blocks (opened block.now outer.now)) name.now }
+{
+    if let Some(symbol) = block.get(name) {
+        return Some((outer.len(), symbol));
+    }
+    let (around, outer) = outer.split_last()?;
+    resolve_in(around, outer, name)
+}
+
+#[cfg(test)]
+mod tests {
+    use super::*;
+    use std::test::Fail;
+
+    /// `let x; { let y; let x; x } x y`
+    #[test]
+    fn an_inner_name_hides_an_outer_one(rt: HostRuntime) -> Result<(), Fail> {
+        let mut blocks = <Blocks>::new(rt.alloc());
+        let outer = blocks.declare("x").map_err(|_| "refused")?;
+        blocks.enter(rt.alloc()).map_err(|_| "refused")?;
+        blocks.declare("y").map_err(|_| "refused")?;
+        let inner = blocks.declare("x").map_err(|_| "refused")?;
+        assert_eq!(rt; blocks.resolve("x") == Some((1, inner)), true);
+        assert_eq!(rt; blocks.leave(), true);
+        assert_eq!(rt; blocks.resolve("x") == Some((0, outer)), true);
+        assert_eq!(rt;
+            (blocks.resolve("y").is_none(), blocks.leave()),
+            (true, false)
+        );
+        Ok(())
+    }
+}

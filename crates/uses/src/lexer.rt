@@ -1,0 +1,69 @@
+//! A lexer whose tokens are symbols: equal words have one token, and keywords are told by their numbers.
+
+ghost use Rattle.std.specs.Prelude.{◌≤◌, ◌↔◌, IsTrue, IfOk};
+ghost use Rattle.string_interner.specs.Text.{Text};
+ghost use Rattle.string_interner.specs.StandsFor.{StandsFor, StandInOrder, KeepsSymbols};
+ghost use Rattle.uses.specs.Lexer.{words_of};
+
+use std::alloc::Global;
+use string_interner::backend::{Backend, InternError};
+use string_interner::dedup::TextHasher;
+use string_interner::{StringInterner, Symbol};
+
+/// Returns a token for each word of a source, in their order: the word's symbol. Words stand between single blanks.
+///
+/// Fails as `intern_all` does. Words that were there keep their symbols, on `Err` too.
+pub fn lex<B: Backend, H: TextHasher>(
+    alloc: Global,
+    words: &mut StringInterner<B, H>,
+    source: &str,
+) -> Result<Vec<B::Symbol>, InternError>
+    ensures tokens { IfOk result (λ tokens. StandInOrder B.Symbol.symbol_of B.place words.new.texts tokens.items
+        (words_of source.now)) }
+    ensures keeps { KeepsSymbols B.Symbol.symbol_of B.place words.old.texts words.new.texts }
+{
+    let mut tokens = Vec::new(alloc);
+    words.intern_all(source.split(' '), &mut tokens)?;
+    Ok(tokens)
+}
+
+/// Reports whether a token is a keyword, by its number alone: keywords are the words up to one that the caller interned
+/// last of them, before all other words.
+pub fn is_keyword<B: Backend, H: TextHasher>(
+    words: &StringInterner<B, H>,
+    last: B::Symbol,
+    token: B::Symbol,
+) -> bool
+    ensures { (keyword word : Text) (end : StandsFor B.Symbol.symbol_of B.place words.now.texts last keyword)
+        (at : StandsFor B.Symbol.symbol_of B.place words.now.texts token word) → IsTrue result ↔ (at.index ≤ end.index) }
+{
+    // For the proof: states that of two texts the later has the greater number.
+    words.symbol_law();
+    token.to_usize() <= last.to_usize()
+}
+
+#[cfg(test)]
+mod tests {
+    use super::*;
+    use std::test::Fail;
+    use string_interner::DefaultStringInterner;
+
+    #[test]
+    fn keywords_have_the_least_numbers(rt: HostRuntime) -> Result<(), Fail> {
+        let mut words = <DefaultStringInterner>::new(rt.alloc());
+        words.get_or_intern("let").map_err(|_| "refused")?;
+        let last = words.get_or_intern("in").map_err(|_| "refused")?;
+        let tokens = lex(rt.alloc(), &mut words, "let x = y in x").map_err(|_| "refused")?;
+        assert_eq!(rt; tokens.len(), 6);
+        assert_eq!(rt; (tokens[4] == last, tokens[5] == tokens[1]), (true, true));
+        assert_eq!(rt;
+            (
+                is_keyword(&words, last, tokens[0]),
+                is_keyword(&words, last, tokens[4]),
+                is_keyword(&words, last, tokens[5])
+            ),
+            (true, true, false)
+        );
+        Ok(())
+    }
+}
