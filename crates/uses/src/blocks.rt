@@ -13,7 +13,8 @@ use string_interner::StringInterner;
 use string_interner::backend::{Backend, DefaultBackend, InternError};
 use string_interner::dedup::{DefaultHashBuilder, TextHasher};
 
-/// The open blocks of a source. Each has an interner of its own, so that it may declare a name that one around it has.
+/// The open blocks of a source. Each has an interner of its own, so that it may declare anew a name that one around it
+/// has; `Scopes` would return that one's symbol.
 #[derive(Drop)]
 pub struct Blocks<B: Backend = DefaultBackend, H: TextHasher = DefaultHashBuilder> {
     innermost: StringInterner<B, H>,

@@ -10,7 +10,8 @@ use string_interner::backend::{Backend, InternError};
 use string_interner::dedup::TextHasher;
 use string_interner::{StringInterner, Symbol};
 
-/// Returns a token for each word of a source, in their order: the word's symbol. Words stand between single blanks.
+/// Returns a token for each word of a source, in their order: the word's symbol. Words stand between single blanks, so
+/// that between two blanks there is an empty one.
 ///
 /// Fails as `intern_all` does. Words that were there keep their symbols, on `Err` too.
 pub fn lex<B: Backend, H: TextHasher>(
@@ -27,8 +28,8 @@ pub fn lex<B: Backend, H: TextHasher>(
     Ok(tokens)
 }
 
-/// Reports whether a token is a keyword, by its number alone: keywords are the words up to one that the caller interned
-/// last of them, before all other words.
+/// Reports whether a token is a keyword, by its number alone. The caller interns the keywords before all other words, and
+/// `last` is the symbol of the last of them: the keywords are the words that stand no later.
 pub fn is_keyword<B: Backend, H: TextHasher>(
     words: &StringInterner<B, H>,
     last: B::Symbol,

@@ -1,9 +1,5 @@
-use Rattle.string_interner.specs.Collect.{texts_of}
-use Rattle.uses.specs.Column.{IsColumn, AppendsRows, decoded}
 use Rattle.uses.proofs.Rows.{encodes-rows}
 use Rattle.uses.proofs.column.Column.encode.Goals as goal
-use Rattle.uses.proofs.column.Column.encode.Goals.{After-len}
-use Rattle.uses.proofs.column.Column.encode.Given.{Over}
 
 pub invariant_of-self : goal.invariant_of-self
 invariant_of-self g c =
