@@ -8,3 +8,4 @@ pub mod Run
 pub mod Scopes
 pub mod StringBackend
 pub mod Texts
+pub mod WindowIndex

@@ -9,3 +9,4 @@ pub mod Slots
 pub mod Spelling
 pub mod StdHasher
 pub mod Strings
+pub mod Window

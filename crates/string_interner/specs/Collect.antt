@@ -7,8 +7,8 @@ use Rattle.std.specs.List.{sum_by}
 use Rattle.std.specs.Option.{option_map_or}
 use Rattle.string_interner.specs.Text.{Text, first}
 use Rattle.string_interner.specs.StandsFor.{KeepsSymbols}
-use Rattle.string_interner.specs.Index.{Holds}
-use Rattle.string_interner.specs.Interner.{InternerContents, IsNew, Interns, InternsInto, GrowsFor}
+use Rattle.string_interner.specs.SlotRule.{SlotRule, GrowsFor}
+use Rattle.string_interner.specs.Interner.{InternerContents, IsNew, Interns, InternsInto}
 use Rattle.string_interner.specs.declared.backend.InternError.{InternError}
 use Rattle.string_interner.specs.declared.backend.InternError.TheVariants.{NoSymbol, Memory}
 
@@ -40,11 +40,6 @@ module _ {S : Type 0} (symbol_of : ℕ → Option S) (place : List Text → ℕ)
       × (texts ≡ front ++ refused ∷ rest) × InternsAll old front new × Interns symbol_of place new refused (Err error) new
 
   module _ (cost : Text → ℕ) where
-    -- Those of the texts that are fresh fit the spare capacity of the backend and of the index.
-    pub record HasRoomFor (interner : InternerContents) (texts : List Text) : Type 0 where
-      pub backend : sum_by cost (fresh interner.texts texts) ≤ interner.room
-      pub index : Holds interner.slot_count (length interner.texts + length (fresh interner.texts texts))
-
     -- The texts are interned, and each symbol stands for what it stood for. They take at most the cost of the fresh ones
     -- of the spare capacity, and if all are known nothing changes.
     pub record TakesIn (old : InternerContents) (texts : List Text) (new : InternerContents) : Type 0 where
@@ -53,23 +48,29 @@ module _ {S : Type 0} (symbol_of : ℕ → Option S) (place : List Text → ℕ)
       pub spent : old.room ≤ new.room + sum_by cost (fresh old.texts texts)
       pub known : fresh old.texts texts ≡ [] → new ≡ old
 
-    -- After these texts the next one fails as interning it does: for memory only if they and it do not fit the old
-    -- spare capacity.
-    pub record StopsAt (old : InternerContents) (texts : List Text) (mid : InternerContents) (refused : Text) (error : InternError) (new : InternerContents) : Type 0 where
-      pub refuses : InternsInto symbol_of place cost mid refused (Err error) new
-      pub beyond : IsMemory error → ¬ HasRoomFor old (texts ++ refused ∷ [])
+    module _ (rule : SlotRule) where
+      -- Those of the texts that are fresh fit the spare capacity of the backend and of the index.
+      pub record HasRoomFor (interner : InternerContents) (texts : List Text) : Type 0 where
+        pub backend : sum_by cost (fresh interner.texts texts) ≤ interner.room
+        pub index : rule.holds interner.slot_count (length interner.texts + length (fresh interner.texts texts))
 
-    -- Items that the iterator yields are interned, and the slots grow for them: all that it yields, or those before the
-    -- first that fails, after which it is not advanced.
-    abbrev pub Extends : {I W : Type 0} → (I → W → Type 0) → (W → Option (Bor Text) → W → Type 0) → I → InternerContents → Result (Unit {0}) InternError → InternerContents → Type 0
-    Extends {I} {W} becomes steps iter old outcome new =
-        (walk : W) × (items : List (Bor Text)) × (mid : InternerContents) × becomes iter walk × TakesIn old (texts_of items) mid
-        × GrowsFor (length mid.texts) old.slot_count mid.slot_count × MatchResult outcome
-        (λ _. Drains steps walk items × (new ≡ mid))
-        (λ error. (refused : Bor Text) × (rest : W) × YieldsThen steps walk items (Some refused) rest × StopsAt old (texts_of items) mid refused.now error new)
+      -- After these texts the next one fails as interning it does: for memory only if they and it do not fit the old
+      -- spare capacity.
+      pub record StopsAt (old : InternerContents) (texts : List Text) (mid : InternerContents) (refused : Text) (error : InternError) (new : InternerContents) : Type 0 where
+        pub refuses : InternsInto symbol_of place cost rule mid refused (Err error) new
+        pub beyond : IsMemory error → ¬ HasRoomFor old (texts ++ refused ∷ [])
 
-    -- An interner without texts and slots is extended by the items. If one fails, no interner is made.
-    abbrev pub Collects : {I W : Type 0} → (I → W → Type 0) → (W → Option (Bor Text) → W → Type 0) → I → Result InternerContents InternError → Type 0
-    Collects becomes steps iter outcome = (empty : InternerContents) × IsNew empty × MatchResult outcome
-        (λ made. Extends becomes steps iter empty (Ok tt) made)
-        (λ error. (front : InternerContents) × Extends becomes steps iter empty (Err error) front)
+      -- Items that the iterator yields are interned, and the slots grow for them: all that it yields, or those before the
+      -- first that fails, after which it is not advanced.
+      abbrev pub Extends : {I W : Type 0} → (I → W → Type 0) → (W → Option (Bor Text) → W → Type 0) → I → InternerContents → Result (Unit {0}) InternError → InternerContents → Type 0
+      Extends {I} {W} becomes steps iter old outcome new =
+          (walk : W) × (items : List (Bor Text)) × (mid : InternerContents) × becomes iter walk × TakesIn old (texts_of items) mid
+          × GrowsFor rule (length mid.texts) old.slot_count mid.slot_count × MatchResult outcome
+          (λ _. Drains steps walk items × (new ≡ mid))
+          (λ error. (refused : Bor Text) × (rest : W) × YieldsThen steps walk items (Some refused) rest × StopsAt old (texts_of items) mid refused.now error new)
+
+      -- An interner without texts and slots is extended by the items. If one fails, no interner is made.
+      abbrev pub Collects : {I W : Type 0} → (I → W → Type 0) → (W → Option (Bor Text) → W → Type 0) → I → Result InternerContents InternError → Type 0
+      Collects becomes steps iter outcome = (empty : InternerContents) × IsNew empty × MatchResult outcome
+          (λ made. Extends becomes steps iter empty (Ok tt) made)
+          (λ error. (front : InternerContents) × Extends becomes steps iter empty (Err error) front)

@@ -4,7 +4,8 @@ use Rattle.std.specs.Prelude.{◌≡◌, ℕ, ◌≤◌, ◌⊎◌, List, ◌++�
 use Rattle.std.specs.Borrow.{Bor}
 use Rattle.std.specs.Iterator.{Drains, YieldsThen}
 use Rattle.string_interner.specs.Text.{Text}
-use Rattle.string_interner.specs.Interner.{InternerContents, GrowsFor}
+use Rattle.string_interner.specs.SlotRule.{SlotRule, GrowsFor}
+use Rattle.string_interner.specs.Interner.{InternerContents}
 use Rattle.string_interner.specs.StandsFor.{StandInOrder}
 use Rattle.string_interner.specs.Collect.{texts_of, IsMemory, TakesIn, StopsAt}
 use Rattle.string_interner.specs.declared.backend.InternError.{InternError}
@@ -16,11 +17,11 @@ pub record IsFull {S : Type 0} (capacity : ℕ) (symbols : List S) (mid : Intern
   pub full : capacity ≤ length symbols
   pub same : new ≡ mid
 
-module _ {S : Type 0} (symbol_of : ℕ → Option S) (place : List Text → ℕ) (cost : Text → ℕ) where
+module _ {S : Type 0} (symbol_of : ℕ → Option S) (place : List Text → ℕ) (cost : Text → ℕ) (rule : SlotRule) where
   -- The texts are interned, and a symbol that stands for each is appended to a list, in their order.
   pub record Encodes (old : InternerContents) (symbols : List S) (texts : List Text) (new : InternerContents) (longer : List S) : Type 0 where
     pub taken : TakesIn symbol_of place cost old texts new
-    pub grown : GrowsFor (length new.texts) old.slot_count new.slot_count
+    pub grown : GrowsFor rule (length new.texts) old.slot_count new.slot_count
     pub added : List S
     pub stand : StandInOrder symbol_of place new.texts added texts
     pub appended : longer ≡ symbols ++ added
@@ -33,4 +34,4 @@ module _ {S : Type 0} (symbol_of : ℕ → Option S) (place : List Text → ℕ)
       × Encodes old symbols (texts_of items) mid longer × MatchResult outcome
       (λ _. Drains steps walk items × (new ≡ mid))
       (λ error. (refused : Bor Text) × (rest : W) × YieldsThen steps walk items (Some refused) rest
-      × (StopsAt symbol_of place cost old (texts_of items) mid refused.now error new ⊎ IsFull capacity longer mid error new))
+      × (StopsAt symbol_of place cost rule old (texts_of items) mid refused.now error new ⊎ IsFull capacity longer mid error new))

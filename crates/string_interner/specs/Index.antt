@@ -1,4 +1,4 @@
--- What holds of every index: the map from text to symbol that its slots hold, when it fits a backend's entries and a
+-- What holds of every `Index`: the map from text to symbol that its slots hold, when it fits a backend's entries and a
 -- hasher, and how its slots grow.
 -- Cited by `Index` and by all that stands on it. Below, `entry` gives the text of the entry that has a symbol, if one
 -- has, and `code` the code of a text under a hasher.
@@ -6,6 +6,7 @@ use Rattle.std.specs.Prelude.{◌≡◌, ℕ, ◌+◌, ◌*◌, ◌^◌, ◌<◌
 use Rattle.std.specs.Option.{option_map_or}
 use Rattle.std.specs.Str.{bytes_eq}
 use Rattle.string_interner.specs.Text.{Text}
+use Rattle.string_interner.specs.SlotRule.{SlotRule}
 use Rattle.string_interner.specs.Slots.{LooksContents, IsFilledRun, symbols, filled_run, probed, first_passing}
 
 -- what contracts see of an index
@@ -32,16 +33,13 @@ HasRoom index = Holds (length index.slots) (entry_count index + 1)
 abbrev pub IsSlotCount : ℕ → Type 0
 IsSlotCount n = (n ≡ 0) ⊎ ((k : ℕ) × (n ≡ 8 * 2 ^ k))
 
--- an allowed slot count, within the load factor
-pub record IsLoaded (slots entries : ℕ) : Type 0 where
-  pub allowed : IsSlotCount slots
-  pub load : Holds slots entries
+-- what a slot count grows to: 8 from none, or twice as many
+abbrev pub GrowsTo : ℕ → ℕ → Type 0
+GrowsTo count more = ((count ≡ 0) × (more ≡ 8)) ⊎ ((0 < count) × (more ≡ 2 * count))
 
--- the least slot count that the load factor allows for so many entries
-pub record IsLeastSlotCount (capacity n : ℕ) : Type 0 where
-  pub allowed : IsSlotCount n
-  pub room : Holds n capacity
-  pub least : (m : ℕ) → IsSlotCount m → Holds m capacity → n ≤ m
+-- the rule of these three
+abbrev pub three_quarters : SlotRule
+three_quarters = record { allowed = IsSlotCount; holds = Holds; grows_to = GrowsTo }
 
 -- what holds of every index
 pub record IsBounded {S : Type 0} (index : IndexContents S) : Type 0 where
@@ -133,10 +131,6 @@ FitsAll {S} slots = (entry : S → Option Text) (code : Text → ℕ) → Fits e
 abbrev pub InsertsByCode : {S : Type 0} → ℕ → IndexContents S → IndexContents S → S → Type 0
 InsertsByCode {S} known_code old new symbol = (entry : S → Option Text) (code : Text → ℕ) → Fits entry code old.slots → IsAbsent entry old.slots symbol
     → known_code ≡ code (text_of entry symbol) → Inserts entry code old new symbol
-
--- what a slot count grows to: 8 from none, or twice as many
-abbrev pub GrowsTo : ℕ → ℕ → Type 0
-GrowsTo count more = ((count ≡ 0) × (more ≡ 8)) ⊎ ((0 < count) × (more ≡ 2 * count))
 
 -- the slots grow, and all symbols are rehashed
 pub record Grows {S : Type 0} (old new : IndexContents S) : Type 0 where

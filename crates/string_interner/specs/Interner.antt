@@ -1,12 +1,11 @@
 -- What holds of every interner: a list of distinct texts, each with its symbol, and interning a text.
 -- Cited by `StringInterner` and by all that stands on it.
-use Rattle.std.specs.Prelude.{◌≡◌, ℕ, ◌+◌, ◌^◌, ◌<◌, ◌≤◌, ◌↔◌, ◌⊎◌, List, [], length, take, Option, Some, IsSome, MatchOption, IfOk, IsOkAnd, IsErrOf, OnErr, Result, option_and_then}
+use Rattle.std.specs.Prelude.{◌≡◌, ℕ, ◌+◌, ◌^◌, ◌<◌, ◌≤◌, ◌↔◌, List, [], length, take, Option, Some, IsSome, MatchOption, IfOk, IsOkAnd, IsErrOf, OnErr, Result, option_and_then}
 use Rattle.string_interner.specs.Text.{Text, IsDistinct, first}
 use Rattle.string_interner.specs.Backend.{Bucket, IsKept, Appends, UsesRoom}
 use Rattle.string_interner.specs.Entry.{entry_text}
 use Rattle.string_interner.specs.StandsFor.{StandsFor, KeepsSymbols, FindsSymbol}
-use Rattle.string_interner.specs.Slots.{symbols}
-use Rattle.string_interner.specs.Index.{GrowsTo, Holds, IsLeastSlotCount, IsWhole}
+use Rattle.string_interner.specs.SlotRule.{SlotRule, IsLeastSlotCount, GrowsIfFull}
 use Rattle.string_interner.specs.declared.backend.InternError.{InternError}
 use Rattle.string_interner.specs.declared.backend.InternError.TheVariants.{NoSymbol}
 
@@ -26,31 +25,19 @@ pub record IsNew (interner : InternerContents) : Type 0 where
   pub slots : interner.slot_count ≡ 0
 
 -- a new interner made with a capacity, for which its backend grants this spare capacity
-pub record IsMadeFor (capacity grant : ℕ) (interner : InternerContents) : Type 0 where
+pub record IsMadeFor (rule : SlotRule) (capacity grant : ℕ) (interner : InternerContents) : Type 0 where
   pub texts : interner.texts ≡ []
   pub room : grant ≤ interner.room
-  pub slots : IsLeastSlotCount capacity interner.slot_count
+  pub slots : IsLeastSlotCount rule capacity interner.slot_count
   -- no size beyond a `usize` was asked for
   pub grant_fits : grant < 2 ^ 64
-  pub slots_fit : Holds (2 ^ 63) capacity
+  pub slots_fit : rule.holds (2 ^ 63) capacity
 
 -- no memory is released: buckets and slot count are unchanged, and there is no less spare capacity
 pub record KeepsMemory (old new : InternerContents) : Type 0 where
   pub buckets : new.buckets ≡ old.buckets
   pub room : old.room ≤ new.room
   pub slots : new.slot_count ≡ old.slot_count
-
--- Slot count after interning into a list of `len`: unchanged if the load factor allows one more entry, else unchanged
--- or grown once.
-pub record GrowsIfFull (len old new : ℕ) : Type 0 where
-  pub allowed : Holds old (len + 1) → new ≡ old
-  pub grown : (new ≡ old) ⊎ GrowsTo old new
-
--- Slot count of a list that grew to `len`: unchanged if the load factor allows so many entries, else the least that it
--- allows.
-pub record GrowsFor (len old new : ℕ) : Type 0 where
-  pub allowed : Holds old len → new ≡ old
-  pub least : ¬ Holds old len → IsLeastSlotCount len new
 
 module _ {S : Type 0} (symbol_of : ℕ → Option S) (place : List Text → ℕ) where
   -- the symbol of the entry `i`
@@ -84,8 +71,8 @@ module _ {S : Type 0} (symbol_of : ℕ → Option S) (place : List Text → ℕ)
       (Appends symbol_of place old text outcome new)
       (λ i. IsOkAnd outcome (λ symbol. entry_symbol old i ≡ Some symbol) × (new ≡ old))
 
-  -- The same of an interner, where a text has this cost.
-  pub record InternsInto (cost : Text → ℕ) (old : InternerContents) (text : Text) (outcome : Result S InternError) (new : InternerContents) : Type 0 where
+  -- The same of an interner, where a text has this cost and the index counts its slots by this rule.
+  pub record InternsInto (cost : Text → ℕ) (rule : SlotRule) (old : InternerContents) (text : Text) (outcome : Result S InternError) (new : InternerContents) : Type 0 where
     pub interns : Interns old.texts text outcome new.texts
     pub texts : AreInterned new.texts
     -- the symbol stands for the text, and each symbol for what it stood for, on `Err` too
@@ -97,12 +84,13 @@ module _ {S : Type 0} (symbol_of : ℕ → Option S) (place : List Text → ℕ)
     -- on `Err` the buckets are unchanged
     pub buckets : OnErr outcome (new.buckets ≡ old.buckets)
     -- within the spare capacity of the backend and of the index it does not fail for memory
-    pub room : UsesRoom (IsSome (symbol_of (place old.texts)) × Holds old.slot_count (length old.texts + 1)) (cost text) old.room new.room outcome
-    pub slots : GrowsIfFull (length old.texts) old.slot_count new.slot_count
+    pub room : UsesRoom (IsSome (symbol_of (place old.texts)) × rule.holds old.slot_count (length old.texts + 1)) (cost text) old.room new.room outcome
+    pub slots : GrowsIfFull rule (length old.texts) old.slot_count new.slot_count
 
-  -- the invariant of an interner: distinct texts that its backend may have, and an index that maps each to its symbol
-  pub record IsInterned (number : S → ℕ) (code : Text → ℕ) (texts : List Text) (slots : List (Option S)) : Type 0 where
+  -- The invariant of an interner: distinct texts that its backend may have, and an index of so many entries, which are
+  -- these texts with their symbols.
+  pub record IsInterned (number : S → ℕ) (indexes : (S → Option Text) → Type 0) (entries : ℕ) (texts : List Text) : Type 0 where
     pub distinct : IsDistinct texts
     pub kept : IsKept symbol_of place texts
-    pub whole : IsWhole (entry_text number place texts) code slots
-    pub count : length (symbols slots) ≡ length texts
+    pub whole : indexes (entry_text number place texts)
+    pub count : entries ≡ length texts

@@ -14,8 +14,13 @@ pub mod StandsFor
 pub mod Given
 pub mod Hasher
 pub mod Slots
+pub mod SlotRule
 pub mod Index
+pub mod IndexLaws
 pub mod Probe
+pub mod TextIndex
+pub mod Window
+pub mod WindowLaws
 pub mod Interner
 pub mod Collect
 pub mod Encode

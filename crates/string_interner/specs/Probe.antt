@@ -1,11 +1,9 @@
 -- What the steps of the index do to its slots.
 -- Cited by the functions of `dedup` that stay within the crate, and by the clause `vacant` of `Index::reserve_one`.
-use Rattle.std.specs.Prelude.{◌≡◌, ℕ, ◌<◌, ◌≤◌, ◌%◌, ◌+◌, ◌⊎◌, List, length, slice_index_or, slice_set, Contains, Option, Some, None, ⊤}
+use Rattle.std.specs.Prelude.{◌≡◌, ℕ, ◌<◌, ◌≤◌, ◌%◌, ◌+◌, ◌⊎◌, List, length, slice_index_or, slice_set, Contains, Option, Some, None}
 use Rattle.string_interner.specs.Text.{Text}
 use Rattle.string_interner.specs.Slots.{symbols, filled_run, probed}
 use Rattle.string_interner.specs.Index.{Fits, IsSlotCount}
-use Rattle.string_interner.specs.declared.dedup.probe.Entry.{Entry}
-use Rattle.string_interner.specs.declared.dedup.probe.Entry.TheVariants.{Occupied, Vacant}
 use Rattle.string_interner.specs.declared.dedup.probe.Vacancy.{Vacancy}
 
 -- the slot count is allowed, and a slot is empty
@@ -36,16 +34,6 @@ pub record IsVacant {S : Type 0} (slots : List (Option S)) (code : ℕ) (vacancy
   pub code_is : vacancy.code ≡ code
   pub before : vacancy.slot_count ≤ length slots
   pub free : vacancy.slot_count ≡ length slots → 0 < length slots → IsFree slots (code % length slots) vacancy.at
-
--- what a look-up found
-abbrev pub found_by : {S : Type 0} → Entry S → Option S
-found_by (Occupied symbol) = Some symbol
-found_by (Vacant _) = None
-
--- what holds of the vacancy, if nothing was found
-abbrev pub IfVacant : {S : Type 0} → Entry S → (Vacancy → Type 0) → Type 0
-IfVacant (Occupied _) P = ⊤
-IfVacant (Vacant vacancy) P = P vacancy
 
 -- the new slots have the same symbols, and fit
 pub record Rebuilt {S : Type 0} (entry : S → Option Text) (code : Text → ℕ) (old new : List (Option S)) : Type 0 where

@@ -1,28 +1,34 @@
-//! Looks up the symbol of a text: hashers, and the hash index of a backend's entries.
+//! Looks up the symbol of a text: hashers, what an interner asks of an index, and two hash indexes of a backend's
+//! entries.
 
 mod count;
 mod growing;
 mod hasher;
 mod probe;
 mod slots;
+mod text_index;
+mod window;
 
-ghost use Rattle.std.specs.Prelude.{◌≡◌, ℕ, ◌^◌, length, [], IsTrue, IsOk, IfOk, OnOk, OnErr, ◌↔◌};
+ghost use Rattle.std.specs.Prelude.{◌≡◌, ℕ, ◌+◌, ◌^◌, length, [], IsTrue, IsOk, IfOk, OnOk, OnErr, ◌↔◌};
 ghost use Rattle.string_interner.specs.Text.{IsDistinct};
 ghost use Rattle.string_interner.specs.Entry.{entry_text};
 ghost use Rattle.string_interner.specs.Slots.{symbols};
-ghost use Rattle.string_interner.specs.Index.{entry_count, CountsLooks, Fits, FitsAll, Grows, GrowsTo, HasRoom, Holds, Inserts, InsertsByCode, IsAbsent, IsBounded, IsLeastSlotCount, Refills, SameMap, look_up};
-ghost use Rattle.string_interner.specs.Probe.{IfVacant, IsVacant, found_by};
+ghost use Rattle.string_interner.specs.Index.{entry_count, CountsLooks, Fits, FitsAll, Grows, GrowsTo, HasRoom, Holds, Inserts, InsertsByCode, IsAbsent, IsBounded, Refills, SameMap, look_up, three_quarters};
+ghost use Rattle.string_interner.specs.SlotRule.{IsLeastSlotCount};
+ghost use Rattle.string_interner.specs.Probe.{IsVacant};
+ghost use Rattle.string_interner.specs.TextIndex.{IfVacant, found_by};
 
 use crate::backend::Backend;
 use crate::symbol::Symbol;
 use growing::{least_slot_count, next_slot_count, put_all, rehash};
 pub use hasher::{DefaultHashBuilder, FixedState, FoldState, StdHasher, TextHasher};
-pub(crate) use probe::Entry;
 use probe::{Vacancy, occupy, probe};
 pub use slots::Looks;
 use slots::Slots;
 use std::alloc::{AllocError, Global};
 use std::marker::Model;
+pub use text_index::{Entry, TextIndex};
+pub use window::WindowIndex;
 
 /// A hash index of the entries of a backend: it finds the symbol of a text.
 ///
@@ -52,7 +58,7 @@ impl<S: Symbol> Model for Index<S> {
     ghost invariant = { λ i. IsSound (record { slots = i.slots; put_back = i.put_back; greatest = i.greatest }) i.len };
 }
 
-// What an interner asks of its index: a look-up, room for one more entry, the insertion, and all entries at once.
+// What `TextIndex` asks for: a look-up, room for one more entry, the insertion, and all entries at once.
 impl<S: Symbol> Index<S> {
     /// Makes an index without slots. Takes no memory.
     pub fn new(alloc: Global) -> Self
@@ -76,7 +82,7 @@ impl<S: Symbol> Index<S> {
     ///
     /// Returns `Err` only if an allocation fails or that count does not fit a `usize`.
     pub fn with_capacity(alloc: Global, capacity: usize) -> Result<Self, AllocError>
-        ensures slots { IfOk result (λ index. IsLeastSlotCount capacity (length index.slots)) }
+        ensures slots { IfOk result (λ index. IsLeastSlotCount three_quarters capacity (length index.slots)) }
         ensures count { IfOk result (λ index. entry_count index ≡ 0) }
         ensures put_back { IfOk result (λ index. index.put_back ≡ 0) }
         ensures greatest { IfOk result (λ index. index.greatest ≡ 0) }
@@ -114,7 +120,7 @@ impl<S: Symbol> Index<S> {
         hasher: &H,
         looks: &mut Looks<'_, B>,
         text: &str,
-    ) -> Entry<S>
+    ) -> Entry<S, Vacancy>
         requires { Fits (entry_text S.number B.place (B.texts looks.old.backend)) (H.code hasher.now) self.now.slots }
         ensures found { found_by result
             ≡ look_up (entry_text S.number B.place (B.texts looks.old.backend)) self.now.slots text.now }
@@ -186,7 +192,9 @@ impl<S: Symbol> Index<S> {
     pub(crate) fn insert_at(&mut self, vacancy: Vacancy, symbol: S)
         requires room { HasRoom self.old }
         requires vacant { IsVacant self.old.slots vacancy.code vacancy }
-        ensures { InsertsByCode vacancy.code self.old self.new symbol }
+        ensures inserts { InsertsByCode vacancy.code self.old self.new symbol }
+        ensures count { entry_count self.new ≡ entry_count self.old + 1 }
+        ensures slots { length self.new.slots ≡ length self.old.slots }
     {
         occupy(&mut self.slots, vacancy, symbol);
         self.len += 1;

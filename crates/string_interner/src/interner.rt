@@ -13,10 +13,10 @@ ghost use Rattle.string_interner.specs.Backend.{BeginsAt, IsPlace};
 ghost use Rattle.string_interner.specs.Interner.{AreInterned, Finds, InternerContents, InternsInto, IsMadeFor, IsNew, KeepsMemory, Resolves};
 ghost use Rattle.string_interner.specs.StandsFor.{KeepsSymbols};
 ghost use Rattle.string_interner.specs.Given.{given_text};
-ghost use Rattle.string_interner.specs.Index.{IsLoaded, IsLeastSlotCount};
+ghost use Rattle.string_interner.specs.SlotRule.{IsLoaded, IsLeastSlotCount};
 
 use crate::backend::{Backend, CopyBackend, InternError, Iter};
-use crate::dedup::{DefaultHashBuilder, Entry, Index, Looks, TextHasher};
+use crate::dedup::{DefaultHashBuilder, Entry, Index, TextHasher, TextIndex};
 use crate::symbol::Symbol;
 use given::Given;
 use std::alloc::{AllocError, Global};
@@ -24,7 +24,8 @@ use std::marker::Model;
 
 /// A list of distinct texts over a backend, each found by its text and by its symbol.
 ///
-/// Texts are looked up in a hash index of the entries, which is correct under every hasher.
+/// Texts are looked up in an index of the entries, which is correct under every hasher. The last type parameter chooses
+/// it; slots are counted by its rule.
 ///
 /// ```
 /// let mut names = <DefaultStringInterner>::new(alloc);
@@ -34,15 +35,18 @@ use std::marker::Model;
 /// let unknown = names.get("height"); // None
 /// ```
 #[derive(Drop)]
-pub struct StringInterner<B: Backend, H: TextHasher = DefaultHashBuilder> {
+pub struct StringInterner<
+    B: Backend,
+    H: TextHasher = DefaultHashBuilder,
+    I: TextIndex<B::Symbol> = Index<<B as Backend>::Symbol>,
+> {
     backend: B,
     hasher: H,
-    index: Index<B::Symbol>,
+    index: I,
 }
 
 /// Contracts see the texts, the buckets and the room of the backend, and the count of slots.
-impl<B: Backend, H: TextHasher> Model for StringInterner<B, H> {
-    ghost use Rattle.std.specs.Prelude.{length};
+impl<B: Backend, H: TextHasher, I: TextIndex<B::Symbol>> Model for StringInterner<B, H, I> {
     ghost use Rattle.string_interner.specs.Interner.{InternerContents, IsInterned};
 
     ghost Value = { InternerContents };
@@ -51,14 +55,14 @@ impl<B: Backend, H: TextHasher> Model for StringInterner<B, H> {
       texts = B.texts i.backend;
       buckets = B.buckets i.backend;
       room = B.room i.backend;
-      slot_count = length i.index.slots;
+      slot_count = I.slots i.index;
     } };
 
-    ghost invariant = { λ i. IsInterned B.Symbol.symbol_of B.place B.Symbol.number (H.code i.hasher)
-        (B.texts i.backend) i.index.slots };
+    ghost invariant = { λ i. IsInterned B.Symbol.symbol_of B.place B.Symbol.number
+        (λ entry. I.indexes i.index entry (H.code i.hasher)) (I.entries i.index) (B.texts i.backend) };
 }
 
-impl<B: Backend, H: TextHasher + Default> StringInterner<B, H> {
+impl<B: Backend, H: TextHasher + Default, I: TextIndex<B::Symbol>> StringInterner<B, H, I> {
     /// Makes an empty interner without spare capacity, under the hasher's default. Takes no memory.
     pub fn new(alloc: Global) -> Self
         ensures { IsNew result }
@@ -67,18 +71,22 @@ impl<B: Backend, H: TextHasher + Default> StringInterner<B, H> {
     }
 }
 
-impl<B: Backend, H: TextHasher + Default + Drop> StringInterner<B, H> {
+impl<B: Backend, H: TextHasher + Default + Drop, I: TextIndex<B::Symbol> + Drop> StringInterner<
+    B,
+    H,
+    I,
+> {
     /// Makes an empty interner, under the hasher's default, whose backend and index have room for `capacity` texts.
     ///
     /// Returns `Err` if a size does not fit a `usize`, and else only if an allocation fails.
     pub fn with_capacity(alloc: Global, capacity: usize) -> Result<Self, AllocError>
-        ensures { IfOk result (IsMadeFor capacity (B.grant capacity)) }
+        ensures { IfOk result (IsMadeFor I.rule capacity (B.grant capacity)) }
     {
         StringInterner::with_capacity_and_hasher(alloc, capacity, H::default())
     }
 }
 
-impl<B: Backend, H: TextHasher + Drop> StringInterner<B, H> {
+impl<B: Backend, H: TextHasher + Drop, I: TextIndex<B::Symbol> + Drop> StringInterner<B, H, I> {
     /// Makes an empty interner, under this hasher, whose backend and index have room for `capacity` texts.
     ///
     /// Returns `Err` if a size does not fit a `usize`, and else only if an allocation fails.
@@ -87,9 +95,9 @@ impl<B: Backend, H: TextHasher + Drop> StringInterner<B, H> {
         capacity: usize,
         hasher: H,
     ) -> Result<Self, AllocError>
-        ensures { IfOk result (IsMadeFor capacity (B.grant capacity)) }
+        ensures { IfOk result (IsMadeFor I.rule capacity (B.grant capacity)) }
     {
-        let index = Index::with_capacity(alloc, capacity)?;
+        let index = I::with_capacity(alloc, capacity)?;
         let backend = B::with_capacity(alloc, capacity)?;
         Ok(StringInterner {
             backend,
@@ -99,7 +107,7 @@ impl<B: Backend, H: TextHasher + Drop> StringInterner<B, H> {
     }
 }
 
-impl<B: Backend, H: TextHasher> StringInterner<B, H> {
+impl<B: Backend, H: TextHasher, I: TextIndex<B::Symbol>> StringInterner<B, H, I> {
     /// Makes an empty interner without spare capacity, under this hasher. Takes no memory.
     pub fn with_hasher(alloc: Global, hasher: H) -> Self
         ensures { IsNew result }
@@ -107,7 +115,7 @@ impl<B: Backend, H: TextHasher> StringInterner<B, H> {
         StringInterner {
             backend: B::new(alloc),
             hasher,
-            index: Index::new(alloc),
+            index: I::new(alloc),
         }
     }
 
@@ -117,7 +125,7 @@ impl<B: Backend, H: TextHasher> StringInterner<B, H> {
 
         // What holds of every interner.
         ensures texts { AreInterned B.Symbol.symbol_of B.place self.now.texts }
-        ensures loaded { IsLoaded self.now.slot_count (length self.now.texts) }
+        ensures loaded { IsLoaded I.rule self.now.slot_count (length self.now.texts) }
     {
         self.index.len()
     }
@@ -133,8 +141,10 @@ impl<B: Backend, H: TextHasher> StringInterner<B, H> {
     pub fn get(&self, text: &str) -> Option<B::Symbol>
         ensures { Finds B.Symbol.symbol_of B.place self.now.texts text.now result }
     {
-        self.index
-            .find(&self.hasher, &mut Looks::new(&self.backend), text)
+        match self.index.entry(&self.hasher, &self.backend, text) {
+            Entry::Occupied(symbol) => Some(symbol),
+            Entry::Vacant(_vacancy) => None,
+        }
     }
 
     /// Reports whether a text is known. Allocates nothing.
@@ -159,7 +169,7 @@ impl<B: Backend, H: TextHasher> StringInterner<B, H> {
     /// fit a `usize`. On `Err` texts and buckets are unchanged. The index grows at most once, and not if the load
     /// factor allows one more entry.
     pub fn get_or_intern(&mut self, text: &str) -> Result<B::Symbol, InternError>
-        ensures { InternsInto B.Symbol.symbol_of B.place B.cost self.old text.now result self.new }
+        ensures { InternsInto B.Symbol.symbol_of B.place B.cost I.rule self.old text.now result self.new }
     {
         self.intern_given(Given::Copied(text))
     }
@@ -167,7 +177,7 @@ impl<B: Backend, H: TextHasher> StringInterner<B, H> {
     /// Returns the symbol of a text, as `get_or_intern` does. A new text is appended by the backend's `intern_static`,
     /// which may store the reference instead of a copy.
     pub fn get_or_intern_static(&mut self, text: &'static str) -> Result<B::Symbol, InternError>
-        ensures { InternsInto B.Symbol.symbol_of B.place B.cost self.old text.now result self.new }
+        ensures { InternsInto B.Symbol.symbol_of B.place B.cost I.rule self.old text.now result self.new }
     {
         self.intern_given(Given::Static(text))
     }
@@ -175,10 +185,9 @@ impl<B: Backend, H: TextHasher> StringInterner<B, H> {
     /// Returns the symbol of a text, and appends the text if it is new.
     #[inline(always)]
     fn intern_given(&mut self, given: Given<'_>) -> Result<B::Symbol, InternError>
-        ensures { InternsInto B.Symbol.symbol_of B.place B.cost self.old (given_text given.entry) result self.new }
+        ensures { InternsInto B.Symbol.symbol_of B.place B.cost I.rule self.old (given_text given.entry) result self.new }
     {
-        let mut looks = Looks::new(&self.backend);
-        let vacancy = match self.index.entry(&self.hasher, &mut looks, given.text()) {
+        let vacancy = match self.index.entry(&self.hasher, &self.backend, given.text()) {
             Entry::Occupied(symbol) => return Ok(symbol),
             Entry::Vacant(vacancy) => vacancy,
         };
@@ -246,11 +255,16 @@ impl<B: Backend, H: TextHasher> StringInterner<B, H> {
     }
 }
 
-impl<B: Backend + Drop, H: TextHasher + Drop> StringInterner<B, H> {
+impl<B: Backend + Drop, H: TextHasher + Drop, I: TextIndex<B::Symbol> + Drop> StringInterner<
+    B,
+    H,
+    I,
+> {
     /// Returns the backend, with all texts and their symbols, and drops the index and the hasher. This is for a program
     /// that has interned its last text, and from then on resolves symbols.
     ///
-    /// Releases the memory of the slots: for each slot the size of an `Option<B::Symbol>`. Allocates nothing.
+    /// Releases the memory of the slots: with `Index`, for each slot the size of an `Option<B::Symbol>`. Allocates
+    /// nothing.
     pub fn into_backend(self) -> B
         ensures texts { B.texts result ≡ self.texts }
         ensures buckets { B.buckets result ≡ self.buckets }
@@ -261,7 +275,11 @@ impl<B: Backend + Drop, H: TextHasher + Drop> StringInterner<B, H> {
     }
 }
 
-impl<B: CopyBackend + Drop, H: TextHasher + Clone + Drop> StringInterner<B, H> {
+impl<
+    B: CopyBackend + Drop,
+    H: TextHasher + Clone + Drop,
+    I: TextIndex<B::Symbol> + Drop,
+> StringInterner<B, H, I> {
     /// Makes an interner with an equal list, and so with the same symbols. Its index is made anew under the clone's own
     /// hasher, whatever codes that gives, with the least slots for its texts. Its buckets are those of a copy of the
     /// backend, where static texts stay references.
@@ -270,11 +288,11 @@ impl<B: CopyBackend + Drop, H: TextHasher + Clone + Drop> StringInterner<B, H> {
     pub fn clone(&self) -> Result<Self, AllocError>
         ensures texts { IfOk result (λ copy. copy.texts ≡ self.now.texts) }
         ensures buckets { IfOk result (λ copy. B.copies self.now.texts self.now.buckets copy.buckets) }
-        ensures slots { IfOk result (λ copy. IsLeastSlotCount (length self.now.texts) copy.slot_count) }
+        ensures slots { IfOk result (λ copy. IsLeastSlotCount I.rule (length self.now.texts) copy.slot_count) }
         ensures keeps { IfOk result (λ copy. KeepsSymbols B.Symbol.symbol_of B.place self.now.texts copy.texts) }
     {
         let hasher = self.hasher.clone()?;
-        let mut index = Index::with_capacity(self.index.allocator(), self.len())?;
+        let mut index = I::with_capacity(self.index.allocator(), self.len())?;
         let backend = self.backend.try_copy()?;
         index.refill(&hasher, &backend);
         Ok(StringInterner {
@@ -285,7 +303,8 @@ impl<B: CopyBackend + Drop, H: TextHasher + Clone + Drop> StringInterner<B, H> {
     }
 }
 
-impl<'a, B: Backend, H: TextHasher> IntoIterator for &'a StringInterner<B, H> {
+impl<'a, B: Backend, H: TextHasher, I: TextIndex<B::Symbol>> IntoIterator
+    for &'a StringInterner<B, H, I> {
     type Item = (B::Symbol, &'a str);
 
     type IntoIter = Iter<'a, B>;
@@ -308,7 +327,7 @@ fn next_is<B: Backend>(walk: &mut Iter<'_, B>, text: &str) -> bool
 }
 
 /// Equal exactly if the lists of texts are, whatever the spare capacities and hashers.
-impl<B: Backend, H: TextHasher> PartialEq for StringInterner<B, H> {
+impl<B: Backend, H: TextHasher, I: TextIndex<B::Symbol>> PartialEq for StringInterner<B, H, I> {
     ghost eq = { λ a b. texts_eq a.texts b.texts };
 
     ghost laws = { partial_equiv_from_equiv (on_equiv (λ (i : InternerContents). i.texts) texts_eq-IsEquivalence) };
@@ -327,6 +346,6 @@ impl<B: Backend, H: TextHasher> PartialEq for StringInterner<B, H> {
     }
 }
 
-impl<B: Backend, H: TextHasher> Eq for StringInterner<B, H> {
+impl<B: Backend, H: TextHasher, I: TextIndex<B::Symbol>> Eq for StringInterner<B, H, I> {
     ghost laws = { on_equiv (λ (i : InternerContents). i.texts) texts_eq-IsEquivalence };
 }

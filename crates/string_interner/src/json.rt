@@ -2,11 +2,11 @@
 
 ghost use Rattle.std.specs.Prelude.{◌≡◌, length, Ok, IfOk, IsOkAnd};
 ghost use Rattle.serde_json.specs.View.{view};
-ghost use Rattle.string_interner.specs.Index.{IsLeastSlotCount};
+ghost use Rattle.string_interner.specs.SlotRule.{IsLeastSlotCount};
 ghost use Rattle.string_interner.specs.Json.{json_of_texts, json_of_number, refused, ReadsArray, ReadsArrayExactly, ReadsBack, symbol_read};
 
 use crate::backend::{Backend, InternError};
-use crate::dedup::TextHasher;
+use crate::dedup::{TextHasher, TextIndex};
 use crate::interner::StringInterner;
 use crate::symbol::Symbol;
 use serde_json::Value;
@@ -48,7 +48,7 @@ impl From<InternError> for JsonError {
     }
 }
 
-impl<B: Backend, H: TextHasher> StringInterner<B, H> {
+impl<B: Backend, H: TextHasher, I: TextIndex<B::Symbol>> StringInterner<B, H, I> {
     /// Returns the array of the texts in insertion order, each a JSON string.
     ///
     /// Returns `Err` only if an allocation fails.
@@ -63,7 +63,11 @@ impl<B: Backend, H: TextHasher> StringInterner<B, H> {
     }
 }
 
-impl<B: Backend + Drop, H: TextHasher + Default + Drop> StringInterner<B, H> {
+impl<
+    B: Backend + Drop,
+    H: TextHasher + Default + Drop,
+    I: TextIndex<B::Symbol> + Drop,
+> StringInterner<B, H, I> {
     /// Makes an interner from a JSON array of strings, under the hasher's default.
     ///
     /// It interns the elements in order, so a repeat adds no text: `["a", "b", "a"]` gives the texts a and b. The index
@@ -73,7 +77,7 @@ impl<B: Backend + Drop, H: TextHasher + Default + Drop> StringInterner<B, H> {
     /// `NotAText` if it is not a string, and fails as in `get_or_intern` if it is.
     pub fn from_json(alloc: Global, value: &Value) -> Result<Self, JsonError>
         ensures reads { ReadsArray B.Symbol.symbol_of B.place (view value.now) result }
-        ensures slots { IfOk result (λ interner. IsLeastSlotCount (length interner.texts) interner.slot_count) }
+        ensures slots { IfOk result (λ interner. IsLeastSlotCount I.rule (length interner.texts) interner.slot_count) }
 
         // What `to_json` wrote is read back.
         ensures gives_back { ReadsBack B.Symbol.symbol_of B.place (view value.now) result }
@@ -97,7 +101,7 @@ impl<B: Backend + Drop, H: TextHasher + Default + Drop> StringInterner<B, H> {
     pub fn from_json_exact(alloc: Global, value: &Value) -> Result<Self, JsonError>
         ensures reads { ReadsArrayExactly B.Symbol.symbol_of B.place (view value.now) result }
         ensures form { IfOk result (λ interner. view value.now ≡ json_of_texts interner.texts) }
-        ensures slots { IfOk result (λ interner. IsLeastSlotCount (length interner.texts) interner.slot_count) }
+        ensures slots { IfOk result (λ interner. IsLeastSlotCount I.rule (length interner.texts) interner.slot_count) }
 
         // What `to_json` wrote is read back.
         ensures gives_back { ReadsBack B.Symbol.symbol_of B.place (view value.now) result }

@@ -13,10 +13,23 @@ pub mod run;
 pub mod scope;
 pub mod symbol;
 
+use backend::Backend;
 pub use backend::DefaultBackend;
 pub use dedup::DefaultHashBuilder;
+use dedup::{FoldState, WindowIndex};
 pub use interner::StringInterner;
 pub use symbol::{DefaultSymbol, Symbol};
 
 /// An interner over the default backend, under the default hasher.
 pub type DefaultStringInterner<B = DefaultBackend, H = DefaultHashBuilder> = StringInterner<B, H>;
+
+/// An interner for speed: the default backend, with an index that compares tags before it compares texts, under a hasher
+/// that reads 16 bytes at a time.
+///
+/// Its codes are the same in each run. Where texts come from someone who may choose them, take
+/// `StringInterner<B, StdHasher<RandomState>, WindowIndex<S>>`, where `S` is the symbol type.
+pub type FastStringInterner<B = DefaultBackend> = StringInterner<
+    B,
+    FoldState,
+    WindowIndex<<B as Backend>::Symbol>,
+>;

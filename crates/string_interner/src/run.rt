@@ -7,7 +7,7 @@ ghost use Rattle.string_interner.specs.ListAnswers.{AnswersAsAList};
 ghost use Rattle.string_interner.specs.Run.{refusal, intern_reply, number_told, CopyReply, number_read, NumberReply, ExtendReply, Step, Run};
 
 use crate::backend::{Backend, InternError};
-use crate::dedup::TextHasher;
+use crate::dedup::{TextHasher, TextIndex};
 use crate::interner::StringInterner;
 use crate::symbol::Symbol;
 use std::alloc::{AllocError, Global};
@@ -80,8 +80,8 @@ fn intern_reply<S: Symbol>(outcome: Result<S, InternError>) -> Reply
 }
 
 /// Interns the texts in order, and returns the reply for the outcome.
-fn extend_reply<B: Backend, H: TextHasher>(
-    interner: &mut StringInterner<B, H>,
+fn extend_reply<B: Backend, H: TextHasher, I: TextIndex<B::Symbol>>(
+    interner: &mut StringInterner<B, H, I>,
     texts: &[&str],
 ) -> Reply
     ensures { ExtendReply B.Symbol.symbol_of B.Symbol.number B.place B.read interner.old.texts (texts_of texts.now)
@@ -111,16 +111,19 @@ fn number_told(earlier: &[Reply], k: usize) -> Option<usize>
 }
 
 /// Returns the text at a number, if the number has a symbol and a text is read there.
-fn number_read<B: Backend, H: TextHasher>(interner: &StringInterner<B, H>, n: usize) -> Option<&str>
+fn number_read<B: Backend, H: TextHasher, I: TextIndex<B::Symbol>>(
+    interner: &StringInterner<B, H, I>,
+    n: usize,
+) -> Option<&str>
     ensures { option_copied result ≡ number_read B.Symbol.symbol_of B.Symbol.number B.place B.read interner.now.texts n }
 {
     interner.resolve(B::Symbol::try_from_usize(n)?)
 }
 
 /// Returns the reply to `Number`: a copy of the text, or `Nothing`.
-fn number_reply<B: Backend, H: TextHasher>(
+fn number_reply<B: Backend, H: TextHasher, I: TextIndex<B::Symbol>>(
     alloc: Global,
-    interner: &StringInterner<B, H>,
+    interner: &StringInterner<B, H, I>,
     n: usize,
 ) -> Reply
     ensures { NumberReply B.Symbol.symbol_of B.Symbol.number B.place B.read interner.now.texts n result }
@@ -132,9 +135,9 @@ fn number_reply<B: Backend, H: TextHasher>(
 }
 
 /// Runs one command. `earlier` holds the replies so far.
-fn step<B: Backend, H: TextHasher>(
+fn step<B: Backend, H: TextHasher, I: TextIndex<B::Symbol>>(
     alloc: Global,
-    interner: &mut StringInterner<B, H>,
+    interner: &mut StringInterner<B, H, I>,
     earlier: &[Reply],
     command: &Command<'_>,
 ) -> Reply
@@ -181,9 +184,9 @@ fn step<B: Backend, H: TextHasher>(
 ///
 /// On an empty interner over strings, the replies to `Intern("a")`, `Intern("b")`, `Intern("a")`, `Resolve(1)` and
 /// `Len` are `Symbol(0)`, `Symbol(1)`, `Symbol(0)`, `Text("b")` and `Len(2)`.
-pub fn run<B: Backend, H: TextHasher>(
+pub fn run<B: Backend, H: TextHasher, I: TextIndex<B::Symbol>>(
     alloc: Global,
-    interner: &mut StringInterner<B, H>,
+    interner: &mut StringInterner<B, H, I>,
     commands: &[Command<'_>],
 ) -> Result<Vec<Reply>, AllocError>
     ensures run { IfOk result (λ replies. Run B.Symbol.symbol_of B.Symbol.number B.place B.read interner.old.texts []

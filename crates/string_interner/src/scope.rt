@@ -8,7 +8,7 @@ ghost use Rattle.string_interner.specs.StandsFor.{KeepsSymbols};
 ghost use Rattle.string_interner.specs.Scopes.{layers, joined_layers, interned, Leaves, LayerStep, LeavingGivesBack};
 
 use crate::backend::{Backend, InternError, Iter};
-use crate::dedup::{DefaultHashBuilder, TextHasher};
+use crate::dedup::{DefaultHashBuilder, Index, TextHasher, TextIndex};
 use crate::interner::StringInterner;
 use std::alloc::{AllocError, Global};
 use std::marker::Model;
@@ -19,15 +19,19 @@ use std::marker::Model;
 /// their symbols; declaring one of them again in an inner scope returns the symbol that it has. After `enter`,
 /// `declare("a")` and `leave`, `find("a")` is `None`, unless `a` was there at `enter`.
 #[derive(Drop)]
-pub struct Scopes<B: Backend, H: TextHasher = DefaultHashBuilder> {
-    interner: StringInterner<B, H>,
+pub struct Scopes<
+    B: Backend,
+    H: TextHasher = DefaultHashBuilder,
+    I: TextIndex<B::Symbol> = Index<<B as Backend>::Symbol>,
+> {
+    interner: StringInterner<B, H, I>,
     /// The number of texts when each open scope was entered, the outermost scope first.
     starts: Vec<usize>,
 }
 
 /// Contracts see a stack of layers, one for each open scope above the texts that are in no scope, and the interner's
 /// buckets, room and slot count.
-impl<B: Backend, H: TextHasher> Model for Scopes<B, H> {
+impl<B: Backend, H: TextHasher, I: TextIndex<B::Symbol>> Model for Scopes<B, H, I> {
     ghost use Rattle.std.specs.Prelude.{length, reverse};
     ghost use Rattle.string_interner.specs.Scopes.{ScopesContents, top_layer, layers_below, AreStarts};
 
@@ -44,9 +48,9 @@ impl<B: Backend, H: TextHasher> Model for Scopes<B, H> {
     ghost invariant = { λ s. AreStarts (reverse s.starts.items) (length s.interner.texts) };
 }
 
-impl<B: Backend, H: TextHasher> Scopes<B, H> {
+impl<B: Backend, H: TextHasher, I: TextIndex<B::Symbol>> Scopes<B, H, I> {
     /// Wraps an interner, with no open scope: all its texts are in the bottom layer. Allocates nothing.
-    pub fn new(alloc: Global, interner: StringInterner<B, H>) -> Self
+    pub fn new(alloc: Global, interner: StringInterner<B, H, I>) -> Self
         ensures layers { layers result ≡ interner.texts ∷ [] }
         ensures interner { interned result ≡ interner }
     {
@@ -94,7 +98,7 @@ impl<B: Backend, H: TextHasher> Scopes<B, H> {
     ///
     /// Fails as `StringInterner::get_or_intern` does. No layer changes then.
     pub fn declare(&mut self, text: &str) -> Result<B::Symbol, InternError>
-        ensures interns { InternsInto B.Symbol.symbol_of B.place B.cost (interned self.old) text.now result
+        ensures interns { InternsInto B.Symbol.symbol_of B.place B.cost I.rule (interned self.old) text.now result
             (interned self.new) }
 
         // No layer but the top one changes, and that only by a new text at its end.
@@ -158,7 +162,7 @@ impl<B: Backend, H: TextHasher> Scopes<B, H> {
     }
 
     /// Returns the interner, whose list is all layers joined.
-    pub fn interner(&self) -> &StringInterner<B, H>
+    pub fn interner(&self) -> &StringInterner<B, H, I>
         ensures { result.now ≡ interned self.now }
     {
         &self.interner

@@ -1,6 +1,6 @@
 -- The rows of a column: what its symbols read, and what they are once more are encoded.
 use Rattle.std.proofs.Common.{◌≡◌, ℕ, ◌<◌, ◌^◌, ◌⊎◌, List, [], ◌∷◌, ◌++◌, take, length, Option, Some, None, Result, Ok, Err, sym, ap, subst, ◌∙◌, refl, zero, suc, inl, inr, Bor}
-use Rattle.std.specs.Prelude.{slice_get, MatchOption, MatchResult, unwrap_or}
+use Rattle.std.specs.Prelude.{slice_get, MatchOption, MatchResult}
 use Rattle.std.specs.Iterator.{Drains, YieldsThen}
 use Rattle.std.specs.Option.{option_map_or}
 use Rattle.std.proofs.lemmas.List.{append_assoc, append-nil}
@@ -10,6 +10,7 @@ use Rattle.string_interner.specs.Backend.{IsKept, Appends}
 use Rattle.string_interner.specs.Interner.{InternerContents, Interns, entry_symbol}
 use Rattle.string_interner.specs.Collect.{fresh, texts_of, InternsAll, StopsAt}
 use Rattle.string_interner.specs.Encode.{EncodesAll, IsFull}
+use Rattle.string_interner.specs.SlotRule.{SlotRule}
 use Rattle.string_interner.specs.StandsFor.{StandsFor, KeepsSymbols, StandInOrder, none, next}
 use Rattle.string_interner.specs.declared.backend.InternError.{InternError}
 use Rattle.string_interner.specs.declared.backend.InternError.TheVariants.{NoSymbol, Memory}
@@ -53,14 +54,14 @@ module _ {S : Type 0} (symbol_of : ℕ → Option S) (place : List Text → ℕ)
   stands-at texts _ _ (next {symbols = symbols} {rest = rest} stands more) (suc row) code is = stands-at texts symbols rest more row code is
 
   -- how interning many texts ends, and that what comes after the last of them changes no texts
-  ends : {W : Type 0} (steps : W → Option (Bor Text) → W → Type 0) (cost : Text → ℕ) (old mid new : InternerContents) (longer : List S) (capacity : ℕ) (walk : W) (items : List (Bor Text)) (outcome : Result (Unit {0}) InternError)
+  ends : {W : Type 0} (steps : W → Option (Bor Text) → W → Type 0) (cost : Text → ℕ) (rule : SlotRule) (old mid new : InternerContents) (longer : List S) (capacity : ℕ) (walk : W) (items : List (Bor Text)) (outcome : Result (Unit {0}) InternError)
       → MatchResult outcome (λ _. Drains steps walk items × (new ≡ mid))
-      (λ error. (refused : Bor Text) × (rest : W) × YieldsThen steps walk items (Some refused) rest × (StopsAt symbol_of place cost old (texts_of items) mid refused.now error new ⊎ IsFull capacity longer mid error new))
+      (λ error. (refused : Bor Text) × (rest : W) × YieldsThen steps walk items (Some refused) rest × (StopsAt symbol_of place cost rule old (texts_of items) mid refused.now error new ⊎ IsFull capacity longer mid error new))
       → (new.texts ≡ mid.texts) × MatchResult outcome (λ _. Drains steps walk items) (λ _. (refused : Bor Text) × (rest : W) × YieldsThen steps walk items (Some refused) rest)
-  ends steps cost old mid new longer capacity walk items (Ok _) h = (ap (λ c. c.texts) h.1, h.0)
-  ends steps cost old mid new longer capacity walk items (Err error) h = (same h.3, (h.0, h.1, h.2))
+  ends steps cost rule old mid new longer capacity walk items (Ok _) h = (ap (λ c. c.texts) h.1, h.0)
+  ends steps cost rule old mid new longer capacity walk items (Err error) h = (same h.3, (h.0, h.1, h.2))
     where
-      same : StopsAt symbol_of place cost old (texts_of items) mid h.0.now error new ⊎ IsFull capacity longer mid error new → new.texts ≡ mid.texts
+      same : StopsAt symbol_of place cost rule old (texts_of items) mid h.0.now error new ⊎ IsFull capacity longer mid error new → new.texts ≡ mid.texts
       same (inl stops) = refused-same mid.texts h.0.now error new.texts stops.refuses.interns
       same (inr full) = ap (λ c. c.texts) full.same
 
@@ -73,16 +74,15 @@ module _ {S : Type 0} (symbol_of : ℕ → Option S) (place : List Text → ℕ)
         let is : read texts (number s) ≡ Some t = ap (read texts) ((numbered _ s stands.symbol_is).0) ∙ reads texts stands.index kept (slice_get_within texts stands.index t stands.entry) ∙ stands.entry in
         rw (is, decoded-rows texts symbols rest kept more) refl
 
-    pub encodes-rows : {I W : Type 0} (becomes : I → W → Type 0) (steps : W → Option (Bor Text) → W → Type 0) (cost : Text → ℕ) (iter : I) (old new : InternerContents) (codes longer : List S) (capacity : ℕ) (outcome : Result (Unit {0}) InternError) (rows : List Text)
-        → EncodesAll symbol_of place cost becomes steps iter old codes capacity outcome new longer → IsKept symbol_of place new.texts → IsColumn symbol_of place old.texts codes rows
+    pub encodes-rows : {I W : Type 0} (becomes : I → W → Type 0) (steps : W → Option (Bor Text) → W → Type 0) (cost : Text → ℕ) (rule : SlotRule) (iter : I) (old new : InternerContents) (codes longer : List S) (capacity : ℕ) (outcome : Result (Unit {0}) InternError) (rows : List Text)
+        → EncodesAll symbol_of place cost rule becomes steps iter old codes capacity outcome new longer → IsKept symbol_of place new.texts → IsColumn symbol_of place old.texts codes rows
         → let after = decoded read number new.texts longer in IsColumn symbol_of place new.texts longer after × AppendsRows becomes steps iter rows outcome after
-    encodes-rows becomes steps cost iter old new codes longer capacity outcome rows h kept column =
-        let taken = h.4.taken in
-        let end = ends steps cost old h.2 new longer capacity h.0 h.1 outcome h.5 in
+    encodes-rows becomes steps cost rule iter old new codes longer capacity outcome rows h kept column =
+        let end = ends steps cost rule old h.2 new longer capacity h.0 h.1 outcome h.5 in
         let more = texts_of h.1 in
-        let keeps : KeepsSymbols symbol_of place old.texts new.texts = subst (λ texts. KeepsSymbols symbol_of place old.texts texts) (sym end.0) taken.keeps in
+        let keeps : KeepsSymbols symbol_of place old.texts new.texts = subst (λ texts. KeepsSymbols symbol_of place old.texts texts) (sym end.0) h.4.taken.keeps in
         let added = subst (λ texts. StandInOrder symbol_of place texts h.4.added more) (sym end.0) h.4.stand in
         let stand = subst (λ all. StandInOrder symbol_of place new.texts all (rows ++ more)) (sym h.4.appended) (stand-append old.texts new.texts keeps codes h.4.added rows more column.stand added) in
-        let dictionary = subst (λ texts. InternsAll symbol_of place [] (rows ++ more) texts) (sym end.0) (interns-append [] rows old.texts more h.2.texts column.dictionary taken.interned) in
+        let dictionary = subst (λ texts. InternsAll symbol_of place [] (rows ++ more) texts) (sym end.0) (interns-append [] rows old.texts more h.2.texts column.dictionary h.4.taken.interned) in
         let is = decoded-rows new.texts longer (rows ++ more) kept stand in
         (subst (λ all. IsColumn symbol_of place new.texts longer all) (sym is) (record { stand = stand; dictionary = dictionary }), (h.0, h.1, h.3, is, end.1))

@@ -6,7 +6,7 @@ use std::alloc::Global;
 use string_interner::backend::{BufferBackend, InternError};
 use string_interner::json::JsonError;
 use string_interner::scope::Scopes;
-use string_interner::{DefaultStringInterner, StringInterner};
+use string_interner::{DefaultStringInterner, FastStringInterner, StringInterner};
 
 /// Interns texts, and compares them by symbol.
 pub fn intern_and_compare(alloc: Global) -> Result<bool, InternError>
@@ -37,6 +37,17 @@ pub fn count_bytes(interner: &DefaultStringInterner) -> usize {
         bytes = bytes.saturating_add(text.len());
     }
     bytes
+}
+
+/// The same calls on an interner that is made for speed.
+pub fn intern_fast(alloc: Global) -> Result<bool, InternError>
+    ensures { IfOk result (λ same. same ≡ true) }
+{
+    let mut interner = <FastStringInterner>::new(alloc);
+    let width = interner.get_or_intern("width")?;
+    let again = interner.get_or_intern("width")?;
+    interner.symbol_law();
+    Ok(again == width)
 }
 
 /// Collects over another backend. Stops at the first text that is refused; those before it stay.
@@ -119,6 +130,7 @@ mod tests {
         let codes = encode(rt.alloc()).map_err(|_| "refused")?;
         let scopes = nested_scopes(rt.alloc()).map_err(|_| "refused")?;
         assert_eq!(rt; (same, codes, scopes), (true, 3, (true, true)));
+        assert_eq!(rt; intern_fast(rt.alloc()).map_err(|_| "refused")?, true);
         let mut names = collect(rt.alloc()).map_err(|_| "refused")?;
         assert_eq!(rt; names.len(), 4);
         let again = to_json_and_back(rt.alloc(), &names).map_err(|_| "refused")?;

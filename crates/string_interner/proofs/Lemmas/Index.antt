@@ -7,6 +7,7 @@ pub mod LookUp
 pub mod Rebuilt
 pub mod Refills
 pub mod SlotCount
+pub mod SlotRule
 pub mod Slots
 pub mod Steps
 pub mod Vacancy

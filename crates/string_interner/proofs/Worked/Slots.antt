@@ -1,13 +1,15 @@
 -- How many slots an index has: from 8 on twice as many where more than three quarters would be filled. By the count of
 -- entries that came one after another, with the symbols that were put back as the slots grew, and by capacity.
-use Rattle.std.proofs.Common.{◌≡◌, ℕ, zero, suc, ◌+◌, ◌-◌, ◌*◌, ◌^◌, ◌<◌, ◌≤◌, cond, max, List, [], length, Option, refl, sym, ap, subst, ◌∙◌, inl, inr, arith}
+use Rattle.std.proofs.Common.{◌≡◌, ℕ, zero, suc, ◌+◌, ◌-◌, ◌*◌, ◌^◌, ◌<◌, ◌≤◌, cond, max, [], length, Option, refl, sym, ap, subst, ◌∙◌, inl, inr, arith}
 use Rattle.std.specs.Prelude.{nat_le}
 use Rattle.std.proofs.Math.Pow.{pow_mono}
 use Rattle.std.proofs.lemmas.Bool.{cases_lt, le-leb, lt-leb}
 use Rattle.string_interner.specs.Text.{Text}
 use Rattle.string_interner.specs.Slots.{symbols}
-use Rattle.string_interner.specs.Index.{IndexContents, entry_count, Holds, HasRoom, IsSlotCount, IsLeastSlotCount, GrowsTo, Grows, Inserts, Refills}
-use Rattle.string_interner.proofs.Lemmas.Index.SlotCount.{least_more, least-none}
+use Rattle.string_interner.specs.Index.{IndexContents, entry_count, Holds, HasRoom, IsSlotCount, GrowsTo, Grows, Inserts, Refills, three_quarters}
+use Rattle.string_interner.specs.SlotRule.{IsLeastSlotCount}
+use Rattle.string_interner.proofs.Lemmas.Index.SlotRule.{least-none}
+use Rattle.string_interner.specs.IndexLaws.{least_more, three_quarters-laws}
 
 -- An index to which so many entries came, one after another, with room made for each before: from no slots on, which
 -- stay where one more entry is allowed, and else grow.
@@ -109,45 +111,45 @@ after-truncating S entry code old new filled refills =
 
 -- The least slots for a capacity.
 
-eight : (capacity : ℕ) → 0 < capacity → capacity ≤ 6 → IsLeastSlotCount capacity 8
+eight : (capacity : ℕ) → 0 < capacity → capacity ≤ 6 → IsLeastSlotCount three_quarters capacity 8
 eight capacity some few = record { allowed = inr (0, refl); room = omega arith; least = λ m allowed room. at_least m allowed room }
   where
     at_least : (m : ℕ) → IsSlotCount m → Holds m capacity → 8 ≤ m
     at_least m (inl none) room = absurd (omega arith)
     at_least m (inr power) room = let e = power.1 in let one : 2 ^ 0 ≤ 2 ^ power.0 = pow_mono {i = 0} (omega arith) in omega arith
 
-doubled : (capacity k : ℕ) → 3 * (8 * 2 ^ k) < 4 * capacity → 4 * capacity ≤ 3 * (2 * (8 * 2 ^ k)) → IsLeastSlotCount capacity (2 * (8 * 2 ^ k))
+doubled : (capacity k : ℕ) → 3 * (8 * 2 ^ k) < 4 * capacity → 4 * capacity ≤ 3 * (2 * (8 * 2 ^ k)) → IsLeastSlotCount three_quarters capacity (2 * (8 * 2 ^ k))
 doubled capacity k more room =
     let least = least_more capacity (8 * 2 ^ k) (2 * (8 * 2 ^ k)) (k, refl) refl more in record { allowed = inr least.0; room = room; least = least.1 }
 
-pub slots-for-none : IsLeastSlotCount 0 0
-slots-for-none = least-none 0 0 refl refl
+pub slots-for-none : IsLeastSlotCount three_quarters 0 0
+slots-for-none = least-none three_quarters three_quarters-laws 0 0 refl refl
 
-pub slots-for-one : IsLeastSlotCount 1 8
+pub slots-for-one : IsLeastSlotCount three_quarters 1 8
 slots-for-one = eight 1 (omega arith) (omega arith)
 
-pub slots-for-six : IsLeastSlotCount 6 8
+pub slots-for-six : IsLeastSlotCount three_quarters 6 8
 slots-for-six = eight 6 (omega arith) (omega arith)
 
-pub slots-for-seven : IsLeastSlotCount 7 16
+pub slots-for-seven : IsLeastSlotCount three_quarters 7 16
 slots-for-seven = doubled 7 0 (omega arith) (omega arith)
 
-pub slots-for-twelve : IsLeastSlotCount 12 16
+pub slots-for-twelve : IsLeastSlotCount three_quarters 12 16
 slots-for-twelve = doubled 12 0 (omega arith) (omega arith)
 
-pub slots-for-thirteen : IsLeastSlotCount 13 32
+pub slots-for-thirteen : IsLeastSlotCount three_quarters 13 32
 slots-for-thirteen = doubled 13 1 (omega arith) (omega arith)
 
-pub slots-for-twenty-four : IsLeastSlotCount 24 32
+pub slots-for-twenty-four : IsLeastSlotCount three_quarters 24 32
 slots-for-twenty-four = doubled 24 1 (omega arith) (omega arith)
 
-pub slots-for-twenty-five : IsLeastSlotCount 25 64
+pub slots-for-twenty-five : IsLeastSlotCount three_quarters 25 64
 slots-for-twenty-five = doubled 25 2 (omega arith) (omega arith)
 
-pub slots-for-forty-eight : IsLeastSlotCount 48 64
+pub slots-for-forty-eight : IsLeastSlotCount three_quarters 48 64
 slots-for-forty-eight = doubled 48 2 (omega arith) (omega arith)
 
-pub slots-for-forty-nine : IsLeastSlotCount 49 128
+pub slots-for-forty-nine : IsLeastSlotCount three_quarters 49 128
 slots-for-forty-nine = doubled 49 3 (omega arith) (omega arith)
 
 -- No count of slots that fits 64 bits holds 2^63 entries, or the greatest number of 64 bits.

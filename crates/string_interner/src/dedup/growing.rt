@@ -3,7 +3,8 @@
 ghost use Rattle.std.specs.Prelude.{◌≡◌, ◌*◌, ◌<◌, ◌≤◌, ◌^◌, length, IfNone, IfOk, IfSome, OnSome, [], Some};
 ghost use Rattle.string_interner.specs.Entry.{entry_text};
 ghost use Rattle.string_interner.specs.Slots.{symbols};
-ghost use Rattle.string_interner.specs.Index.{Fits, GrowsTo, Holds, IsWhole, IsLeastSlotCount, IsSlotCount};
+ghost use Rattle.string_interner.specs.SlotRule.{IsLeastSlotCount};
+ghost use Rattle.string_interner.specs.Index.{Fits, GrowsTo, Holds, IsWhole, IsSlotCount, three_quarters};
 ghost use Rattle.string_interner.specs.Text.{IsDistinct};
 ghost use Rattle.string_interner.specs.Backend.{IsKept};
 ghost use Rattle.string_interner.specs.Probe.{Rebuilt};
@@ -79,7 +80,7 @@ pub fn next_slot_count(count: usize) -> Option<usize>
 /// Returns the least slot count that the load factor allows for `capacity` entries. `None` if it does not fit a
 /// `usize`.
 pub fn least_slot_count(capacity: usize) -> Option<usize>
-    ensures least { IfSome result (IsLeastSlotCount capacity) }
+    ensures least { IfSome result (IsLeastSlotCount three_quarters capacity) }
     ensures fits { OnSome result (Holds (2 ^ 63) capacity) }
     ensures none { IfNone result (3 * 2 ^ 63 < 4 * capacity) }
 {

@@ -23,8 +23,8 @@ pub trait TextHasher {
 
 /// 64-bit FNV-1a over the bytes of the text: fast on short texts, with the same codes in each run.
 ///
-/// Not resistant to collisions: texts can be chosen to have one code. Where texts come from someone who may choose them,
-/// take [`StdHasher`] over `RandomState`.
+/// Not resistant to collisions: texts can be chosen to have one code. Where they come from someone who may do so, take
+/// [`StdHasher`] over `RandomState`.
 #[derive(Clone, Copy, Debug, Default, PartialEq, Eq)]
 pub struct FixedState;
 

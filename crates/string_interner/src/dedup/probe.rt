@@ -4,20 +4,13 @@ ghost use Rattle.std.specs.Prelude.{◌≡◌, ◌+◌, ◌<◌, ◌≤◌, ◌%
 ghost use Rattle.string_interner.specs.Entry.{entry_text};
 ghost use Rattle.string_interner.specs.Slots.{probed, filled_run, first_passing};
 ghost use Rattle.string_interner.specs.Index.{IsSlotCount, has_text};
-ghost use Rattle.string_interner.specs.Probe.{FillsSlot, HasFreeSlot, IfVacant, IsVacant, found_by};
+ghost use Rattle.string_interner.specs.Probe.{FillsSlot, HasFreeSlot, IsVacant};
+ghost use Rattle.string_interner.specs.TextIndex.{IfVacant, found_by};
 
 use crate::backend::Backend;
 use crate::dedup::slots::{Looks, Slots, slot_after};
+use crate::dedup::text_index::Entry;
 use crate::symbol::Symbol;
-
-/// What a look-up found.
-#[derive(Drop)]
-pub enum Entry<S> {
-    /// The symbol that has the text.
-    Occupied(S),
-    /// No symbol has it; a new one goes here.
-    Vacant(Vacancy),
-}
 
 /// Where the symbol of a text goes that was not found.
 ///
@@ -26,10 +19,10 @@ pub enum Entry<S> {
 /// one need not know of it.
 #[derive(Drop)]
 pub struct Vacancy {
-    code: u64,
+    pub(super) code: u64,
     /// How many slots there were. None, where no probe ended at a slot.
-    slot_count: usize,
-    at: usize,
+    pub(super) slot_count: usize,
+    pub(super) at: usize,
 }
 
 impl Vacancy {
@@ -63,7 +56,7 @@ pub fn probe<S: Symbol, B: Backend<Symbol = S>>(
     code: u64,
     looks: &mut Looks<'_, B>,
     text: &str,
-) -> Entry<S>
+) -> Entry<S, Vacancy>
     requires some { 0 < length slots.now }
     requires count { IsSlotCount (length slots.now) }
     requires entries { (s : S) → Contains slots.now (Some s)

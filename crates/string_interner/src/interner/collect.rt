@@ -5,10 +5,10 @@ ghost use Rattle.string_interner.specs.Collect.{Extends, Collects};
 
 use super::StringInterner;
 use crate::backend::{Backend, InternError};
-use crate::dedup::TextHasher;
+use crate::dedup::{TextHasher, TextIndex};
 use std::alloc::Global;
 
-impl<B: Backend, H: TextHasher> StringInterner<B, H> {
+impl<B: Backend, H: TextHasher, I: TextIndex<B::Symbol>> StringInterner<B, H, I> {
     /// Interns the texts of a finite iterator in order, and stops at the first that fails.
     ///
     /// The texts before it stay, and the iterator is not advanced after it. It fails as in `get_or_intern`; so none
@@ -16,12 +16,12 @@ impl<B: Backend, H: TextHasher> StringInterner<B, H> {
     /// known, nothing changes. On `Ok` the slot count is unchanged if the load factor allows all texts, and else the
     /// least that it allows. So it is for the texts before one that fails; `NoSymbol` leaves it there, and `Memory` may
     /// come after one growth more.
-    pub fn extend<'t, I: IntoIterator<Item = &'t str>>(
+    pub fn extend<'t, T: IntoIterator<Item = &'t str>>(
         &mut self,
-        iter: I,
+        iter: T,
     ) -> Result<(), InternError>
-        requires { IsFiniteIterable I.into_iter_gives I.IntoIter.can_next I.IntoIter.remaining iter }
-        ensures { Extends B.Symbol.symbol_of B.place B.cost I.into_iter_gives I.IntoIter.next_gives iter self.old result
+        requires { IsFiniteIterable T.into_iter_gives T.IntoIter.can_next T.IntoIter.remaining iter }
+        ensures { Extends B.Symbol.symbol_of B.place B.cost I.rule T.into_iter_gives T.IntoIter.next_gives iter self.old result
             self.new }
     {
         // For the proof: states the load factor before the first text.
@@ -34,17 +34,21 @@ impl<B: Backend, H: TextHasher> StringInterner<B, H> {
     }
 }
 
-impl<B: Backend + Drop, H: TextHasher + Default + Drop> StringInterner<B, H> {
+impl<
+    B: Backend + Drop,
+    H: TextHasher + Default + Drop,
+    I: TextIndex<B::Symbol> + Drop,
+> StringInterner<B, H, I> {
     /// Makes an interner from the texts of a finite iterator, under the hasher's default: `new`, and then `extend`. It
     /// has the least slot count for its texts.
     ///
     /// Fails as `extend` does. No interner is then made.
-    pub fn from_iter<'t, I: IntoIterator<Item = &'t str>>(
+    pub fn from_iter<'t, T: IntoIterator<Item = &'t str>>(
         alloc: Global,
-        iter: I,
+        iter: T,
     ) -> Result<Self, InternError>
-        requires { IsFiniteIterable I.into_iter_gives I.IntoIter.can_next I.IntoIter.remaining iter }
-        ensures { Collects B.Symbol.symbol_of B.place B.cost I.into_iter_gives I.IntoIter.next_gives iter result }
+        requires { IsFiniteIterable T.into_iter_gives T.IntoIter.can_next T.IntoIter.remaining iter }
+        ensures { Collects B.Symbol.symbol_of B.place B.cost I.rule T.into_iter_gives T.IntoIter.next_gives iter result }
     {
         let mut interner = StringInterner::new(alloc);
         interner.extend(iter)?;

@@ -6,9 +6,9 @@ ghost use Rattle.string_interner.specs.Encode.{EncodesAll};
 
 use super::StringInterner;
 use crate::backend::{Backend, InternError};
-use crate::dedup::TextHasher;
+use crate::dedup::{TextHasher, TextIndex};
 
-impl<B: Backend, H: TextHasher> StringInterner<B, H> {
+impl<B: Backend, H: TextHasher, I: TextIndex<B::Symbol>> StringInterner<B, H, I> {
     /// Interns the texts of a finite iterator in order, as `extend` does, and appends the symbol of each to a list: the
     /// texts of a column become its codes. Stops at the first text that fails.
     ///
@@ -21,13 +21,13 @@ impl<B: Backend, H: TextHasher> StringInterner<B, H> {
     /// let mut codes = Vec::new(alloc);
     /// interner.intern_all(["red", "green", "red"].iter().copied(), &mut codes)?; // two texts, three symbols
     /// ```
-    pub fn intern_all<'t, I: IntoIterator<Item = &'t str>>(
+    pub fn intern_all<'t, T: IntoIterator<Item = &'t str>>(
         &mut self,
-        texts: I,
+        texts: T,
         symbols: &mut Vec<B::Symbol>,
     ) -> Result<(), InternError>
-        requires { IsFiniteIterable I.into_iter_gives I.IntoIter.can_next I.IntoIter.remaining texts }
-        ensures { EncodesAll B.Symbol.symbol_of B.place B.cost I.into_iter_gives I.IntoIter.next_gives texts self.old
+        requires { IsFiniteIterable T.into_iter_gives T.IntoIter.can_next T.IntoIter.remaining texts }
+        ensures { EncodesAll B.Symbol.symbol_of B.place B.cost I.rule T.into_iter_gives T.IntoIter.next_gives texts self.old
             symbols.old.items (vec_capacity symbols.old) result self.new symbols.new.items }
     {
         // For the proof: states the load factor before the first text.

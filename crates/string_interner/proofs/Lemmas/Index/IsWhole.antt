@@ -7,7 +7,10 @@ use Rattle.std.specs.Str.{bytes_eq}
 use Rattle.std.proofs.lemmas.Slice.Eq.{bytes_eq-Decides}
 use Rattle.string_interner.specs.Text.{Text, first}
 use Rattle.string_interner.specs.Slots.{symbols}
-use Rattle.string_interner.specs.Index.{AddsPair, Fits, IsAbsent, IsWhole, SameMap, has_text, look_up, text_of}
+use Rattle.string_interner.specs.Index.{AddsPair, Fits, FitsAll, IndexContents, InsertsByCode, IsAbsent, IsWhole, SameMap, has_text, look_up, text_of}
+use Rattle.string_interner.specs.TextIndex.{AddsEntry, IfOccupied, IfVacant, IsNewText, found_by}
+use Rattle.string_interner.specs.declared.dedup.text_index.Entry.{Entry}
+use Rattle.string_interner.specs.declared.dedup.text_index.Entry.TheVariants.{Occupied, Vacant}
 use Rattle.string_interner.proofs.Lemmas.Index.EntryText.{Adds, entry_text-is, entry_text-at}
 use Rattle.string_interner.proofs.Lemmas.Index.Inserts.{text_of_is}
 use Rattle.string_interner.proofs.Lemmas.Index.LookUp.{FirstIs, first_is, entry_from_has}
@@ -70,6 +73,38 @@ module _ {S : Type 0} (old more : S → Option Text) (code : Text → ℕ) (slot
                   ap (λ b. cond b (Some symbol) (look_up more bigger u)) ((bytes_eq-Decides u t).1 b) ∙ ap Some (sym h))
             ]);
       }
+
+-- where no entry has a text, nothing is found under it
+pub look_up-none : {S : Type 0} (entry : S → Option Text) (slots : List (Option S)) (t : Text) → IsNewText entry t → look_up entry slots t ≡ None
+look_up-none {S = S} entry slots t none =
+    let by : (o : Option S) → look_up entry slots t ≡ o → o ≡ None = elim [ None ↦ λ e. refl | Some s ↦ λ e. absurd (none s (look_up-text entry slots t s e)) ] in
+    by (look_up entry slots t) refl
+
+-- what a look-up found, where the slots hold each entry
+pub found-occupied : {S V : Type 0} (entry : S → Option Text) (slots : List (Option S)) (t : Text) (found : Entry S V) → found_by found ≡ look_up entry slots t
+    → IfOccupied found (λ s. entry s ≡ Some t)
+found-occupied entry slots t (Occupied s) e = look_up-text entry slots t s (sym e)
+found-occupied entry slots t (Vacant v) e = tt
+
+pub found-vacant : {S V : Type 0} (entry : S → Option Text) (code : Text → ℕ) (slots : List (Option S)) (t : Text) (found : Entry S V) → IsWhole entry code slots → found_by found ≡ look_up entry slots t
+    → IfVacant found (λ _. IsNewText entry t)
+found-vacant entry code slots t (Occupied s) whole e = tt
+found-vacant entry code slots t (Vacant v) whole e = λ s is. let n : None ≡ Some s = e ∙ whole.whole s t is in cc
+
+-- no slots hold each entry where there is none
+pub IsWhole-none : {S : Type 0} (code : Text → ℕ) (slots : List (Option S)) → FitsAll slots → IsWhole (λ _. None) code slots
+IsWhole-none code slots fits = record { fits = fits (λ _. None) code; whole = λ s t e. absurd (cc) }
+
+-- with the symbol of a text that is one entry more they hold each entry again
+pub IsWhole-inserted : {S : Type 0} (entry more : S → Option Text) (code : Text → ℕ) (old new : IndexContents S) (known_code : ℕ) (symbol : S) (t : Text) → AddsEntry entry more symbol t
+    → IsWhole entry code old.slots → known_code ≡ code t → InsertsByCode known_code old new symbol → IsWhole more code new.slots
+IsWhole-inserted entry more code old new known_code symbol t adds whole is_code by =
+    let one : Adds entry more symbol t = record { added = adds.added; kept = adds.kept; only = adds.only } in
+    let absent = look_up-none entry old.slots t adds.new_text in
+    let text = text_of-added entry more code old.slots old.slots symbol t whole whole.fits (λ u. refl) one in
+    let inserts = by more code (Fits-added entry more code old.slots old.slots symbol t whole whole.fits (λ u. refl) one)
+    (IsAbsent-added entry more code old.slots old.slots symbol t whole whole.fits (λ u. refl) one absent) (is_code ∙ ap code (sym text)) in
+    IsWhole-added entry more code old.slots old.slots symbol t whole whole.fits (λ u. refl) one absent new.slots inserts.fits inserts.pair
 
 module _ {S : Type 0} (symbol_of : ℕ → Option S) (number : S → ℕ) (place : List Text → ℕ)
     (numbered : (i : ℕ) (s : S) → symbol_of i ≡ Some s → (number s ≡ i) × (i < 2 ^ 64))

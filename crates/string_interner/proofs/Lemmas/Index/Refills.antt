@@ -12,12 +12,11 @@ use Rattle.string_interner.specs.Entry.{entry_text}
 use Rattle.string_interner.specs.Slots.{symbols}
 use Rattle.string_interner.specs.Index.{Fits, IndexContents}
 use Rattle.string_interner.specs.Probe.{FillsSlot}
-use Rattle.string_interner.specs.Interner.{IsInterned}
 use Rattle.string_interner.proofs.Lemmas.Index.Slots.{none, Contains-symbols}
 use Rattle.string_interner.proofs.Lemmas.Texts.First.{first_new}
 use Rattle.string_interner.proofs.Lemmas.Backend.IsKept.{kept-front}
 use Rattle.string_interner.proofs.Lemmas.Index.Inserts.{inserted}
-use Rattle.string_interner.proofs.Lemmas.Interner.IsInterned.{fits-more, absent-more, text-more, interned-more}
+use Rattle.string_interner.proofs.Lemmas.Interner.IsInterned.{IsFilled, fits-more, absent-more, text-more, interned-more}
 use Rattle.string_interner.proofs.Lemmas.Index.LookUp.{text_in-from}
 
 -- slots without symbols fit all entries
@@ -47,7 +46,7 @@ pub record IsPlaced {S : Type 0} (symbol_of : ℕ → Option S) (number : S → 
   pub done : List Text
   pub todo : List Text
   pub all : texts ≡ done ++ todo
-  pub interned : IsInterned symbol_of place number code done slots
+  pub interned : IsFilled symbol_of place number code done slots
   pub same : entries symbol_of place behind ahead ≡ entries symbol_of place done todo
 
 module _ {S : Type 0} (symbol_of : ℕ → Option S) (number : S → ℕ) (place : List Text → ℕ)
@@ -73,7 +72,7 @@ module _ {S : Type 0} (symbol_of : ℕ → Option S) (number : S → ℕ) (place
   index slots = record { slots = slots; put_back = 0; greatest = 0 }
 
   step : (done todo behind ahead : List Text) (slots new : List (Option S)) (s : S) (t : Text) → texts ≡ done ++ todo
-      → IsInterned symbol_of place number code done slots → entries symbol_of place done todo ≡ (Some s, t) ∷ entries symbol_of place behind ahead
+      → IsFilled symbol_of place number code done slots → entries symbol_of place done todo ≡ (Some s, t) ∷ entries symbol_of place behind ahead
       → FillsSlot slots new (code t % length slots) s → IsPlaced symbol_of number place code texts behind ahead new
   step done [] behind ahead slots new s t all is e puts = absurd (cc)
   step done (u ∷ us) behind ahead slots new s t all is e puts =
@@ -101,12 +100,12 @@ module _ {S : Type 0} (symbol_of : ℕ → Option S) (number : S → ℕ) (place
       → IsPlaced symbol_of number place code texts behind' ahead' new
   placed-next behind ahead behind' ahead' slots new s t p e puts = step p.done p.todo behind' ahead' slots new s t p.all p.interned (sym p.same ∙ e) puts
 
-  finished : (done todo : List Text) (slots : List (Option S)) → texts ≡ done ++ todo → IsInterned symbol_of place number code done slots
-      → entries symbol_of place done todo ≡ [] → IsInterned symbol_of place number code texts slots
+  finished : (done todo : List Text) (slots : List (Option S)) → texts ≡ done ++ todo → IsFilled symbol_of place number code done slots
+      → entries symbol_of place done todo ≡ [] → IsFilled symbol_of place number code texts slots
   finished done [] slots all is e = rw (all ∙ append-nil done) is
   finished done (u ∷ us) slots all is e = absurd (cc)
 
   -- once none is ahead, all are
   pub placed-end : (behind ahead : List Text) (slots : List (Option S)) → IsPlaced symbol_of number place code texts behind ahead slots
-      → entries symbol_of place behind ahead ≡ [] → IsInterned symbol_of place number code texts slots
+      → entries symbol_of place behind ahead ≡ [] → IsFilled symbol_of place number code texts slots
   placed-end behind ahead slots p e = finished p.done p.todo slots p.all p.interned (sym p.same ∙ e)

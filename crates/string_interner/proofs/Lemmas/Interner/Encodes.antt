@@ -1,15 +1,15 @@
 -- Interning text after text into a list of their symbols.
-use Rattle.std.proofs.Common.{◌≡◌, ℕ, ◌+◌, ◌≤◌, ◌<◌, List, [], ◌∷◌, ◌++◌, length, take, refl, sym, ap, ◌∙◌, arith, inl, inr, Option, Some, None, Ok, Err, Bor, map}
+use Rattle.std.proofs.Common.{◌≡◌, ℕ, ◌+◌, ◌≤◌, ◌<◌, List, [], ◌∷◌, ◌++◌, length, refl, sym, ap, ◌∙◌, arith, inl, inr, Option, Some, Ok, Err, Bor}
 use Rattle.std.specs.Prelude.{Result}
 use Rattle.std.specs.Iterator.{YieldsThen}
 use Rattle.std.proofs.lemmas.List.{append_assoc, append-nil, map_push}
 use Rattle.string_interner.specs.Text.{Text}
-use Rattle.string_interner.specs.Index.{IsLoaded}
-use Rattle.string_interner.specs.Interner.{InternerContents, InternsInto, GrowsFor}
+use Rattle.string_interner.specs.SlotRule.{SlotRule, IsLoaded, GrowsFor, IsSlotRule}
+use Rattle.string_interner.specs.Interner.{InternerContents, InternsInto}
 use Rattle.string_interner.specs.StandsFor.{StandsFor, KeepsSymbols, StandInOrder, none, next}
 use Rattle.string_interner.specs.Collect.{texts_of, IsMemory}
 use Rattle.string_interner.specs.Encode.{Encodes, EncodesAll}
-use Rattle.string_interner.proofs.Lemmas.Index.SlotCount.{grown-more}
+use Rattle.string_interner.proofs.Lemmas.Index.SlotRule.{grown-more}
 use Rattle.string_interner.proofs.Lemmas.Interner.Extends.{item-taken, interned-slots, stopped}
 use Rattle.string_interner.specs.declared.backend.InternError.{InternError}
 
@@ -20,9 +20,9 @@ module _ {S : Type 0} (symbol_of : ℕ → Option S) (place : List Text → ℕ)
   stand-more old new keeps _ _ symbol text none is = next is none
   stand-more old new keeps _ _ symbol text (next {symbol = s} {text = t} {symbols = symbols} {rest = rest} first more) is = next (keeps s t first) (stand-more old new keeps symbols rest symbol text more is)
 
-  module _ (cost : Text → ℕ) where
+  module _ (cost : Text → ℕ) (rule : SlotRule) (laws : IsSlotRule rule) where
     -- before the first text
-    pub encodes-none : (old : InternerContents) (symbols : List S) → IsLoaded old.slot_count (length old.texts) → Encodes symbol_of place cost old symbols [] old symbols
+    pub encodes-none : (old : InternerContents) (symbols : List S) → IsLoaded rule old.slot_count (length old.texts) → Encodes symbol_of place cost rule old symbols [] old symbols
     encodes-none old symbols loaded = record {
       taken = record { interned = refl; keeps = λ symbol text stands. stands; spent = omega arith; known = λ none. refl };
       grown = record { allowed = λ h. refl; least = λ none. absurd (none loaded.load) };
@@ -33,13 +33,13 @@ module _ {S : Type 0} (symbol_of : ℕ → Option S) (place : List Text → ℕ)
 
     -- after one more item of an iteration
     pub encodes-more : (old : InternerContents) (symbols : List S) (items : List (Bor Text)) (mid new : InternerContents) (so_far longer : List S) (item : Bor Text) (symbol : S)
-        → IsLoaded mid.slot_count (length mid.texts) → IsLoaded new.slot_count (length new.texts)
-        → Encodes symbol_of place cost old symbols (texts_of items) mid so_far → InternsInto symbol_of place cost mid item.now (Ok symbol) new
-        → longer ≡ so_far ++ symbol ∷ [] → Encodes symbol_of place cost old symbols (texts_of (items ++ item ∷ [])) new longer
+        → IsLoaded rule mid.slot_count (length mid.texts) → IsLoaded rule new.slot_count (length new.texts)
+        → Encodes symbol_of place cost rule old symbols (texts_of items) mid so_far → InternsInto symbol_of place cost rule mid item.now (Ok symbol) new
+        → longer ≡ so_far ++ symbol ∷ [] → Encodes symbol_of place cost rule old symbols (texts_of (items ++ item ∷ [])) new longer
     encodes-more old symbols items mid new so_far longer item symbol was_loaded loaded before call is = record {
-      taken = item-taken symbol_of place cost old mid new items item symbol before.taken call;
-      grown = interned-slots symbol_of place cost (λ len count. GrowsFor len old.slot_count count) mid new item.now symbol call loaded
-          (grown-more _ _ _ _ was_loaded.allowed before.grown call.slots) before.grown;
+      taken = item-taken symbol_of place cost rule old mid new items item symbol before.taken call;
+      grown = interned-slots symbol_of place cost rule (λ len count. GrowsFor rule len old.slot_count count) mid new item.now symbol call loaded
+          (grown-more rule laws _ _ _ _ was_loaded.allowed before.grown call.slots) before.grown;
       added = before.added ++ symbol ∷ [];
       stand = rw (map_push (λ (b : Bor Text). b.now) items item) (stand-more mid.texts new.texts call.keeps before.added (texts_of items) symbol item.now before.stand call.stands);
       appended = is ∙ ap (λ xs. xs ++ symbol ∷ []) before.appended ∙ append_assoc symbols before.added (symbol ∷ []);
@@ -47,21 +47,21 @@ module _ {S : Type 0} (symbol_of : ℕ → Option S) (place : List Text → ℕ)
 
     -- where an item is refused
     pub encodes-refused : {I W : Type 0} (becomes : I → W → Type 0) (steps : W → Option (Bor Text) → W → Type 0) (iter : I) (walk rest : W) (items : List (Bor Text)) (item : Bor Text) (old mid new : InternerContents) (symbols longer more : List S) (capacity : ℕ) (error : InternError) (outcome : Result (Unit {0}) InternError)
-        → becomes iter walk → YieldsThen steps walk items (Some item) rest → outcome ≡ Err error → Encodes symbol_of place cost old symbols (texts_of items) mid longer → InternsInto symbol_of place cost mid item.now (Err error) new
-        → more ≡ longer → EncodesAll symbol_of place cost becomes steps iter old symbols capacity outcome new more
+        → becomes iter walk → YieldsThen steps walk items (Some item) rest → outcome ≡ Err error → Encodes symbol_of place cost rule old symbols (texts_of items) mid longer → InternsInto symbol_of place cost rule mid item.now (Err error) new
+        → more ≡ longer → EncodesAll symbol_of place cost rule becomes steps iter old symbols capacity outcome new more
     encodes-refused becomes steps iter walk rest items item old mid new symbols longer more capacity error outcome b y e before call same = rw (e, same) (
       walk,
       items,
       mid,
       b,
       before,
-      (item, rest, y, inl (stopped symbol_of place cost old mid new (texts_of items) item.now error before.taken call before.grown)),
+      (item, rest, y, inl (stopped symbol_of place cost rule laws old mid new (texts_of items) item.now error before.taken call before.grown)),
     )
 
     -- where the list is full
     pub encodes-full : {I W : Type 0} (becomes : I → W → Type 0) (steps : W → Option (Bor Text) → W → Type 0) (iter : I) (walk rest : W) (items : List (Bor Text)) (item : Bor Text) (old mid : InternerContents) (symbols longer more : List S) (capacity now : ℕ) (error : InternError) (outcome : Result (Unit {0}) InternError)
-        → becomes iter walk → YieldsThen steps walk items (Some item) rest → outcome ≡ Err error → IsMemory error → Encodes symbol_of place cost old symbols (texts_of items) mid longer → more ≡ longer → capacity ≤ now → now < length longer + 1
-        → EncodesAll symbol_of place cost becomes steps iter old symbols capacity outcome mid more
+        → becomes iter walk → YieldsThen steps walk items (Some item) rest → outcome ≡ Err error → IsMemory error → Encodes symbol_of place cost rule old symbols (texts_of items) mid longer → more ≡ longer → capacity ≤ now → now < length longer + 1
+        → EncodesAll symbol_of place cost rule becomes steps iter old symbols capacity outcome mid more
     encodes-full becomes steps iter walk rest items item old mid symbols longer more capacity now error outcome b y e memory before same less full = rw (e, same) (
       walk,
       items,

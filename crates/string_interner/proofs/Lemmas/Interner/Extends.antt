@@ -9,10 +9,10 @@ use Rattle.std.proofs.lemmas.Iterator.{YieldsList}
 use Rattle.std.proofs.lemmas.List.Sums.{sum_by-append}
 use Rattle.string_interner.specs.Text.{Text, first}
 use Rattle.string_interner.specs.Backend.{Appends}
-use Rattle.string_interner.specs.Index.{Holds, IsLoaded}
-use Rattle.string_interner.specs.Interner.{InternerContents, Interns, InternsInto, GrowsFor, entry_symbol}
-use Rattle.string_interner.proofs.Lemmas.Index.SlotCount.{GrowsFor-more}
-use Rattle.string_interner.specs.Collect.{texts_of, fresh, IsMemory, InternsAll, TakesIn, StopsAt, Extends, InternsInOrder}
+use Rattle.string_interner.specs.SlotRule.{SlotRule, IsLoaded, GrowsFor, IsSlotRule}
+use Rattle.string_interner.specs.Interner.{InternerContents, IsNew, Interns, InternsInto, entry_symbol}
+use Rattle.string_interner.proofs.Lemmas.Index.SlotRule.{GrowsFor-room}
+use Rattle.string_interner.specs.Collect.{texts_of, fresh, IsMemory, InternsAll, TakesIn, StopsAt, Extends, Collects, InternsInOrder}
 use Rattle.string_interner.proofs.Laws.{refused-keeps}
 use Rattle.string_interner.specs.declared.backend.InternError.{InternError}
 use Rattle.string_interner.specs.declared.backend.InternError.TheVariants.{NoSymbol, Memory}
@@ -70,13 +70,13 @@ module _ {S : Type 0} (symbol_of : ℕ → Option S) (place : List Text → ℕ)
 
   module _ (cost : Text → ℕ) where
     -- what is so of a length and a count of slots, where one more entry keeps it, is so once a text was interned
-    pub interned-slots : (P : ℕ → ℕ → Type 0) (mid new : InternerContents) (text : Text) (symbol : S) → InternsInto symbol_of place cost mid text (Ok symbol) new → IsLoaded new.slot_count (length new.texts)
-        → (Holds new.slot_count (length mid.texts + 1) → P (length mid.texts + 1) new.slot_count) → P (length mid.texts) mid.slot_count → P (length new.texts) new.slot_count
-    interned-slots P mid new text symbol call loaded more now = of (first mid.texts text) call.interns call.known
+    pub interned-slots : (rule : SlotRule) (P : ℕ → ℕ → Type 0) (mid new : InternerContents) (text : Text) (symbol : S) → InternsInto symbol_of place cost rule mid text (Ok symbol) new → IsLoaded rule new.slot_count (length new.texts)
+        → (rule.holds new.slot_count (length mid.texts + 1) → P (length mid.texts + 1) new.slot_count) → P (length mid.texts) mid.slot_count → P (length new.texts) new.slot_count
+    interned-slots rule P mid new text symbol call loaded more now = of (first mid.texts text) call.interns call.known
       where
         of : (o : Option ℕ) → MatchOption o (Appends symbol_of place mid.texts text (Ok symbol) new.texts) (λ i. (entry_symbol symbol_of place mid.texts i ≡ Some symbol) × (new.texts ≡ mid.texts)) → (IsSome o → new ≡ mid) → P (length new.texts) new.slot_count
         of None h known = let n : length new.texts ≡ length mid.texts + 1 = ap length h.1 ∙ length_push mid.texts text in
-            subst (λ k. P k new.slot_count) (sym n) (more (subst (λ k. Holds new.slot_count k) n loaded.load))
+            subst (λ k. P k new.slot_count) (sym n) (more (subst (λ k. rule.holds new.slot_count k) n loaded.load))
         of (Some i) h known = subst (λ (it : InternerContents). P (length it.texts) it.slot_count) (sym (known refl)) now
 
     -- a text that is interned takes its cost, and nothing where it was known
@@ -100,9 +100,9 @@ module _ {S : Type 0} (symbol_of : ℕ → Option S) (place : List Text → ℕ)
     cost-more old mid texts text h = rw (fresh-append old texts (text ∷ []), ← all-fresh old texts mid h) (sum_by-append cost (fresh old texts) (fresh mid (text ∷ [])))
 
     -- one more text goes in
-    taken-more : (old mid new : InternerContents) (texts : List Text) (text : Text) (symbol : S) → TakesIn symbol_of place cost old texts mid → InternsInto symbol_of place cost mid text (Ok symbol) new
+    taken-more : (rule : SlotRule) (old mid new : InternerContents) (texts : List Text) (text : Text) (symbol : S) → TakesIn symbol_of place cost old texts mid → InternsInto symbol_of place cost rule mid text (Ok symbol) new
         → TakesIn symbol_of place cost old (texts ++ text ∷ []) new
-    taken-more old mid new texts text symbol taken call = record {
+    taken-more rule old mid new texts text symbol taken call = record {
       interned = all-more old.texts texts mid.texts text symbol new.texts taken.interned call.interns;
       keeps = λ s t stands. call.keeps s t (taken.keeps s t stands);
       spent = omega (arith, taken.spent, cost-more old.texts mid.texts texts text taken.interned, spent-fresh mid new text call.known call.room.spent);
@@ -112,10 +112,10 @@ module _ {S : Type 0} (symbol_of : ℕ → Option S) (place : List Text → ℕ)
     }
 
     -- the same, of the item of an iteration
-    pub item-taken : (old mid new : InternerContents) (items : List (Bor Text)) (item : Bor Text) (symbol : S) → TakesIn symbol_of place cost old (texts_of items) mid → InternsInto symbol_of place cost mid item.now (Ok symbol) new
+    pub item-taken : (rule : SlotRule) (old mid new : InternerContents) (items : List (Bor Text)) (item : Bor Text) (symbol : S) → TakesIn symbol_of place cost old (texts_of items) mid → InternsInto symbol_of place cost rule mid item.now (Ok symbol) new
         → TakesIn symbol_of place cost old (texts_of (items ++ item ∷ [])) new
-    item-taken old mid new items item symbol taken call = subst (λ (ts : List Text). TakesIn symbol_of place cost old ts new) (sym (map_push (λ (b : Bor Text). b.now) items item))
-        (taken-more old mid new (texts_of items) item.now symbol taken call)
+    item-taken rule old mid new items item symbol taken call = subst (λ (ts : List Text). TakesIn symbol_of place cost old ts new) (sym (map_push (λ (b : Bor Text). b.now) items item))
+        (taken-more rule old mid new (texts_of items) item.now symbol taken call)
 
     -- memory is refused for a new text that has a symbol
     memory-new : (mid new : List Text) (text : Text) (error : InternError) → IsMemory error → Interns symbol_of place mid text (Err error) new → (first mid text ≡ None) × IsSome (symbol_of (place mid))
@@ -127,9 +127,9 @@ module _ {S : Type 0} (symbol_of : ℕ → Option S) (place : List Text → ℕ)
         of (Some i) h = absurd h.0
 
     -- a text that does not fit is refused
-    pub stopped : (old mid new : InternerContents) (texts : List Text) (text : Text) (error : InternError) → TakesIn symbol_of place cost old texts mid → InternsInto symbol_of place cost mid text (Err error) new
-        → GrowsFor (length mid.texts) old.slot_count mid.slot_count → StopsAt symbol_of place cost old texts mid text error new
-    stopped old mid new texts text error taken call grown = record {
+    pub stopped : (rule : SlotRule) (laws : IsSlotRule rule) (old mid new : InternerContents) (texts : List Text) (text : Text) (error : InternError) → TakesIn symbol_of place cost old texts mid → InternsInto symbol_of place cost rule mid text (Err error) new
+        → GrowsFor rule (length mid.texts) old.slot_count mid.slot_count → StopsAt symbol_of place cost rule old texts mid text error new
+    stopped rule laws old mid new texts text error taken call grown = record {
       refuses = call;
       beyond = λ m fits.
           let is_new = memory-new mid.texts new.texts text error m call.interns in
@@ -137,22 +137,29 @@ module _ {S : Type 0} (symbol_of : ℕ → Option S) (place : List Text → ℕ)
           let c : sum_by cost (fresh old.texts (texts ++ text ∷ [])) ≡ sum_by cost (fresh old.texts texts) + cost text = cost-more old.texts mid.texts texts text taken.interned ∙ (ap (λ ts. sum_by cost (fresh old.texts texts) + sum_by cost ts) one ∙ omega arith) in
           let n : length (fresh old.texts (texts ++ text ∷ [])) ≡ length (fresh old.texts texts) + 1 = ap length (fresh-append old.texts texts (text ∷ []) ∙ ap (λ zs. fresh old.texts texts ++ fresh zs (text ∷ [])) (sym (all-fresh old.texts texts mid.texts taken.interned)) ∙ ap (λ ts. fresh old.texts texts ++ ts) one) ∙ length_push (fresh old.texts texts) text in
           let l : length mid.texts ≡ length old.texts + length (fresh old.texts texts) = ap length (all-fresh old.texts texts mid.texts taken.interned) ∙ length-append old.texts (fresh old.texts texts) in
-          let granted_now = call.room.granted (is_new.1, omega (arith, fits.index, n, l, GrowsFor-more _ _ _ grown)) (omega (arith, fits.backend, c, taken.spent)) in cc;
+          let one_more : length old.texts + length (fresh old.texts (texts ++ text ∷ [])) ≡ length mid.texts + 1 = omega (arith, n, l) in
+          let room = GrowsFor-room rule laws _ _ _ grown (subst (λ k. rule.holds old.slot_count k) one_more fits.index) in
+          let granted_now = call.room.granted (is_new.1, room) (omega (arith, fits.backend, c, taken.spent)) in cc;
     }
 
     -- an extension that a refused item ended
-    pub extends-refused : {I W : Type 0} (becomes : I → W → Type 0) (steps : W → Option (Bor Text) → W → Type 0) (iter : I) (walk rest : W) (items : List (Bor Text)) (item : Bor Text) (old mid new : InternerContents) (error : InternError) (outcome : Result (Unit {0}) InternError)
-        → becomes iter walk → YieldsThen steps walk items (Some item) rest → outcome ≡ Err error → TakesIn symbol_of place cost old (texts_of items) mid → InternsInto symbol_of place cost mid item.now (Err error) new
-        → GrowsFor (length mid.texts) old.slot_count mid.slot_count → Extends symbol_of place cost becomes steps iter old outcome new
-    extends-refused becomes steps iter walk rest items item old mid new error outcome b y e taken call grown = rw e (
+    pub extends-refused : (rule : SlotRule) (laws : IsSlotRule rule) {I W : Type 0} (becomes : I → W → Type 0) (steps : W → Option (Bor Text) → W → Type 0) (iter : I) (walk rest : W) (items : List (Bor Text)) (item : Bor Text) (old mid new : InternerContents) (error : InternError) (outcome : Result (Unit {0}) InternError)
+        → becomes iter walk → YieldsThen steps walk items (Some item) rest → outcome ≡ Err error → TakesIn symbol_of place cost old (texts_of items) mid → InternsInto symbol_of place cost rule mid item.now (Err error) new
+        → GrowsFor rule (length mid.texts) old.slot_count mid.slot_count → Extends symbol_of place cost rule becomes steps iter old outcome new
+    extends-refused rule laws becomes steps iter walk rest items item old mid new error outcome b y e taken call grown = rw e (
       walk,
       items,
       mid,
       b,
       taken,
       grown,
-      (item, rest, y, stopped old mid new (texts_of items) item.now error taken call grown),
+      (item, rest, y, stopped rule laws old mid new (texts_of items) item.now error taken call grown),
     )
+
+    -- no interner is made where an extension was refused
+    pub collects-refused : (rule : SlotRule) {I W : Type 0} (becomes : I → W → Type 0) (steps : W → Option (Bor Text) → W → Type 0) (iter : I) (empty front : InternerContents) (error : InternError) (outcome : Result InternerContents InternError)
+        → IsNew empty → outcome ≡ Err error → Extends symbol_of place cost rule becomes steps iter empty (Err error) front → Collects symbol_of place cost rule becomes steps iter outcome
+    collects-refused rule becomes steps iter empty front error outcome is_new e extends = rw e (empty, is_new, (front, extends))
 
 -- an iteration that ended went over the whole list
 drained : {W A : Type 0} (steps : W → Option A → W → Type 0) (xs : List A) (s t u : W) (all : List A) → Yields steps s xs t → steps t None u → AlwaysYields steps (λ x. x) s all → all ≡ xs
@@ -169,11 +176,11 @@ fronted steps (z ∷ zs) s t u x [] (j, sj, more) st always = absurd (always z j
 fronted steps (z ∷ zs) s t u x (y ∷ ys) (j, sj, more) st always = let m = always.1 z j sj in let r = fronted steps zs j t u x ys more st m.1 in (r.0, ap (λ k. k ∷ ys) (sym m.0) ∙ ap (λ l. z ∷ l) r.1)
 
 -- an interner that is extended by what yields a list interns its texts in order
-pub in-order : {S : Type 0} (symbol_of : ℕ → Option S) (place : List Text → ℕ) (cost : Text → ℕ) {I W : Type 0} (becomes : I → W → Type 0) (steps : W → Option (Bor Text) → W → Type 0) (iter : I) (old new : InternerContents) (outcome : Result (Unit {0}) InternError) (all : List (Bor Text))
-    → Extends symbol_of place cost becomes steps iter old outcome new → ((walk : W) → becomes iter walk → YieldsList steps (λ x. x) walk all) → InternsInOrder symbol_of place old.texts (texts_of all) outcome new.texts
-in-order symbol_of place cost becomes steps iter old new (Ok done) all (walk, items, mid, b, taken, grown, drains) lists =
+pub in-order : {S : Type 0} (symbol_of : ℕ → Option S) (place : List Text → ℕ) (cost : Text → ℕ) (rule : SlotRule) {I W : Type 0} (becomes : I → W → Type 0) (steps : W → Option (Bor Text) → W → Type 0) (iter : I) (old new : InternerContents) (outcome : Result (Unit {0}) InternError) (all : List (Bor Text))
+    → Extends symbol_of place cost rule becomes steps iter old outcome new → ((walk : W) → becomes iter walk → YieldsList steps (λ x. x) walk all) → InternsInOrder symbol_of place old.texts (texts_of all) outcome new.texts
+in-order symbol_of place cost rule becomes steps iter old new (Ok done) all (walk, items, mid, b, taken, grown, drains) lists =
     let ends = drains.0 in rw (ap (λ (i : InternerContents). i.texts) drains.1, drained steps items walk ends.1.0 ends.0 all ends.1.1 ends.1.2 (lists walk b).runs) taken.interned
-in-order symbol_of place cost becomes steps iter old new (Err error) all (walk, items, mid, b, taken, grown, (item, left, yields, stops)) lists =
+in-order symbol_of place cost rule becomes steps iter old new (Err error) all (walk, items, mid, b, taken, grown, (item, left, yields, stops)) lists =
     let f = fronted steps items walk yields.0 left item all yields.1 yields.2 (lists walk b).runs in
     let same = refused-keeps symbol_of place mid.texts new.texts item.now error stops.refuses.interns in (
       texts_of items,

@@ -3,9 +3,9 @@ use Rattle.std.proofs.Common.{◌≡◌, ℕ, ◌+◌, List, length, refl, arith
 use Rattle.std.specs.Prelude.{MatchOption, IsSome, IsErrOf, OnErr, Result, option_and_then}
 use Rattle.string_interner.specs.Text.{Text, first}
 use Rattle.string_interner.specs.Backend.{Appends, IsKept, UsesRoom}
-use Rattle.string_interner.specs.Index.{Holds}
-use Rattle.string_interner.specs.Interner.{AreInterned, InternerContents, Interns, InternsInto, GrowsIfFull, entry_symbol, known_symbol}
-use Rattle.string_interner.proofs.Lemmas.Index.SlotCount.{GrowsIfFull-same}
+use Rattle.string_interner.specs.SlotRule.{SlotRule, GrowsIfFull}
+use Rattle.string_interner.specs.Interner.{AreInterned, InternerContents, Interns, InternsInto, entry_symbol, known_symbol}
+use Rattle.string_interner.proofs.Lemmas.Index.SlotRule.{GrowsIfFull-same}
 use Rattle.string_interner.proofs.Lemmas.Interner.StandsFor.{keeps-same, keeps-interned, distinct-interned, stands-interned}
 use Rattle.string_interner.specs.declared.backend.InternError.{InternError}
 use Rattle.string_interner.specs.declared.backend.InternError.TheVariants.{NoSymbol, Memory}
@@ -30,10 +30,10 @@ module _ {S : Type 0} (symbol_of : ℕ → Option S) (place : List Text → ℕ)
   has_symbol old text (Err NoSymbol) new some put is = let none = put.0 in cc
   has_symbol old text (Err (Memory e)) new some put is = cc
 
-  module _ (cost : Text → ℕ) where
+  module _ (cost : Text → ℕ) (rule : SlotRule) where
     -- nothing changes where the text is known
     pub into-known : (old : InternerContents) (count : ℕ) (text : Text) (symbol : S) → AreInterned symbol_of place old.texts → known_symbol symbol_of place old.texts text ≡ Some symbol → count ≡ old.slot_count
-        → InternsInto symbol_of place cost old text (Ok symbol) (record old { slot_count = count })
+        → InternsInto symbol_of place cost rule old text (Ok symbol) (record old { slot_count = count })
     into-known old count text symbol are e same = let interns = Interns-known old.texts text symbol e in rw same (record {
       interns = interns;
       texts = are;
@@ -43,13 +43,13 @@ module _ {S : Type 0} (symbol_of : ℕ → Option S) (place : List Text → ℕ)
       no_symbol = λ h. refl;
       buckets = tt;
       room = record { granted = λ h c. refl; spent = omega arith; unspent = tt };
-      slots = GrowsIfFull-same (length old.texts) old.slot_count;
+      slots = GrowsIfFull-same rule (length old.texts) old.slot_count;
     })
 
     -- a new text is refused before it is stored
     pub into-refused : (old : InternerContents) (count : ℕ) (text : Text) (error : InternError) → AreInterned symbol_of place old.texts → first old.texts text ≡ None → Appends symbol_of place old.texts text (Err error) old.texts
-        → (IsSome (symbol_of (place old.texts)) → Holds old.slot_count (length old.texts + 1) → ⊥) → count ≡ old.slot_count
-        → InternsInto symbol_of place cost old text (Err error) (record old { slot_count = count })
+        → (IsSome (symbol_of (place old.texts)) → rule.holds old.slot_count (length old.texts + 1) → ⊥) → count ≡ old.slot_count
+        → InternsInto symbol_of place cost rule old text (Err error) (record old { slot_count = count })
     into-refused old count text error are is_new put no_room same = rw same (record {
       interns = Interns-new old.texts text (Err error) old.texts is_new put;
       texts = are;
@@ -59,18 +59,18 @@ module _ {S : Type 0} (symbol_of : ℕ → Option S) (place : List Text → ℕ)
       no_symbol = λ h. refl;
       buckets = refl;
       room = record { granted = λ h c. absurd (no_room h.0 h.1); spent = tt; unspent = omega arith };
-      slots = GrowsIfFull-same (length old.texts) old.slot_count;
+      slots = GrowsIfFull-same rule (length old.texts) old.slot_count;
     })
 
     -- for want of a symbol
-    pub into-unnamed : (old : InternerContents) (text : Text) → AreInterned symbol_of place old.texts → first old.texts text ≡ None → symbol_of (place old.texts) ≡ None → InternsInto symbol_of place cost old text (Err NoSymbol) old
+    pub into-unnamed : (old : InternerContents) (text : Text) → AreInterned symbol_of place old.texts → first old.texts text ≡ None → symbol_of (place old.texts) ≡ None → InternsInto symbol_of place cost rule old text (Err NoSymbol) old
     into-unnamed old text are is_new none = into-refused old old.slot_count text NoSymbol are is_new (none, refl) (λ some h. absurd (cc)) refl
 
     -- a new text for which there is a symbol is stored, or memory is refused
     pub into-stored : (old new : InternerContents) (text : Text) (stored outcome : Result S InternError) → outcome ≡ stored → AreInterned symbol_of place old.texts → IsKept symbol_of place new.texts → first old.texts text ≡ None → IsSome (symbol_of (place old.texts))
         → Appends symbol_of place old.texts text stored new.texts → OnErr stored (new.buckets ≡ old.buckets)
-        → UsesRoom (IsSome (symbol_of (place old.texts))) (cost text) old.room new.room stored → GrowsIfFull (length old.texts) old.slot_count new.slot_count
-        → InternsInto symbol_of place cost old text outcome new
+        → UsesRoom (IsSome (symbol_of (place old.texts))) (cost text) old.room new.room stored → GrowsIfFull rule (length old.texts) old.slot_count new.slot_count
+        → InternsInto symbol_of place cost rule old text outcome new
     into-stored old new text stored outcome e are kept is_new some put buckets room slots = let interns = Interns-new old.texts text stored new.texts is_new put in rw e (record {
       interns = interns;
       texts = record { distinct = distinct-interned symbol_of place old.texts text stored new.texts interns are.distinct; kept = kept };

@@ -1,17 +1,20 @@
 -- What an interner keeps to, when a text is looked for and when one is put last.
-use Rattle.std.proofs.Common.{◌≡◌, ℕ, ◌<◌, List, [], ◌∷◌, ◌++◌, length, refl, sym, ap, subst, ◌∙◌, arith, Option, Some, None, Ok, IsSome}
-use Rattle.std.specs.Prelude.{◌↔◌, option_and_then, ◌≢◌, ◌^◌, take}
+use Rattle.std.proofs.Common.{◌≡◌, ℕ, ◌+◌, ◌<◌, List, [], ◌∷◌, ◌++◌, length, refl, sym, ap, subst, ◌∙◌, arith, Option, Some, None, Ok, IsSome}
+use Rattle.std.specs.Prelude.{◌↔◌, option_and_then, ◌≢◌, ◌^◌, slice_get, take}
+use Rattle.std.proofs.lemmas.Option.{slice_get-get_or, get_or_from_slice_get}
 use Rattle.std.proofs.lemmas.Grind.{common_steps}
 use Rattle.std.proofs.lemmas.List.{length_push}
 use Rattle.std.proofs.lemmas.List.Quantifiers.{all_pairs_push}
-use Rattle.string_interner.specs.Text.{Text, first}
+use Rattle.string_interner.specs.Text.{Text, IsDistinct, first}
 use Rattle.string_interner.specs.Backend.{IsKept, Appends}
 use Rattle.string_interner.specs.Entry.{entry_text}
 use Rattle.string_interner.specs.Slots.{symbols}
-use Rattle.string_interner.specs.Index.{AddsPair, Fits, IndexContents, Inserts, InsertsByCode, IsAbsent, SameMap, look_up, text_of}
-use Rattle.string_interner.specs.Interner.{IsInterned, entry_symbol, known_symbol}
-use Rattle.string_interner.proofs.Lemmas.Index.EntryText.{Adds, entry_text-adds}
-use Rattle.string_interner.proofs.Lemmas.Texts.First.{first_within, first_none}
+use Rattle.string_interner.specs.TextIndex.{AddsEntry, IsNewText}
+use Rattle.string_interner.specs.Index.{AddsPair, Fits, IndexContents, Inserts, InsertsByCode, IsAbsent, IsWhole, SameMap, look_up, text_of}
+use Rattle.string_interner.specs.Interner.{Finds, IsInterned, entry_symbol, known_symbol}
+use Rattle.string_interner.proofs.Lemmas.Index.EntryText.{Adds, entry_text-adds, entry_text-at, entry_text-is}
+use Rattle.string_interner.proofs.Lemmas.Texts.First.{first_within, first_is, first_none}
+use Rattle.string_interner.proofs.Lemmas.Interner.StandsFor.{one_entry, finds-known}
 use Rattle.string_interner.proofs.Lemmas.Index.IsWhole.{Fits-added, text_of-added, IsAbsent-added, IsWhole-added, look_up-known}
 
 module _ {S : Type 0} (symbol_of : ℕ → Option S) (place : List Text → ℕ) where
@@ -31,21 +34,108 @@ module _ {S : Type 0} (symbol_of : ℕ → Option S) (place : List Text → ℕ)
       of None e = (λ h. h, λ h. h)
       of (Some i) e = (λ _. refl, λ _. kept.has_symbols i (first_within texts t i e))
 
+  -- a new text has no known symbol
+  pub known-none : (texts : List Text) (t : Text) → first texts t ≡ None → known_symbol symbol_of place texts t ≡ None
+  known-none texts t is_new = ap (option_and_then (entry_symbol symbol_of place texts)) is_new
+
+  -- what is known of a text is found
+  pub finds : (texts : List Text) (t : Text) (found : Option S) → IsKept symbol_of place texts → found ≡ known_symbol symbol_of place texts t → Finds symbol_of place texts t found
+  finds texts t found kept is = record {
+    symbol = is;
+    known = subst (λ o. IsSome o ↔ IsSome (first texts t)) (sym is) (known-symbol texts t kept);
+    stands = finds-known symbol_of place texts t found kept is;
+  }
+
+  -- an interner without texts
+  pub interned-none : (number : S → ℕ) (indexes : (S → Option Text) → Type 0) (entries : ℕ) (texts : List Text) → texts ≡ [] → place [] ≡ 0 → entries ≡ 0 → indexes (λ _. None)
+      → IsInterned symbol_of place number indexes entries texts
+  interned-none number indexes entries texts none starts zero whole = rw none (record {
+    distinct = λ i j d l m. absurd (omega arith);
+    kept = record { utf8 = λ k d within. absurd (omega arith); has_symbols = λ i within. absurd (omega arith); fits = omega arith };
+    whole = whole;
+    count = zero;
+  })
+
 module _ {S : Type 0} (symbol_of : ℕ → Option S) (number : S → ℕ) (place : List Text → ℕ)
     (numbered : (i : ℕ) (s : S) → symbol_of i ≡ Some s → (number s ≡ i) × (i < 2 ^ 64))
     (injective : (a b : S) → number a ≡ number b → a ≡ b)
     (grows : (texts : List Text) (text : Text) → place texts < place (texts ++ text ∷ []))
-    (code : Text → ℕ) (texts : List Text) (slots : List (Option S)) (is : IsInterned symbol_of place number code texts slots) where
+    (texts : List Text) (distinct : IsDistinct texts) (kept : IsKept symbol_of place texts) where
+  abbrev entry : S → Option Text
+  entry = entry_text number place texts
+
+  -- the symbol of an entry with this text is its known symbol
+  pub known-entry : (t : Text) (s : S) → entry s ≡ Some t → known_symbol symbol_of place texts t ≡ Some s
+  known-entry t s e =
+      let r = entry_text-is number place texts s t e in
+      let at : (j : ℕ) → first texts t ≡ Some j → (o : Option S) → IsSome o → entry_symbol symbol_of place texts j ≡ o → o ≡ Some s = λ j f. elim [
+        | None ↦ λ some is. absurd (cc)
+        | Some u ↦ λ some is.
+            let here : slice_get texts j ≡ Some t = slice_get-get_or texts j [] (first_within texts t j f) ∙ ap Some (first_is texts t j f) in
+            let same = one_entry texts t r.0 j distinct r.2 here in
+            ap Some (injective u s ((numbered (place (take j texts)) u is).0 ∙ ap (λ n. place (take n texts)) (sym same) ∙ r.1.begins))
+      ] in
+      let of : (o : Option ℕ) → first texts t ≡ o → option_and_then (entry_symbol symbol_of place texts) o ≡ Some s = elim [
+        | None ↦ λ f. absurd (first_none texts t f r.0 [] r.1.within (get_or_from_slice_get texts r.0 t [] r.2))
+        | Some j ↦ λ f. at j f (entry_symbol symbol_of place texts j) (kept.has_symbols j (first_within texts t j f)) refl
+      ] in
+      of (first texts t) refl
+
+  -- a text that is no entry's is new
+  pub new-text : (t : Text) → IsNewText entry t → first texts t ≡ None
+  new-text t none =
+      let at : (j : ℕ) → first texts t ≡ Some j → (o : Option S) → IsSome o → entry_symbol symbol_of place texts j ≡ o → ⊥ = λ j f. elim [
+        | None ↦ λ some is. absurd (cc)
+        | Some u ↦ λ some is.
+            let l = first_within texts t j f in
+            none u (entry_text-at number place grows texts u j l (numbered (place (take j texts)) u is).0 ∙ slice_get-get_or texts j [] l ∙ ap Some (first_is texts t j f))
+      ] in
+      let of : (o : Option ℕ) → first texts t ≡ o → o ≡ None = elim [
+        | None ↦ λ f. refl
+        | Some j ↦ λ f. absurd (at j f (entry_symbol symbol_of place texts j) (kept.has_symbols j (first_within texts t j f)) refl)
+      ] in
+      of (first texts t) refl
+
+  -- a new text that is put last is one entry more
+  pub adds-entry : (t : Text) (s : S) (more : List Text) → first texts t ≡ None → Appends symbol_of place texts t (Ok s) more → AddsEntry entry (entry_text number place more) s t
+  adds-entry t s more is_new put =
+      let adds : Adds entry (entry_text number place more) s t = rw put.1 (entry_text-adds symbol_of number place numbered injective grows texts t s put.0) in record {
+        new_text = λ u e. let r = entry_text-is number place texts u t e in first_none texts t is_new r.0 [] r.1.within (get_or_from_slice_get texts r.0 t [] r.2);
+        added = adds.added;
+        kept = adds.kept;
+        only = adds.only;
+      }
+
+  -- an index that takes it is one of the longer list
+  pub interned-added : (old new : (S → Option Text) → Type 0) (entries more_entries : ℕ) (t : Text) (s : S) (more : List Text) → entries ≡ length texts → old entry → first texts t ≡ None
+      → Appends symbol_of place texts t (Ok s) more → IsKept symbol_of place more → more_entries ≡ entries + 1 → (AddsEntry entry (entry_text number place more) s t → old entry → new (entry_text number place more))
+      → IsInterned symbol_of place number new more_entries more
+  interned-added old new entries more_entries t s more count whole is_new put more_kept one_more adds = record {
+    distinct = rw put.1 (all_pairs_push (λ a b. a ≢ b) texts t distinct (first_none texts t is_new));
+    kept = more_kept;
+    whole = adds (adds-entry t s more is_new put) whole;
+    count = (let long = ap length put.1 ∙ length_push texts t in omega arith);
+  }
+
+-- the invariant of an interner, of an index that has these slots
+abbrev pub IsFilled : {S : Type 0} → (ℕ → Option S) → (List Text → ℕ) → (S → ℕ) → (Text → ℕ) → List Text → List (Option S) → Type 0
+IsFilled symbol_of place number code texts slots = IsInterned symbol_of place number (λ entry. IsWhole entry code slots) (length (symbols slots)) texts
+
+module _ {S : Type 0} (symbol_of : ℕ → Option S) (number : S → ℕ) (place : List Text → ℕ)
+    (numbered : (i : ℕ) (s : S) → symbol_of i ≡ Some s → (number s ≡ i) × (i < 2 ^ 64))
+    (injective : (a b : S) → number a ≡ number b → a ≡ b)
+    (grows : (texts : List Text) (text : Text) → place texts < place (texts ++ text ∷ []))
+    (code : Text → ℕ) (texts : List Text) (slots : List (Option S)) (is : IsFilled symbol_of place number code texts slots) where
   abbrev entries : List Text → S → Option Text
   entries = entry_text number place
 
   -- what is found under a text is its known symbol
-  pub finds : (t : Text) → look_up (entries texts) slots t ≡ known_symbol symbol_of place texts t
-  finds = look_up-known symbol_of number place numbered grows code texts slots is.kept is.whole
+  look_up-finds : (t : Text) → look_up (entries texts) slots t ≡ known_symbol symbol_of place texts t
+  look_up-finds = look_up-known symbol_of number place numbered grows code texts slots is.kept is.whole
 
   -- the same of a list that is known by an equation
   pub sought : (lent : List Text) (found : Option S) (t : Text) → found ≡ look_up (entries lent) slots t → lent ≡ texts → known_symbol symbol_of place texts t ≡ found
-  sought lent found t e same = sym (finds t) ∙ ap (λ (xs : List Text). look_up (entries xs) slots t) (sym same) ∙ sym e
+  sought lent found t e same = sym (look_up-finds t) ∙ ap (λ (xs : List Text). look_up (entries xs) slots t) (sym same) ∙ sym e
 
   -- and something is found exactly if the text is known
   pub sought_known : (lent : List Text) (found : Option S) (t : Text) → found ≡ look_up (entries lent) slots t → lent ≡ texts → IsSome found ↔ IsSome (first texts t)
@@ -61,7 +151,7 @@ module _ {S : Type 0} (symbol_of : ℕ → Option S) (number : S → ℕ) (place
 
   -- slots that hold the same map, of as many symbols
   pub interned-same : (bigger : List (Option S)) → Fits (entries texts) code bigger → SameMap (entries texts) slots bigger
-      → length (symbols bigger) ≡ length (symbols slots) → IsInterned symbol_of place number code texts bigger
+      → length (symbols bigger) ≡ length (symbols slots) → IsFilled symbol_of place number code texts bigger
   interned-same bigger fits same count = record {
     distinct = is.distinct;
     kept = is.kept;
@@ -75,7 +165,7 @@ module _ {S : Type 0} (symbol_of : ℕ → Option S) (number : S → ℕ) (place
     adds = rw put.1 (entry_text-adds symbol_of number place numbered injective grows texts t s put.0)
 
     absent : look_up (entries texts) slots t ≡ None
-    absent = finds t ∙ ap (option_and_then (entry_symbol symbol_of place texts)) new_text
+    absent = look_up-finds t ∙ ap (option_and_then (entry_symbol symbol_of place texts)) new_text
 
     -- the index still fits
     pub fits-more : Fits (entries more) code slots
@@ -91,7 +181,7 @@ module _ {S : Type 0} (symbol_of : ℕ → Option S) (number : S → ℕ) (place
 
     -- once it is inserted the index has each text again
     pub interned-more : (old new : IndexContents S) → IsKept symbol_of place more → old.slots ≡ slots → Inserts (entries more) code old new s
-        → IsInterned symbol_of place number code more new.slots
+        → IsFilled symbol_of place number code more new.slots
     interned-more old new kept here i = record {
       distinct = rw put.1 (all_pairs_push (λ a b. a ≢ b) texts t is.distinct (first_none texts t new_text));
       kept = kept;

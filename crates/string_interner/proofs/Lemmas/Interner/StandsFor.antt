@@ -22,7 +22,7 @@ entry_stays xs ys i text is =
     ∙ ap Some (get_or_append_left xs ys text i within ∙ get_or_from_slice_get xs i text text is)
 
 -- two entries of distinct texts that are one text are one entry
-one_entry : (texts : List Text) (text : Text) (i j : ℕ) → IsDistinct texts → slice_get texts i ≡ Some text → slice_get texts j ≡ Some text → i ≡ j
+pub one_entry : (texts : List Text) (text : Text) (i j : ℕ) → IsDistinct texts → slice_get texts i ≡ Some text → slice_get texts j ≡ Some text → i ≡ j
 one_entry texts text i j distinct at_i at_j =
     let is_i = get_or_from_slice_get texts i text text at_i in
     let is_j = get_or_from_slice_get texts j text text at_j in

@@ -10,5 +10,5 @@ pub insert_at-requires-clause-vacant : goal.insert_at-requires-clause-vacant
 insert_at-requires-clause-vacant g c = rw c.by_code.ensures (by_code_IsVacant _ _)
 
 pub returns : goal.returns
-returns g c = c.insert_at.ensures _ _ c.requires.fits c.requires.absent (ap (λ v. v.code) c.by_code.ensures
+returns g c = c.insert_at.ensures.inserts _ _ c.requires.fits c.requires.absent (ap (λ v. v.code) c.by_code.ensures
     ∙ c.hash_text.ensures ∙ ap (g.H.TextHasher.code c.args.hasher.now) (text_of-resolved g.S.Symbol.number _ _ c.args.symbol _ c.requires.absent.is_entry c.resolve_unchecked-text.ensures))

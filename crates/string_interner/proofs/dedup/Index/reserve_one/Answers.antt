@@ -4,7 +4,8 @@ use Rattle.string_interner.specs.Index.{GrowsTo}
 use Rattle.string_interner.specs.Probe.{Rebuilt}
 use Rattle.string_interner.proofs.Lemmas.Index.Rebuilt.{Rebuilt-same}
 use Rattle.string_interner.proofs.Lemmas.Index.Vacancy.{IsVacant-grown}
-use Rattle.string_interner.proofs.Lemmas.Index.SlotCount.{GrowsTo-more, IsSlotCount-grown}
+use Rattle.string_interner.proofs.Lemmas.Index.SlotCount.{GrowsTo-more}
+use Rattle.string_interner.specs.IndexLaws.{IsSlotCount-grown}
 use Rattle.string_interner.proofs.dedup.Index.reserve_one.Goals as goal
 
 pub returns-clause-same : goal.returns-clause-same

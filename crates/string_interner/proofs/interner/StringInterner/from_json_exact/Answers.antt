@@ -1,8 +1,8 @@
 use Rattle.std.proofs.Common.{rules, ◌+◌, length, refl, sym, ap, ◌∙◌, Ok, Err}
 use Rattle.std.proofs.lemmas.List.{length_push}
 use Rattle.string_interner.specs.declared.json.JsonError.TheVariants.{NotAText, Repeated}
-use Rattle.string_interner.specs.Index.{IsLeastSlotCount}
-use Rattle.string_interner.proofs.Lemmas.Index.SlotCount.{least-none, least-grown}
+use Rattle.string_interner.specs.SlotRule.{IsLeastSlotCount}
+use Rattle.string_interner.proofs.Lemmas.Index.SlotRule.{least-none, least-grown}
 use Rattle.string_interner.proofs.Lemmas.Interner.Extends.{interned-slots}
 use Rattle.string_interner.proofs.Lemmas.Json.Reads.{next_element}
 use Rattle.string_interner.proofs.Lemmas.Json.ReadsExactly.{lengthened, exact_nothing, exact_no_text, exact_refused, exact_repeated, exact_more, exact_form, exact_reads_back}
@@ -12,7 +12,7 @@ pub loop-index-init : goal.loop-index-init
 loop-index-init g c = record {
   reads = search rules;
   each = search rules;
-  slots = least-none _ _ (ap length c.new-different.ensures.texts) c.new-different.ensures.slots;
+  slots = least-none g.I.TextIndex.rule g.met.I.TextIndex.rule_laws _ _ (ap length c.new-different.ensures.texts) c.new-different.ensures.slots;
 }
 
 pub loop-index-preserved : goal.loop-index-preserved
@@ -21,7 +21,7 @@ loop-index-preserved g c =
     let call = c.in_ok-get_or_intern.ensures in record {
       reads = λ outcome more. c.loop-index.invariant.reads outcome (exact_more g.B.Symbol.Symbol.symbol_of g.B.Backend.place _ _ _ _ _ _ (next_element _ _ _ c.loop-index-test.true c.element-item.is) _ (search rules) _ _ new more);
       each = ap length new.1.1 ∙ length_push _ _ ∙ ap (λ n. n + 1) c.loop-index.invariant.each;
-      slots = interned-slots g.B.Symbol.Symbol.symbol_of g.B.Backend.place g.B.Backend.cost IsLeastSlotCount _ _ _ _ call c.len.ensures.loaded (least-grown _ _ _ c.loop-index.invariant.slots call.slots) c.loop-index.invariant.slots;
+      slots = interned-slots g.B.Symbol.Symbol.symbol_of g.B.Backend.place g.B.Backend.cost g.I.TextIndex.rule (IsLeastSlotCount g.I.TextIndex.rule) _ _ _ _ call c.len.ensures.loaded (least-grown g.I.TextIndex.rule g.met.I.TextIndex.rule_laws _ _ _ c.loop-index.invariant.slots call.slots) c.loop-index.invariant.slots;
     }
 
 pub returns-in_default-as_str-clause-reads : goal.returns-in_default-as_str-clause-reads

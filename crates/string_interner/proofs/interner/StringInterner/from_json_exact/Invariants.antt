@@ -1,6 +1,6 @@
 use Rattle.std.proofs.Common.{◌≡◌, length, drop, Result}
 use Rattle.serde_json.specs.View.{view, items_view}
-use Rattle.string_interner.specs.Index.{IsLeastSlotCount}
+use Rattle.string_interner.specs.SlotRule.{IsLeastSlotCount}
 use Rattle.string_interner.specs.Interner.{InternerContents}
 use Rattle.string_interner.specs.Json.{ReadsElementsExactly, ReadsArrayExactly}
 use Rattle.string_interner.specs.declared.json.JsonError.{JsonError}
@@ -13,5 +13,5 @@ invariant-loop-index g l = record {
   reads : (outcome : Result InternerContents JsonError) → ReadsElementsExactly g.B.Symbol.Symbol.symbol_of g.B.Backend.place l.different.texts l.index (items_view (drop l.index l.element-items)) outcome
       → ReadsArrayExactly g.B.Symbol.Symbol.symbol_of g.B.Backend.place (view l.value) outcome;
   each : length l.different.texts ≡ l.index;
-  slots : IsLeastSlotCount (length l.different.texts) l.different.slot_count;
+  slots : IsLeastSlotCount g.I.TextIndex.rule (length l.different.texts) l.different.slot_count;
 }

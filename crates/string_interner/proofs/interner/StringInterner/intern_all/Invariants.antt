@@ -1,5 +1,5 @@
 use Rattle.std.proofs.Common.{vec_capacity, ◌≤◌, length}
-use Rattle.string_interner.specs.Index.{IsLoaded}
+use Rattle.string_interner.specs.SlotRule.{IsLoaded}
 use Rattle.string_interner.specs.Collect.{texts_of}
 use Rattle.string_interner.specs.Encode.{Encodes}
 use Rattle.string_interner.proofs.interner.StringInterner.intern_all.Given as goal
@@ -8,7 +8,7 @@ use Rattle.string_interner.proofs.interner.StringInterner.intern_all.Given as go
 -- symbols holds no less than it did
 abbrev pub invariant-loop-text : goal.invariant-loop-text
 invariant-loop-text g l = record {
-  encodes : Encodes g.B.Symbol.Symbol.symbol_of g.B.Backend.place g.B.Backend.cost l.fn.self l.fn.symbols.items (texts_of l.yielded) l.self l.symbols.items;
-  loaded : IsLoaded l.self.slot_count (length l.self.texts);
+  encodes : Encodes g.B.Symbol.Symbol.symbol_of g.B.Backend.place g.B.Backend.cost g.I.TextIndex.rule l.fn.self l.fn.symbols.items (texts_of l.yielded) l.self l.symbols.items;
+  loaded : IsLoaded g.I.TextIndex.rule l.self.slot_count (length l.self.texts);
   capacity : vec_capacity l.fn.symbols ≤ vec_capacity l.symbols;
 }

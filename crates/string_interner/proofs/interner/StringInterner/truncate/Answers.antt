@@ -8,12 +8,12 @@ use Rattle.string_interner.proofs.interner.StringInterner.truncate.Goals as goal
 pub refill-requires-clause-room : goal.refill-requires-clause-room
 refill-requires-clause-room g c =
     let n = length-take-le c.args.len (g.B.Backend.texts c.self.inside.backend) (omega (arith, c.if-len.true, c.len.ensures.value, c.self.invariant.count)) in
-    omega (arith, n, ap length c.truncate.ensures.texts, c.if-len.true, c.len.ensures.value, c.self.invariant.count, c.len.ensures.bounded.load)
+    g.met.I.TextIndex.rule_laws.fewer _ _ _ c.len.ensures.loaded.load (omega (arith, n, ap length c.truncate.ensures.texts, c.if-len.true, c.len.ensures.value, c.self.invariant.count))
 
 pub invariant_of-self : goal.invariant_of-self
 invariant_of-self g c = record {
   distinct = subst IsDistinct (sym c.truncate.ensures.texts) (distinct-take c.args.len (g.B.Backend.texts c.self.inside.backend) c.self.invariant.distinct);
   kept = subst (IsKept g.B.Symbol.Symbol.symbol_of g.B.Backend.place) (sym c.truncate.ensures.texts) (kept-take g.B.Symbol.Symbol.symbol_of g.B.Backend.place g.met.B.Backend.grows c.args.len (g.B.Backend.texts c.self.inside.backend) c.self.invariant.kept);
   whole = c.refill.ensures.whole;
-  count = c.refill.ensures.count_is;
+  count = c.refill.ensures.count;
 }

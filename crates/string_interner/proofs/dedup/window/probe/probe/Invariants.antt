@@ -1,0 +1,9 @@
+use Rattle.std.proofs.Common.{◌%◌, length}
+use Rattle.string_interner.specs.Entry.{entry_text}
+use Rattle.string_interner.specs.Index.{has_text}
+use Rattle.string_interner.proofs.Lemmas.WindowIndex.Stands.{Stands}
+use Rattle.string_interner.proofs.dedup.window.probe.probe.Given as goal
+
+abbrev pub invariant-loop-step : goal.invariant-loop-step
+invariant-loop-step g l =
+    Stands (has_text (entry_text g.S.Symbol.number g.B.Backend.place (g.B.Backend.texts l.backend)) l.text) l.slots.slots (l.code % length l.slots.slots) l._step l.at

@@ -1,0 +1,197 @@
+//! What an interner asks of an index of its texts.
+
+ghost use Rattle.std.specs.Prelude.{◌≡◌, ℕ, ◌+◌, ◌^◌, length, Option, Some, None, IsOk, IfOk, OnOk, OnErr};
+ghost use Rattle.string_interner.specs.Text.{Text, IsDistinct};
+ghost use Rattle.string_interner.specs.Entry.{entry_text};
+ghost use Rattle.string_interner.specs.SlotRule.{SlotRule, IsLoaded, IsLeastSlotCount, IsSlotRule};
+ghost use Rattle.string_interner.specs.TextIndex.{AddsEntry, IfOccupied, IfVacant, IsNewText};
+
+use crate::backend::Backend;
+use crate::dedup::Index;
+use crate::dedup::hasher::TextHasher;
+use crate::dedup::probe::Vacancy;
+use crate::dedup::slots::Looks;
+use crate::symbol::Symbol;
+use std::alloc::{AllocError, Global};
+
+/// What a look-up found.
+#[derive(Drop)]
+pub enum Entry<S, V> {
+    /// The symbol that has the text.
+    Occupied(S),
+    /// No symbol has it; a new one goes here.
+    Vacant(V),
+}
+
+/// A map from the texts of a backend's entries to their symbols: what an interner asks of its index.
+///
+/// An index holds symbols, and asks the backend for their texts. It counts its slots by a rule of its own: which slot
+/// counts there are, how many entries these hold, and what they grow to. `Index` is the one that an interner has where
+/// no other is named.
+///
+/// Its calls take the backend and the hasher of the entries that it has.
+pub trait TextIndex<S: Symbol> {
+    /// Where the symbol of a text goes that was not found.
+    type Vacancy: Drop;
+
+    /// The index has the text of each entry under its symbol, and nothing else, under a hasher with these codes.
+    ghost indexes: { Self → (S → Option Text) → (Text → ℕ) → Type 0 };
+
+    /// How many entries there are.
+    ghost entries: { Self → ℕ };
+
+    /// How many slots there are.
+    ghost slots: { Self → ℕ };
+
+    /// How slots are counted.
+    ghost rule: { SlotRule };
+
+    /// The symbol of a text with this code goes there.
+    ghost is_vacant: { Self → ℕ → Self.Vacancy → Type 0 };
+
+    /// Makes an index without slots. Takes no memory.
+    fn new(alloc: Global) -> Self
+        ensures slots { slots result ≡ 0 }
+        ensures count { entries result ≡ 0 }
+        ensures empty { (code : Text → ℕ) → indexes result (λ _. None) code };
+
+    /// Makes an index without entries, with the least slot count that the load factor allows for `capacity` of them.
+    ///
+    /// Returns `Err` only if an allocation fails or that count does not fit a `usize`.
+    fn with_capacity(alloc: Global, capacity: usize) -> Result<Self, AllocError>
+        ensures slots { IfOk result (λ index. IsLeastSlotCount rule capacity (slots index)) }
+        ensures count { IfOk result (λ index. entries index ≡ 0) }
+        ensures empty { IfOk result (λ index. (code : Text → ℕ) → indexes index (λ _. None) code) }
+        ensures fits_usize { OnOk result (rule.holds (2 ^ 63) capacity) };
+
+    /// Returns the allocator that the index was made with.
+    fn allocator(&self) -> Global;
+
+    /// Returns how many entries there are.
+    fn len(&self) -> usize
+        ensures value { result ≡ entries self.now }
+
+        // What holds of every index.
+        ensures loaded { IsLoaded rule (slots self.now) (entries self.now) };
+
+    /// Looks for a text, and returns its symbol, or where the symbol of a text that is not there goes.
+    fn entry<H: TextHasher, B: Backend<Symbol = S>>(
+        &self,
+        hasher: &H,
+        backend: &B,
+        text: &str,
+    ) -> Entry<S, Self::Vacancy>
+        requires { indexes self.now (entry_text S.number B.place (B.texts backend.now)) (H.code hasher.now) }
+        ensures occupied { IfOccupied result
+            (λ symbol. entry_text S.number B.place (B.texts backend.now) symbol ≡ Some text.now) }
+        ensures new_text { IfVacant result
+            (λ _. IsNewText (entry_text S.number B.place (B.texts backend.now)) text.now) }
+        ensures vacant { IfVacant result (is_vacant self.now (H.code hasher.now text.now)) };
+
+    /// Makes room for one more entry: does nothing if the load factor allows one more, and else grows once.
+    ///
+    /// Returns `Err` only if an allocation fails or the slot count does not fit a `usize`. Nothing changes then.
+    fn reserve_one<H: TextHasher, B: Backend<Symbol = S>>(
+        &mut self,
+        hasher: &H,
+        backend: &B,
+    ) -> Result<(), AllocError>
+        requires { indexes self.old (entry_text S.number B.place (B.texts backend.now)) (H.code hasher.now) }
+        ensures same { indexes self.new (entry_text S.number B.place (B.texts backend.now)) (H.code hasher.now) }
+        ensures count { entries self.new ≡ entries self.old }
+        ensures room { OnOk result (rule.holds (slots self.new) (entries self.new + 1)) }
+        ensures had_room { rule.holds (slots self.old) (entries self.old + 1)
+            → IsOk result × (self.new ≡ self.old) }
+        ensures grown { ¬ rule.holds (slots self.old) (entries self.old + 1)
+            → OnOk result (rule.grows_to (slots self.old) (slots self.new)) }
+        ensures err { OnErr result (self.new ≡ self.old) }
+
+        // An interner makes room between a look-up and the insertion.
+        ensures vacant { (code : ℕ) (vacancy : Self.Vacancy) → is_vacant self.old code vacancy
+            → is_vacant self.new code vacancy };
+
+    /// Adds the symbol of a text that was not found. There must be room for one more. Allocates nothing.
+    fn insert_at(&mut self, vacancy: Self::Vacancy, symbol: S)
+        requires room { rule.holds (slots self.old) (entries self.old + 1) }
+        requires vacant { (code : ℕ) × is_vacant self.old code vacancy }
+        ensures adds { (entry more : S → Option Text) (code : Text → ℕ) (text : Text) → AddsEntry entry more symbol text
+            → indexes self.old entry code → is_vacant self.old (code text) vacancy → indexes self.new more code }
+        ensures count { entries self.new ≡ entries self.old + 1 }
+        ensures slots { slots self.new ≡ slots self.old };
+
+    /// Empties all slots, and adds the symbol of every entry of the backend, whose texts are distinct and within the
+    /// load factor. Takes no memory: as many slots stay.
+    fn refill<H: TextHasher, B: Backend<Symbol = S>>(&mut self, hasher: &H, backend: &B)
+        requires distinct { IsDistinct (B.texts backend.now) }
+        requires room { rule.holds (slots self.old) (length (B.texts backend.now)) }
+        ensures whole { indexes self.new (entry_text S.number B.place (B.texts backend.now)) (H.code hasher.now) }
+        ensures count { entries self.new ≡ length (B.texts backend.now) }
+        ensures slots { slots self.new ≡ slots self.old };
+
+    /// The rule keeps its laws.
+    ghost rule_laws: { IsSlotRule rule };
+}
+
+impl<S: Symbol> TextIndex<S> for Index<S> {
+    ghost use Rattle.string_interner.specs.Index.{IsWhole, entry_count, three_quarters};
+    ghost use Rattle.string_interner.specs.IndexLaws.{three_quarters-laws};
+    ghost use Rattle.string_interner.specs.Probe.{IsVacant};
+
+    type Vacancy = Vacancy;
+
+    ghost indexes = { λ index entry code. IsWhole entry code index.slots };
+
+    ghost entries = { λ index. entry_count index };
+
+    ghost slots = { λ index. length index.slots };
+
+    ghost rule = { three_quarters };
+
+    ghost is_vacant = { λ index code vacancy. IsVacant index.slots code vacancy };
+
+    fn new(alloc: Global) -> Self {
+        Index::new(alloc)
+    }
+
+    fn with_capacity(alloc: Global, capacity: usize) -> Result<Self, AllocError> {
+        Index::with_capacity(alloc, capacity)
+    }
+
+    fn allocator(&self) -> Global {
+        Index::allocator(self)
+    }
+
+    #[inline]
+    fn len(&self) -> usize {
+        Index::len(self)
+    }
+
+    #[inline(always)]
+    fn entry<H: TextHasher, B: Backend<Symbol = S>>(
+        &self,
+        hasher: &H,
+        backend: &B,
+        text: &str,
+    ) -> Entry<S, Vacancy> {
+        Index::entry(self, hasher, &mut Looks::new(backend), text)
+    }
+
+    fn reserve_one<H: TextHasher, B: Backend<Symbol = S>>(
+        &mut self,
+        hasher: &H,
+        backend: &B,
+    ) -> Result<(), AllocError> {
+        Index::reserve_one(self, hasher, backend)
+    }
+
+    #[inline]
+    fn insert_at(&mut self, vacancy: Vacancy, symbol: S) {
+        Index::insert_at(self, vacancy, symbol);
+    }
+
+    fn refill<H: TextHasher, B: Backend<Symbol = S>>(&mut self, hasher: &H, backend: &B) {
+        Index::refill(self, hasher, backend);
+    }
+
+    ghost rule_laws = { three_quarters-laws };
+}
