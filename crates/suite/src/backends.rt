@@ -6,10 +6,11 @@ mod pairs;
 mod texts;
 
 use crate::fault::{Fault, Mistake};
-use crate::line::{Argument, Row, call_of};
+use crate::line::{Argument, Call, Row, call_of};
 use crate::own::{Extra, Shown};
 use looks::{Look, look_at};
 use pairs::{Pair, on_both};
+use std::io;
 use string_interner::backend::CopyBackend;
 use texts::{Change, change_one};
 
@@ -110,6 +111,46 @@ fn is_offered<B: Shown>(word: BackendCall) -> bool {
     }
 }
 
+/// Reads the call of a line. The backend must offer it.
+fn offered_call<B: Shown>(number: usize, line: &str) -> Result<(BackendCall, Call<'_>), Fault> {
+    let (word, call) = call_of(&CALLS, number, line)?;
+    if is_offered::<B>(word) {
+        return Ok((word, call));
+    }
+    Err(Fault::Line {
+        line: number,
+        mistake: Mistake::NotOffered,
+    })
+}
+
+/// Makes a call on backends.
+fn on_backends<B: CopyBackend + Shown + Drop>(
+    rt: &HostRuntime,
+    one: &mut B,
+    other: &mut B,
+    word: BackendCall,
+    call: Call<'_>,
+) -> io::Result<()> {
+    match word {
+        BackendCall::Change(kind) => change_one(rt, one, kind, call),
+        BackendCall::Look(kind) => look_at(rt, one, kind, call),
+        BackendCall::Both(kind) => on_both(rt, one, other, kind, call),
+    }
+}
+
+/// Makes the call of a line.
+fn call_line<B: CopyBackend + Shown + Drop>(
+    rt: &HostRuntime,
+    one: &mut B,
+    other: &mut B,
+    number: usize,
+    line: &str,
+) -> Result<(), Fault> {
+    let (word, call) = offered_call::<B>(number, line)?;
+    on_backends(rt, one, other, word, call)?;
+    Ok(())
+}
+
 /// Makes the calls of the lines on two backends, of which the first is called.
 fn all_calls<B: CopyBackend + Shown + Drop>(
     rt: &HostRuntime,
@@ -120,18 +161,7 @@ fn all_calls<B: CopyBackend + Shown + Drop>(
     let mut number: usize = 1;
     for line in lines.split_terminator('\n') {
         number = number.saturating_add(1);
-        let (word, call) = call_of(&CALLS, number, line)?;
-        if !is_offered::<B>(word) {
-            return Err(Fault::Line {
-                line: number,
-                mistake: Mistake::NotOffered,
-            });
-        }
-        match word {
-            BackendCall::Change(kind) => change_one(rt, one, kind, call)?,
-            BackendCall::Look(kind) => look_at(rt, one, kind, call)?,
-            BackendCall::Both(kind) => on_both(rt, one, other, kind, call)?,
-        }
+        call_line(rt, one, other, number, line)?;
     }
     Ok(())
 }

@@ -13,7 +13,7 @@ use std::alloc::{AllocError, Global};
 use std::cell::Cell;
 use string_interner::StringInterner;
 use string_interner::backend::{Backend, CopyBackend, InternError, Iter, StringBackend};
-use string_interner::dedup::TextHasher;
+use string_interner::dedup::{TextHasher, TextIndex};
 use string_interner::symbol::{Symbol, SymbolU32};
 
 /// The number of the last `SymbolU32`.
@@ -161,7 +161,9 @@ pub fn signal_backend<B: Backend>(backend: &B) {
 }
 
 /// The same of an interner.
-pub fn signal<B: Backend, H: TextHasher>(interner: &StringInterner<B, H>) {
+pub fn signal<B: Backend, H: TextHasher, I: TextIndex<B::Symbol>>(
+    interner: &StringInterner<B, H, I>,
+) {
     if let Some(symbol) = B::Symbol::try_from_usize(SIGNAL) {
         let _ = interner.resolve(symbol);
     }

@@ -1,37 +1,52 @@
 //! Why the program ends before it made every call.
 
-use std::io;
+use std::fmt::{Display, Formatter, Write};
+use std::{fmt, io};
 use thiserror::Error;
 
 /// What is wrong with a line of a scenario.
-#[derive(Clone, Copy, Debug, Error)]
+#[derive(Clone, Copy, Debug)]
 pub enum Mistake {
-    #[error("the first line is LEVEL BACKEND SYMBOL HASHER")]
     NoScenario,
-    #[error("not UTF-8")]
     NotUtf8,
-    #[error("the scenario is too long")]
     TooLong,
-    #[error("unknown level")]
     Level,
-    #[error("unknown backend")]
     Backend,
-    #[error("unknown symbol type")]
     Symbol,
-    #[error("unknown hasher")]
     Hasher,
-    #[error("this combination is not built")]
     NotBuilt,
-    #[error("unknown call")]
     Call,
-    #[error("the backend has no such call")]
     NotOffered,
-    #[error("this call takes nothing after its name")]
     Unwanted,
-    #[error("not a number")]
     NotANumber,
-    #[error("not one of the static texts")]
     NotStatic,
+}
+
+impl Mistake {
+    /// The message for standard error.
+    fn message(self) -> &'static str {
+        match self {
+            Mistake::NoScenario => "the first line is LEVEL BACKEND SYMBOL HASHER",
+            Mistake::NotUtf8 => "not UTF-8",
+            Mistake::TooLong => "the scenario is too long",
+            Mistake::Level => "unknown level",
+            Mistake::Backend => "unknown backend",
+            Mistake::Symbol => "unknown symbol type",
+            Mistake::Hasher => "unknown hasher",
+            Mistake::NotBuilt => "this combination is not built",
+            Mistake::Call => "unknown call",
+            Mistake::NotOffered => "the backend has no such call",
+            Mistake::Unwanted => "this call takes nothing after its name",
+            Mistake::NotANumber => "not a number",
+            Mistake::NotStatic => "not one of the static texts",
+        }
+    }
+}
+
+impl Display for Mistake {
+    fn fmt<W: Write>(&self, formatter: &mut Formatter<W>) -> fmt::Result {
+        formatter.write_str(self.message())
+    }
 }
 
 /// Why the program failed. Its text is the message for standard error.

@@ -9,11 +9,11 @@ use crate::line::{Argument, Call, Row, call_of};
 use crate::own::{Extra, Shown};
 use crate::sight::Sight;
 use crate::tell::{
-    is_refused, number_found, numbered, tell_answer, tell_count, tell_done, tell_no_memory,
-    tell_number, tell_refusal,
+    is_refused, number_found, numbered, tell_answer, tell_count, tell_done, tell_number,
+    tell_outcome, tell_refusal,
 };
 use filled::Filled;
-use std::alloc::AllocError;
+use std::alloc::{AllocError, Global};
 use std::io;
 use std::mem::size_of;
 use string_interner::backend::InternError;
@@ -58,13 +58,23 @@ enum View {
     Counts,
 }
 
+/// The sight of an index with one more text.
+fn with_entry<B: Shown, H: TextHasher>(
+    sight: Sight,
+    filled: &Filled<B, H>,
+    symbol: B::Symbol,
+    text: &str,
+) -> Sight {
+    let is_found = filled.find(text) == Some(symbol);
+    sight.with(symbol.to_usize(), text, is_found)
+}
+
 /// What is seen of the texts, and of what is found under them.
 fn sight_of_texts<B: Shown, H: TextHasher>(filled: &Filled<B, H>) -> Sight {
     signal_backend(filled.backend());
     let mut sight = Sight::new();
     for (symbol, text) in filled.backend().iter() {
-        let is_found = filled.find(text) == Some(symbol);
-        sight = sight.with(symbol.to_usize(), text, is_found);
+        sight = with_entry(sight, filled, symbol, text);
     }
     signal_backend(filled.backend());
     sight
@@ -133,6 +143,20 @@ fn insert<B: Shown, H: TextHasher>(
     insert_new(rt, filled, call, view)
 }
 
+/// Inserts a number in decimal, and goes on to its symbol.
+fn insert_number<B: Shown, H: TextHasher>(
+    rt: &HostRuntime,
+    filled: &mut Filled<B, H>,
+    call: Call<'_>,
+    number: usize,
+    progress: Progress,
+) -> io::Result<Progress> {
+    let digits = in_decimal(number)?;
+    let text = digits.as_str();
+    let answer = insert(rt, filled, Call { text, ..call }, View::Counts)?;
+    progress.with(rt, number, answer)
+}
+
 /// Inserts the decimal numbers below a count.
 fn numbers<B: Shown, H: TextHasher>(
     rt: &HostRuntime,
@@ -141,34 +165,28 @@ fn numbers<B: Shown, H: TextHasher>(
 ) -> io::Result<()> {
     let mut progress = Progress::new();
     for number in 0..call.number {
-        let digits = in_decimal(number)?;
-        let answer = insert(
-            rt,
-            filled,
-            Call {
-                text: digits.as_str(),
-                ..call
-            },
-            View::Counts,
-        )?;
-        progress = progress.with(rt, number, answer)?;
+        progress = insert_number(rt, filled, call, number, progress)?;
     }
     progress.tell_last(rt)
 }
 
 /// Puts a new index in the place of an index.
-fn put<B: Shown + Drop, H: TextHasher + Drop>(
+fn new<B: Shown + Drop, H: TextHasher + Default + Drop>(
     rt: &HostRuntime,
     filled: &mut Filled<B, H>,
-    made: Result<Filled<B, H>, AllocError>,
 ) -> io::Result<()> {
-    match made {
-        Ok(made) => {
-            *filled = made;
-            tell_done(rt)
-        }
-        Err(_) => tell_no_memory(rt),
-    }
+    *filled = Filled::new(rt.alloc());
+    tell_done(rt)
+}
+
+/// Puts an index of a capacity in the place of an index.
+fn put_with_capacity<B: Shown + Drop, H: TextHasher + Default + Drop>(
+    alloc: Global,
+    filled: &mut Filled<B, H>,
+    capacity: usize,
+) -> Result<(), InternError> {
+    *filled = Filled::with_capacity(alloc, capacity)?;
+    Ok(())
 }
 
 /// Calls `with_capacity`, again if memory was refused.
@@ -177,12 +195,22 @@ fn with_capacity<B: Shown + Drop, H: TextHasher + Default + Drop>(
     filled: &mut Filled<B, H>,
     call: Call<'_>,
 ) -> io::Result<()> {
-    let mut made = Filled::with_capacity(rt.alloc(), call.number);
-    if made.is_err() {
-        made = Filled::with_capacity(rt.alloc(), call.number);
-        tell_refusal(rt, call.name, true, made.is_ok())?;
+    let mut outcome = put_with_capacity(rt.alloc(), filled, call.number);
+    if is_refused(&outcome) {
+        outcome = put_with_capacity(rt.alloc(), filled, call.number);
+        tell_refusal(rt, call.name, true, !is_refused(&outcome))?;
     }
-    put(rt, filled, made)
+    tell_outcome(rt, outcome)
+}
+
+/// Inserts the text of a call, and prints its symbol.
+fn insert_text<B: Shown, H: TextHasher>(
+    rt: &HostRuntime,
+    filled: &mut Filled<B, H>,
+    call: Call<'_>,
+) -> io::Result<()> {
+    let answer = insert(rt, filled, call, View::Texts)?;
+    tell_answer(rt, answer)
 }
 
 /// Makes a call on an index.
@@ -193,12 +221,9 @@ fn on_index<B: Shown + Drop, H: TextHasher + Default + Drop>(
     call: Call<'_>,
 ) -> io::Result<()> {
     match word {
-        IndexCall::New => put(rt, filled, Ok(Filled::new(rt.alloc()))),
+        IndexCall::New => new(rt, filled),
         IndexCall::WithCapacity => with_capacity(rt, filled, call),
-        IndexCall::Insert => {
-            let answer = insert(rt, filled, call, View::Texts)?;
-            tell_answer(rt, answer)
-        }
+        IndexCall::Insert => insert_text(rt, filled, call),
         IndexCall::Find => tell_number(rt, number_found(filled.find(call.text))),
         IndexCall::Numbers => numbers(rt, filled, call),
         IndexCall::Slots => tell_count(rt, filled.index().slots()),
@@ -213,6 +238,30 @@ fn on_index<B: Shown + Drop, H: TextHasher + Default + Drop>(
     }
 }
 
+/// Reads the call of a line. The backend must offer it.
+fn offered_call<B: Shown>(number: usize, line: &str) -> Result<(IndexCall, Call<'_>), Fault> {
+    let (word, call) = call_of(&CALLS, number, line)?;
+    if word == IndexCall::TextsAsked && !B::offers(Extra::TextsAsked) {
+        return Err(Fault::Line {
+            line: number,
+            mistake: Mistake::NotOffered,
+        });
+    }
+    Ok((word, call))
+}
+
+/// Makes the call of a line.
+fn call_line<B: Shown + Drop, H: TextHasher + Default + Drop>(
+    rt: &HostRuntime,
+    filled: &mut Filled<B, H>,
+    number: usize,
+    line: &str,
+) -> Result<(), Fault> {
+    let (word, call) = offered_call::<B>(number, line)?;
+    on_index(rt, filled, word, call)?;
+    Ok(())
+}
+
 /// Makes the calls of the lines.
 fn all_calls<B: Shown + Drop, H: TextHasher + Default + Drop>(
     rt: &HostRuntime,
@@ -222,14 +271,7 @@ fn all_calls<B: Shown + Drop, H: TextHasher + Default + Drop>(
     let mut number: usize = 1;
     for line in lines.split_terminator('\n') {
         number = number.saturating_add(1);
-        let (word, call) = call_of(&CALLS, number, line)?;
-        if word == IndexCall::TextsAsked && !B::offers(Extra::TextsAsked) {
-            return Err(Fault::Line {
-                line: number,
-                mistake: Mistake::NotOffered,
-            });
-        }
-        on_index(rt, filled, word, call)?;
+        call_line(rt, filled, number, line)?;
     }
     Ok(())
 }

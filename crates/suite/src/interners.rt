@@ -7,16 +7,17 @@ mod scale;
 mod texts;
 
 use crate::fault::{Fault, Mistake};
-use crate::line::{Argument, Row, call_of};
+use crate::line::{Argument, Call, Row, call_of};
 use crate::own::{Extra, Shown};
 pub use json::{symbol_from_json, symbol_to_json};
 pub use looks::walk_over;
 use looks::{Look, look_at};
 use makers::{Maker, make};
 use scale::{Pair, on_both};
+use std::io;
 use string_interner::StringInterner;
 use string_interner::backend::CopyBackend;
-use string_interner::dedup::TextHasher;
+use string_interner::dedup::{TextHasher, TextIndex};
 use texts::{Change, change_one};
 
 /// A call on an interner.
@@ -197,39 +198,81 @@ fn is_offered<B: Shown>(word: InternerCall) -> bool {
     }
 }
 
-/// Makes the calls of the lines on two interners, of which the first is called.
-fn all_calls<B: CopyBackend + Shown + Drop, H: TextHasher + Default + Clone + Drop>(
+/// Reads the call of a line. The backend must offer it.
+fn offered_call<B: Shown>(number: usize, line: &str) -> Result<(InternerCall, Call<'_>), Fault> {
+    let (word, call) = call_of(&CALLS, number, line)?;
+    if is_offered::<B>(word) {
+        return Ok((word, call));
+    }
+    Err(Fault::Line {
+        line: number,
+        mistake: Mistake::NotOffered,
+    })
+}
+
+/// Makes a call on interners.
+fn on_interners<
+    B: CopyBackend + Drop,
+    H: TextHasher + Default + Clone + Drop,
+    I: TextIndex<B::Symbol> + Drop,
+>(
     rt: &HostRuntime,
-    one: &mut StringInterner<B, H>,
-    other: &mut StringInterner<B, H>,
+    one: &mut StringInterner<B, H, I>,
+    other: &mut StringInterner<B, H, I>,
+    word: InternerCall,
+    call: Call<'_>,
+) -> io::Result<()> {
+    match word {
+        InternerCall::Make(maker) => make(rt, one, maker, call),
+        InternerCall::Change(kind) => change_one(rt, one, kind, call),
+        InternerCall::Look(kind) => look_at(rt, one, kind, call),
+        InternerCall::Both(kind) => on_both(rt, one, other, kind, call),
+    }
+}
+
+/// Makes the call of a line.
+fn call_line<
+    B: CopyBackend + Shown + Drop,
+    H: TextHasher + Default + Clone + Drop,
+    I: TextIndex<B::Symbol> + Drop,
+>(
+    rt: &HostRuntime,
+    one: &mut StringInterner<B, H, I>,
+    other: &mut StringInterner<B, H, I>,
+    number: usize,
+    line: &str,
+) -> Result<(), Fault> {
+    let (word, call) = offered_call::<B>(number, line)?;
+    on_interners(rt, one, other, word, call)?;
+    Ok(())
+}
+
+/// Makes the calls of the lines on two interners, of which the first is called.
+fn all_calls<
+    B: CopyBackend + Shown + Drop,
+    H: TextHasher + Default + Clone + Drop,
+    I: TextIndex<B::Symbol> + Drop,
+>(
+    rt: &HostRuntime,
+    one: &mut StringInterner<B, H, I>,
+    other: &mut StringInterner<B, H, I>,
     lines: &str,
 ) -> Result<(), Fault> {
     let mut number: usize = 1;
     for line in lines.split_terminator('\n') {
         number = number.saturating_add(1);
-        let (word, call) = call_of(&CALLS, number, line)?;
-        if !is_offered::<B>(word) {
-            return Err(Fault::Line {
-                line: number,
-                mistake: Mistake::NotOffered,
-            });
-        }
-        match word {
-            InternerCall::Make(maker) => make(rt, one, maker, call)?,
-            InternerCall::Change(kind) => change_one(rt, one, kind, call)?,
-            InternerCall::Look(kind) => look_at(rt, one, kind, call)?,
-            InternerCall::Both(kind) => on_both(rt, one, other, kind, call)?,
-        }
+        call_line(rt, one, other, number, line)?;
     }
     Ok(())
 }
 
 /// Makes the calls of the lines on two new interners.
-pub fn interner_session<B: CopyBackend + Shown + Drop, H: TextHasher + Default + Clone + Drop>(
-    rt: &HostRuntime,
-    lines: &str,
-) -> Result<(), Fault> {
-    all_calls::<B, H>(
+pub fn interner_session<
+    B: CopyBackend + Shown + Drop,
+    H: TextHasher + Default + Clone + Drop,
+    I: TextIndex<B::Symbol> + Drop,
+>(rt: &HostRuntime, lines: &str) -> Result<(), Fault> {
+    all_calls::<B, H, I>(
         rt,
         &mut StringInterner::new(rt.alloc()),
         &mut StringInterner::new(rt.alloc()),

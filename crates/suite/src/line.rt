@@ -144,9 +144,9 @@ const STATIC_TEXTS: [&'static str; 30] = [
 
 /// The static text that is equal to a text.
 fn static_text(text: &str) -> Result<&'static str, Mistake> {
-    for known in STATIC_TEXTS {
-        if known == text {
-            return Ok(known);
+    for known in &STATIC_TEXTS {
+        if *known == text {
+            return Ok(*known);
         }
     }
     Err(Mistake::NotStatic)

@@ -33,12 +33,20 @@ use own::Shown;
 use runs::run_session;
 use scenario::{BackendWord, HasherWord, Level, Scenario, SymbolWord, scenario_of};
 use scopes::scope_session;
-use std::hash::Hash;
+use std::hash::{BuildHasherDefault, DefaultHasher, Hash};
 use std::process::ExitCode;
 use string_interner::backend::{BucketBackend, BufferBackend, CopyBackend, StringBackend};
-use string_interner::dedup::{FixedState, TextHasher};
+use string_interner::dedup::{FixedState, FoldState, Index, StdHasher, TextHasher, WindowIndex};
 use string_interner::symbol::{Symbol, SymbolU16, SymbolU32, SymbolUsize};
 use symbols::symbol_session;
+
+/// The two indexes of the library, for the default symbol type.
+type DefaultIndex = Index<SymbolU32>;
+
+type FastIndex = WindowIndex<SymbolU32>;
+
+/// SipHash-1-3 under keys that are 0.
+type SipState = StdHasher<BuildHasherDefault<DefaultHasher>>;
 
 /// A combination that stands in none of the matches below.
 fn not_built() -> Result<(), Fault> {
@@ -54,11 +62,13 @@ fn over<B: CopyBackend + Shown + Drop>(
     scenario: Scenario<'_>,
 ) -> Result<(), Fault> {
     match scenario.level {
-        Level::Interner => interner_session::<B, FixedState>(rt, scenario.lines),
+        Level::Interner => {
+            interner_session::<B, FixedState, Index<B::Symbol>>(rt, scenario.lines)
+        }
         Level::Scopes => scope_session::<B, FixedState>(rt, scenario.lines),
         Level::Run => run_session::<B, FixedState>(rt, scenario.lines),
         Level::Backend => backend_session::<B>(rt, scenario.lines),
-        Level::Index | Level::Symbol => not_built(),
+        Level::Window | Level::Index | Level::Symbol => not_built(),
     }
 }
 
@@ -68,7 +78,9 @@ fn over_texts<B: CopyBackend + Shown + Drop>(
     scenario: Scenario<'_>,
 ) -> Result<(), Fault> {
     match scenario.level {
-        Level::Interner => interner_session::<B, FixedState>(rt, scenario.lines),
+        Level::Interner => {
+            interner_session::<B, FixedState, Index<B::Symbol>>(rt, scenario.lines)
+        }
         Level::Backend => backend_session::<B>(rt, scenario.lines),
         _ => not_built(),
     }
@@ -144,22 +156,87 @@ fn index_under<H: TextHasher + Default + Drop>(
     }
 }
 
+/// Runs a scenario on an interner with `SymbolU32` under a hasher.
+fn interner_under<H: TextHasher + Default + Clone + Drop>(
+    rt: &HostRuntime,
+    scenario: Scenario<'_>,
+) -> Result<(), Fault> {
+    let lines = scenario.lines;
+    match scenario.backend {
+        BackendWord::String => interner_session::<StringBackend, H, DefaultIndex>(rt, lines),
+        BackendWord::Bucket => interner_session::<BucketBackend, H, DefaultIndex>(rt, lines),
+        BackendWord::Buffer => interner_session::<BufferBackend, H, DefaultIndex>(rt, lines),
+        BackendWord::Counting => interner_session::<Counting, H, DefaultIndex>(rt, lines),
+        BackendWord::None => not_built(),
+    }
+}
+
+/// Runs a scenario on an interner with a window index over strings, under a hasher.
+fn window_under<S: Symbol, H: TextHasher + Default + Clone + Drop>(
+    rt: &HostRuntime,
+    scenario: Scenario<'_>,
+) -> Result<(), Fault> {
+    match scenario.backend {
+        BackendWord::String => {
+            interner_session::<StringBackend<S>, H, WindowIndex<S>>(rt, scenario.lines)
+        }
+        _ => not_built(),
+    }
+}
+
+/// Runs a scenario on an interner with a window index over a backend with `SymbolU32`, under the default hasher.
+fn window_over_backend(rt: &HostRuntime, scenario: Scenario<'_>) -> Result<(), Fault> {
+    let lines = scenario.lines;
+    match scenario.backend {
+        BackendWord::Bucket => interner_session::<BucketBackend, FixedState, FastIndex>(rt, lines),
+        BackendWord::Buffer => interner_session::<BufferBackend, FixedState, FastIndex>(rt, lines),
+        BackendWord::Counting => interner_session::<Counting, FixedState, FastIndex>(rt, lines),
+        _ => window_under::<SymbolU32, FixedState>(rt, scenario),
+    }
+}
+
+/// Runs a scenario on an interner with a window index, under the default hasher.
+fn window_over_symbol(rt: &HostRuntime, scenario: Scenario<'_>) -> Result<(), Fault> {
+    match scenario.symbol {
+        SymbolWord::U32 => window_over_backend(rt, scenario),
+        SymbolWord::U16 => window_under::<SymbolU16, FixedState>(rt, scenario),
+        SymbolWord::Even => window_under::<Even, FixedState>(rt, scenario),
+        SymbolWord::Bit => window_under::<Bit, FixedState>(rt, scenario),
+        SymbolWord::Wide | SymbolWord::Plain => not_built(),
+    }
+}
+
 /// Runs a scenario on an interner with `SymbolU32`, or on an index, under a hasher of a caller.
 fn under_hasher<H: TextHasher + Default + Clone + Drop>(
     rt: &HostRuntime,
     scenario: Scenario<'_>,
 ) -> Result<(), Fault> {
     match scenario.level {
-        Level::Index => return index_under::<H>(rt, scenario),
-        Level::Interner if scenario.symbol == SymbolWord::U32 => {}
-        _ => return not_built(),
+        Level::Index => index_under::<H>(rt, scenario),
+        Level::Interner if scenario.symbol == SymbolWord::U32 => {
+            interner_under::<H>(rt, scenario)
+        }
+        Level::Window if scenario.symbol == SymbolWord::U32 => {
+            window_under::<SymbolU32, H>(rt, scenario)
+        }
+        _ => not_built(),
     }
-    match scenario.backend {
-        BackendWord::String => interner_session::<StringBackend, H>(rt, scenario.lines),
-        BackendWord::Bucket => interner_session::<BucketBackend, H>(rt, scenario.lines),
-        BackendWord::Buffer => interner_session::<BufferBackend, H>(rt, scenario.lines),
-        BackendWord::Counting => interner_session::<Counting, H>(rt, scenario.lines),
-        BackendWord::None => not_built(),
+}
+
+/// Runs a scenario on an interner over strings with `SymbolU32`, under a hasher of the standard library.
+fn under_std_hasher<H: TextHasher + Default + Clone + Drop>(
+    rt: &HostRuntime,
+    scenario: Scenario<'_>,
+) -> Result<(), Fault> {
+    if scenario.symbol != SymbolWord::U32 || scenario.backend != BackendWord::String {
+        return not_built();
+    }
+    match scenario.level {
+        Level::Interner => {
+            interner_session::<StringBackend, H, DefaultIndex>(rt, scenario.lines)
+        }
+        Level::Window => window_under::<SymbolU32, H>(rt, scenario),
+        _ => not_built(),
     }
 }
 
@@ -172,11 +249,14 @@ fn run_scenario(rt: &HostRuntime, scenario: Scenario<'_>) -> Result<(), Fault> {
         HasherWord::Default => match scenario.level {
             Level::Symbol => symbols_alone(rt, scenario),
             Level::Index => index_under::<FixedState>(rt, scenario),
+            Level::Window => window_over_symbol(rt, scenario),
             _ => over_symbol(rt, scenario),
         },
         HasherWord::Constant => under_hasher::<Constant>(rt, scenario),
         HasherWord::Length => under_hasher::<ByteCount>(rt, scenario),
         HasherWord::Salted => under_hasher::<Salted>(rt, scenario),
+        HasherWord::Fold => under_std_hasher::<FoldState>(rt, scenario),
+        HasherWord::Sip => under_std_hasher::<SipState>(rt, scenario),
     }
 }
 

@@ -5,12 +5,14 @@ mod commands;
 use crate::decimal::joined_again;
 use crate::fault::Fault;
 use crate::sight::{Sight, sight_of};
-use crate::tell::{tell_count, tell_no_memory, tell_refusal};
+use crate::tell::{
+    tell_answer, tell_count, tell_done, tell_no_memory, tell_number, tell_refusal, tell_text,
+};
 use commands::{Plan, commands_of, plan_of, texts_of};
-use std::alloc::AllocError;
+use std::alloc::Global;
 use std::io;
 use string_interner::StringInterner;
-use string_interner::backend::Backend;
+use string_interner::backend::{Backend, InternError};
 use string_interner::dedup::TextHasher;
 use string_interner::run::{Command, Reply, run};
 
@@ -22,77 +24,96 @@ fn has_no_memory(replies: &[Reply]) -> bool {
     replies.iter().any(|reply| matches!(reply, Reply::NoMemory))
 }
 
+/// Prints a reply.
+fn tell_reply(rt: &HostRuntime, reply: &Reply) -> io::Result<()> {
+    match reply {
+        Reply::Symbol(number) => tell_number(rt, Some(*number)),
+        Reply::Nothing => tell_number(rt, None),
+        Reply::Text(text) => tell_text(rt, Some(text)),
+        Reply::Len(count) => tell_count(rt, *count),
+        Reply::Done => tell_done(rt),
+        Reply::NoReply => println!(rt; "no reply"),
+        Reply::NoSymbol => tell_answer(rt, Err(InternError::NoSymbol)),
+        Reply::NoMemory => tell_no_memory(rt),
+    }
+}
+
 /// Prints the replies.
 fn tell_replies(rt: &HostRuntime, replies: &[Reply]) -> io::Result<()> {
     for reply in replies {
-        match reply {
-            Reply::Symbol(number) => println!(rt; "symbol {number}")?,
-            Reply::Nothing => println!(rt; "none")?,
-            Reply::Text(text) => println!(rt; "text {text}")?,
-            Reply::Len(count) => println!(rt; "{count}")?,
-            Reply::Done => println!(rt; "ok")?,
-            Reply::NoReply => println!(rt; "no reply")?,
-            Reply::NoSymbol => println!(rt; "no symbol is left")?,
-            Reply::NoMemory => println!(rt; "out of memory")?,
-        }
+        tell_reply(rt, reply)?;
     }
     Ok(())
 }
 
-/// Calls `run`, again if memory was refused for the replies.
+/// Calls `run`, and puts its replies in the place of those that there were, unless memory was refused for them. Returns
+/// whether it was not.
+fn put_replies<B: Backend, H: TextHasher>(
+    alloc: Global,
+    interner: &mut StringInterner<B, H>,
+    commands: &[Command<'_>],
+    replies: &mut Vec<Reply>,
+) -> bool {
+    match run(alloc, interner, commands) {
+        Ok(made) => {
+            *replies = made;
+            true
+        }
+        Err(_) => false,
+    }
+}
+
+/// Calls `run`, again if memory was refused for the replies. Returns whether there are replies.
 fn run_once<B: Backend, H: TextHasher>(
     rt: &HostRuntime,
     interner: &mut StringInterner<B, H>,
     commands: &[Command<'_>],
-) -> io::Result<Result<Vec<Reply>, AllocError>> {
+    replies: &mut Vec<Reply>,
+) -> io::Result<bool> {
     let before = sight_of(interner);
-    let mut replies = run(rt.alloc(), interner, commands);
-    if replies.is_err() {
-        let is_kept = sight_of(interner) == before;
-        replies = run(rt.alloc(), interner, commands);
-        tell_refusal(rt, RUN, is_kept, replies.is_ok())?;
+    if put_replies(rt.alloc(), interner, commands, replies) {
+        return Ok(true);
     }
-    Ok(replies)
+    let is_kept = sight_of(interner) == before;
+    let is_granted = put_replies(rt.alloc(), interner, commands, replies);
+    tell_refusal(rt, RUN, is_kept, is_granted)?;
+    Ok(is_granted)
 }
 
-/// Runs the commands once more from the texts that there were, if one of them was refused memory.
+/// Runs the commands once more from the texts that there were, as one of them was refused memory. The replies stay those
+/// that there were where memory was refused for the new ones.
 fn run_again<B: Backend, H: TextHasher>(
     rt: &HostRuntime,
     interner: &mut StringInterner<B, H>,
     commands: &[Command<'_>],
-    replies: Vec<Reply>,
+    replies: &mut Vec<Reply>,
     before: Sight,
-) -> io::Result<Vec<Reply>> {
-    if !has_no_memory(&replies) {
-        return Ok(replies);
-    }
+) -> io::Result<()> {
     interner.truncate(before.count);
     // Texts that a command dropped do not come back.
     let is_kept = interner.len() < before.count || sight_of(interner) == before;
-    match run(rt.alloc(), interner, commands) {
-        Ok(others) => {
-            tell_refusal(rt, RUN, is_kept, !has_no_memory(&others))?;
-            Ok(others)
-        }
-        Err(_) => Ok(replies),
+    if put_replies(rt.alloc(), interner, commands, replies) {
+        tell_refusal(rt, RUN, is_kept, !has_no_memory(replies))?;
     }
+    Ok(())
 }
 
-/// Runs the commands and prints the replies.
+/// Runs the commands and prints the replies, for which an empty list is lent.
 fn run_commands<B: Backend, H: TextHasher>(
     rt: &HostRuntime,
     interner: &mut StringInterner<B, H>,
     commands: &[Command<'_>],
+    replies: &mut Vec<Reply>,
 ) -> io::Result<()> {
     let before = sight_of(interner);
-    match run_once(rt, interner, commands)? {
-        Ok(replies) => {
-            let replies = run_again(rt, interner, commands, replies, before)?;
-            tell_replies(rt, &replies)?;
-            tell_count(rt, interner.len())
-        }
-        Err(_) => tell_no_memory(rt),
+    if !run_once(rt, interner, commands, replies)? {
+        return tell_no_memory(rt);
     }
+    if has_no_memory(replies) {
+        run_again(rt, interner, commands, replies, before)?;
+    }
+    tell_replies(rt, replies)?;
+    tell_count(rt, interner.len())
 }
 
 /// The texts of all commands that extend, asked for again if memory was refused.
@@ -139,7 +160,7 @@ fn run_block<B: Backend, H: TextHasher>(
         return tell_no_memory(rt);
     };
     match commands_again(rt, block, plan, &texts, &numbers)? {
-        Some(commands) => run_commands(rt, interner, &commands),
+        Some(commands) => run_commands(rt, interner, &commands, &mut Vec::new(rt.alloc())),
         None => tell_no_memory(rt),
     }
 }

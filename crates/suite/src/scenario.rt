@@ -2,11 +2,15 @@
 
 use crate::fault::{Fault, Mistake};
 use crate::line::named;
+use std::str::SplitN;
 
 /// What the calls are made on.
 #[derive(Clone, Copy, PartialEq, Eq)]
 pub enum Level {
+    /// An interner with the default index.
     Interner,
+    /// An interner with a `WindowIndex`.
+    Window,
     Scopes,
     Run,
     Backend,
@@ -42,10 +46,13 @@ pub enum HasherWord {
     Constant,
     Length,
     Salted,
+    Fold,
+    Sip,
 }
 
-const LEVELS: [(&'static str, Level); 6] = [
+const LEVELS: [(&'static str, Level); 7] = [
     ("interner", Level::Interner),
+    ("window", Level::Window),
     ("scopes", Level::Scopes),
     ("run", Level::Run),
     ("backend", Level::Backend),
@@ -70,11 +77,13 @@ const SYMBOLS: [(&'static str, SymbolWord); 6] = [
     ("Bit", SymbolWord::Bit),
 ];
 
-const HASHERS: [(&'static str, HasherWord); 4] = [
+const HASHERS: [(&'static str, HasherWord); 6] = [
     ("default", HasherWord::Default),
     ("constant", HasherWord::Constant),
     ("length", HasherWord::Length),
     ("salted", HasherWord::Salted),
+    ("fold", HasherWord::Fold),
+    ("sip", HasherWord::Sip),
 ];
 
 /// What the first line says, and the lines after it.
@@ -87,22 +96,28 @@ pub struct Scenario<'t> {
     pub lines: &'t str,
 }
 
-/// Cuts a text at its first space.
-fn cut(text: &str) -> Result<(&str, &str), Mistake> {
-    text.split_once(' ').ok_or(Mistake::NoScenario)
+/// What the next word stands for in a table.
+fn next_word<W: Copy>(
+    words: &mut SplitN<'_, char>,
+    table: &[(&'static str, W)],
+    mistake: Mistake,
+) -> Result<W, Mistake> {
+    let word = words.next().ok_or(Mistake::NoScenario)?;
+    named(table, word).ok_or(mistake)
 }
 
-/// Reads the words of the first line.
+/// Reads the words of the first line, of which the last goes on to the end of the line.
 fn read_scenario(text: &str) -> Result<Scenario<'_>, Mistake> {
     let (first, lines) = text.split_once('\n').unwrap_or((text, ""));
-    let (level, rest) = cut(first)?;
-    let (backend, rest) = cut(rest)?;
-    let (symbol, hasher) = cut(rest)?;
+    if first.splitn(4, ' ').count() < 4 {
+        return Err(Mistake::NoScenario);
+    }
+    let mut words = first.splitn(4, ' ');
     Ok(Scenario {
-        level: named(&LEVELS, level).ok_or(Mistake::Level)?,
-        backend: named(&BACKENDS, backend).ok_or(Mistake::Backend)?,
-        symbol: named(&SYMBOLS, symbol).ok_or(Mistake::Symbol)?,
-        hasher: named(&HASHERS, hasher).ok_or(Mistake::Hasher)?,
+        level: next_word(&mut words, &LEVELS, Mistake::Level)?,
+        backend: next_word(&mut words, &BACKENDS, Mistake::Backend)?,
+        symbol: next_word(&mut words, &SYMBOLS, Mistake::Symbol)?,
+        hasher: next_word(&mut words, &HASHERS, Mistake::Hasher)?,
         lines,
     })
 }

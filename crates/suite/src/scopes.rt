@@ -6,11 +6,11 @@ use crate::line::{Argument, Call, Row, call_of};
 use crate::sight::{Sight, sight_of};
 use crate::tell::{
     is_refused, number_found, numbered, tell_answer, tell_bool, tell_count, tell_done,
-    tell_no_memory, tell_number, tell_refusal, tell_text,
+    tell_no_memory, tell_no_such_symbol, tell_number, tell_refusal, tell_text,
 };
 use std::io;
 use string_interner::StringInterner;
-use string_interner::backend::Backend;
+use string_interner::backend::{Backend, InternError};
 use string_interner::dedup::TextHasher;
 use string_interner::scope::Scopes;
 use string_interner::symbol::Symbol;
@@ -67,6 +67,14 @@ fn enter<B: Backend, H: TextHasher>(
     tell_done(rt)
 }
 
+/// Calls `declare`.
+fn declared<B: Backend, H: TextHasher>(
+    scopes: &mut Scopes<B, H>,
+    text: &str,
+) -> Result<usize, InternError> {
+    numbered(scopes.declare(text))
+}
+
 /// Calls `declare`, again if memory was refused.
 fn declare<B: Backend, H: TextHasher>(
     rt: &HostRuntime,
@@ -74,10 +82,10 @@ fn declare<B: Backend, H: TextHasher>(
     call: Call<'_>,
 ) -> io::Result<()> {
     let before = sight_of_scopes(scopes);
-    let mut answer = numbered(scopes.declare(call.text));
+    let mut answer = declared(scopes, call.text);
     if is_refused(&answer) {
         let is_kept = sight_of_scopes(scopes) == before && scopes.find(call.text).is_none();
-        answer = numbered(scopes.declare(call.text));
+        answer = declared(scopes, call.text);
         tell_refusal(rt, call.name, is_kept, !is_refused(&answer))?;
     }
     tell_answer(rt, answer)
@@ -91,8 +99,27 @@ fn resolve<B: Backend, H: TextHasher>(
 ) -> io::Result<()> {
     match B::Symbol::try_from_usize(number) {
         Some(symbol) => tell_text(rt, scopes.resolve(symbol)),
-        None => println!(rt; "no such symbol"),
+        None => tell_no_such_symbol(rt),
     }
+}
+
+/// Leaves the innermost scope, and prints whether there was one.
+fn leave<B: Backend, H: TextHasher>(rt: &HostRuntime, scopes: &mut Scopes<B, H>) -> io::Result<()> {
+    tell_bool(rt, scopes.leave())
+}
+
+/// Prints the symbol of a text, if there is one.
+fn find<B: Backend, H: TextHasher>(
+    rt: &HostRuntime,
+    scopes: &Scopes<B, H>,
+    text: &str,
+) -> io::Result<()> {
+    tell_number(rt, number_found(scopes.find(text)))
+}
+
+/// Prints the entries.
+fn iter<B: Backend, H: TextHasher>(rt: &HostRuntime, scopes: &Scopes<B, H>) -> io::Result<()> {
+    walk_over(rt, &mut scopes.iter())
 }
 
 /// Makes a call on scopes.
@@ -104,16 +131,28 @@ fn on_scopes<B: Backend, H: TextHasher>(
 ) -> io::Result<()> {
     match word {
         ScopeCall::Enter => enter(rt, scopes, call.name),
-        ScopeCall::Leave => tell_bool(rt, scopes.leave()),
+        ScopeCall::Leave => leave(rt, scopes),
         ScopeCall::Declare => declare(rt, scopes, call),
-        ScopeCall::Find => tell_number(rt, number_found(scopes.find(call.text))),
+        ScopeCall::Find => find(rt, scopes, call.text),
         ScopeCall::Depth => tell_count(rt, scopes.depth()),
         ScopeCall::Interner => tell_count(rt, scopes.interner().len()),
         ScopeCall::Resolve => resolve(rt, scopes, call.number),
         ScopeCall::Len => tell_count(rt, scopes.len()),
         ScopeCall::IsEmpty => tell_bool(rt, scopes.is_empty()),
-        ScopeCall::Iter => walk_over(rt, &mut scopes.iter()),
+        ScopeCall::Iter => iter(rt, scopes),
     }
+}
+
+/// Makes the call of a line.
+fn call_line<B: Backend, H: TextHasher>(
+    rt: &HostRuntime,
+    scopes: &mut Scopes<B, H>,
+    number: usize,
+    line: &str,
+) -> Result<(), Fault> {
+    let (word, call) = call_of(&CALLS, number, line)?;
+    on_scopes(rt, scopes, word, call)?;
+    Ok(())
 }
 
 /// Makes the calls of the lines.
@@ -125,8 +164,7 @@ fn all_calls<B: Backend, H: TextHasher>(
     let mut number: usize = 1;
     for line in lines.split_terminator('\n') {
         number = number.saturating_add(1);
-        let (word, call) = call_of(&CALLS, number, line)?;
-        on_scopes(rt, scopes, word, call)?;
+        call_line(rt, scopes, number, line)?;
     }
     Ok(())
 }

@@ -3,7 +3,7 @@
 use crate::counting::signal;
 use string_interner::StringInterner;
 use string_interner::backend::Backend;
-use string_interner::dedup::{FixedState, TextHasher};
+use string_interner::dedup::{FixedState, TextHasher, TextIndex};
 use string_interner::symbol::Symbol;
 
 /// How many entries were looked at, and one number from their texts, their symbols and whether each is found.
@@ -37,17 +37,27 @@ impl Sight {
     }
 }
 
+/// The sight of an interner with one more entry.
+fn with_entry<B: Backend, H: TextHasher, I: TextIndex<B::Symbol>>(
+    sight: Sight,
+    interner: &StringInterner<B, H, I>,
+    symbol: B::Symbol,
+    text: &str,
+) -> Sight {
+    let is_found = interner.get(text) == Some(symbol);
+    sight.with(symbol.to_usize(), text, is_found)
+}
+
 /// What is seen of the first entries of an interner.
-pub fn sight_of_first<B: Backend, H: TextHasher>(
-    interner: &StringInterner<B, H>,
+pub fn sight_of_first<B: Backend, H: TextHasher, I: TextIndex<B::Symbol>>(
+    interner: &StringInterner<B, H, I>,
     count: usize,
 ) -> Sight {
     signal(interner);
     let mut sight = Sight::new();
     for (symbol, text) in interner {
         if sight.count < count {
-            let is_found = interner.get(text) == Some(symbol);
-            sight = sight.with(symbol.to_usize(), text, is_found);
+            sight = with_entry(sight, interner, symbol, text);
         }
     }
     signal(interner);
@@ -55,6 +65,8 @@ pub fn sight_of_first<B: Backend, H: TextHasher>(
 }
 
 /// What is seen of an interner.
-pub fn sight_of<B: Backend, H: TextHasher>(interner: &StringInterner<B, H>) -> Sight {
+pub fn sight_of<B: Backend, H: TextHasher, I: TextIndex<B::Symbol>>(
+    interner: &StringInterner<B, H, I>,
+) -> Sight {
     sight_of_first(interner, usize::MAX)
 }

@@ -3,7 +3,7 @@
 use crate::fault::Fault;
 use crate::interners::{symbol_from_json, symbol_to_json};
 use crate::line::{Argument, Call, Row, call_of};
-use crate::tell::{number_found, tell_number};
+use crate::tell::{number_found, tell_no_such_symbol, tell_number};
 use std::cmp::Ordering;
 use std::hash::{DefaultHasher, Hash, Hasher};
 use std::io;
@@ -57,8 +57,13 @@ fn compare<S: Symbol + Ord + Hash>(rt: &HostRuntime, call: Call<'_>) -> io::Resu
             let has_same_hash = hash_of(&one) == hash_of(&other);
             tell_order(rt, one.cmp(&other), has_same_hash)
         }
-        _ => println!(rt; "no such symbol"),
+        _ => tell_no_such_symbol(rt),
     }
+}
+
+/// Prints the code of a text under the default hasher.
+fn hash_text(rt: &HostRuntime, text: &str) -> io::Result<()> {
+    println!(rt; "{:x}", FixedState.hash_text(text))
 }
 
 /// Makes a call on symbols.
@@ -72,8 +77,19 @@ fn on_symbols<S: Symbol + Ord + Hash>(
         SymbolCall::Compare => compare::<S>(rt, call),
         SymbolCall::ToJson => symbol_to_json::<S>(rt, call),
         SymbolCall::FromJson => symbol_from_json::<S>(rt, call),
-        SymbolCall::HashText => println!(rt; "{:x}", FixedState.hash_text(call.text)),
+        SymbolCall::HashText => hash_text(rt, call.text),
     }
+}
+
+/// Makes the call of a line.
+fn call_line<S: Symbol + Ord + Hash>(
+    rt: &HostRuntime,
+    number: usize,
+    line: &str,
+) -> Result<(), Fault> {
+    let (word, call) = call_of(&CALLS, number, line)?;
+    on_symbols::<S>(rt, word, call)?;
+    Ok(())
 }
 
 /// Makes the calls of the lines.
@@ -81,8 +97,7 @@ pub fn symbol_session<S: Symbol + Ord + Hash>(rt: &HostRuntime, lines: &str) -> 
     let mut number: usize = 1;
     for line in lines.split_terminator('\n') {
         number = number.saturating_add(1);
-        let (word, call) = call_of(&CALLS, number, line)?;
-        on_symbols::<S>(rt, word, call)?;
+        call_line::<S>(rt, number, line)?;
     }
     Ok(())
 }

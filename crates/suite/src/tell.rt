@@ -54,6 +54,11 @@ pub fn tell_number(rt: &HostRuntime, number: Option<usize>) -> io::Result<()> {
     }
 }
 
+/// Prints that no symbol has the number.
+pub fn tell_no_such_symbol(rt: &HostRuntime) -> io::Result<()> {
+    println!(rt; "no such symbol")
+}
+
 /// Prints a text.
 pub fn tell_text(rt: &HostRuntime, text: Option<&str>) -> io::Result<()> {
     match text {

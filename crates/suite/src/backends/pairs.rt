@@ -3,11 +3,10 @@
 use super::looks::sight_of;
 use crate::line::Call;
 use crate::own::Shown;
-use crate::tell::{tell_bool, tell_done, tell_no_memory, tell_refusal};
-use std::alloc::AllocError;
+use crate::tell::{is_refused, tell_bool, tell_done, tell_outcome, tell_refusal};
 use std::io;
 use std::mem::swap;
-use string_interner::backend::CopyBackend;
+use string_interner::backend::{CopyBackend, InternError};
 
 /// A call on both backends.
 #[derive(Clone, Copy)]
@@ -18,28 +17,18 @@ pub enum Pair {
     Equal,
 }
 
-/// Puts a new backend in the place of a backend.
-pub fn put<B: Shown + Drop>(
-    rt: &HostRuntime,
-    backend: &mut B,
-    made: Result<B, AllocError>,
-) -> io::Result<()> {
-    match made {
-        Ok(made) => {
-            *backend = made;
-            tell_done(rt)
-        }
-        Err(_) => tell_no_memory(rt),
-    }
-}
-
-/// Copies a backend, by `clone` or by `try_copy`.
-fn copied<B: CopyBackend + Shown>(backend: &B, is_clone: bool) -> Result<B, AllocError> {
-    if is_clone {
-        backend.cloned()
+/// Copies a backend into the place of the other one, by `clone` or by `try_copy`.
+fn put_copy<B: CopyBackend + Shown + Drop>(
+    backend: &B,
+    other: &mut B,
+    is_clone: bool,
+) -> Result<(), InternError> {
+    *other = if is_clone {
+        backend.cloned()?
     } else {
-        backend.try_copy()
-    }
+        backend.try_copy()?
+    };
+    Ok(())
 }
 
 /// Copies a backend into the place of the other one, again if memory was refused.
@@ -51,13 +40,13 @@ fn copy_into<B: CopyBackend + Shown + Drop>(
     is_clone: bool,
 ) -> io::Result<()> {
     let before = sight_of(backend);
-    let mut made = copied(backend, is_clone);
-    if made.is_err() {
+    let mut outcome = put_copy(backend, other, is_clone);
+    if is_refused(&outcome) {
         let is_kept = sight_of(backend) == before;
-        made = copied(backend, is_clone);
-        tell_refusal(rt, name, is_kept, made.is_ok())?;
+        outcome = put_copy(backend, other, is_clone);
+        tell_refusal(rt, name, is_kept, !is_refused(&outcome))?;
     }
-    put(rt, other, made)
+    tell_outcome(rt, outcome)
 }
 
 /// Makes a call on both backends.

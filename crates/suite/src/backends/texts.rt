@@ -1,13 +1,13 @@
 //! Calls that make a backend, put texts into it or drop them.
 
 use super::looks::sight_of;
-use super::pairs::put;
 use crate::line::Call;
 use crate::own::Shown;
 use crate::tell::{
-    is_refused, letters_of, numbered, tell_answer, tell_done, tell_no_memory, tell_refusal,
-    tell_text,
+    is_refused, letters_of, numbered, tell_answer, tell_done, tell_no_memory, tell_outcome,
+    tell_refusal, tell_text,
 };
+use std::alloc::Global;
 use std::io;
 use string_interner::backend::{Backend, InternError};
 
@@ -111,18 +111,34 @@ fn empties<B: Shown>(rt: &HostRuntime, backend: &mut B, call: Call<'_>) -> io::R
     tell_answer(rt, last)
 }
 
+/// Puts what `new` makes in the place of a backend.
+fn new<B: Shown + Drop>(rt: &HostRuntime, backend: &mut B) -> io::Result<()> {
+    *backend = B::new(rt.alloc());
+    tell_done(rt)
+}
+
+/// Puts what `with_capacity` makes in the place of a backend.
+fn put_with_capacity<B: Shown + Drop>(
+    alloc: Global,
+    backend: &mut B,
+    capacity: usize,
+) -> Result<(), InternError> {
+    *backend = B::with_capacity(alloc, capacity)?;
+    Ok(())
+}
+
 /// Calls `with_capacity`, again if memory was refused.
 fn with_capacity<B: Shown + Drop>(
     rt: &HostRuntime,
     backend: &mut B,
     call: Call<'_>,
 ) -> io::Result<()> {
-    let mut made = B::with_capacity(rt.alloc(), call.number);
-    if made.is_err() {
-        made = B::with_capacity(rt.alloc(), call.number);
-        tell_refusal(rt, call.name, true, made.is_ok())?;
+    let mut outcome = put_with_capacity(rt.alloc(), backend, call.number);
+    if is_refused(&outcome) {
+        outcome = put_with_capacity(rt.alloc(), backend, call.number);
+        tell_refusal(rt, call.name, true, !is_refused(&outcome))?;
     }
-    put(rt, backend, made)
+    tell_outcome(rt, outcome)
 }
 
 /// Makes a call that may change a backend.
@@ -133,7 +149,7 @@ pub fn change_one<B: Shown + Drop>(
     call: Call<'_>,
 ) -> io::Result<()> {
     match kind {
-        Change::New => put(rt, one, Ok(B::new(rt.alloc()))),
+        Change::New => new(rt, one),
         Change::WithCapacity => with_capacity(rt, one, call),
         Change::Intern => intern(rt, one, call.name, call.text),
         Change::InternStatic => intern_static(rt, one, call),

@@ -21,13 +21,14 @@ impl<B: Backend, H: TextHasher> Model for Filled<B, H> {
     ghost use Rattle.std.specs.Prelude.{List};
     ghost use Rattle.string_interner.specs.Text.{Text};
     ghost use Rattle.string_interner.specs.Interner.{IsInterned};
+    ghost use Rattle.string_interner.specs.Index.{IsWhole, entry_count};
 
     ghost Value = { List Text };
 
     ghost view = { λ f. B.texts f.backend };
 
-    ghost invariant = { λ f. IsInterned B.Symbol.symbol_of B.place B.Symbol.number (H.code f.hasher) (B.texts f.backend)
-        f.index.slots };
+    ghost invariant = { λ f. IsInterned B.Symbol.symbol_of B.place B.Symbol.number
+        (λ entry. IsWhole entry (H.code f.hasher) f.index.slots) (entry_count f.index) (B.texts f.backend) };
 }
 
 impl<B: Backend, H: TextHasher + Default> Filled<B, H> {

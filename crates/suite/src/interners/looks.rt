@@ -3,12 +3,14 @@
 use super::json::{symbol_from_json, symbol_to_json, to_json};
 use super::scale::get_numbers;
 use crate::line::Call;
-use crate::tell::{number_found, tell_bool, tell_count, tell_entry, tell_number, tell_text};
+use crate::tell::{
+    number_found, tell_bool, tell_count, tell_entry, tell_no_such_symbol, tell_number, tell_text,
+};
 use std::io;
 use std::iter::ExactSizeIterator;
 use string_interner::StringInterner;
 use string_interner::backend::{Backend, Iter};
-use string_interner::dedup::TextHasher;
+use string_interner::dedup::{TextHasher, TextIndex};
 use string_interner::symbol::Symbol;
 
 /// A call that looks at an interner.
@@ -28,14 +30,14 @@ pub enum Look {
 }
 
 /// Resolves the symbol with a number.
-fn resolve<B: Backend, H: TextHasher>(
+fn resolve<B: Backend, H: TextHasher, I: TextIndex<B::Symbol>>(
     rt: &HostRuntime,
-    interner: &StringInterner<B, H>,
+    interner: &StringInterner<B, H, I>,
     number: usize,
 ) -> io::Result<()> {
     match B::Symbol::try_from_usize(number) {
         Some(symbol) => tell_text(rt, interner.resolve(symbol)),
-        None => println!(rt; "no such symbol"),
+        None => tell_no_such_symbol(rt),
     }
 }
 
@@ -71,10 +73,18 @@ pub fn walk_over<B: Backend>(rt: &HostRuntime, walk: &mut Iter<'_, B>) -> io::Re
     println!(rt; "{left} left")
 }
 
-/// Makes a call that looks at an interner.
-pub fn look_at<B: Backend, H: TextHasher>(
+/// Prints the entries of an interner.
+fn iter<B: Backend, H: TextHasher, I: TextIndex<B::Symbol>>(
     rt: &HostRuntime,
-    one: &StringInterner<B, H>,
+    interner: &StringInterner<B, H, I>,
+) -> io::Result<()> {
+    walk_over(rt, &mut interner.iter())
+}
+
+/// Makes a call that looks at an interner.
+pub fn look_at<B: Backend, H: TextHasher, I: TextIndex<B::Symbol>>(
+    rt: &HostRuntime,
+    one: &StringInterner<B, H, I>,
     kind: Look,
     call: Call<'_>,
 ) -> io::Result<()> {
@@ -86,7 +96,7 @@ pub fn look_at<B: Backend, H: TextHasher>(
         Look::Resolve => resolve(rt, one, call.number),
         Look::Len => tell_count(rt, one.len()),
         Look::IsEmpty => tell_bool(rt, one.is_empty()),
-        Look::Iter => walk_over(rt, &mut one.iter()),
+        Look::Iter => iter(rt, one),
         Look::ToJson => to_json(rt, one, call.name),
         Look::SymbolToJson => symbol_to_json::<B::Symbol>(rt, call),
         Look::SymbolFromJson => symbol_from_json::<B::Symbol>(rt, call),

@@ -2,18 +2,19 @@
 
 use super::json::{ReadAs, from_value, value_of};
 use super::makers::put;
+use super::texts::intern_text;
 use crate::counting::signal;
 use crate::decimal::{Progress, in_decimal};
 use crate::line::Call;
 use crate::sight::sight_of;
 use crate::tell::{
-    is_refused, numbered, tell_bool, tell_count, tell_done, tell_no_memory, tell_refusal,
+    is_refused, tell_bool, tell_count, tell_done, tell_no_memory, tell_outcome, tell_refusal,
 };
 use std::io;
 use std::mem::swap;
 use string_interner::StringInterner;
 use string_interner::backend::{Backend, CopyBackend, InternError};
-use string_interner::dedup::TextHasher;
+use string_interner::dedup::{TextHasher, TextIndex};
 
 /// A call on both interners.
 #[derive(Clone, Copy)]
@@ -27,32 +28,43 @@ pub enum Pair {
 
 /// Interns one of many texts, again if memory was refused. After a refusal only the count of texts and that text are
 /// looked at, as a sight of all texts takes too long here.
-fn intern_one<B: Backend, H: TextHasher>(
+fn intern_one<B: Backend, H: TextHasher, I: TextIndex<B::Symbol>>(
     rt: &HostRuntime,
-    interner: &mut StringInterner<B, H>,
+    interner: &mut StringInterner<B, H, I>,
     name: &str,
     text: &str,
 ) -> io::Result<Result<usize, InternError>> {
     let before = interner.len();
-    let mut answer = numbered(interner.get_or_intern(text));
+    let mut answer = intern_text(interner, text);
     if is_refused(&answer) {
         let is_kept = interner.len() == before && interner.get(text).is_none();
-        answer = numbered(interner.get_or_intern(text));
+        answer = intern_text(interner, text);
         tell_refusal(rt, name, is_kept, !is_refused(&answer))?;
     }
     Ok(answer)
 }
 
-/// Interns the decimal numbers below a count.
-pub fn numbers<B: Backend, H: TextHasher>(
+/// Interns a number in decimal, and goes on to its symbol.
+fn intern_number<B: Backend, H: TextHasher, I: TextIndex<B::Symbol>>(
     rt: &HostRuntime,
-    interner: &mut StringInterner<B, H>,
+    interner: &mut StringInterner<B, H, I>,
+    name: &str,
+    number: usize,
+    progress: Progress,
+) -> io::Result<Progress> {
+    let answer = intern_one(rt, interner, name, in_decimal(number)?.as_str())?;
+    progress.with(rt, number, answer)
+}
+
+/// Interns the decimal numbers below a count.
+pub fn numbers<B: Backend, H: TextHasher, I: TextIndex<B::Symbol>>(
+    rt: &HostRuntime,
+    interner: &mut StringInterner<B, H, I>,
     call: Call<'_>,
 ) -> io::Result<()> {
     let mut progress = Progress::new();
     for number in 0..call.number {
-        let answer = intern_one(rt, interner, call.name, in_decimal(number)?.as_str())?;
-        progress = progress.with(rt, number, answer)?;
+        progress = intern_number(rt, interner, call.name, number, progress)?;
     }
     progress.tell_last(rt)
 }
@@ -64,16 +76,16 @@ const QUESTION: &'static str = "how many texts were you asked for?";
 const MOST_QUESTIONS: usize = 1 << 20;
 
 /// Prints how many texts the backend was asked for, which a `Counting` tells by two refusals for each.
-pub fn texts_asked<B: Backend, H: TextHasher>(
+pub fn texts_asked<B: Backend, H: TextHasher, I: TextIndex<B::Symbol>>(
     rt: &HostRuntime,
-    interner: &mut StringInterner<B, H>,
+    interner: &mut StringInterner<B, H, I>,
     name: &str,
 ) -> io::Result<()> {
     let count = interner.len();
     let mut refusals: usize = 0;
     signal(interner);
     for _ in 0..MOST_QUESTIONS {
-        if !is_refused(&numbered(interner.get_or_intern(QUESTION))) {
+        if !is_refused(&intern_text(interner, QUESTION)) {
             break;
         }
         refusals = refusals.saturating_add(1);
@@ -85,18 +97,26 @@ pub fn texts_asked<B: Backend, H: TextHasher>(
     tell_count(rt, refusals / 2)
 }
 
+/// Whether a text has a symbol which resolves to it.
+fn is_known<B: Backend, H: TextHasher, I: TextIndex<B::Symbol>>(
+    interner: &StringInterner<B, H, I>,
+    text: &str,
+) -> bool {
+    match interner.get(text) {
+        Some(symbol) => interner.resolve(symbol) == Some(text),
+        None => false,
+    }
+}
+
 /// Looks for the decimal numbers below a count, and prints those that have no symbol which resolves to them.
-pub fn get_numbers<B: Backend, H: TextHasher>(
+pub fn get_numbers<B: Backend, H: TextHasher, I: TextIndex<B::Symbol>>(
     rt: &HostRuntime,
-    interner: &StringInterner<B, H>,
+    interner: &StringInterner<B, H, I>,
     count: usize,
 ) -> io::Result<()> {
     let mut known: usize = 0;
     for number in 0..count {
-        let digits = in_decimal(number)?;
-        if let Some(symbol) = interner.get(digits.as_str())
-            && interner.resolve(symbol) == Some(digits.as_str())
-        {
+        if is_known(interner, in_decimal(number)?.as_str()) {
             known = known.saturating_add(1);
         } else {
             println!(rt; "  {number} is not known")?;
@@ -105,42 +125,55 @@ pub fn get_numbers<B: Backend, H: TextHasher>(
     println!(rt; "{known} known")
 }
 
+/// Clones an interner into the place of the other one.
+fn put_clone<B: CopyBackend + Drop, H: TextHasher + Clone + Drop, I: TextIndex<B::Symbol> + Drop>(
+    interner: &StringInterner<B, H, I>,
+    other: &mut StringInterner<B, H, I>,
+) -> Result<(), InternError> {
+    put(other, interner.clone())?;
+    Ok(())
+}
+
 /// Clones an interner into the place of the other one, again if memory was refused.
-fn clone_into<B: CopyBackend + Drop, H: TextHasher + Clone + Drop>(
+fn clone_into<B: CopyBackend + Drop, H: TextHasher + Clone + Drop, I: TextIndex<B::Symbol> + Drop>(
     rt: &HostRuntime,
-    interner: &StringInterner<B, H>,
-    other: &mut StringInterner<B, H>,
+    interner: &StringInterner<B, H, I>,
+    other: &mut StringInterner<B, H, I>,
     name: &str,
 ) -> io::Result<()> {
     let before = sight_of(interner);
-    let mut made = interner.clone();
-    if made.is_err() {
+    let mut outcome = put_clone(interner, other);
+    if is_refused(&outcome) {
         let is_kept = sight_of(interner) == before;
-        made = interner.clone();
-        tell_refusal(rt, name, is_kept, made.is_ok())?;
+        outcome = put_clone(interner, other);
+        tell_refusal(rt, name, is_kept, !is_refused(&outcome))?;
     }
-    put(rt, other, made)
+    tell_outcome(rt, outcome)
 }
 
 /// Reads the JSON form of an interner into the place of the other one.
-fn json_again<B: Backend + Drop, H: TextHasher + Default + Drop>(
+fn json_again<B: Backend + Drop, H: TextHasher + Default + Drop, I: TextIndex<B::Symbol> + Drop>(
     rt: &HostRuntime,
-    interner: &StringInterner<B, H>,
-    other: &mut StringInterner<B, H>,
+    interner: &StringInterner<B, H, I>,
+    other: &mut StringInterner<B, H, I>,
     name: &str,
     how: ReadAs,
 ) -> io::Result<()> {
     match value_of(rt, interner, name)? {
-        Ok(value) => from_value(rt, other, name, &value, how),
-        Err(_) => tell_no_memory(rt),
+        Some(value) => from_value(rt, other, name, &value, how),
+        None => tell_no_memory(rt),
     }
 }
 
 /// Makes a call on both interners.
-pub fn on_both<B: CopyBackend + Drop, H: TextHasher + Default + Clone + Drop>(
+pub fn on_both<
+    B: CopyBackend + Drop,
+    H: TextHasher + Default + Clone + Drop,
+    I: TextIndex<B::Symbol> + Drop,
+>(
     rt: &HostRuntime,
-    one: &mut StringInterner<B, H>,
-    other: &mut StringInterner<B, H>,
+    one: &mut StringInterner<B, H, I>,
+    other: &mut StringInterner<B, H, I>,
     kind: Pair,
     call: Call<'_>,
 ) -> io::Result<()> {

@@ -11,7 +11,7 @@ use crate::tell::{
 use std::io;
 use string_interner::StringInterner;
 use string_interner::backend::{Backend, InternError};
-use string_interner::dedup::TextHasher;
+use string_interner::dedup::{TextHasher, TextIndex};
 use string_interner::symbol::Symbol;
 
 /// A call that may change an interner.
@@ -31,54 +31,75 @@ pub enum Change {
     TextsAsked,
 }
 
-/// Calls `get_or_intern`, again if memory was refused.
-fn get_or_intern<B: Backend, H: TextHasher>(
-    rt: &HostRuntime,
-    interner: &mut StringInterner<B, H>,
-    name: &str,
-    text: &str,
-) -> io::Result<()> {
-    let before = sight_of(interner);
-    let mut answer = numbered(interner.get_or_intern(text));
-    if is_refused(&answer) {
-        let is_kept = sight_of(interner) == before && interner.get(text).is_none();
-        answer = numbered(interner.get_or_intern(text));
-        tell_refusal(rt, name, is_kept, !is_refused(&answer))?;
-    }
-    tell_answer(rt, answer)
+/// By which call a text is interned.
+#[derive(Clone, Copy)]
+enum InternBy {
+    /// `get_or_intern`
+    Text,
+    /// `get_or_intern_static`
+    StaticText,
 }
 
-/// Calls `get_or_intern_static`, again if memory was refused.
-fn get_or_intern_static<B: Backend, H: TextHasher>(
-    rt: &HostRuntime,
-    interner: &mut StringInterner<B, H>,
+/// Calls `get_or_intern`.
+pub fn intern_text<B: Backend, H: TextHasher, I: TextIndex<B::Symbol>>(
+    interner: &mut StringInterner<B, H, I>,
+    text: &str,
+) -> Result<usize, InternError> {
+    numbered(interner.get_or_intern(text))
+}
+
+/// Interns the text of a call.
+fn interned<B: Backend, H: TextHasher, I: TextIndex<B::Symbol>>(
+    interner: &mut StringInterner<B, H, I>,
     call: Call<'_>,
+    how: InternBy,
+) -> Result<usize, InternError> {
+    match how {
+        InternBy::Text => intern_text(interner, call.text),
+        InternBy::StaticText => numbered(interner.get_or_intern_static(call.static_text)),
+    }
+}
+
+/// Interns the text of a call, again if memory was refused.
+fn intern<B: Backend, H: TextHasher, I: TextIndex<B::Symbol>>(
+    rt: &HostRuntime,
+    interner: &mut StringInterner<B, H, I>,
+    call: Call<'_>,
+    how: InternBy,
 ) -> io::Result<()> {
     let before = sight_of(interner);
-    let mut answer = numbered(interner.get_or_intern_static(call.static_text));
+    let mut answer = interned(interner, call, how);
     if is_refused(&answer) {
-        let is_kept = sight_of(interner) == before && interner.get(call.static_text).is_none();
-        answer = numbered(interner.get_or_intern_static(call.static_text));
+        let is_kept = sight_of(interner) == before && interner.get(call.text).is_none();
+        answer = interned(interner, call, how);
         tell_refusal(rt, call.name, is_kept, !is_refused(&answer))?;
     }
     tell_answer(rt, answer)
 }
 
 /// Interns the text of a call of `letters`.
-fn letters<B: Backend, H: TextHasher>(
+fn letters<B: Backend, H: TextHasher, I: TextIndex<B::Symbol>>(
     rt: &HostRuntime,
-    interner: &mut StringInterner<B, H>,
+    interner: &mut StringInterner<B, H, I>,
     call: Call<'_>,
 ) -> io::Result<()> {
     match letters_of(rt, call)? {
-        Some(text) => get_or_intern(rt, interner, call.name, &text),
+        Some(text) => intern(
+            rt,
+            interner,
+            Call {
+                text: &text,
+                ..call
+            },
+            InternBy::Text,
+        ),
         None => tell_no_memory(rt),
     }
 }
 
 /// Interns a text and calls `resolve_unchecked` with its symbol.
-fn read_back<'i, B: Backend, H: TextHasher>(
-    interner: &'i mut StringInterner<B, H>,
+fn read_back<'i, B: Backend, H: TextHasher, I: TextIndex<B::Symbol>>(
+    interner: &'i mut StringInterner<B, H, I>,
     text: &str,
 ) -> Result<&'i str, InternError> {
     let symbol = interner.get_or_intern(text)?;
@@ -86,9 +107,9 @@ fn read_back<'i, B: Backend, H: TextHasher>(
 }
 
 /// Reads a text back, again if memory was refused.
-fn resolve_unchecked<B: Backend, H: TextHasher>(
+fn resolve_unchecked<B: Backend, H: TextHasher, I: TextIndex<B::Symbol>>(
     rt: &HostRuntime,
-    interner: &mut StringInterner<B, H>,
+    interner: &mut StringInterner<B, H, I>,
     call: Call<'_>,
 ) -> io::Result<()> {
     let before = sight_of(interner);
@@ -103,26 +124,34 @@ fn resolve_unchecked<B: Backend, H: TextHasher>(
     }
 }
 
+/// Calls `extend`.
+fn extended<B: Backend, H: TextHasher, I: TextIndex<B::Symbol>>(
+    interner: &mut StringInterner<B, H, I>,
+    call: Call<'_>,
+) -> Result<(), InternError> {
+    interner.extend(call.text.splitn(call.limit, ','))
+}
+
 /// Calls `extend`, again if memory was refused. The texts that were there before stay as they were.
-fn extend<B: Backend, H: TextHasher>(
+fn extend<B: Backend, H: TextHasher, I: TextIndex<B::Symbol>>(
     rt: &HostRuntime,
-    interner: &mut StringInterner<B, H>,
+    interner: &mut StringInterner<B, H, I>,
     call: Call<'_>,
 ) -> io::Result<()> {
     let before = sight_of(interner);
-    let mut outcome = interner.extend(call.text.splitn(call.limit, ','));
+    let mut outcome = extended(interner, call);
     if is_refused(&outcome) {
         let is_kept = sight_of_first(interner, before.count) == before;
-        outcome = interner.extend(call.text.splitn(call.limit, ','));
+        outcome = extended(interner, call);
         tell_refusal(rt, call.name, is_kept, !is_refused(&outcome))?;
     }
     tell_outcome(rt, outcome)
 }
 
 /// Calls `extend` with the decimal numbers below a count.
-fn extend_numbers<B: Backend, H: TextHasher>(
+fn extend_numbers<B: Backend, H: TextHasher, I: TextIndex<B::Symbol>>(
     rt: &HostRuntime,
-    interner: &mut StringInterner<B, H>,
+    interner: &mut StringInterner<B, H, I>,
     call: Call<'_>,
 ) -> io::Result<()> {
     match joined_again(rt, call.name, call.number)? {
@@ -131,33 +160,56 @@ fn extend_numbers<B: Backend, H: TextHasher>(
     }
 }
 
-/// Calls `intern_all`, and if memory was refused again with the texts that were not done, as the list tells. The texts
-/// that were there before stay as they were.
-fn intern_all<B: Backend, H: TextHasher>(
-    rt: &HostRuntime,
-    interner: &mut StringInterner<B, H>,
+/// Calls `intern_all` with the texts that have no symbol yet.
+fn intern_rest<B: Backend, H: TextHasher, I: TextIndex<B::Symbol>>(
+    interner: &mut StringInterner<B, H, I>,
     call: Call<'_>,
-) -> io::Result<()> {
-    let before = sight_of(interner);
-    let mut symbols = Vec::new(rt.alloc());
-    let mut outcome = interner.intern_all(call.text.splitn(call.limit, ','), &mut symbols);
-    if is_refused(&outcome) {
-        let is_kept = sight_of_first(interner, before.count) == before;
-        let done = symbols.len();
-        let left = call.text.splitn(call.limit, ',').skip(done);
-        outcome = interner.intern_all(left, &mut symbols);
-        tell_refusal(rt, call.name, is_kept, !is_refused(&outcome))?;
-    }
-    for symbol in &symbols {
+    symbols: &mut Vec<B::Symbol>,
+) -> Result<(), InternError> {
+    let done = symbols.len();
+    interner.intern_all(call.text.splitn(call.limit, ',').skip(done), symbols)
+}
+
+/// Prints symbols.
+fn tell_symbols<S: Symbol>(rt: &HostRuntime, symbols: &[S]) -> io::Result<()> {
+    for symbol in symbols {
         println!(rt; "  symbol {}", symbol.to_usize())?;
     }
+    Ok(())
+}
+
+/// Calls `intern_all`, and if memory was refused again with the texts that were not done, as the list tells. The texts
+/// that were there before stay as they were.
+fn intern_into<B: Backend, H: TextHasher, I: TextIndex<B::Symbol>>(
+    rt: &HostRuntime,
+    interner: &mut StringInterner<B, H, I>,
+    call: Call<'_>,
+    symbols: &mut Vec<B::Symbol>,
+) -> io::Result<()> {
+    let before = sight_of(interner);
+    let mut outcome = intern_rest(interner, call, symbols);
+    if is_refused(&outcome) {
+        let is_kept = sight_of_first(interner, before.count) == before;
+        outcome = intern_rest(interner, call, symbols);
+        tell_refusal(rt, call.name, is_kept, !is_refused(&outcome))?;
+    }
+    tell_symbols(rt, symbols)?;
     tell_outcome(rt, outcome)
 }
 
-/// Calls `intern_all` with the decimal numbers below a count.
-fn intern_all_numbers<B: Backend, H: TextHasher>(
+/// Calls `intern_all` with a new list.
+fn intern_all<B: Backend, H: TextHasher, I: TextIndex<B::Symbol>>(
     rt: &HostRuntime,
-    interner: &mut StringInterner<B, H>,
+    interner: &mut StringInterner<B, H, I>,
+    call: Call<'_>,
+) -> io::Result<()> {
+    intern_into(rt, interner, call, &mut Vec::new(rt.alloc()))
+}
+
+/// Calls `intern_all` with the decimal numbers below a count.
+fn intern_all_numbers<B: Backend, H: TextHasher, I: TextIndex<B::Symbol>>(
+    rt: &HostRuntime,
+    interner: &mut StringInterner<B, H, I>,
     call: Call<'_>,
 ) -> io::Result<()> {
     match joined_again(rt, call.name, call.number)? {
@@ -167,15 +219,15 @@ fn intern_all_numbers<B: Backend, H: TextHasher>(
 }
 
 /// Makes a call that may change an interner.
-pub fn change_one<B: Backend, H: TextHasher>(
+pub fn change_one<B: Backend, H: TextHasher, I: TextIndex<B::Symbol>>(
     rt: &HostRuntime,
-    one: &mut StringInterner<B, H>,
+    one: &mut StringInterner<B, H, I>,
     kind: Change,
     call: Call<'_>,
 ) -> io::Result<()> {
     match kind {
-        Change::GetOrIntern => get_or_intern(rt, one, call.name, call.text),
-        Change::GetOrInternStatic => get_or_intern_static(rt, one, call),
+        Change::GetOrIntern => intern(rt, one, call, InternBy::Text),
+        Change::GetOrInternStatic => intern(rt, one, call, InternBy::StaticText),
         Change::ResolveUnchecked => resolve_unchecked(rt, one, call),
         Change::Letters => letters(rt, one, call),
         Change::Numbers => numbers(rt, one, call),

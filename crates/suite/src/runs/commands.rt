@@ -87,15 +87,21 @@ pub fn plan_of(block: &str, first: usize) -> Result<Plan, Fault> {
     Ok(plan)
 }
 
+/// Appends the texts of a line, if its command extends.
+fn push_texts<'t>(texts: &mut Vec<&'t str>, line: &'t str) -> Result<(), AllocError> {
+    if let Ok((CommandWord::Extend, call)) = call_of(&COMMANDS, 0, line) {
+        for text in call.text.splitn(call.limit, ',') {
+            texts.push(text)?;
+        }
+    }
+    Ok(())
+}
+
 /// The texts of all commands that extend, one after another.
 pub fn texts_of(alloc: Global, block: &str, plan: Plan) -> Result<Vec<&str>, AllocError> {
     let mut texts = Vec::with_capacity(alloc, plan.texts)?;
     for line in block.split_terminator('\n') {
-        if let Ok((CommandWord::Extend, call)) = call_of(&COMMANDS, 0, line) {
-            for text in call.text.splitn(call.limit, ',') {
-                texts.push(text)?;
-            }
-        }
+        push_texts(&mut texts, line)?;
     }
     Ok(texts)
 }
@@ -114,6 +120,30 @@ fn plain_command<'t>(word: CommandWord, call: Call<'t>) -> Command<'t> {
     }
 }
 
+/// Appends a command that interns for each of the first numbers, of which there are so many.
+fn push_numbers<'t>(
+    commands: &mut Vec<Command<'t>>,
+    numbers: &'t str,
+    count: usize,
+) -> Result<(), AllocError> {
+    for text in numbers.split(',').take(count) {
+        commands.push(Command::Intern(text))?;
+    }
+    Ok(())
+}
+
+/// Appends a command that extends by the texts from a place on, and returns where the texts of the next one begin.
+fn push_extend<'t>(
+    commands: &mut Vec<Command<'t>>,
+    call: Call<'t>,
+    texts: &'t [&'t str],
+    at: usize,
+) -> Result<usize, AllocError> {
+    let end = at.saturating_add(call.text.splitn(call.limit, ',').count());
+    commands.push(Command::Extend(texts.get(at..end).unwrap_or(&[])))?;
+    Ok(end)
+}
+
 /// Appends the commands of a line. Those that extend take their texts in turn, and the result is where the texts of the
 /// next one begin.
 fn push_commands<'t>(
@@ -127,22 +157,11 @@ fn push_commands<'t>(
         return Ok(at);
     };
     match word {
-        CommandWord::InternNumbers => {
-            for text in numbers.split(',').take(call.number) {
-                commands.push(Command::Intern(text))?;
-            }
-            Ok(at)
-        }
-        CommandWord::Extend => {
-            let end = at.saturating_add(call.text.splitn(call.limit, ',').count());
-            commands.push(Command::Extend(texts.get(at..end).unwrap_or(&[])))?;
-            Ok(end)
-        }
-        _ => {
-            commands.push(plain_command(word, call))?;
-            Ok(at)
-        }
+        CommandWord::InternNumbers => push_numbers(commands, numbers, call.number)?,
+        CommandWord::Extend => return push_extend(commands, call, texts, at),
+        _ => commands.push(plain_command(word, call))?,
     }
+    Ok(at)
 }
 
 /// The commands of a block.
