@@ -10,18 +10,23 @@ use std::alloc::Global;
 use std::marker::Model;
 use string_interner::StringInterner;
 use string_interner::backend::{Backend, DefaultBackend, InternError};
-use string_interner::dedup::{DefaultHashBuilder, TextHasher};
+use string_interner::dedup::{FoldState, TextHasher, TextIndex, WindowIndex};
 
-/// A list of rows, each a text, of which equal ones are kept once.
+/// A list of rows, each a text, of which equal ones are kept once: by an interner like `FastStringInterner`, where no other
+/// backend, hasher or index is named.
 #[derive(Drop)]
-pub struct Column<B: Backend = DefaultBackend, H: TextHasher = DefaultHashBuilder> {
-    dictionary: StringInterner<B, H>,
+pub struct Column<
+    B: Backend = DefaultBackend,
+    H: TextHasher = FoldState,
+    I: TextIndex<B::Symbol> = WindowIndex<<B as Backend>::Symbol>,
+> {
+    dictionary: StringInterner<B, H, I>,
     /// The symbol of each row.
     codes: Vec<B::Symbol>,
 }
 
 /// Contracts see the rows.
-impl<B: Backend, H: TextHasher> Model for Column<B, H> {
+impl<B: Backend, H: TextHasher, I: TextIndex<B::Symbol>> Model for Column<B, H, I> {
     ghost use Rattle.std.specs.Prelude.{List};
     ghost use Rattle.string_interner.specs.Text.{Text};
     ghost use Rattle.uses.specs.Column.{decoded, IsColumn};
@@ -34,7 +39,7 @@ impl<B: Backend, H: TextHasher> Model for Column<B, H> {
         (decoded B.read B.Symbol.number c.dictionary.texts c.codes.items) };
 }
 
-impl<B: Backend, H: TextHasher + Default> Column<B, H> {
+impl<B: Backend, H: TextHasher + Default, I: TextIndex<B::Symbol>> Column<B, H, I> {
     /// Makes a column without rows. Takes no memory.
     pub fn new(alloc: Global) -> Self
         ensures { result ≡ [] }
@@ -46,15 +51,15 @@ impl<B: Backend, H: TextHasher + Default> Column<B, H> {
     }
 }
 
-impl<B: Backend, H: TextHasher> Column<B, H> {
+impl<B: Backend, H: TextHasher, I: TextIndex<B::Symbol>> Column<B, H, I> {
     /// Appends a row for each text of a finite iterator. Stops at the first text that fails, as interning it does; the
     /// rows before it stay.
-    pub fn encode<'t, I: IntoIterator<Item = &'t str>>(
+    pub fn encode<'t, T: IntoIterator<Item = &'t str>>(
         &mut self,
-        texts: I,
+        texts: T,
     ) -> Result<(), InternError>
-        requires { IsFiniteIterable I.into_iter_gives I.IntoIter.can_next I.IntoIter.remaining texts }
-        ensures { AppendsRows I.into_iter_gives I.IntoIter.next_gives texts self.old result self.new }
+        requires { IsFiniteIterable T.into_iter_gives T.IntoIter.can_next T.IntoIter.remaining texts }
+        ensures { AppendsRows T.into_iter_gives T.IntoIter.next_gives texts self.old result self.new }
     {
         let outcome = self.dictionary.intern_all(texts, &mut self.codes);
         // For the proof: states what holds of every interner.
