@@ -12,8 +12,8 @@ use string_interner::StringInterner;
 use string_interner::backend::{Backend, DefaultBackend, InternError};
 use string_interner::dedup::{FoldState, TextHasher, TextIndex, WindowIndex};
 
-/// A list of rows, each a text, of which equal ones are kept once: by an interner like `FastStringInterner`, where no other
-/// backend, hasher or index is named.
+/// A list of rows, each a text, of which equal ones are kept once: in a `FastStringInterner`, where no other backend,
+/// hasher or index is named.
 #[derive(Drop)]
 pub struct Column<
     B: Backend = DefaultBackend,
