@@ -27,7 +27,7 @@ pub use slots::Looks;
 use slots::Slots;
 use std::alloc::{AllocError, Global};
 use std::marker::Model;
-pub use text_index::{Entry, TextIndex};
+pub use text_index::{CopyIndex, Entry, TextIndex};
 pub use window::WindowIndex;
 
 /// A hash index of the entries of a backend: it finds the symbol of a text.

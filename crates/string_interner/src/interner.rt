@@ -16,7 +16,7 @@ ghost use Rattle.string_interner.specs.Given.{given_text};
 ghost use Rattle.string_interner.specs.SlotRule.{IsLoaded, IsLeastSlotCount};
 
 use crate::backend::{Backend, CopyBackend, InternError, Iter};
-use crate::dedup::{DefaultHashBuilder, Entry, Index, TextHasher, TextIndex};
+use crate::dedup::{CopyIndex, DefaultHashBuilder, Entry, Index, TextHasher, TextIndex};
 use crate::symbol::Symbol;
 use given::Given;
 use std::alloc::{AllocError, Global};
@@ -284,7 +284,9 @@ impl<
     /// hasher, whatever codes that gives, with the least slots for its texts. Its buckets are those of a copy of the
     /// backend, where static texts stay references.
     ///
-    /// Returns `Err` only if an allocation fails or a size does not fit a `usize`.
+    /// Hashes each text once. Where the hasher is `Copy` and the index a `CopyIndex`,
+    /// [`try_copy`](StringInterner::try_copy) hashes none. Returns `Err` only if an allocation fails or a size does not
+    /// fit a `usize`.
     pub fn clone(&self) -> Result<Self, AllocError>
         ensures texts { IfOk result (λ copy. copy.texts ≡ self.now.texts) }
         ensures buckets { IfOk result (λ copy. B.copies self.now.texts self.now.buckets copy.buckets) }
@@ -298,6 +300,31 @@ impl<
         Ok(StringInterner {
             backend,
             hasher,
+            index,
+        })
+    }
+}
+
+impl<B: CopyBackend + Drop, H: TextHasher + Copy, I: CopyIndex<B::Symbol> + Drop> StringInterner<
+    B,
+    H,
+    I,
+> {
+    /// Makes an interner with an equal list, and so with the same symbols, under the same hasher. Its index is a copy,
+    /// with as many slots. Its buckets are those of a copy of the backend, where static texts stay references.
+    ///
+    /// Hashes no text, and reads none to find where it goes. Returns `Err` only if an allocation fails or a size does
+    /// not fit a `usize`.
+    pub fn try_copy(&self) -> Result<Self, AllocError>
+        ensures texts { IfOk result (λ copy. copy.texts ≡ self.now.texts) }
+        ensures buckets { IfOk result (λ copy. B.copies self.now.texts self.now.buckets copy.buckets) }
+        ensures slots { IfOk result (λ copy. copy.slot_count ≡ self.now.slot_count) }
+        ensures keeps { IfOk result (λ copy. KeepsSymbols B.Symbol.symbol_of B.place self.now.texts copy.texts) }
+    {
+        let index = self.index.try_copy()?;
+        Ok(StringInterner {
+            backend: self.backend.try_copy()?,
+            hasher: self.hasher,
             index,
         })
     }

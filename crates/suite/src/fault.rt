@@ -35,7 +35,7 @@ impl Mistake {
             Mistake::Hasher => "unknown hasher",
             Mistake::NotBuilt => "this combination is not built",
             Mistake::Call => "unknown call",
-            Mistake::NotOffered => "the backend has no such call",
+            Mistake::NotOffered => "this combination has no such call",
             Mistake::Unwanted => "this call takes nothing after its name",
             Mistake::NotANumber => "not a number",
             Mistake::NotStatic => "not one of the static texts",

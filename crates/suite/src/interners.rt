@@ -8,7 +8,7 @@ mod texts;
 
 use crate::fault::{Fault, Mistake};
 use crate::line::{Argument, Call, Row, call_of};
-use crate::own::{Extra, Shown};
+use crate::own::{Copied, Extra, Shown};
 pub use json::{symbol_from_json, symbol_to_json};
 pub use looks::walk_over;
 use looks::{Look, look_at};
@@ -17,7 +17,7 @@ use scale::{Pair, on_both};
 use std::io;
 use string_interner::StringInterner;
 use string_interner::backend::CopyBackend;
-use string_interner::dedup::{TextHasher, TextIndex};
+use string_interner::dedup::CopyIndex;
 use texts::{Change, change_one};
 
 /// A call on an interner.
@@ -30,7 +30,7 @@ enum InternerCall {
 }
 
 /// The calls on an interner by their names.
-const CALLS: [Row<InternerCall>; 37] = [
+const CALLS: [Row<InternerCall>; 38] = [
     ("new", Argument::Nothing, InternerCall::Make(Maker::New)),
     (
         "with_hasher",
@@ -171,6 +171,11 @@ const CALLS: [Row<InternerCall>; 37] = [
         InternerCall::Look(Look::SymbolFromJson),
     ),
     ("clone", Argument::Nothing, InternerCall::Both(Pair::Clone)),
+    (
+        "try_copy",
+        Argument::Nothing,
+        InternerCall::Both(Pair::TryCopy),
+    ),
     ("swap", Argument::Nothing, InternerCall::Both(Pair::Swap)),
     ("equal", Argument::Nothing, InternerCall::Both(Pair::Equal)),
     (
@@ -190,18 +195,22 @@ const CALLS: [Row<InternerCall>; 37] = [
     ),
 ];
 
-/// Whether the backend offers what a call needs.
-fn is_offered<B: Shown>(word: InternerCall) -> bool {
+/// Whether the backend and the hasher offer what a call needs.
+fn is_offered<B: Shown, H: Copied>(word: InternerCall) -> bool {
     match word {
         InternerCall::Change(Change::TextsAsked) => B::offers(Extra::TextsAsked),
+        InternerCall::Both(Pair::TryCopy) => H::offers_try_copy(),
         _ => true,
     }
 }
 
-/// Reads the call of a line. The backend must offer it.
-fn offered_call<B: Shown>(number: usize, line: &str) -> Result<(InternerCall, Call<'_>), Fault> {
+/// Reads the call of a line. The backend and the hasher must offer it.
+fn offered_call<B: Shown, H: Copied>(
+    number: usize,
+    line: &str,
+) -> Result<(InternerCall, Call<'_>), Fault> {
     let (word, call) = call_of(&CALLS, number, line)?;
-    if is_offered::<B>(word) {
+    if is_offered::<B, H>(word) {
         return Ok((word, call));
     }
     Err(Fault::Line {
@@ -213,8 +222,8 @@ fn offered_call<B: Shown>(number: usize, line: &str) -> Result<(InternerCall, Ca
 /// Makes a call on interners.
 fn on_interners<
     B: CopyBackend + Drop,
-    H: TextHasher + Default + Clone + Drop,
-    I: TextIndex<B::Symbol> + Drop,
+    H: Copied + Default + Clone + Drop,
+    I: CopyIndex<B::Symbol> + Drop,
 >(
     rt: &HostRuntime,
     one: &mut StringInterner<B, H, I>,
@@ -233,8 +242,8 @@ fn on_interners<
 /// Makes the call of a line.
 fn call_line<
     B: CopyBackend + Shown + Drop,
-    H: TextHasher + Default + Clone + Drop,
-    I: TextIndex<B::Symbol> + Drop,
+    H: Copied + Default + Clone + Drop,
+    I: CopyIndex<B::Symbol> + Drop,
 >(
     rt: &HostRuntime,
     one: &mut StringInterner<B, H, I>,
@@ -242,7 +251,7 @@ fn call_line<
     number: usize,
     line: &str,
 ) -> Result<(), Fault> {
-    let (word, call) = offered_call::<B>(number, line)?;
+    let (word, call) = offered_call::<B, H>(number, line)?;
     on_interners(rt, one, other, word, call)?;
     Ok(())
 }
@@ -250,8 +259,8 @@ fn call_line<
 /// Makes the calls of the lines on two interners, of which the first is called.
 fn all_calls<
     B: CopyBackend + Shown + Drop,
-    H: TextHasher + Default + Clone + Drop,
-    I: TextIndex<B::Symbol> + Drop,
+    H: Copied + Default + Clone + Drop,
+    I: CopyIndex<B::Symbol> + Drop,
 >(
     rt: &HostRuntime,
     one: &mut StringInterner<B, H, I>,
@@ -269,8 +278,8 @@ fn all_calls<
 /// Makes the calls of the lines on two new interners.
 pub fn interner_session<
     B: CopyBackend + Shown + Drop,
-    H: TextHasher + Default + Clone + Drop,
-    I: TextIndex<B::Symbol> + Drop,
+    H: Copied + Default + Clone + Drop,
+    I: CopyIndex<B::Symbol> + Drop,
 >(rt: &HostRuntime, lines: &str) -> Result<(), Fault> {
     all_calls::<B, H, I>(
         rt,

@@ -29,7 +29,7 @@ use indexes::index_session;
 use input::read_text;
 use interners::interner_session;
 use odd::{Bit, ByteCount, Constant, Even, Salted};
-use own::Shown;
+use own::{Copied, Shown};
 use runs::run_session;
 use scenario::{BackendWord, HasherWord, Level, Scenario, SymbolWord, scenario_of};
 use scopes::scope_session;
@@ -157,7 +157,7 @@ fn index_under<H: TextHasher + Default + Drop>(
 }
 
 /// Runs a scenario on an interner with `SymbolU32` under a hasher.
-fn interner_under<H: TextHasher + Default + Clone + Drop>(
+fn interner_under<H: Copied + Default + Clone + Drop>(
     rt: &HostRuntime,
     scenario: Scenario<'_>,
 ) -> Result<(), Fault> {
@@ -172,7 +172,7 @@ fn interner_under<H: TextHasher + Default + Clone + Drop>(
 }
 
 /// Runs a scenario on an interner with a window index over strings, under a hasher.
-fn window_under<S: Symbol, H: TextHasher + Default + Clone + Drop>(
+fn window_under<S: Symbol, H: Copied + Default + Clone + Drop>(
     rt: &HostRuntime,
     scenario: Scenario<'_>,
 ) -> Result<(), Fault> {
@@ -207,7 +207,7 @@ fn window_over_symbol(rt: &HostRuntime, scenario: Scenario<'_>) -> Result<(), Fa
 }
 
 /// Runs a scenario on an interner with `SymbolU32`, or on an index, under a hasher of a caller.
-fn under_hasher<H: TextHasher + Default + Clone + Drop>(
+fn under_hasher<H: Copied + Default + Clone + Drop>(
     rt: &HostRuntime,
     scenario: Scenario<'_>,
 ) -> Result<(), Fault> {
@@ -224,7 +224,7 @@ fn under_hasher<H: TextHasher + Default + Clone + Drop>(
 }
 
 /// Runs a scenario on an interner over strings with `SymbolU32`, under a hasher of the standard library.
-fn under_std_hasher<H: TextHasher + Default + Clone + Drop>(
+fn under_std_hasher<H: Copied + Default + Clone + Drop>(
     rt: &HostRuntime,
     scenario: Scenario<'_>,
 ) -> Result<(), Fault> {

@@ -1,8 +1,14 @@
-//! What the backends offer beyond the trait `Backend`, each under its own type: in one trait, so that a scenario reaches
-//! it over any of them.
+//! What the backends offer beyond the trait `Backend`, each under its own type, and what an interner offers under some
+//! hashers alone: in one trait each, so that a scenario reaches it over any of them.
 
+use crate::odd::{ByteCount, Constant, Salted};
 use std::alloc::AllocError;
-use string_interner::backend::{Backend, BucketBackend, BufferBackend, Iter, StringBackend};
+use std::hash::BuildHasher;
+use string_interner::StringInterner;
+use string_interner::backend::{
+    Backend, BucketBackend, BufferBackend, CopyBackend, Iter, StringBackend,
+};
+use string_interner::dedup::{CopyIndex, FixedState, StdHasher, TextHasher};
 use string_interner::symbol::Symbol;
 
 /// A backend that can be cloned, compared and walked over as its own type lets it.
@@ -88,5 +94,63 @@ impl<S: Symbol> Shown for BufferBackend<S> {
 
     fn walk(&self) -> Iter<'_, Self> {
         self.into_iter()
+    }
+}
+
+/// A hasher, under which an interner may offer `try_copy`.
+pub trait Copied: TextHasher {
+    /// Whether it does.
+    fn offers_try_copy() -> bool {
+        true
+    }
+
+    /// Calls `try_copy`, where the interner offers that.
+    fn copy_of<B: CopyBackend + Drop, I: CopyIndex<B::Symbol> + Drop>(
+        interner: &StringInterner<B, Self, I>,
+    ) -> Result<StringInterner<B, Self, I>, AllocError>;
+}
+
+impl Copied for FixedState {
+    fn copy_of<B: CopyBackend + Drop, I: CopyIndex<B::Symbol> + Drop>(
+        interner: &StringInterner<B, Self, I>,
+    ) -> Result<StringInterner<B, Self, I>, AllocError> {
+        interner.try_copy()
+    }
+}
+
+impl Copied for Constant {
+    fn copy_of<B: CopyBackend + Drop, I: CopyIndex<B::Symbol> + Drop>(
+        interner: &StringInterner<B, Self, I>,
+    ) -> Result<StringInterner<B, Self, I>, AllocError> {
+        interner.try_copy()
+    }
+}
+
+impl Copied for ByteCount {
+    fn copy_of<B: CopyBackend + Drop, I: CopyIndex<B::Symbol> + Drop>(
+        interner: &StringInterner<B, Self, I>,
+    ) -> Result<StringInterner<B, Self, I>, AllocError> {
+        interner.try_copy()
+    }
+}
+
+impl<S: BuildHasher + Copy> Copied for StdHasher<S> {
+    fn copy_of<B: CopyBackend + Drop, I: CopyIndex<B::Symbol> + Drop>(
+        interner: &StringInterner<B, Self, I>,
+    ) -> Result<StringInterner<B, Self, I>, AllocError> {
+        interner.try_copy()
+    }
+}
+
+/// It is no `Copy` hasher, since its clone has another salt.
+impl Copied for Salted {
+    fn offers_try_copy() -> bool {
+        false
+    }
+
+    fn copy_of<B: CopyBackend + Drop, I: CopyIndex<B::Symbol> + Drop>(
+        _interner: &StringInterner<B, Self, I>,
+    ) -> Result<StringInterner<B, Self, I>, AllocError> {
+        Err(AllocError)
     }
 }

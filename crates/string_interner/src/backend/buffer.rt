@@ -220,7 +220,7 @@ impl<S: Symbol> BufferBackend<S> {
     {
         Ok(BufferBackend {
             count: self.count,
-            bytes: self.bytes.clone()?,
+            bytes: Vec::from_slice(*self.bytes.allocator(), &self.bytes)?,
             symbols: PhantomData,
         })
     }

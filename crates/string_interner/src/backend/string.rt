@@ -169,7 +169,7 @@ impl<S: Symbol> StringBackend<S> {
     {
         Ok(StringBackend {
             joined: self.joined.clone()?,
-            ends: self.ends.clone()?,
+            ends: Vec::from_slice(*self.ends.allocator(), &self.ends)?,
             symbols: PhantomData,
         })
     }

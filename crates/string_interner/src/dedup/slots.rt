@@ -1,4 +1,4 @@
-//! The slots of the index, and the one way to read them through a shared reference, which counts.
+//! The slots of the index, and the one way to read one of them through a shared reference, which counts.
 
 ghost use Rattle.std.specs.Prelude.{◌≡◌, ◌+◌, ◌<◌, ◌^◌, length, slice_index_or, slice_set, replicate, [], IfNone, IfOk, IfSome, IsSome, None, Some};
 ghost use Rattle.string_interner.specs.Entry.{entry_text};
@@ -101,6 +101,16 @@ impl<S: Symbol> Slots<S> {
     {
         Ok(Slots {
             items: Vec::from_elem(alloc, None, count)?,
+        })
+    }
+
+    /// Returns as many slots with the same symbols, copied at once. Reads no text. Returns `Err` only if an allocation
+    /// fails.
+    pub fn try_copy(&self) -> Result<Self, AllocError>
+        ensures { IfOk result (λ copy. copy ≡ self.now) }
+    {
+        Ok(Slots {
+            items: Vec::from_slice(*self.items.allocator(), &self.items)?,
         })
     }
 

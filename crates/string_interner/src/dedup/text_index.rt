@@ -132,6 +132,15 @@ pub trait TextIndex<S: Symbol> {
     ghost rule_laws: { IsSlotRule rule };
 }
 
+/// An index that can be copied.
+pub trait CopyIndex<S: Symbol>: TextIndex<S> {
+    /// Returns an equal index. Hashes and reads no text.
+    ///
+    /// Returns `Err` only if an allocation fails.
+    fn try_copy(&self) -> Result<Self, AllocError>
+        ensures { IfOk result (λ copy. copy ≡ self.now) };
+}
+
 impl<S: Symbol> TextIndex<S> for Index<S> {
     ghost use Rattle.string_interner.specs.Index.{IsWhole, entry_count, three_quarters};
     ghost use Rattle.string_interner.specs.IndexLaws.{three_quarters-laws};
@@ -194,4 +203,16 @@ impl<S: Symbol> TextIndex<S> for Index<S> {
     }
 
     ghost rule_laws = { three_quarters-laws };
+}
+
+impl<S: Symbol> CopyIndex<S> for Index<S> {
+    fn try_copy(&self) -> Result<Self, AllocError> {
+        Ok(Index {
+            slots: self.slots.try_copy()?,
+            len: self.len,
+            put_back: self.put_back,
+            greatest: self.greatest,
+            alloc: self.alloc,
+        })
+    }
 }

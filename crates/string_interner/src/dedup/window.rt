@@ -13,7 +13,7 @@ use crate::backend::Backend;
 use crate::dedup::growing::next_slot_count;
 use crate::dedup::hasher::TextHasher;
 use crate::dedup::probe::Vacancy;
-use crate::dedup::text_index::{Entry, TextIndex};
+use crate::dedup::text_index::{CopyIndex, Entry, TextIndex};
 use crate::symbol::Symbol;
 use growing::{least_slot_count, put_all, rehash};
 use probe::{occupy, probe};
@@ -154,4 +154,14 @@ impl<S: Symbol> TextIndex<S> for WindowIndex<S> {
     }
 
     ghost rule_laws = { seven_eighths-laws };
+}
+
+impl<S: Symbol> CopyIndex<S> for WindowIndex<S> {
+    fn try_copy(&self) -> Result<Self, AllocError> {
+        Ok(WindowIndex {
+            slots: self.slots.try_copy()?,
+            len: self.len,
+            alloc: self.alloc,
+        })
+    }
 }

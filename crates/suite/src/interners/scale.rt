@@ -6,6 +6,7 @@ use super::texts::intern_text;
 use crate::counting::signal;
 use crate::decimal::{Progress, in_decimal};
 use crate::line::Call;
+use crate::own::Copied;
 use crate::sight::sight_of;
 use crate::tell::{
     is_refused, tell_bool, tell_count, tell_done, tell_no_memory, tell_outcome, tell_refusal,
@@ -14,16 +15,26 @@ use std::io;
 use std::mem::swap;
 use string_interner::StringInterner;
 use string_interner::backend::{Backend, CopyBackend, InternError};
-use string_interner::dedup::{TextHasher, TextIndex};
+use string_interner::dedup::{CopyIndex, TextHasher, TextIndex};
 
 /// A call on both interners.
 #[derive(Clone, Copy)]
 pub enum Pair {
     Clone,
+    TryCopy,
     Swap,
     Equal,
     JsonAgain,
     JsonExactAgain,
+}
+
+/// By which call an interner is copied.
+#[derive(Clone, Copy)]
+enum CopyBy {
+    /// `clone`
+    Clone,
+    /// `try_copy`
+    TryCopy,
 }
 
 /// Interns one of many texts, again if memory was refused. After a refusal only the count of texts and that text are
@@ -125,27 +136,32 @@ pub fn get_numbers<B: Backend, H: TextHasher, I: TextIndex<B::Symbol>>(
     println!(rt; "{known} known")
 }
 
-/// Clones an interner into the place of the other one.
-fn put_clone<B: CopyBackend + Drop, H: TextHasher + Clone + Drop, I: TextIndex<B::Symbol> + Drop>(
+/// Copies an interner into the place of the other one.
+fn put_copy<B: CopyBackend + Drop, H: Copied + Clone + Drop, I: CopyIndex<B::Symbol> + Drop>(
     interner: &StringInterner<B, H, I>,
     other: &mut StringInterner<B, H, I>,
+    how: CopyBy,
 ) -> Result<(), InternError> {
-    put(other, interner.clone())?;
+    match how {
+        CopyBy::Clone => put(other, interner.clone())?,
+        CopyBy::TryCopy => put(other, H::copy_of(interner))?,
+    }
     Ok(())
 }
 
-/// Clones an interner into the place of the other one, again if memory was refused.
-fn clone_into<B: CopyBackend + Drop, H: TextHasher + Clone + Drop, I: TextIndex<B::Symbol> + Drop>(
+/// Copies an interner into the place of the other one, again if memory was refused.
+fn copy_into<B: CopyBackend + Drop, H: Copied + Clone + Drop, I: CopyIndex<B::Symbol> + Drop>(
     rt: &HostRuntime,
     interner: &StringInterner<B, H, I>,
     other: &mut StringInterner<B, H, I>,
     name: &str,
+    how: CopyBy,
 ) -> io::Result<()> {
     let before = sight_of(interner);
-    let mut outcome = put_clone(interner, other);
+    let mut outcome = put_copy(interner, other, how);
     if is_refused(&outcome) {
         let is_kept = sight_of(interner) == before;
-        outcome = put_clone(interner, other);
+        outcome = put_copy(interner, other, how);
         tell_refusal(rt, name, is_kept, !is_refused(&outcome))?;
     }
     tell_outcome(rt, outcome)
@@ -168,8 +184,8 @@ fn json_again<B: Backend + Drop, H: TextHasher + Default + Drop, I: TextIndex<B:
 /// Makes a call on both interners.
 pub fn on_both<
     B: CopyBackend + Drop,
-    H: TextHasher + Default + Clone + Drop,
-    I: TextIndex<B::Symbol> + Drop,
+    H: Copied + Default + Clone + Drop,
+    I: CopyIndex<B::Symbol> + Drop,
 >(
     rt: &HostRuntime,
     one: &mut StringInterner<B, H, I>,
@@ -178,7 +194,8 @@ pub fn on_both<
     call: Call<'_>,
 ) -> io::Result<()> {
     match kind {
-        Pair::Clone => clone_into(rt, one, other, call.name),
+        Pair::Clone => copy_into(rt, one, other, call.name, CopyBy::Clone),
+        Pair::TryCopy => copy_into(rt, one, other, call.name, CopyBy::TryCopy),
         Pair::Swap => {
             swap(one, other);
             tell_done(rt)

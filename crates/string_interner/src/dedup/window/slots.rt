@@ -89,6 +89,22 @@ impl<S: Symbol> CodedSlots<S> {
         })
     }
 
+    /// Returns as many slots with the same symbols, codes and tags, each list copied at once. Reads no text. Returns
+    /// `Err` only if an allocation fails.
+    pub fn try_copy(&self) -> Result<Self, AllocError>
+        ensures { IfOk result (λ copy. copy ≡ self.now) }
+    {
+        let alloc = *self.items.allocator();
+        // While no symbol was put this list is empty, and yet has the capacity for all slots.
+        let mut items = Vec::with_capacity(alloc, self.codes.len())?;
+        items.extend_from_slice(&self.items)?;
+        Ok(CodedSlots {
+            items,
+            codes: Vec::from_slice(alloc, &self.codes)?,
+            tags: Vec::from_slice(alloc, &self.tags)?,
+        })
+    }
+
     /// Returns how many slots there are.
     #[inline(always)]
     pub fn len(&self) -> usize
