@@ -1,5 +1,6 @@
 //! Calls on interners: `one`, on which calls are made, and `other`.
 
+mod choices;
 mod json;
 mod looks;
 mod makers;
@@ -30,7 +31,7 @@ enum InternerCall {
 }
 
 /// The calls on an interner by their names.
-const CALLS: [Row<InternerCall>; 38] = [
+const CALLS: [Row<InternerCall>; 39] = [
     ("new", Argument::Nothing, InternerCall::Make(Maker::New)),
     (
         "with_hasher",
@@ -96,6 +97,11 @@ const CALLS: [Row<InternerCall>; 38] = [
         "numbers",
         Argument::Number,
         InternerCall::Change(Change::Numbers),
+    ),
+    (
+        "choices",
+        Argument::NumberAndText,
+        InternerCall::Change(Change::Choices),
     ),
     (
         "extend",

@@ -10,6 +10,7 @@ pub enum Argument {
     StaticText,
     Number,
     TwoNumbers,
+    NumberAndText,
 }
 
 /// The call of one line, with its argument in the form that the call takes it in.
@@ -17,7 +18,7 @@ pub enum Argument {
 pub struct Call<'t> {
     /// The name of the call, as the scenario writes it.
     pub name: &'t str,
-    /// All that follows the first space.
+    /// All that follows the first space, or the number.
     pub text: &'t str,
     /// How many texts `text` has between its commas: as many as there are, but none where there was no space.
     pub limit: usize,
@@ -74,6 +75,11 @@ fn with_argument<'t>(
             let (first, second) = text.split_once(' ').unwrap_or((text, ""));
             call.number = number_of(first)?;
             call.second = number_of(second)?;
+        }
+        Argument::NumberAndText => {
+            let (first, second) = text.split_once(' ').unwrap_or((text, ""));
+            call.number = number_of(first)?;
+            call.text = second;
         }
     }
     Ok(call)

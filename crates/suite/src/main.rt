@@ -13,6 +13,7 @@ mod indexes;
 mod input;
 mod interners;
 mod line;
+mod linear;
 mod odd;
 mod own;
 mod runs;
@@ -28,6 +29,7 @@ use fault::{Fault, Mistake};
 use indexes::index_session;
 use input::read_text;
 use interners::interner_session;
+use linear::LinearIndex;
 use odd::{Bit, ByteCount, Constant, Even, Salted};
 use own::{Copied, Shown};
 use runs::run_session;
@@ -68,7 +70,7 @@ fn over<B: CopyBackend + Shown + Drop>(
         Level::Scopes => scope_session::<B, FixedState>(rt, scenario.lines),
         Level::Run => run_session::<B, FixedState>(rt, scenario.lines),
         Level::Backend => backend_session::<B>(rt, scenario.lines),
-        Level::Window | Level::Index | Level::Symbol => not_built(),
+        Level::Window | Level::Linear | Level::Index | Level::Symbol => not_built(),
     }
 }
 
@@ -206,6 +208,20 @@ fn window_over_symbol(rt: &HostRuntime, scenario: Scenario<'_>) -> Result<(), Fa
     }
 }
 
+/// Runs a scenario on an interner with an index of a caller, with `SymbolU32` and under the default hasher.
+fn linear_over_backend(rt: &HostRuntime, scenario: Scenario<'_>) -> Result<(), Fault> {
+    let lines = scenario.lines;
+    match scenario.backend {
+        BackendWord::String if scenario.symbol == SymbolWord::U32 => {
+            interner_session::<StringBackend, FixedState, LinearIndex<SymbolU32>>(rt, lines)
+        }
+        BackendWord::Counting if scenario.symbol == SymbolWord::U32 => {
+            interner_session::<Counting, FixedState, LinearIndex<SymbolU32>>(rt, lines)
+        }
+        _ => not_built(),
+    }
+}
+
 /// Runs a scenario on an interner with `SymbolU32`, or on an index, under a hasher of a caller.
 fn under_hasher<H: Copied + Default + Clone + Drop>(
     rt: &HostRuntime,
@@ -250,6 +266,7 @@ fn run_scenario(rt: &HostRuntime, scenario: Scenario<'_>) -> Result<(), Fault> {
             Level::Symbol => symbols_alone(rt, scenario),
             Level::Index => index_under::<FixedState>(rt, scenario),
             Level::Window => window_over_symbol(rt, scenario),
+            Level::Linear => linear_over_backend(rt, scenario),
             _ => over_symbol(rt, scenario),
         },
         HasherWord::Constant => under_hasher::<Constant>(rt, scenario),

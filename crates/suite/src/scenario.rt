@@ -11,6 +11,8 @@ pub enum Level {
     Interner,
     /// An interner with a `WindowIndex`.
     Window,
+    /// An interner with a `LinearIndex`, which is a caller's own.
+    Linear,
     Scopes,
     Run,
     Backend,
@@ -50,9 +52,10 @@ pub enum HasherWord {
     Sip,
 }
 
-const LEVELS: [(&'static str, Level); 7] = [
+const LEVELS: [(&'static str, Level); 8] = [
     ("interner", Level::Interner),
     ("window", Level::Window),
+    ("linear", Level::Linear),
     ("scopes", Level::Scopes),
     ("run", Level::Run),
     ("backend", Level::Backend),

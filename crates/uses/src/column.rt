@@ -40,18 +40,25 @@ impl<B: Backend, H: TextHasher, I: TextIndex<B::Symbol>> Model for Column<B, H, 
 }
 
 impl<B: Backend, H: TextHasher + Default, I: TextIndex<B::Symbol>> Column<B, H, I> {
-    /// Makes a column without rows. Takes no memory.
+    /// Makes a column without rows, under the hasher's default. Takes no memory.
     pub fn new(alloc: Global) -> Self
         ensures { result ≡ [] }
     {
-        Column {
-            dictionary: StringInterner::new(alloc),
-            codes: Vec::new(alloc),
-        }
+        Column::with_hasher(alloc, H::default())
     }
 }
 
 impl<B: Backend, H: TextHasher, I: TextIndex<B::Symbol>> Column<B, H, I> {
+    /// Makes a column without rows, under this hasher. Takes no memory.
+    pub fn with_hasher(alloc: Global, hasher: H) -> Self
+        ensures { result ≡ [] }
+    {
+        Column {
+            dictionary: StringInterner::with_hasher(alloc, hasher),
+            codes: Vec::new(alloc),
+        }
+    }
+
     /// Appends a row for each text of a finite iterator. Stops at the first text that fails, as interning it does; the
     /// rows before it stay.
     pub fn encode<'t, T: IntoIterator<Item = &'t str>>(
@@ -95,7 +102,9 @@ impl<B: Backend, H: TextHasher, I: TextIndex<B::Symbol>> Column<B, H, I> {
 #[cfg(test)]
 mod tests {
     use super::*;
+    use std::hash::RandomState;
     use std::test::Fail;
+    use string_interner::dedup::StdHasher;
 
     #[test]
     fn rows_are_decoded(rt: HostRuntime) -> Result<(), Fail> {
@@ -108,6 +117,20 @@ mod tests {
             (Some("green"), Some("red"))
         );
         assert_eq!(rt; colors.text(3), None);
+        Ok(())
+    }
+
+    #[test]
+    fn a_hasher_without_a_default_serves(rt: HostRuntime) -> Result<(), Fail> {
+        let hasher = StdHasher::new(RandomState::new(&rt).map_err(|_| "no keys")?);
+        let mut colors = Column::<DefaultBackend, StdHasher<RandomState>>::with_hasher(
+            rt.alloc(),
+            hasher,
+        );
+        let texts = ["red", "green", "red"];
+        colors.encode(texts.iter().copied()).map_err(|_| "refused")?;
+        assert_eq!(rt; (colors.len(), colors.count_distinct()), (3, 2));
+        assert_eq!(rt; colors.text(2), Some("red"));
         Ok(())
     }
 }

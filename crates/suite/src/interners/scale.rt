@@ -39,7 +39,7 @@ enum CopyBy {
 
 /// Interns one of many texts, again if memory was refused. After a refusal only the count of texts and that text are
 /// looked at, as a sight of all texts takes too long here.
-fn intern_one<B: Backend, H: TextHasher, I: TextIndex<B::Symbol>>(
+pub fn intern_one<B: Backend, H: TextHasher, I: TextIndex<B::Symbol>>(
     rt: &HostRuntime,
     interner: &mut StringInterner<B, H, I>,
     name: &str,

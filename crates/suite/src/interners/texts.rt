@@ -1,5 +1,6 @@
 //! Calls that intern texts or drop them.
 
+use super::choices::choices;
 use super::scale::{numbers, texts_asked};
 use crate::decimal::{call_with, joined_again};
 use crate::line::Call;
@@ -22,6 +23,7 @@ pub enum Change {
     ResolveUnchecked,
     Letters,
     Numbers,
+    Choices,
     Extend,
     ExtendNumbers,
     InternAll,
@@ -231,6 +233,7 @@ pub fn change_one<B: Backend, H: TextHasher, I: TextIndex<B::Symbol>>(
         Change::ResolveUnchecked => resolve_unchecked(rt, one, call),
         Change::Letters => letters(rt, one, call),
         Change::Numbers => numbers(rt, one, call),
+        Change::Choices => choices(rt, one, call),
         Change::Extend => extend(rt, one, call),
         Change::ExtendNumbers => extend_numbers(rt, one, call),
         Change::InternAll => intern_all(rt, one, call),

@@ -1,0 +1,6 @@
+use Rattle.string_interner.specs.Entry.{entry_text}
+use Rattle.suite.proofs.Listed.{IsMissed}
+use Rattle.suite.proofs.linear.find.Given as goal
+
+abbrev pub invariant-loop-symbol : goal.invariant-loop-symbol
+invariant-loop-symbol g l = IsMissed (entry_text g.S.Symbol.number g.B.Backend.place (g.B.Backend.texts l.backend)) l.text l.symbols l.symbol-index
