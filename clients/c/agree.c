@@ -234,6 +234,19 @@ static void truncate_some(si_interner *h, list *known) {
   if (len < known->count) known->count = len;
 }
 
+/* Puts another text of the same length in the place of the last one: `other` is then not equal, until that is put back. */
+static void change_last(si_interner *h, const list *known, si_interner *other) {
+  text last, changed;
+  size_t number;
+  if (known->count == 0 || known->texts[known->count - 1].len == 0) return;
+  last = changed = known->texts[known->count - 1];
+  memset(changed.bytes, 'z', changed.len);
+  MUST(si_truncate(other, known->count - 1) == SI_OK && !si_equal(h, other));
+  MUST(si_get_or_intern(other, changed.bytes, changed.len, &number) == SI_OK && !si_equal(h, other) && !si_equal(other, h));
+  MUST(si_truncate(other, known->count - 1) == SI_OK);
+  MUST(si_get_or_intern(other, last.bytes, last.len, &number) == SI_OK && si_equal(h, other));
+}
+
 /* A copy is equal until one of the two changes, and each goes on without the other. */
 static void copy_all(si_interner *h, list *known, si_interner *other) {
   text extra = {"a text that no random one is", 28};
@@ -243,6 +256,7 @@ static void copy_all(si_interner *h, list *known, si_interner *other) {
   MUST(si_get_or_intern(other, extra.bytes, extra.len, &number) == SI_OK && number == next_number(known));
   MUST(!si_equal(h, other) && si_len(h) == known->count && si_len(other) == known->count + 1);
   MUST(si_truncate(other, known->count) == SI_OK && si_equal(h, other));
+  change_last(h, known, other);
   if (below(2)) {
     si_interner moved = *h;
     *h = *other;

@@ -138,7 +138,8 @@ class Calls:
     def test_equality(self):
         interner = self.make(TEXTS)
         self.assertTrue(interner == interner)
-        self.assertNotEqual(interner, Interner(reversed(TEXTS), backend=self.backend))
+        self.assertNotEqual(interner, self.make(reversed(TEXTS)))
+        self.assertNotEqual(self.make(["a", "b"]), self.make(["a", "c"]))
         others = [Interner(TEXTS, backend=backend) == interner for backend in BACKENDS]
         self.assertEqual(others, [backend == self.backend for backend in BACKENDS])
         self.assertNotEqual(interner, TEXTS)

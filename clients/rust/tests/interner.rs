@@ -95,6 +95,8 @@ fn compare_and_copy<B: Backend>() {
     assert!(copy == interner);
     let reversed: StringInterner<B> = TEXTS.into_iter().rev().collect();
     assert!(reversed != interner);
+    let [one, other] = [["a", "b"], ["a", "c"]].map(StringInterner::<B>::from_iter);
+    assert!(one != other);
     drop(interner);
     check_texts(&copy);
 }
