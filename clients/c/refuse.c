@@ -98,14 +98,19 @@ static void ask_nothing(si_interner *h) {
   MUST(requests == before);
 }
 
-/* As many short texts as an interner was made for ask for nothing. */
+/* As many texts as an interner was made for ask for nothing, if they have the bytes that the header grants each. */
 static void fill_room(si_interner *h) {
+  static const size_t granted[] = {5, 1, 12}; /* On SI_BUFFER one byte more for the length. */
   unsigned long before;
   size_t number;
-  uint8_t byte;
+  uint8_t text[12], first;
+  memset(text, 'x', sizeof text);
   while (again(si_with_capacity(h, kind, 100))) MUST(!h->open);
   before = requests;
-  for (byte = 0; byte < 100; byte++) MUST(si_get_or_intern(h, &byte, 1, &number) == SI_OK);
+  for (first = 0; first < 100; first++) {
+    text[0] = first;
+    MUST(si_get_or_intern(h, text, granted[kind], &number) == SI_OK);
+  }
   MUST(requests == before && si_len(h) == 100);
   si_free(h);
 }

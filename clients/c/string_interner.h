@@ -90,7 +90,9 @@ typedef struct si_entry {
  * SI_OK; or the handle stays as it was: SI_BAD_KIND, SI_NO_MEMORY. */
 uint32_t si_new(si_interner *h, uint32_t kind);
 
-/* The same with room: the first texts, `capacity` of them and of usual length, are then never refused for memory. */
+/* The same with room: the first `capacity` texts are then never refused for memory, if they have no more bytes together than
+ * 5 for each on SI_STRING, where a shorter text counts as 5; 1 for each on SI_BUCKET, where an empty one counts as 1; and 13
+ * for each on SI_BUFFER, where a text counts with its length, which takes 1 byte up to 127, 2 up to 16,383, and so on. */
 uint32_t si_with_capacity(si_interner *h, uint32_t kind, size_t capacity);
 
 /* Closes the handle, and frees what it held. Does nothing to a closed one. */
