@@ -37,7 +37,7 @@ static size_t resolve(si_interner *h) {
   si_text text = SI_TEXT;
   size_t sum = 0, i;
   for (i = 0; i < count; i++) {
-    if (si_resolve(h, i, &text) == SI_OK) sum += text.len;
+    if (si_resolve(h, i, &text) == SI_OK) sum += text.len + text.bytes[0];
   }
   return sum;
 }

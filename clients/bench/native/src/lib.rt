@@ -17,10 +17,10 @@ fn texts_of<'a>(alloc: Global, bytes: &'a [u8], ends: &[usize]) -> Option<Vec<&'
     Some(texts)
 }
 
-/// Asks for all texts, which are known, and adds up their numbers.
+/// Interns all texts, and adds up their numbers.
 #[inline(never)]
-fn intern_all(interner: &mut FastStringInterner, texts: &[&str]) -> usize {
-    let mut sum: usize = 0;
+fn intern_all(interner: &mut FastStringInterner, texts: &[&str], start: usize) -> usize {
+    let mut sum = start;
     for &text in texts {
         if let Ok(symbol) = interner.get_or_intern(text) {
             sum = sum.wrapping_add(symbol.to_usize());
@@ -29,14 +29,17 @@ fn intern_all(interner: &mut FastStringInterner, texts: &[&str]) -> usize {
     sum
 }
 
-/// Resolves all numbers, and adds up the lengths of their texts.
+/// Resolves all numbers, and adds up the lengths and the first bytes of their texts.
 #[inline(never)]
-fn resolve_all(interner: &FastStringInterner, count: usize) -> usize {
-    let mut sum: usize = 0;
+fn resolve_all(interner: &FastStringInterner, count: usize, start: usize) -> usize {
+    let mut sum = start;
     for number in 0..count {
         if let Some(symbol) = Symbol::try_from_usize(number) {
             if let Some(text) = interner.resolve(symbol) {
                 sum = sum.wrapping_add(text.len());
+                if let Some(&first) = text.as_bytes().first() {
+                    sum = sum.wrapping_add(usize::from(first));
+                }
             }
         }
     }
@@ -45,8 +48,8 @@ fn resolve_all(interner: &FastStringInterner, count: usize) -> usize {
 
 /// Adds up the number of texts, as often as there are texts.
 #[inline(never)]
-fn count_all(interner: &FastStringInterner, count: usize) -> usize {
-    let mut sum: usize = 0;
+fn count_all(interner: &FastStringInterner, count: usize, start: usize) -> usize {
+    let mut sum = start;
     for _ in 0..count {
         sum = sum.wrapping_add(interner.len());
     }
@@ -55,6 +58,8 @@ fn count_all(interner: &FastStringInterner, count: usize) -> usize {
 
 /// Interns the texts, and runs a loop over them for some rounds: 0 interns them again, 1 resolves them, 2 asks for their
 /// count. Returns the sum, or the greatest number where memory is refused.
+///
+/// Each round goes on from the sum of the one before, so that none is left out as a repeat.
 #[unsafe(no_mangle)]
 pub extern "C" fn native_rounds(
     alloc: Global,
@@ -67,15 +72,14 @@ pub extern "C" fn native_rounds(
         return usize::MAX;
     };
     let mut interner = <FastStringInterner>::new(alloc);
-    let _ = intern_all(&mut interner, &texts);
+    let _ = intern_all(&mut interner, &texts, 0);
     let mut sum: usize = 0;
     for _ in 0..rounds {
-        let more = match which {
-            0 => intern_all(&mut interner, &texts),
-            1 => resolve_all(&interner, texts.len()),
-            _ => count_all(&interner, texts.len()),
+        sum = match which {
+            0 => intern_all(&mut interner, &texts, sum),
+            1 => resolve_all(&interner, texts.len(), sum),
+            _ => count_all(&interner, texts.len(), sum),
         };
-        sum = sum.wrapping_add(more);
     }
     sum
 }
