@@ -1,0 +1,135 @@
+/* Times calls through C beside the library itself, in one process: a known text, a number resolved, the count. Prints
+ * nanoseconds for each call, the least of many runs, which take turns. Ends with 1 where a call through C takes over two
+ * more. Both sides add up what they are told, and the sums must agree. */
+#include "string_interner.h"
+#include <stdio.h>
+#include <stdlib.h>
+#include <string.h>
+#include <time.h>
+
+enum { RUNS = 15, LETTERS = 14, ALLOWED = 2 };
+
+/* The library's own loops (native/src/lib.rt), after the texts went in. */
+size_t native_rounds(const uint8_t *bytes, size_t bytes_len, const size_t *ends, size_t ends_len, uint32_t which, size_t rounds);
+
+static uint8_t *bytes;
+static size_t *ends, count;
+
+typedef size_t loop(si_interner *h);
+
+static size_t intern_checked(si_interner *h) {
+  size_t sum = 0, from = 0, number, i;
+  for (i = 0; i < count; from = ends[i++]) {
+    if (si_get_or_intern(h, bytes + from, ends[i] - from, &number) == SI_OK) sum += number;
+  }
+  return sum;
+}
+
+static size_t intern(si_interner *h) {
+  size_t sum = 0, from = 0, number, i;
+  for (i = 0; i < count; from = ends[i++]) {
+    if (si_get_or_intern_utf8(h, bytes + from, ends[i] - from, &number) == SI_OK) sum += number;
+  }
+  return sum;
+}
+
+static size_t resolve(si_interner *h) {
+  si_text text = SI_TEXT;
+  size_t sum = 0, i;
+  for (i = 0; i < count; i++) {
+    if (si_resolve(h, i, &text) == SI_OK) sum += text.len + text.bytes[0];
+  }
+  return sum;
+}
+
+static size_t count_texts(si_interner *h) {
+  size_t sum = 0, i;
+  for (i = 0; i < count; i++) sum += si_len(h);
+  return sum;
+}
+
+static const struct row {
+  const char *name;
+  loop *by_c;
+  uint32_t which;
+  bool is_held;
+} rows[] = {
+    {"a known text", intern, 0, true},
+    {"a known text, its bytes looked at", intern_checked, 0, false},
+    {"resolve", resolve, 1, true},
+    {"len", count_texts, 2, true},
+};
+
+static double now(void) {
+  struct timespec time;
+  clock_gettime(CLOCK_MONOTONIC, &time);
+  return (double)time.tv_sec * 1e9 + (double)time.tv_nsec;
+}
+
+static double least(double one, double other) {
+  return one < other ? one : other;
+}
+
+/* Nanoseconds of some rounds by C. */
+static double time_by_c(const struct row *row, si_interner *h, size_t rounds, size_t *sum) {
+  double from = now();
+  size_t i;
+  *sum = 0;
+  for (i = 0; i < rounds; i++) *sum += row->by_c(h);
+  return now() - from;
+}
+
+/* Nanoseconds of some rounds by the library, after the texts went in. */
+static double time_native(const struct row *row, size_t rounds, size_t *sum) {
+  double from = now();
+  *sum = native_rounds(bytes, ends[count - 1], ends, count, row->which, rounds);
+  return now() - from;
+}
+
+/* Times a row, and returns whether C costs no more than it may. The library's loop is what twice as many rounds take more. */
+static bool run(const struct row *row, si_interner *h, size_t rounds) {
+  double by_c = 1e18, once = 1e18, twice = 1e18, calls = (double)(rounds * count), native;
+  size_t sum, native_sum, i;
+  for (i = 0; i < RUNS; i++) {
+    by_c = least(by_c, time_by_c(row, h, rounds, &sum));
+    twice = least(twice, time_native(row, 2 * rounds, &native_sum));
+    once = least(once, time_native(row, rounds, &native_sum));
+    if (sum != native_sum) {
+      printf("%s: the sums differ\n", row->name);
+      return false;
+    }
+  }
+  by_c /= calls;
+  native = (twice - once) / calls;
+  printf("%7zu texts, %-35s %5.1f ns, through C %5.1f, more by %4.1f\n", count, row->name, native, by_c, by_c - native);
+  return !row->is_held || by_c - native <= ALLOWED;
+}
+
+/* Distinct texts of fourteen letters, end to end. */
+static void make_texts(size_t wanted) {
+  size_t i;
+  count = wanted;
+  bytes = realloc(bytes, LETTERS * count + 1);
+  ends = realloc(ends, count * sizeof *ends);
+  if (!bytes || !ends) exit(2);
+  for (i = 0; i < count; i++) {
+    sprintf((char *)bytes + LETTERS * i, "ident_%08x", (unsigned)(i * 2654435761u));
+    ends[i] = LETTERS * (i + 1);
+  }
+}
+
+int main(void) {
+  static const size_t sizes[] = {1000, 100000};
+  bool is_held = true;
+  size_t i, j;
+  for (i = 0; i < sizeof sizes / sizeof *sizes; i++) {
+    si_interner h = SI_INIT;
+    make_texts(sizes[i]);
+    if (si_new(&h, SI_STRING) != SI_OK) return 2;
+    intern(&h);
+    for (j = 0; j < sizeof rows / sizeof *rows; j++) is_held &= run(&rows[j], &h, 2000000 / count);
+    si_free(&h);
+  }
+  printf(is_held ? "a call through C costs at most %d ns more\n" : "a call through C costs over %d ns more\n", ALLOWED);
+  return is_held ? 0 : 1;
+}

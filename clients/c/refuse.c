@@ -1,0 +1,164 @@
+/* Refuses each request for memory of a run of all calls in turn, a run for each. The call that asked must say so and leave
+ * everything as it was, and succeed when it is made again. Linked with -Wl,--wrap=malloc,--wrap=realloc. */
+#include "string_interner.h"
+#include <stdio.h>
+#include <stdlib.h>
+#include <string.h>
+
+#define MUST(claim) ((claim) ? (void)0 : fail(#claim, __LINE__))
+
+enum { MANY = 200, ROOM = 8192 };
+
+void *__real_malloc(size_t size);
+void *__real_realloc(void *block, size_t size);
+
+static const char *const kinds[] = {"SI_STRING", "SI_BUCKET", "SI_BUFFER"};
+static unsigned long requests, refused_request, refusals;
+static uint32_t kind;
+
+static void fail(const char *claim, int line) {
+  printf("refuse.c:%d: %s, request %lu refused, not so: %s\n", line, kinds[kind], refused_request, claim);
+  exit(1);
+}
+
+static bool is_refused(void) {
+  return ++requests == refused_request;
+}
+
+void *__wrap_malloc(size_t size) {
+  return is_refused() ? 0 : __real_malloc(size);
+}
+
+void *__wrap_realloc(void *block, size_t size) {
+  return is_refused() ? 0 : __real_realloc(block, size);
+}
+
+/* Whether the call before was refused, so that it is to be made again. Its request was this run's. */
+static bool again(uint32_t told) {
+  if (told == SI_OK) return false;
+  MUST(told == SI_NO_MEMORY && requests >= refused_request);
+  refusals++;
+  return true;
+}
+
+static size_t spell(size_t i, char *text) {
+  return (size_t)sprintf(text, "text number %zu", i);
+}
+
+/* The handle has this many texts, text number 0 and so on, and says so by number and by text. */
+static void has_texts(si_interner *h, size_t count) {
+  static si_entry entries[MANY];
+  size_t found = 0, number, i;
+  char text[40];
+  MUST(si_len(h) == count && si_entries(h, entries, MANY, &found) == SI_OK && found == count);
+  for (i = 0; i < count; i++) {
+    size_t len = spell(i, text);
+    MUST(entries[i].text.len == len && !memcmp(entries[i].text.bytes, text, len));
+    MUST(si_get(h, (const uint8_t *)text, len, &number) == SI_OK && number == entries[i].number);
+  }
+}
+
+static void intern_texts(si_interner *h) {
+  char text[40];
+  size_t number, i;
+  for (i = 0; i < MANY; i++) {
+    size_t len = spell(i, text);
+    number = 7777777;
+    while (again(si_get_or_intern(h, (const uint8_t *)text, len, &number))) {
+      MUST(number == 7777777 && !si_contains(h, (const uint8_t *)text, len));
+      has_texts(h, i);
+    }
+  }
+}
+
+/* Interns the same texts end to end, after a truncation: what went in before the refusal stays. */
+static void intern_all_texts(si_interner *h) {
+  static uint8_t bytes[40 * MANY];
+  static size_t ends[MANY], numbers[MANY];
+  size_t len = 0, from, done = 7777777, i;
+  for (i = 0; i < MANY; i++) ends[i] = len += spell(i, (char *)bytes + len);
+  MUST(si_truncate(h, 1) == SI_OK);
+  while (again(si_intern_all(h, bytes, len, ends, MANY, numbers, MANY, &done))) has_texts(h, done > 1 ? done : 1);
+  MUST(done == MANY);
+  has_texts(h, MANY);
+  for (i = from = 0; i < MANY; from = ends[i++]) {
+    size_t number;
+    MUST(si_get(h, bytes + from, ends[i] - from, &number) == SI_OK && number == numbers[i]);
+  }
+}
+
+/* Calls that ask for nothing, as the header says. */
+static void ask_nothing(si_interner *h) {
+  unsigned long before = requests;
+  size_t number;
+  MUST(si_get(h, (const uint8_t *)"text number 0", 13, &number) == SI_OK);
+  MUST(si_get(h, (const uint8_t *)"no text", 7, &number) == SI_NOTHING);
+  MUST(si_get_or_intern(h, (const uint8_t *)"text number 1", 13, &number) == SI_OK);
+  MUST(si_truncate(h, MANY) == SI_OK);
+  MUST(requests == before);
+}
+
+/* As many texts as an interner was made for ask for nothing, if they have the bytes that the header grants each. */
+static void fill_room(si_interner *h) {
+  static const size_t granted[] = {5, 1, 12}; /* On SI_BUFFER one byte more for the length. */
+  unsigned long before;
+  size_t number;
+  uint8_t text[12], first;
+  memset(text, 'x', sizeof text);
+  while (again(si_with_capacity(h, kind, 100))) MUST(!h->open);
+  before = requests;
+  for (first = 0; first < 100; first++) {
+    text[0] = first;
+    MUST(si_get_or_intern(h, text, granted[kind], &number) == SI_OK);
+  }
+  MUST(requests == before && si_len(h) == 100);
+  si_free(h);
+}
+
+static void copy_and_spell(si_interner *h) {
+  static uint8_t json[ROOM];
+  si_interner copy = SI_INIT;
+  size_t len = 7777777;
+  while (again(si_clone(h, &copy))) MUST(!copy.open && si_len(h) == MANY);
+  MUST(si_equal(h, &copy));
+  while (again(si_to_json(h, json, sizeof json, &len))) MUST(len == 7777777);
+  MUST(si_truncate(&copy, 3) == SI_OK);
+  while (again(si_from_json(&copy, kind, json, len))) has_texts(&copy, 3);
+  MUST(si_equal(h, &copy) && si_truncate(&copy, 3) == SI_OK);
+  while (again(si_from_json_exact(&copy, kind, json, len))) has_texts(&copy, 3);
+  MUST(si_equal(h, &copy));
+  while (again(si_clone(&copy, h))) has_texts(h, MANY);
+  while (again(si_new(&copy, kind))) has_texts(&copy, MANY);
+  MUST(si_len(&copy) == 0);
+  si_free(&copy);
+}
+
+/* A refused request of si_shrink leaves the larger block. */
+static void run(void) {
+  si_interner h = SI_INIT;
+  fill_room(&h);
+  while (again(si_new(&h, kind))) MUST(!h.open);
+  intern_texts(&h);
+  ask_nothing(&h);
+  MUST(si_shrink(&h) == SI_OK);
+  has_texts(&h, MANY);
+  intern_all_texts(&h);
+  copy_and_spell(&h);
+  has_texts(&h, MANY);
+  si_free(&h);
+}
+
+int main(void) {
+  unsigned long runs = 0;
+  for (kind = SI_STRING; kind <= SI_BUFFER; kind++) {
+    refused_request = 0;
+    do {
+      refused_request++;
+      requests = 0;
+      run();
+      runs++;
+    } while (requests >= refused_request);
+  }
+  printf("%lu runs, %lu refusals told\n", runs, refusals);
+  return refusals > 0 ? 0 : 1;
+}

@@ -1,0 +1,229 @@
+"""Tests of the module, beside what a dict and a list say."""
+
+import copy
+import doctest
+import json
+import pickle
+import random
+import threading
+import unittest
+from array import array
+
+import string_interner
+from string_interner import Interner
+
+BACKENDS = ("string", "bucket", "buffer")
+TEXTS = ["Tiger", "", "Käfer", "語", "𝄞", "a\0b", 'q"\\\n']
+
+
+def places(texts, backend):
+    """The numbers of distinct texts: they count them, or on a buffer the bytes before, each text behind its length."""
+    if backend != "buffer":
+        return list(range(len(texts)))
+    found, place = [], 0
+    for text in texts:
+        found.append(place)
+        length = len(text.encode())
+        place += length + max(1, -(-length.bit_length() // 7))
+    return found
+
+
+class Calls:
+    """The calls, over the backend of a subclass."""
+
+    def make(self, texts=()):
+        return Interner(texts, backend=self.backend)
+
+    def test_a_known_text_keeps_its_number(self):
+        interner = self.make()
+        wanted = places(TEXTS, self.backend)
+        self.assertEqual([interner.intern(text) for text in TEXTS], wanted)
+        self.assertEqual([interner.intern(text) for text in reversed(TEXTS)], wanted[::-1])
+        self.assertEqual([interner.get(text) for text in TEXTS], wanted)
+        self.assertEqual([interner.resolve(number) for number in wanted], TEXTS)
+        self.assertEqual(len(interner), len(TEXTS))
+        self.assertEqual(interner.backend, self.backend)
+
+    def test_walks_in_order_of_first_interning(self):
+        interner = self.make(TEXTS + TEXTS)
+        self.assertEqual(list(interner), TEXTS)
+        self.assertEqual(list(interner.items()), list(zip(places(TEXTS, self.backend), TEXTS)))
+        interner = self.make()
+        self.assertEqual([*interner, *interner.items()], [])
+
+    def test_a_walk_shows_what_there_was(self):
+        interner = self.make(["a", "b"])
+        walk, items = iter(interner), interner.items()
+        interner.truncate(0)
+        interner.intern("c")
+        self.assertEqual(list(walk), ["a", "b"])
+        self.assertEqual([text for _, text in items], ["a", "b"])
+
+    def test_unknown_texts_and_numbers(self):
+        interner = self.make(TEXTS)
+        self.assertIsNone(interner.get("Horse"))
+        self.assertNotIn("Horse", interner)
+        self.assertIn("語", interner)
+        self.assertNotIn(7, interner)
+        for number in (-1, 10**6, 2**32, 2**64 - 1, 2**64, 10**30):
+            self.assertIsNone(interner.resolve(number))
+
+    def test_encodes_columns(self):
+        interner = self.make(["b"])
+        column = ["a", "b", "ab", "a", "", "語", "b"]
+        distinct = ["b", "a", "ab", "", "語"]
+        numbers = dict(zip(distinct, places(distinct, self.backend)))
+        codes = interner.intern_all(iter(column))
+        self.assertIsInstance(codes, array)
+        self.assertEqual(codes.tolist(), [numbers[text] for text in column])
+        self.assertEqual(list(interner), distinct)
+        self.assertEqual(interner.intern_all([]).tolist(), [])
+        self.assertEqual(interner.intern_all(["b", "", "ab"]).tolist(), [numbers[text] for text in ("b", "", "ab")])
+        self.assertEqual(interner.intern_column(b"abb", [1, 3, 3]).tolist()[::2], [numbers["a"], numbers[""]])
+
+    def test_a_column_with_a_fault_stops_there(self):
+        rows = [
+            (b"ab\xffc", [1, 2, 3, 4], ["a", "b"]),
+            (b"abc", [1, 2, 4], ["a", "b"]),
+            (b"abc", [2, 1], ["ab"]),
+            ("aß".encode(), [1, 2, 3], ["a"]),
+        ]
+        for joined, ends, kept in rows:
+            interner = self.make()
+            with self.assertRaises(ValueError):
+                interner.intern_column(joined, array("Q", ends))
+            self.assertEqual(list(interner), kept)
+
+    def test_texts_without_utf8_are_refused(self):
+        interner = self.make(["a"])
+        for call in (interner.intern, interner.get, interner.__contains__, lambda text: interner.intern_all(["b", text])):
+            with self.assertRaises(UnicodeEncodeError):
+                call("lone \ud800")
+        # Two halves that meet are no letter.
+        with self.assertRaises(UnicodeEncodeError):
+            interner.intern_all(["\ud834", "\udd1e"])
+        self.assertEqual(list(interner), ["a"])
+
+    def test_long_texts(self):
+        interner = self.make()
+        texts = ["x" * length for length in (127, 128, 129, 16383, 16384, 100_000)]
+        numbers = interner.intern_all(texts).tolist()
+        self.assertEqual(numbers, places(texts, self.backend))
+        self.assertEqual([interner.resolve(number) for number in numbers], texts)
+        self.assertEqual(list(interner), texts)
+
+    def test_truncates_and_shrinks(self):
+        interner = self.make(TEXTS)
+        interner.truncate(2**80)
+        self.assertEqual(list(interner), TEXTS)
+        interner.truncate(2)
+        interner.shrink()
+        self.assertEqual(list(interner), TEXTS[:2])
+        self.assertIsNone(interner.get("語"))
+        self.assertEqual(interner.intern("語"), places(["Tiger", "", "語"], self.backend)[2])
+        with self.assertRaises(ValueError):
+            interner.truncate(-1)
+
+    def test_copies_are_equal_and_apart(self):
+        interner = self.make(TEXTS)
+        copies = [interner.copy(), copy.copy(interner), copy.deepcopy(interner), pickle.loads(pickle.dumps(interner))]
+        for other in copies:
+            self.assertIsNot(other, interner)
+            self.assertEqual(other, interner)
+            self.assertEqual(list(other.items()), list(interner.items()))
+            other.intern("Horse")
+            self.assertNotEqual(other, interner)
+        self.assertEqual(list(interner), TEXTS)
+
+    def test_equality(self):
+        interner = self.make(TEXTS)
+        self.assertTrue(interner == interner)
+        self.assertNotEqual(interner, self.make(reversed(TEXTS)))
+        self.assertNotEqual(self.make(["a", "b"]), self.make(["a", "c"]))
+        others = [Interner(TEXTS, backend=backend) == interner for backend in BACKENDS]
+        self.assertEqual(others, [backend == self.backend for backend in BACKENDS])
+        self.assertNotEqual(interner, TEXTS)
+        with self.assertRaises(TypeError):
+            hash(interner)
+
+    def test_json(self):
+        interner = self.make(TEXTS)
+        self.assertEqual(json.loads(interner.to_json()), TEXTS)
+        written = json.dumps(TEXTS)
+        self.assertEqual(Interner.from_json(written, backend=self.backend, exact=True), interner)
+        repeated = json.dumps(TEXTS + TEXTS[:1])
+        self.assertEqual(Interner.from_json(repeated, backend=self.backend), interner)
+        with self.assertRaisesRegex(ValueError, "twice"):
+            Interner.from_json(repeated, backend=self.backend, exact=True)
+        for wrong, why in (('["a"', "not JSON"), ("{}", "not an array"), ('["a",1]', "not a string")):
+            with self.assertRaisesRegex(ValueError, why):
+                Interner.from_json(wrong)
+
+    def test_agrees_with_a_dict(self):
+        interner = self.make()
+        chooser, known = random.Random(7), []
+        for _ in range(300):
+            column = ["".join(chooser.choices("abß語", k=chooser.randrange(5))) for _ in range(chooser.randrange(40))]
+            known = list(dict.fromkeys(known + column))
+            numbers = dict(zip(known, places(known, self.backend)))
+            self.assertEqual(interner.intern_all(column).tolist(), [numbers[text] for text in column])
+            self.assertEqual(list(interner), known)
+            if chooser.random() < 0.1:
+                known = known[: chooser.randrange(len(known) + 1)]
+                interner.truncate(len(known))
+
+
+class OverString(Calls, unittest.TestCase):
+    backend = "string"
+
+
+class OverBucket(Calls, unittest.TestCase):
+    backend = "bucket"
+
+
+class OverBuffer(Calls, unittest.TestCase):
+    backend = "buffer"
+
+
+class Others(unittest.TestCase):
+    def test_wrong_arguments(self):
+        for call in (lambda: Interner(backend="tree"), lambda: Interner(capacity=-1), lambda: Interner(capacity=2**64)):
+            with self.assertRaises(ValueError):
+                call()
+        for wrong in (b"bytes", 7, None):
+            with self.assertRaises((TypeError, AttributeError)):
+                Interner().intern(wrong)
+            with self.assertRaises(TypeError):
+                Interner().intern_all([wrong])
+
+    def test_too_much_room_is_refused(self):
+        with self.assertRaises(MemoryError):
+            Interner(capacity=2**64 - 1)
+        self.assertEqual(Interner(["a"], capacity=1000).get("a"), 0)
+
+    def test_threads_take_turns(self):
+        interner, numbers = Interner(), []
+
+        def fill(first):
+            texts = [str(number % 1000) for number in range(first, first + 5000)]
+            numbers.append({text: interner.intern(text) for text in texts})
+            interner.intern_all(texts)
+            assert len(list(interner)) == len(list(interner.items())) == 1000
+
+        threads = [threading.Thread(target=fill, args=(first,)) for first in range(0, 400, 100)]
+        for thread in threads:
+            thread.start()
+        for thread in threads:
+            thread.join()
+        self.assertEqual(len(numbers), 4)
+        for found in numbers:
+            self.assertEqual(found, {text: interner.get(text) for text in found})
+
+
+def load_tests(loader, tests, pattern):
+    tests.addTests(doctest.DocTestSuite(string_interner))
+    return tests
+
+
+if __name__ == "__main__":
+    unittest.main()

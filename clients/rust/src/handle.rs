@@ -1,0 +1,215 @@
+//! A handle of the library, whose owner can't break the rules that `string_interner.h` states.
+//!
+//! Each comment at an `unsafe` block names the rules that it rests on. Of all blocks: the handle was open since it was
+//! made (rule 1), pointers come from references, slices and local variables (2, 3), and no two threads have it (4).
+
+use crate::sys;
+use std::cell::{Cell, UnsafeCell};
+use std::ptr;
+use std::slice;
+use std::str;
+
+/// Why a call failed: a status of `string_interner.h` other than `SI_OK`.
+#[derive(Clone, Copy, Debug, PartialEq, Eq)]
+pub struct Status(pub u32);
+
+/// An open handle.
+pub struct Handle {
+    raw: UnsafeCell<sys::si_interner>,
+    /// Whether a text of this handle may be lent to someone.
+    has_lent: Cell<bool>,
+}
+
+// SAFETY: a handle may be used by another thread later (rule 4). Sending it orders the two.
+unsafe impl Send for Handle {}
+
+fn told<T>(status: u32, value: T) -> Result<T, Status> {
+    if status == sys::SI_OK {
+        Ok(value)
+    } else {
+        Err(Status(status))
+    }
+}
+
+impl Handle {
+    /// Opens a handle by a call, which is handed a closed one.
+    fn open(call: impl FnOnce(*mut sys::si_interner) -> u32) -> Result<Self, Status> {
+        let handle = Handle {
+            raw: UnsafeCell::new(sys::SI_INIT),
+            has_lent: Cell::new(false),
+        };
+        told(call(handle.raw.get()), handle)
+    }
+
+    pub fn new(kind: u32) -> Result<Self, Status> {
+        // SAFETY: rules 1 to 4.
+        Self::open(|h| unsafe { sys::si_new(h, kind) })
+    }
+
+    pub fn with_capacity(kind: u32, capacity: usize) -> Result<Self, Status> {
+        // SAFETY: rules 1 to 4.
+        Self::open(|h| unsafe { sys::si_with_capacity(h, kind, capacity) })
+    }
+
+    pub fn from_json(kind: u32, json: &str) -> Result<Self, Status> {
+        // SAFETY: rules 1 to 4.
+        Self::open(|h| unsafe { sys::si_from_json(h, kind, json.as_ptr(), json.len()) })
+    }
+
+    pub fn try_clone(&self) -> Result<Self, Status> {
+        // SAFETY: rules 1 to 4. The copy's handle is a new one (3), and the call leaves what this one lent (5).
+        Self::open(|copy| unsafe { sys::si_clone(self.raw.get(), copy) })
+    }
+
+    #[inline]
+    pub fn len(&self) -> usize {
+        // SAFETY: rules 1 to 4. The call leaves what was lent (5).
+        unsafe { sys::si_len(self.raw.get()) }
+    }
+
+    /// Returns the handle for a call that may change it. All that was lent is dead, since it borrowed `self`.
+    #[inline]
+    fn changed(&mut self) -> *mut sys::si_interner {
+        self.has_lent.set(false);
+        self.raw.get()
+    }
+
+    #[inline]
+    pub fn get_or_intern(&mut self, text: &str) -> Result<usize, Status> {
+        let mut number = 0;
+        // SAFETY: rules 1 to 5. The text is none that this handle lent (3), and is UTF-8 (7).
+        let status = unsafe {
+            sys::si_get_or_intern_utf8(self.changed(), text.as_ptr(), text.len(), &mut number)
+        };
+        told(status, number)
+    }
+
+    #[inline]
+    pub fn get_or_intern_static(&mut self, text: &'static str) -> Result<usize, Status> {
+        let mut number = 0;
+        // SAFETY: rules 1 to 5. The text is none that this handle lent (3), and stays (8).
+        let status = unsafe {
+            sys::si_get_or_intern_static(self.changed(), text.as_ptr(), text.len(), &mut number)
+        };
+        told(status, number)
+    }
+
+    #[inline]
+    pub fn get(&self, text: &str) -> Option<usize> {
+        if self.has_lent.get() {
+            self.get_copy(text.as_bytes())
+        } else {
+            self.get_foreign(text.as_bytes())
+        }
+    }
+
+    /// Looks for a text that this handle may have lent. Rule 3 forbids to hand it back, so a copy of it is looked for.
+    fn get_copy(&self, text: &[u8]) -> Option<usize> {
+        let mut short = [0; 64];
+        match short.get_mut(..text.len()) {
+            Some(copy) => {
+                copy.copy_from_slice(text);
+                self.get_foreign(copy)
+            }
+            None => self.get_foreign(&text.to_vec()),
+        }
+    }
+
+    /// Looks for a text that this handle did not lend.
+    #[inline]
+    fn get_foreign(&self, text: &[u8]) -> Option<usize> {
+        let mut number = 0;
+        // SAFETY: rules 1 to 4. The call leaves what was lent (5).
+        let status = unsafe { sys::si_get(self.raw.get(), text.as_ptr(), text.len(), &mut number) };
+        told(status, number).ok()
+    }
+
+    #[inline]
+    pub fn resolve(&self, number: usize) -> Option<&str> {
+        let mut lent = sys::SI_TEXT;
+        // SAFETY: rules 1 to 4. The call leaves what was lent (5).
+        let status = unsafe { sys::si_resolve(self.raw.get(), number, &mut lent) };
+        told(status, ()).ok()?;
+        // SAFETY: the call lent it.
+        Some(unsafe { self.lent(lent) })
+    }
+
+    /// Returns a text that a call lent: it is UTF-8, and lives until a call that may change the handle (rule 5). Such a
+    /// call wants `&mut self`.
+    ///
+    /// # Safety
+    ///
+    /// A call on this handle lent the text, and none that may change the handle came after it.
+    #[inline]
+    unsafe fn lent(&self, text: sys::si_text) -> &str {
+        self.has_lent.set(true);
+        // SAFETY: owed by the caller.
+        unsafe { str::from_utf8_unchecked(slice::from_raw_parts(text.bytes, text.len)) }
+    }
+
+    /// Returns all texts with their numbers, in the order of first interning.
+    pub fn entries(&self) -> Vec<(usize, &str)> {
+        let empty = sys::si_entry {
+            number: 0,
+            text: sys::SI_TEXT,
+        };
+        let mut entries = vec![empty; self.len()];
+        let mut count = 0;
+        // SAFETY: rules 1 to 4. The call leaves what was lent (5).
+        let status = unsafe {
+            sys::si_entries(
+                self.raw.get(),
+                entries.as_mut_ptr(),
+                entries.len(),
+                &mut count,
+            )
+        };
+        assert_eq!((status, count), (sys::SI_OK, entries.len()));
+        // SAFETY: the call lent each text.
+        entries
+            .into_iter()
+            .map(|entry| (entry.number, unsafe { self.lent(entry.text) }))
+            .collect()
+    }
+
+    pub fn truncate(&mut self, len: usize) {
+        // SAFETY: rules 1 to 5.
+        unsafe { sys::si_truncate(self.changed(), len) };
+    }
+
+    pub fn shrink(&mut self) {
+        // SAFETY: rules 1 to 5.
+        unsafe { sys::si_shrink(self.changed()) };
+    }
+
+    pub fn to_json(&self) -> Result<String, Status> {
+        let mut room = Vec::new();
+        loop {
+            let mut len = 0;
+            // SAFETY: rules 1 to 4. The call leaves what was lent (5).
+            let status =
+                unsafe { sys::si_to_json(self.raw.get(), room.as_mut_ptr(), room.len(), &mut len) };
+            match status {
+                sys::SI_NO_ROOM => room = vec![0; len],
+                status => {
+                    room.truncate(len);
+                    return told(status, String::from_utf8(room).expect("JSON is UTF-8"));
+                }
+            }
+        }
+    }
+}
+
+impl PartialEq for Handle {
+    fn eq(&self, other: &Self) -> bool {
+        // SAFETY: rules 1 to 4. The handles are two (3), and the call leaves what they lent (5).
+        ptr::eq(self, other) || unsafe { sys::si_equal(self.raw.get(), other.raw.get()) }
+    }
+}
+
+impl Drop for Handle {
+    fn drop(&mut self) {
+        // SAFETY: rules 1 to 5.
+        unsafe { sys::si_free(self.changed()) };
+    }
+}

@@ -1,0 +1,73 @@
+//! A string interner: the names and traits of the crate string-interner 0.19, over a library in which every function is
+//! proved.
+//!
+//! An interner keeps each distinct text once and gives it a small symbol. Symbols are copied, compared and hashed as
+//! numbers are.
+//!
+//! ```
+//! use string_interner::DefaultStringInterner;
+//!
+//! let mut animals = <DefaultStringInterner>::from_iter(["Elephant", "Tiger"]);
+//! let tiger = animals.get_or_intern("Tiger");
+//! assert_eq!(animals.get("Tiger"), Some(tiger));
+//! assert_eq!(animals.resolve(tiger), Some("Tiger"));
+//! assert_eq!(animals.len(), 2);
+//! ```
+//!
+//! Three backends differ in how the texts lie in memory ([`backend`]), and any type may serve as the symbol ([`Symbol`]):
+//!
+//! ```
+//! use string_interner::{backend::BufferBackend, symbol::SymbolU16, StringInterner};
+//!
+//! let mut names = StringInterner::<BufferBackend<SymbolU16>>::new();
+//! let earth = names.get_or_intern("Earth");
+//! let water = names.get_or_intern("Water");
+//! assert!(names.iter().eq([(earth, "Earth"), (water, "Water")]));
+//! ```
+//!
+//! # What differs from string-interner 0.19
+//!
+//! - A backend is a name for how the library keeps texts, and has no calls of its own. A caller can't write another.
+//! - The library hashes by itself, so the hasher of an interner is always [`DefaultHashBuilder`].
+//! - An interner is `Send` and not `Sync`: the library takes one call at a time.
+//! - Numbers of all symbol types are below 2³² − 1, since those of the library are.
+//! - A text for which no symbol is left panics, as in the original, and is not kept.
+//! - [`StringInterner::to_json`] and [`StringInterner::from_json`] take the place of serde's traits, and
+//!   [`StringInterner::truncate`] is new.
+//!
+//! # Why it is safe
+//!
+//! All `unsafe` of this crate is in the module `handle`. It stands on the rules in the front of `string_interner.h`, and
+//! each call of the library keeps them so:
+//!
+//! | Rule | Kept by |
+//! |---|---|
+//! | 1: a handle is zeros at first, changed by calls alone, and not copied | `Handle` begins as zeros, its fields are private, it is no `Copy`, and is freed once, by `Drop` |
+//! | 2: pointers are not null and as long as they say; what is written to holds a value | all come from references, slices and texts, which are set before the call |
+//! | 3: what is handed over does not overlap | what is written to is a local variable; a handle is not compared with itself; a text that may be lent is copied before it is looked for |
+//! | 4: one call at a time on a handle | `Handle` is not `Sync`, and no call of the library calls back; it may be sent, since Rust orders what sends it |
+//! | 5: a lent text is not read after a call that may change its handle | it borrows the `Handle`, and calls that may change it take `&mut self` |
+//! | 6: one allocator; no signal handlers or forks | owed by the program, as for any C library and for Rust's own allocator |
+//! | 7: bytes that are not looked at are UTF-8 | they are those of a `&str` |
+//! | 8: static bytes stay | they are those of a `&'static str` |
+
+#![warn(
+    missing_docs,
+    unsafe_op_in_unsafe_fn,
+    clippy::undocumented_unsafe_blocks
+)]
+
+pub mod backend;
+mod handle;
+mod interner;
+mod json;
+pub mod symbol;
+mod sys;
+
+pub use backend::DefaultBackend;
+pub use interner::{DefaultHashBuilder, Iter, StringInterner};
+pub use json::JsonError;
+pub use symbol::{DefaultSymbol, Symbol};
+
+/// An interner over the backend that serves in most cases.
+pub type DefaultStringInterner<B = DefaultBackend, H = DefaultHashBuilder> = StringInterner<B, H>;

@@ -1,0 +1,64 @@
+//! Symbols: the small values that stand for texts.
+
+use std::num::{NonZeroU16, NonZeroU32, NonZeroUsize};
+
+/// A type whose values stand for texts, each by a number.
+pub trait Symbol: Copy + Eq {
+    /// Returns the symbol with this number, or `None` if the type has none.
+    fn try_from_usize(index: usize) -> Option<Self>;
+
+    /// Returns the number of the symbol.
+    fn to_usize(self) -> usize;
+}
+
+/// The symbol of an interner that names no other.
+pub type DefaultSymbol = SymbolU32;
+
+impl Symbol for usize {
+    #[inline]
+    fn try_from_usize(index: usize) -> Option<Self> {
+        Some(index)
+    }
+
+    #[inline]
+    fn to_usize(self) -> usize {
+        self
+    }
+}
+
+/// Defines a symbol that keeps its number plus one, so that an `Option` of it takes no more memory.
+macro_rules! symbol {
+    ($(#[$doc:meta])* $name:ident, $non_zero:ty, $number:ty) => {
+        $(#[$doc])*
+        #[derive(Clone, Copy, Debug, PartialEq, Eq, PartialOrd, Ord, Hash)]
+        pub struct $name {
+            value: $non_zero,
+        }
+
+        impl Symbol for $name {
+            #[inline]
+            fn try_from_usize(index: usize) -> Option<Self> {
+                let value = <$number>::try_from(index).ok()?.checked_add(1)?;
+                <$non_zero>::new(value).map(|value| Self { value })
+            }
+
+            #[inline]
+            fn to_usize(self) -> usize {
+                self.value.get() as usize - 1
+            }
+        }
+    };
+}
+
+symbol! {
+    /// A symbol of two bytes, with the numbers below 2¹⁶ − 1.
+    SymbolU16, NonZeroU16, u16
+}
+symbol! {
+    /// A symbol of four bytes, with the numbers below 2³² − 1.
+    SymbolU32, NonZeroU32, u32
+}
+symbol! {
+    /// A symbol as large as a `usize`, with all numbers but the last.
+    SymbolUsize, NonZeroUsize, usize
+}

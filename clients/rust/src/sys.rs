@@ -1,0 +1,85 @@
+//! What this crate calls, as `string_interner.h` declares it.
+
+use std::ffi::c_void;
+use std::ptr;
+
+pub const SI_OK: u32 = 0;
+pub const SI_BAD_TEXT: u32 = 1;
+pub const SI_NO_SYMBOL: u32 = 2;
+pub const SI_NO_MEMORY: u32 = 3;
+pub const SI_NO_ROOM: u32 = 6;
+pub const SI_NOT_A_LIST: u32 = 9;
+pub const SI_NOT_A_TEXT: u32 = 10;
+
+pub const SI_STRING: u32 = 0;
+pub const SI_BUCKET: u32 = 1;
+pub const SI_BUFFER: u32 = 2;
+
+#[repr(C)]
+#[allow(non_camel_case_types)]
+pub struct si_interner {
+    at: *mut c_void,
+    open: bool,
+}
+
+/// A closed handle.
+pub const SI_INIT: si_interner = si_interner {
+    at: ptr::null_mut(),
+    open: false,
+};
+
+#[repr(C)]
+#[derive(Clone, Copy)]
+#[allow(non_camel_case_types)]
+pub struct si_text {
+    pub bytes: *const u8,
+    pub len: usize,
+}
+
+/// An empty text.
+pub const SI_TEXT: si_text = si_text {
+    bytes: b"".as_ptr(),
+    len: 0,
+};
+
+#[repr(C)]
+#[derive(Clone, Copy)]
+#[allow(non_camel_case_types)]
+pub struct si_entry {
+    pub number: usize,
+    pub text: si_text,
+}
+
+extern "C" {
+    pub fn si_new(h: *mut si_interner, kind: u32) -> u32;
+    pub fn si_with_capacity(h: *mut si_interner, kind: u32, capacity: usize) -> u32;
+    pub fn si_free(h: *mut si_interner);
+    pub fn si_len(h: *mut si_interner) -> usize;
+    pub fn si_get_or_intern_utf8(
+        h: *mut si_interner,
+        text: *const u8,
+        text_len: usize,
+        number: *mut usize,
+    ) -> u32;
+    pub fn si_get_or_intern_static(
+        h: *mut si_interner,
+        text: *const u8,
+        text_len: usize,
+        number: *mut usize,
+    ) -> u32;
+    pub fn si_get(h: *mut si_interner, text: *const u8, text_len: usize, number: *mut usize)
+        -> u32;
+    pub fn si_resolve(h: *mut si_interner, number: usize, text: *mut si_text) -> u32;
+    pub fn si_entries(
+        h: *mut si_interner,
+        entries: *mut si_entry,
+        entries_len: usize,
+        count: *mut usize,
+    ) -> u32;
+    pub fn si_truncate(h: *mut si_interner, len: usize) -> u32;
+    pub fn si_shrink(h: *mut si_interner) -> u32;
+    pub fn si_clone(h: *mut si_interner, copy: *mut si_interner) -> u32;
+    pub fn si_equal(h: *mut si_interner, other: *mut si_interner) -> bool;
+    pub fn si_to_json(h: *mut si_interner, room: *mut u8, room_len: usize, len: *mut usize) -> u32;
+    pub fn si_from_json(h: *mut si_interner, kind: u32, json: *const u8, json_len: usize) -> u32;
+}

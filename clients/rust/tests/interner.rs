@@ -1,0 +1,328 @@
+//! Each public call over each backend, beside what a list of texts says.
+
+use string_interner::backend::{Backend, BucketBackend, BufferBackend, StringBackend};
+use string_interner::symbol::{SymbolU16, SymbolU32, SymbolUsize};
+use string_interner::{
+    DefaultHashBuilder, DefaultStringInterner, JsonError, StringInterner, Symbol,
+};
+
+use std::collections::HashMap;
+use std::panic::{catch_unwind, AssertUnwindSafe};
+use std::thread;
+
+/// A symbol of a caller's own, with the numbers 0 and 1 alone.
+#[derive(Clone, Copy, Debug, PartialEq, Eq)]
+enum Bit {
+    Zero,
+    One,
+}
+
+impl Symbol for Bit {
+    fn try_from_usize(index: usize) -> Option<Self> {
+        [Bit::Zero, Bit::One].get(index).copied()
+    }
+
+    fn to_usize(self) -> usize {
+        self as usize
+    }
+}
+
+/// Texts of all lengths of UTF-8, the empty one, and one with a zero.
+const TEXTS: [&str; 6] = ["Tiger", "", "Käfer", "語", "𝄞", "a\0b"];
+
+fn panics<T>(call: impl FnOnce() -> T) -> bool {
+    catch_unwind(AssertUnwindSafe(call)).is_err()
+}
+
+fn numbers<B: Backend>(interner: &StringInterner<B>) -> Vec<usize> {
+    interner
+        .iter()
+        .map(|(symbol, _)| symbol.to_usize())
+        .collect()
+}
+
+fn texts<B: Backend>(interner: &StringInterner<B>) -> Vec<&str> {
+    interner.iter().map(|(_, text)| text).collect()
+}
+
+/// What holds of every interner that was filled with `TEXTS`.
+fn check_texts<B: Backend>(interner: &StringInterner<B>) {
+    assert_eq!(interner.len(), TEXTS.len());
+    assert!(!interner.is_empty());
+    assert_eq!(texts(interner), TEXTS);
+    for (symbol, text) in interner {
+        assert!(interner.get(text) == Some(symbol));
+        assert_eq!(interner.resolve(symbol), Some(text));
+        // SAFETY: the symbol is of this interner.
+        assert_eq!(unsafe { interner.resolve_unchecked(symbol) }, text);
+    }
+    assert!(interner.get("Horse").is_none());
+}
+
+fn fill_in_all_ways<B: Backend>() {
+    let collected: StringInterner<B> = TEXTS.iter().collect();
+    check_texts(&collected);
+
+    let mut extended = StringInterner::<B>::with_capacity(3);
+    assert!(extended.is_empty());
+    extended.extend(TEXTS.map(String::from));
+    extended.extend(TEXTS);
+    check_texts(&extended);
+    assert!(extended == collected);
+
+    let mut interned = StringInterner::<B>::with_hasher(DefaultHashBuilder);
+    for text in TEXTS {
+        let symbol = interned.get_or_intern_static(text);
+        assert!(interned.get_or_intern(text.to_owned()) == symbol);
+        assert!(interned.get_or_intern_static(text) == symbol);
+    }
+    interned.shrink_to_fit();
+    check_texts(&interned);
+    assert!(interned == collected);
+}
+
+fn compare_and_copy<B: Backend>() {
+    let interner: StringInterner<B> = TEXTS.into_iter().collect();
+    let mut copy = interner.clone();
+    #[allow(clippy::eq_op)]
+    let is_reflexive = copy == copy;
+    assert!(is_reflexive && copy == interner);
+    copy.get_or_intern("Horse");
+    assert!(copy != interner);
+    check_texts(&interner);
+    copy.truncate(TEXTS.len());
+    check_texts(&copy);
+    assert!(copy == interner);
+    let reversed: StringInterner<B> = TEXTS.into_iter().rev().collect();
+    assert!(reversed != interner);
+    let [one, other] = [["a", "b"], ["a", "c"]].map(StringInterner::<B>::from_iter);
+    assert!(one != other);
+    drop(interner);
+    check_texts(&copy);
+}
+
+fn truncate<B: Backend>() {
+    let mut interner: StringInterner<B> = TEXTS.into_iter().collect();
+    interner.truncate(100);
+    check_texts(&interner);
+    let dropped = interner.get("語").unwrap();
+    interner.truncate(2);
+    assert_eq!(texts(&interner), ["Tiger", ""]);
+    assert!(interner.get("語").is_none());
+    assert!(interner.resolve(dropped).is_none());
+    interner.extend(&TEXTS[2..]);
+    check_texts(&interner);
+}
+
+fn walk<B: Backend>() {
+    let interner: StringInterner<B> = TEXTS.into_iter().collect();
+    let mut walk = interner.iter();
+    assert_eq!(walk.len(), 6);
+    assert_eq!(walk.next().unwrap().1, "Tiger");
+    assert_eq!(walk.clone().count(), 5);
+    assert_eq!(walk.by_ref().last().unwrap().1, "a\0b");
+    assert!(walk.next().is_none());
+}
+
+/// A text that an interner lent is looked for in the same interner, and its bytes stay.
+fn find_what_was_lent<B: Backend>() {
+    let long = "long ".repeat(100);
+    let interner: StringInterner<B> = TEXTS.into_iter().chain([&*long]).collect();
+    for (symbol, text) in &interner {
+        let lent = interner.resolve(symbol).unwrap();
+        assert!(interner.get(lent) == Some(symbol));
+        assert_eq!((lent, text), (text, lent));
+    }
+    let first = &interner.resolve(interner.get("Tiger").unwrap()).unwrap()[..3];
+    assert!(interner.get(first).is_none());
+}
+
+fn json<B: Backend>() {
+    let interner: StringInterner<B> = TEXTS.into_iter().collect();
+    let json = interner.to_json();
+    assert_eq!(
+        json,
+        "[\"Tiger\",\"\",\"Käfer\",\"語\",\"𝄞\",\"a\\u0000b\"]"
+    );
+    check_texts(&StringInterner::<B>::from_json(&json).unwrap());
+    let repeated = StringInterner::<B>::from_json(r#" ["a", "\u0061", "b"] "#).unwrap();
+    assert_eq!(texts(&repeated), ["a", "b"]);
+    let rows = [
+        ("[\"a\"", JsonError::NotJson),
+        ("{}", JsonError::NotAList),
+        ("[\"a\",1]", JsonError::NotAText),
+    ];
+    for (json, error) in rows {
+        assert_eq!(StringInterner::<B>::from_json(json).err(), Some(error));
+    }
+    assert_eq!(StringInterner::<B>::new().to_json(), "[]");
+}
+
+fn debug<B: Backend>() {
+    let interner: StringInterner<B> = ["a"].into_iter().collect();
+    assert_eq!(format!("{interner:?}"), "{0: \"a\"}");
+}
+
+/// An interner is filled, sent to another thread and read there.
+fn send<B: Backend + 'static>() {
+    let interner: StringInterner<B> = TEXTS.into_iter().collect();
+    let came_back = thread::spawn(move || {
+        check_texts(&interner);
+        interner
+    });
+    check_texts(&came_back.join().unwrap());
+}
+
+/// Random texts, some known and some new, beside a map.
+fn agree_with_a_map<B: Backend>() {
+    let mut state = 1_u64;
+    let mut below = |bound: u64| {
+        state = state
+            .wrapping_mul(6364136223846793005)
+            .wrapping_add(1442695040888963407);
+        (state >> 33) % bound
+    };
+    let mut interner = StringInterner::<B>::new();
+    let mut map = HashMap::new();
+    let mut list = Vec::new();
+    for _ in 0..50_000 {
+        let text: String = (0..below(9))
+            .map(|_| ['a', 'ß', '語'][below(3) as usize])
+            .collect();
+        assert!(interner.get(&text) == map.get(&text).copied());
+        let symbol = interner.get_or_intern(&text);
+        if !map.contains_key(&text) {
+            map.insert(text.clone(), symbol);
+            list.push(text.clone());
+        }
+        assert!(map[&text] == symbol);
+        assert_eq!(interner.resolve(symbol), Some(&*text));
+        assert_eq!(interner.len(), list.len());
+    }
+    assert_eq!(texts(&interner), list);
+}
+
+macro_rules! over_each_backend {
+    ($($name:ident)*) => {
+        $(mod $name {
+            use super::*;
+
+            #[test]
+            fn string() {
+                super::$name::<StringBackend<SymbolU32>>();
+            }
+
+            #[test]
+            fn bucket() {
+                super::$name::<BucketBackend<SymbolU32>>();
+            }
+
+            #[test]
+            fn buffer() {
+                super::$name::<BufferBackend<SymbolU32>>();
+            }
+
+            #[test]
+            fn other_symbols() {
+                super::$name::<StringBackend<usize>>();
+                super::$name::<BucketBackend<SymbolU16>>();
+                super::$name::<BufferBackend<SymbolUsize>>();
+            }
+        })*
+    };
+}
+
+over_each_backend! {
+    fill_in_all_ways compare_and_copy truncate walk find_what_was_lent json debug send agree_with_a_map
+}
+
+#[test]
+fn numbers_count_texts_or_bytes() {
+    let long = "x".repeat(128);
+    let all = ["aa", "", &long, "b"];
+    assert_eq!(
+        numbers(&all.into_iter().collect::<StringInterner<StringBackend>>()),
+        [0, 1, 2, 3]
+    );
+    assert_eq!(
+        numbers(&all.into_iter().collect::<StringInterner<BucketBackend>>()),
+        [0, 1, 2, 3]
+    );
+    // One byte with the length and two with the text, one byte, and two with the length and 128 with the text.
+    assert_eq!(
+        numbers(&all.into_iter().collect::<StringInterner<BufferBackend>>()),
+        [0, 3, 4, 134]
+    );
+}
+
+/// Texts past the last symbol of two bytes: each new one panics and is not kept, and known ones are found.
+fn run_out_of_symbols<B: Backend<Symbol = SymbolU16>>() {
+    let mut interner: StringInterner<B> = (0..65_535).map(|i| i.to_string()).collect();
+    assert_eq!(interner.len(), 65_535);
+    for _ in 0..2 {
+        assert!(panics(|| interner.get_or_intern("one too many")));
+        assert!(panics(|| interner.get_or_intern_static("one too many")));
+        assert_eq!(interner.len(), 65_535);
+        assert_eq!(interner.get("one too many"), None);
+    }
+    assert_eq!(interner.get_or_intern("65534").to_usize(), 65_534);
+    interner.truncate(65_534);
+    assert_eq!(interner.get_or_intern("another").to_usize(), 65_534);
+}
+
+#[test]
+fn run_out_of_symbols_of_two_bytes() {
+    run_out_of_symbols::<StringBackend<SymbolU16>>();
+    run_out_of_symbols::<BucketBackend<SymbolU16>>();
+}
+
+#[test]
+fn run_out_of_bytes_of_a_buffer() {
+    let mut interner = StringInterner::<BufferBackend<SymbolU16>>::new();
+    // An entry of 65,534 bytes, three of them for the length. The next one begins at the last number.
+    interner.get_or_intern("x".repeat(65_531));
+    assert_eq!(interner.get_or_intern("last").to_usize(), 65_534);
+    assert!(panics(|| interner.get_or_intern("one too many")));
+    assert_eq!(interner.len(), 2);
+    interner.truncate(1);
+    assert_eq!(interner.get_or_intern("another").to_usize(), 65_534);
+}
+
+#[test]
+fn symbols_of_a_caller() {
+    let mut interner = StringInterner::<StringBackend<Bit>>::new();
+    assert_eq!(interner.get_or_intern("off"), Bit::Zero);
+    assert_eq!(interner.get_or_intern("on"), Bit::One);
+    assert!(panics(|| interner.get_or_intern("between")));
+    assert_eq!(texts(&interner), ["off", "on"]);
+    assert_eq!(interner.resolve(Bit::One), Some("on"));
+    let read = StringInterner::<StringBackend<Bit>>::from_json(r#"["a","b","c"]"#);
+    assert_eq!(read.err(), Some(JsonError::NoSymbol));
+}
+
+#[test]
+fn collect_stops_where_symbols_run_out() {
+    let mut interner = StringInterner::<StringBackend<Bit>>::new();
+    assert!(panics(|| interner.extend(["a", "b", "a", "c", "d"])));
+    assert_eq!(texts(&interner), ["a", "b"]);
+}
+
+#[test]
+fn defaults() {
+    let mut interner = StringInterner::default();
+    assert_eq!(interner.get_or_intern("a").to_usize(), 0);
+    let other: DefaultStringInterner = ["a"].into_iter().collect();
+    assert_eq!(interner, other);
+    assert_eq!(
+        DefaultStringInterner::<BufferBackend>::with_capacity_and_hasher(9, DefaultHashBuilder)
+            .len(),
+        0
+    );
+}
+
+#[test]
+fn too_much_room_panics() {
+    assert!(panics(|| StringInterner::<StringBackend>::with_capacity(
+        usize::MAX
+    )));
+}
