@@ -1,0 +1,50 @@
+-- Why an interner is not read from JSON, and the JSON form of texts.
+use Rattle.std.proofs.Common.{◌≡◌, ℕ, List, [], ◌∷◌, map, false, refl, ap, ◌∙◌, subst, sym, Some, Err}
+use Rattle.std.specs.Prelude.{Result}
+use Rattle.std.specs.Str.{IsUtf8}
+use Rattle.serde_json.specs.Data.{Data, string}
+use Rattle.serde_json.specs.Read.{read as json_read}
+use Rattle.serde_json.specs.View.{items_of}
+use Rattle.serde_json.specs.Written.{compact_text, has_float, items_have_float}
+use Rattle.string_interner.specs.Text.{Text}
+use Rattle.string_interner.specs.Json.{json_of_texts}
+use Rattle.string_interner.specs.declared.json.JsonError.{JsonError}
+use Rattle.string_interner_c.specs.Calls.{IsValueOf, RefusesJson, no_kind, no_json, no_memory, not_read}
+use Rattle.string_interner_c.specs.Kind.{code_of_kind}
+use Rattle.string_interner_c.specs.Status.{status_of_json}
+use Rattle.string_interner_c.specs.declared.any.AnyInterner.{AnyInterner}
+use Rattle.string_interner_c.specs.declared.kind.Kind.{Kind}
+use Rattle.string_interner_c.specs.declared.status.Status.{Status}
+use Rattle.string_interner_c.specs.declared.status.Status.TheVariants.{BadText, NoSymbol, NoMemory, Nothing, Closed, NoRoom, BadKind, BadEnds, NotAList, NotAText, Repeated}
+
+strings_have_none : (texts : List Text) → items_have_float (items_of (map string texts)) ≡ false
+strings_have_none [] = refl
+strings_have_none (text ∷ texts) = strings_have_none texts
+
+-- the JSON form of texts has no float, so it has one text without spaces
+pub text_of_json : (value : Data) (texts : List Text) (json : List ℕ) → value ≡ json_of_texts texts → (has_float value ≡ false → json ≡ compact_text value) → json ≡ compact_text (json_of_texts texts)
+text_of_json value texts json is text = text (ap has_float is ∙ strings_have_none texts) ∙ ap compact_text is
+
+module _ (reads : Kind → Data → Result AnyInterner JsonError → Type 0) (code : ℕ) (bytes : List ℕ) where
+  -- where no kind has the code
+  pub refuses_kind : ((kind : Kind) → ¬ (code_of_kind kind ≡ code)) → RefusesJson reads code bytes BadKind
+  refuses_kind none = no_kind none
+
+  -- where the bytes have no value
+  pub refuses_bytes : (status : Status) → IsValueOf bytes (Err status) → RefusesJson reads code bytes status
+  refuses_bytes BadText none = no_json none
+  refuses_bytes NoMemory none = no_memory
+  refuses_bytes NoSymbol none = absurd none
+  refuses_bytes Nothing none = absurd none
+  refuses_bytes Closed none = absurd none
+  refuses_bytes NoRoom none = absurd none
+  refuses_bytes BadKind none = absurd none
+  refuses_bytes BadEnds none = absurd none
+  refuses_bytes NotAList none = absurd none
+  refuses_bytes NotAText none = absurd none
+  refuses_bytes Repeated none = absurd none
+
+  -- where the value is not read
+  pub refuses_value : (kind : Kind) (value : Data) (error : JsonError) (status : Status) → code_of_kind kind ≡ code → IsUtf8 bytes → json_read bytes ≡ Some value → reads kind value (Err error) → status ≡ status_of_json error
+      → RefusesJson reads code bytes status
+  refuses_value kind value error status is utf8 read refused told = subst (RefusesJson reads code bytes) (sym told) (not_read error (kind, is, value, utf8, read, refused))

@@ -1,0 +1,343 @@
+//! The calls on a handle, each with its outcome.
+
+ghost use Rattle.std.specs.Prelude.{◌≡◌, ◌↔◌, ◌&&◌, IsFalse, IsTrue, IsSome, length, Result};
+ghost use Rattle.std.specs.Str.{IsUtf8};
+ghost use Rattle.string_interner.specs.Text.{first};
+ghost use Rattle.string_interner_c.specs.Any.{ReadsAs, ReadsAsExactly, any_eq, texts_in};
+ghost use Rattle.string_interner_c.specs.Calls.{Copies, CopiesOut, CopiesText, FindsBytes, InternsBytes, InternsText, IsJsonOf, IsValueOf, Kept, MakesNew, MakesRoom, OpensMade, Opens, Reads, ReadsJson, ResolvesNumber, Shrinks, Through, Truncates, WritesJson};
+
+use crate::any::AnyInterner;
+use crate::handle::Handle;
+use crate::kind::Kind;
+use crate::status::Status;
+use crate::text::{Text, text_of};
+use serde_json::Value;
+use std::alloc::Global;
+
+/// Returns the number of texts: none of a closed handle.
+pub fn len(h: &mut Handle) -> usize
+    ensures opened { IsTrue h.old.opened → result ≡ length (texts_in h.old.value) }
+    ensures closed { IsFalse h.old.opened → result ≡ 0 }
+    ensures same { Kept h.old h.new }
+{
+    if h.is_open() { h.interner().len() } else { 0 }
+}
+
+/// Returns the number of a text, and appends the text if it is new.
+pub fn get_or_intern(h: &mut Handle, text: &str) -> Result<usize, Status>
+    ensures { Through (InternsText text.now) h.old result h.new }
+{
+    if !h.is_open() {
+        return Err(Status::Closed);
+    }
+    let number = h.interner().get_or_intern(text)?;
+    Ok(number)
+}
+
+/// Returns the number of the bytes, and appends them if they are a new text.
+pub fn get_or_intern_bytes(h: &mut Handle, bytes: &[u8]) -> Result<usize, Status>
+    ensures { Through (InternsBytes bytes.now) h.old result h.new }
+{
+    if !h.is_open() {
+        return Err(Status::Closed);
+    }
+    let text = text_of(bytes)?;
+    let number = h.interner().get_or_intern(text)?;
+    Ok(number)
+}
+
+/// Returns the number of the bytes, if they are a known text.
+pub fn get(h: &mut Handle, bytes: &[u8]) -> Result<usize, Status>
+    ensures found { Reads (FindsBytes bytes.now) h.old result }
+    ensures same { Kept h.old h.new }
+{
+    if !h.is_open() {
+        return Err(Status::Closed);
+    }
+    let text = text_of(bytes)?;
+    match h.interner().get(text) {
+        Some(number) => Ok(number),
+        None => Err(Status::Nothing),
+    }
+}
+
+/// Returns the number of a static text, as `get_or_intern_bytes` does. A new one may stay where it is, uncopied.
+pub fn get_or_intern_static(h: &mut Handle, bytes: &'static [u8]) -> Result<usize, Status>
+    ensures { Through (InternsBytes bytes.now) h.old result h.new }
+{
+    if !h.is_open() {
+        return Err(Status::Closed);
+    }
+    let text = text_of(bytes)?;
+    let number = h.interner().get_or_intern_static(text)?;
+    Ok(number)
+}
+
+/// Reports whether a handle is open and the bytes are a known text.
+pub fn contains(h: &mut Handle, bytes: &[u8]) -> bool
+    ensures opened { IsTrue h.old.opened → IsTrue result ↔ (IsUtf8 bytes.now × IsSome (first (texts_in h.old.value) bytes.now)) }
+    ensures closed { IsFalse h.old.opened → IsFalse result }
+    ensures same { Kept h.old h.new }
+{
+    if !h.is_open() {
+        return false;
+    }
+    match text_of(bytes) {
+        Ok(text) => h.interner().contains(text),
+        Err(_) => false,
+    }
+}
+
+/// Keeps the first `len` texts.
+pub fn truncate(h: &mut Handle, len: usize) -> Result<(), Status>
+    ensures { Through (Truncates len) h.old result h.new }
+{
+    if !h.is_open() {
+        return Err(Status::Closed);
+    }
+    h.interner().truncate(len);
+    Ok(())
+}
+
+/// Releases memory that no text needs, if it can.
+pub fn shrink_to_fit(h: &mut Handle) -> Result<(), Status>
+    ensures { Through Shrinks h.old result h.new }
+{
+    if !h.is_open() {
+        return Err(Status::Closed);
+    }
+    h.interner().shrink_to_fit();
+    Ok(())
+}
+
+/// Returns the text at a number. It lives until the next call on the handle.
+pub fn resolve<'a>(h: &'a mut Handle, number: usize) -> Result<Text<'a>, Status>
+    ensures { Reads (ResolvesNumber number) h.old result }
+{
+    if !h.is_open() {
+        return Err(Status::Closed);
+    }
+    match h.interner().resolve(number) {
+        Some(text) => Ok(Text {
+            bytes: text.as_bytes(),
+        }),
+        None => Err(Status::Nothing),
+    }
+}
+
+/// Copies bytes to the front of a room, if it is long enough, and tells how many there are.
+fn copy_out(bytes: &[u8], room: &mut [u8], len: &mut usize) -> Result<(), Status>
+    ensures { CopiesOut bytes.now result room.old room.new len.new }
+{
+    *len = bytes.len();
+    if room.len() < bytes.len() {
+        return Err(Status::NoRoom);
+    }
+    room[..bytes.len()].copy_from_slice(bytes);
+    Ok(())
+}
+
+/// Copies the text at a number to a room.
+pub fn copy(h: &mut Handle, number: usize, room: &mut [u8], len: &mut usize) -> Result<(), Status>
+    ensures copies { Reads (λ any outcome. CopiesText number any outcome room.old room.new len.old len.new) h.old result }
+    ensures closed { IsFalse h.old.opened → (room.new ≡ room.old) × (len.new ≡ len.old) }
+    ensures same { Kept h.old h.new }
+{
+    if !h.is_open() {
+        return Err(Status::Closed);
+    }
+    match h.interner().resolve(number) {
+        Some(text) => copy_out(text.as_bytes(), room, len),
+        None => Err(Status::Nothing),
+    }
+}
+
+/// Opens a handle on an interner that was made. What an open handle held is freed.
+fn open_on(alloc: Global, h: &mut Handle, made: Result<AnyInterner, Status>) -> Result<(), Status>
+    ensures { Opens made h.old result h.new }
+{
+    match made {
+        Ok(interner) => match Box::new(alloc, interner) {
+            Ok(interner) => {
+                *h = Handle::of(interner);
+                Ok(())
+            }
+            Err(_) => Err(Status::NoMemory),
+        },
+        Err(status) => Err(status),
+    }
+}
+
+/// Makes an empty interner of the kind with this code.
+fn made(alloc: Global, kind: u32) -> Result<AnyInterner, Status>
+    ensures { MakesNew kind result }
+{
+    match Kind::from_code(kind) {
+        Some(kind) => Ok(AnyInterner::new(alloc, kind)),
+        None => Err(Status::BadKind),
+    }
+}
+
+/// Opens a handle on an empty interner of the kind with this code.
+pub fn open_new(alloc: Global, h: &mut Handle, kind: u32) -> Result<(), Status>
+    ensures { OpensMade (MakesNew kind) h.old result h.new }
+{
+    open_on(alloc, h, made(alloc, kind))
+}
+
+/// Makes an empty interner of the kind with this code, with room for `capacity` texts.
+fn made_with_capacity(alloc: Global, kind: u32, capacity: usize) -> Result<AnyInterner, Status>
+    ensures { MakesRoom kind capacity result }
+{
+    let Some(kind) = Kind::from_code(kind) else {
+        return Err(Status::BadKind);
+    };
+    match AnyInterner::with_capacity(alloc, kind, capacity) {
+        Ok(interner) => Ok(interner),
+        Err(_) => Err(Status::NoMemory),
+    }
+}
+
+/// Opens a handle on an empty interner of the kind with this code, with room for `capacity` texts.
+pub fn open_with_capacity(
+    alloc: Global,
+    h: &mut Handle,
+    kind: u32,
+    capacity: usize,
+) -> Result<(), Status>
+    ensures { OpensMade (MakesRoom kind capacity) h.old result h.new }
+{
+    open_on(alloc, h, made_with_capacity(alloc, kind, capacity))
+}
+
+/// Makes a copy of what a handle holds.
+fn cloned(h: &mut Handle) -> Result<AnyInterner, Status>
+    ensures copies { Reads Copies h.old result }
+    ensures same { Kept h.old h.new }
+{
+    if !h.is_open() {
+        return Err(Status::Closed);
+    }
+    match h.interner().try_clone() {
+        Ok(copy) => Ok(copy),
+        Err(_) => Err(Status::NoMemory),
+    }
+}
+
+/// Opens a second handle on a copy.
+pub fn clone(alloc: Global, h: &mut Handle, copy: &mut Handle) -> Result<(), Status>
+    ensures copies { OpensMade (Reads Copies h.old) copy.old result copy.new }
+    ensures same { Kept h.old h.new }
+{
+    open_on(alloc, copy, cloned(h))
+}
+
+/// Reports whether both handles are open, on interners of one kind with the same texts in the same order.
+pub fn equal(h: &mut Handle, other: &mut Handle) -> bool
+    ensures opened { IsTrue h.old.opened → IsTrue other.old.opened → result ≡ any_eq h.old.value other.old.value }
+    ensures closed { IsFalse (h.old.opened && other.old.opened) → IsFalse result }
+    ensures same { Kept h.old h.new }
+    ensures other_same { Kept other.old other.new }
+{
+    if !h.is_open() {
+        return false;
+    }
+    if !other.is_open() {
+        return false;
+    }
+    h.interner().equals(other.interner())
+}
+
+/// Returns the JSON array of the texts of a handle.
+fn json_of(alloc: Global, h: &mut Handle) -> Result<Vec<u8>, Status>
+    ensures json { Reads IsJsonOf h.old result }
+    ensures same { Kept h.old h.new }
+{
+    if !h.is_open() {
+        return Err(Status::Closed);
+    }
+    let Ok(value) = h.interner().to_json(alloc) else {
+        return Err(Status::NoMemory);
+    };
+    match value.to_vec(alloc) {
+        Ok(bytes) => Ok(bytes),
+        Err(_) => Err(Status::NoMemory),
+    }
+}
+
+/// Copies the JSON array of the texts to a room.
+pub fn to_json(
+    alloc: Global,
+    h: &mut Handle,
+    room: &mut [u8],
+    len: &mut usize,
+) -> Result<(), Status>
+    ensures writes { Reads (λ any outcome. WritesJson any outcome room.old room.new len.old len.new) h.old result }
+    ensures closed { IsFalse h.old.opened → (room.new ≡ room.old) × (len.new ≡ len.old) }
+    ensures same { Kept h.old h.new }
+{
+    match json_of(alloc, h) {
+        Ok(bytes) => copy_out(&bytes, room, len),
+        Err(status) => Err(status),
+    }
+}
+
+/// Returns the JSON value that the bytes are.
+fn value_of(alloc: Global, bytes: &[u8]) -> Result<Value, Status>
+    ensures { IsValueOf bytes.now result }
+{
+    match Value::from_slice(alloc, bytes) {
+        Ok(value) => Ok(value),
+        Err(error) => {
+            if error.is_memory() {
+                Err(Status::NoMemory)
+            } else {
+                Err(Status::BadText)
+            }
+        }
+    }
+}
+
+/// Makes an interner of the kind with this code from a JSON array of strings.
+#[tactic(auto, using(crate::proofs::Lemmas::Json::refuses_kind, crate::proofs::Lemmas::Json::refuses_bytes, crate::proofs::Lemmas::Json::refuses_value))]
+fn read(alloc: Global, kind: u32, bytes: &[u8]) -> Result<AnyInterner, Status>
+    ensures { ReadsJson ReadsAs kind bytes.now result }
+{
+    let Some(kind) = Kind::from_code(kind) else {
+        return Err(Status::BadKind);
+    };
+    let value = value_of(alloc, bytes)?;
+    match AnyInterner::from_json(alloc, kind, &value) {
+        Ok(interner) => Ok(interner),
+        Err(error) => Err(Status::from(error)),
+    }
+}
+
+/// Opens a handle on an interner of the texts of a JSON array. Repeats add no text.
+pub fn from_json(alloc: Global, h: &mut Handle, kind: u32, bytes: &[u8]) -> Result<(), Status>
+    ensures { OpensMade (ReadsJson ReadsAs kind bytes.now) h.old result h.new }
+{
+    open_on(alloc, h, read(alloc, kind, bytes))
+}
+
+/// Makes an interner of the kind with this code from a JSON array of strings that all differ.
+#[tactic(auto, using(crate::proofs::Lemmas::Json::refuses_kind, crate::proofs::Lemmas::Json::refuses_bytes, crate::proofs::Lemmas::Json::refuses_value))]
+fn read_exact(alloc: Global, kind: u32, bytes: &[u8]) -> Result<AnyInterner, Status>
+    ensures { ReadsJson ReadsAsExactly kind bytes.now result }
+{
+    let Some(kind) = Kind::from_code(kind) else {
+        return Err(Status::BadKind);
+    };
+    let value = value_of(alloc, bytes)?;
+    match AnyInterner::from_json_exact(alloc, kind, &value) {
+        Ok(interner) => Ok(interner),
+        Err(error) => Err(Status::from(error)),
+    }
+}
+
+/// The same of an array in which all texts differ.
+pub fn from_json_exact(alloc: Global, h: &mut Handle, kind: u32, bytes: &[u8]) -> Result<(), Status>
+    ensures { OpensMade (ReadsJson ReadsAsExactly kind bytes.now) h.old result h.new }
+{
+    open_on(alloc, h, read_exact(alloc, kind, bytes))
+}
