@@ -9,7 +9,7 @@
 
 enum { RUNS = 15, LETTERS = 14, ALLOWED = 2 };
 
-/* The library's own loops (native/src/lib.rt), after the texts went in. */
+/* The library's own loops (native.rt.in), after the texts went in. */
 size_t native_rounds(const uint8_t *bytes, size_t bytes_len, const size_t *ends, size_t ends_len, uint32_t which, size_t rounds);
 
 static uint8_t *bytes;
