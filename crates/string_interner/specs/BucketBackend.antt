@@ -136,11 +136,16 @@ pub record IsLast (text : Text) (full : List Bucket) (head : Bucket) (entry : In
   pub bytes_are : head.bytes ≡ before ++ text
   pub entry_is : entry ≡ InBucket (length full) (record { from = length before; to = length before + length text })
 
+-- The buckets are few, since the capacity of each new head is a power of two above the one before.
+abbrev pub AreFew : List Bucket → Bucket → Type 0
+AreFew full head = 2 ^ length full ≤ max 1 head.capacity
+
 -- What bounds the capacities: a new head is made only for a text that does not fit the old one.
 pub record IsTight (full : List Bucket) (head : Bucket) : Type 0 where
   pub within : length head.bytes ≤ head.capacity
   pub older : 0 < length full → total_capacity full + 1 ≤ 2 * byte_count full + length head.bytes
   pub newest : 0 < length full → head.capacity ≤ 2 * (byte_count full + length head.bytes) + 1
+  pub few : AreFew full head
 
 -- The invariant of a `BucketBackend`. Buckets may hold bytes that are of no entry.
 pub record IsInBuckets {S : Type 0} (symbol_of : ℕ → Option S) (full : List Bucket) (head : Bucket) (entries : List InternedStr) : Type 0 where

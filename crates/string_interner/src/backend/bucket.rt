@@ -27,7 +27,7 @@ use std::marker::{Model, PhantomData};
 /// Stores texts in append-only buckets of bytes, and static texts by reference.
 ///
 /// Best where texts are long or many, since a text is copied once and not moved after that, and where static texts are
-/// common, since those are not copied at all. Places are 0, 1, 2, .. without gaps. An entry takes four `usize`, and a
+/// common, since those are not copied at all. Places are 0, 1, 2, .. without gaps. An entry takes three `usize`, and a
 /// text that is not static also its bytes. Resolving reads the entry and makes the slice.
 ///
 /// A text is appended to the last bucket, the head, if it fits the head's capacity. Else it begins a new head, whose

@@ -1,7 +1,9 @@
 -- What stands in buckets stays while they are put texts, and so do the entries.
 use Rattle.std.proofs.Common.{◌≡◌, ℕ, ◌+◌, ◌-◌, ◌*◌, ◌^◌, ◌<◌, ◌≤◌, min, max, List, [], ◌∷◌, ◌++◌, length, take, drop, get_or, map, All, false, Option, IsSome, refl, sym, ap, subst, ◌∙◌, inl, inr, arith, Bor}
 use Rattle.std.specs.Prelude.{slice_range, Result, Ok, Err, IfOk}
+use Rattle.std.specs.Int.{IsNextPowerOfTwo}
 use Rattle.std.specs.Str.{IsUtf8, IsCharBoundary}
+use Rattle.std.proofs.Math.Pow.{pow_mono}
 use Rattle.std.proofs.lemmas.Bool.{cases_lt, cases_eq}
 use Rattle.std.proofs.lemmas.Str.{IsCharBoundary-at_seam, IsCharBoundary-end, IsUtf8-nil}
 use Rattle.std.proofs.lemmas.List.{append-nil, append_assoc, get_or_append_left, get_or_push, length_push, length-append, length-take, length-drop, drop-append-le, take-append-le, drop_at, map_push, length-map, take_all, take_more, take-map, get_or-map}
@@ -10,7 +12,7 @@ use Rattle.std.proofs.lemmas.List.Sums.{sum_by_push, sum_by-take-le}
 use Rattle.string_interner.specs.Text.{Text}
 use Rattle.string_interner.specs.Backend.{Bucket, IsKept}
 use Rattle.string_interner.specs.CountLaws.{length_grows}
-use Rattle.string_interner.specs.BucketBackend.{buckets_of, bucket_at, total_capacity, byte_count, Puts, Stays, is_static, copied_bytes, interned_text, IsPart, IsEntry, interned_len, IsLast, IsTight, IsInBuckets, IsCopy, AreCopies, BucketContents, JoinsBuckets, CopiesBuckets}
+use Rattle.string_interner.specs.BucketBackend.{AreFew, buckets_of, bucket_at, total_capacity, byte_count, Puts, Stays, is_static, copied_bytes, interned_text, IsPart, IsEntry, interned_len, IsLast, IsTight, IsInBuckets, IsCopy, AreCopies, BucketContents, JoinsBuckets, CopiesBuckets}
 use Rattle.string_interner.specs.declared.backend.bucket.interned_str.InternedStr.{InternedStr}
 use Rattle.string_interner.specs.declared.backend.bucket.interned_str.InternedStr.TheVariants.{InBucket, Static}
 use Rattle.string_interner.proofs.Lemmas.Backend.IsKept.{kept-take, kept-more}
@@ -153,6 +155,35 @@ last_len text full head e last = rw last.entry_is (omega arith)
 last_static : (text : Text) (full : List Bucket) (head : Bucket) (e : InternedStr) → IsLast text full head e → is_static e ≡ false
 last_static text full head e last = rw last.entry_is refl
 
+-- ---- how the buckets stay few
+
+-- the power of two from a number on that is above a power of two is twice that one, or more
+next_power-above : (n m p : ℕ) → 2 ^ n < m → IsNextPowerOfTwo m p → 2 ^ (n + 1) ≤ p
+next_power-above n m p above next =
+    let k : ℕ = next.0.0 in
+    let is : p ≡ 2 ^ k = next.0.1 in
+    elim (cases_lt n k) as (λ _. 2 ^ (n + 1) ≤ p) [
+      | inl greater ↦ let a : 2 ^ (n + 1) ≤ 2 ^ k = pow_mono {i = n + 1} {j = k} (omega arith) in omega (arith, is, a)
+      | inr not_greater ↦ let a : 2 ^ k ≤ 2 ^ n = pow_mono {i = k} {j = n} (omega arith) in absurd (omega (arith, is, a, above, next.1))
+    ]
+
+-- one more bucket is begun
+pub few_begins : (full new_full : List Bucket) (head new_head : Bucket) (text : Text) → AreFew full head → length head.bytes ≤ head.capacity → head.capacity < length head.bytes + length text → new_full ≡ full ++ head ∷ []
+    → IsNextPowerOfTwo (max head.capacity (length text) + 1) new_head.capacity → AreFew new_full new_head
+few_begins full new_full head new_head text few within lt is next =
+    let count : length new_full ≡ length full + 1 = rw is (length_push full head) in
+    let above : 2 ^ length full < max head.capacity (length text) + 1 = omega (arith, few, within, lt) in
+    let twice : 2 ^ (length full + 1) ≤ new_head.capacity = next_power-above (length full) (max head.capacity (length text) + 1) new_head.capacity above next in
+    rw count (omega (arith, twice))
+
+-- a capacity below 2 ^ 64 has fewer than 64 buckets before it
+pub few_below : (full : List Bucket) (head : Bucket) → AreFew full head → head.capacity < 2 ^ 64 → length full < 64
+few_below full head few below =
+    elim (cases_lt (length full) 64) [
+      | inl lt ↦ lt
+      | inr not_lt ↦ let a : 2 ^ 64 ≤ 2 ^ length full = pow_mono {i = 64} {j = length full} (omega arith) in absurd (omega (arith, a, few, below))
+    ]
+
 -- ---- how the capacities stay low
 
 byte_count-puts : (text : Text) (full : List Bucket) (head : Bucket) (new_full : List Bucket) (new_head : Bucket) → Puts text full head new_full new_head → byte_count (buckets_of new_full new_head) ≡ byte_count (buckets_of full head) + length text
@@ -178,6 +209,7 @@ tight-puts text full head new_full new_head tight puts =
             within = omega (arith, p.2.1);
             older = λ _. older-puts full head (length text) _ _ tight lt c b;
             newest = λ _. omega (arith, b, lt, p.2.2);
+            few = few_begins full (full ++ head ∷ []) head new_head text tight.few tight.within lt refl p.2;
           })
       | inr le ↦
           let p = puts.fits le in
@@ -186,6 +218,7 @@ tight-puts text full head new_full new_head tight puts =
             within = omega (arith, n, le);
             older = λ some. omega (arith, n, tight.older some);
             newest = λ some. omega (arith, n, tight.newest some);
+            few = tight.few;
           })
     ]
 
@@ -287,6 +320,7 @@ stored-copies symbol_of full head entries copies bucket stored are capacity = re
     within = omega (arith, are.filled, stored.shared, stored.tight.within, capacity, sum_by_push (λ (b : Bucket). length b.bytes) full head);
     older = λ some. absurd (omega arith);
     newest = λ some. absurd (omega arith);
+    few = omega arith;
   };
   kept = rw are.texts stored.kept;
 }

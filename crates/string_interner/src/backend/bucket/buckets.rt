@@ -2,7 +2,7 @@
 
 ghost use Rattle.std.specs.Prelude.{◌≡◌, ◌+◌, max, ◌<◌, ◌≤◌, length, IsOk, IfOk, OnOk, OnErr};
 ghost use Rattle.std.specs.Int.{IsNextPowerOfTwo};
-ghost use Rattle.string_interner.specs.BucketBackend.{buckets_of, bucket_at, interned_text, IsEntry, IsLast, Puts};
+ghost use Rattle.string_interner.specs.BucketBackend.{AreFew, buckets_of, bucket_at, interned_text, IsEntry, IsLast, Puts};
 
 use crate::backend::bucket::fixed_str::{FixedString, Span};
 use crate::backend::bucket::full_bucket::FullBucket;
@@ -12,11 +12,11 @@ use std::mem;
 
 /// Returns the text of a bucket by its number: the older buckets come first, then the head.
 #[inline]
-fn bucket_text<'a>(full: &'a [FullBucket], head: &'a FixedString, bucket: usize) -> &'a str
+fn bucket_text<'a>(full: &'a [FullBucket], head: &'a FixedString, bucket: u8) -> &'a str
     requires { bucket < length (buckets_of full.now head.now) }
     ensures { result.now ≡ (bucket_at (buckets_of full.now head.now) bucket).bytes }
 {
-    match full.get(bucket) {
+    match full.get(usize::from(bucket)) {
         Some(older) => older.as_str(),
         None => head.as_str(),
     }
@@ -57,26 +57,39 @@ pub fn new_head(alloc: Global, before: usize, text: &str) -> Result<(FixedString
     Ok((head, span))
 }
 
+/// Returns the number of the head, which comes after the older buckets.
+#[tactic(auto, using(crate::proofs::Lemmas::BucketBackend::Buckets::few_below))]
+fn head_number(full: &[FullBucket], head: &FixedString) -> u8
+    requires { AreFew full.now head.now }
+    ensures { result ≡ length full.now }
+{
+    // For the proof: states that the capacity is a `usize`, so that the buckets before the head are fewer than 64.
+    let _ = head.capacity();
+    full.len() as u8
+}
+
 /// Appends a text to the head if it fits the head's capacity, else to a new head, and returns its entry.
 ///
 /// Allocates before it stores anything, so that nothing changes on `Err`.
+#[tactic(auto, using(crate::proofs::Lemmas::BucketBackend::Buckets::few_begins))]
 pub fn store(
     full: &mut Vec<FullBucket>,
     head: &mut FixedString,
     text: &str,
 ) -> Result<InternedStr, AllocError>
+    requires few { AreFew full.old.items head.old }
     ensures puts { OnOk result (Puts text.now full.old.items head.old full.new.items head.new) }
     ensures last { IfOk result (IsLast text.now full.new.items head.new) }
     ensures err { OnErr result ((full.new.items ≡ full.old.items) × (head.new ≡ head.old)) }
     ensures granted { length head.old.bytes + length text.now ≤ head.old.capacity → IsOk result }
 {
     if let Some(span) = head.push_str(text)? {
-        let bucket = full.len();
+        let bucket = head_number(full, head);
         return Ok(InternedStr::InBucket { bucket, span });
     }
     full.reserve(1)?;
     let (next, span) = new_head(*full.allocator(), head.capacity(), text)?;
     full.push_reserved(FullBucket::new(mem::replace(head, next)));
-    let bucket = full.len();
+    let bucket = head_number(full, head);
     Ok(InternedStr::InBucket { bucket, span })
 }
