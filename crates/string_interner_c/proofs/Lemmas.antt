@@ -1,3 +1,4 @@
 pub mod Loose
 pub mod Handle
+pub mod Encoded
 pub mod Json

@@ -4,3 +4,4 @@ pub mod Any
 pub mod Holds
 pub mod Follows
 pub mod Calls
+pub mod Encode

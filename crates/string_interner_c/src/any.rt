@@ -7,6 +7,9 @@ ghost use Rattle.string_interner.specs.Text.{first};
 ghost use Rattle.string_interner.specs.Json.{json_of_texts};
 ghost use Rattle.string_interner_c.specs.Any.{FindsNumber, Interned, IsEmpty, IsMade, IsSame, KeepsFirst, ReadsAs, ReadsAsExactly, any_eq, text_at, texts_in};
 
+mod encode;
+mod entries;
+
 use crate::kind::Kind;
 use serde_json::Value;
 use std::alloc::{AllocError, Global};

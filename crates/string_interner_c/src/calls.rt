@@ -5,12 +5,13 @@ ghost use Rattle.std.specs.Str.{IsUtf8};
 ghost use Rattle.string_interner.specs.Text.{first};
 ghost use Rattle.string_interner_c.specs.Any.{ReadsAs, ReadsAsExactly, any_eq, texts_in};
 ghost use Rattle.string_interner_c.specs.Calls.{Copies, CopiesOut, CopiesText, FindsBytes, InternsBytes, InternsText, IsJsonOf, IsValueOf, Kept, MakesNew, MakesRoom, OpensMade, Opens, Reads, ReadsJson, ResolvesNumber, Shrinks, Through, Truncates, WritesJson};
+ghost use Rattle.string_interner_c.specs.Encode.{InternsParts, ListsEntries};
 
 use crate::any::AnyInterner;
 use crate::handle::Handle;
 use crate::kind::Kind;
 use crate::status::Status;
-use crate::text::{Text, text_of};
+use crate::text::{Entry, Text, text_of};
 use serde_json::Value;
 use std::alloc::Global;
 
@@ -340,4 +341,37 @@ pub fn from_json_exact(alloc: Global, h: &mut Handle, kind: u32, bytes: &[u8]) -
     ensures { OpensMade (ReadsJson ReadsAsExactly kind bytes.now) h.old result h.new }
 {
     open_on(alloc, h, read_exact(alloc, kind, bytes))
+}
+
+/// Interns texts that lie end to end in the bytes, and writes their numbers, until one is refused.
+pub fn intern_all(
+    h: &mut Handle,
+    bytes: &[u8],
+    ends: &[usize],
+    numbers: &mut [usize],
+    done: &mut usize,
+) -> Result<(), Status>
+    ensures step { Through (λ old status new. InternsParts bytes.now ends.now numbers.old old status new numbers.new done.new) h.old result h.new }
+    ensures closed { IsFalse h.old.opened → (numbers.new ≡ numbers.old) × (done.new ≡ 0) }
+{
+    *done = 0;
+    if !h.is_open() {
+        return Err(Status::Closed);
+    }
+    h.interner().intern_all(bytes, ends, numbers, done)
+}
+
+/// Writes all texts, each with its number, to the front of a room. They live until the next call on the handle.
+pub fn entries<'a>(
+    h: &'a mut Handle,
+    room: &mut [Entry<'a>],
+    count: &mut usize,
+) -> Result<(), Status>
+    ensures lists { Reads (λ any outcome. ListsEntries any outcome room.old room.new count.new) h.old result }
+    ensures closed { IsFalse h.old.opened → (room.new ≡ room.old) × (count.new ≡ count.old) }
+{
+    if !h.is_open() {
+        return Err(Status::Closed);
+    }
+    h.interner().entries(room, count)
 }

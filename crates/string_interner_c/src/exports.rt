@@ -5,11 +5,12 @@ ghost use Rattle.std.specs.Str.{IsUtf8};
 ghost use Rattle.string_interner.specs.Text.{first};
 ghost use Rattle.string_interner_c.specs.Any.{ReadsAs, ReadsAsExactly, any_eq, texts_in};
 ghost use Rattle.string_interner_c.specs.Calls.{Answers, Copies, CopiesText, FindsBytes, InternsBytes, InternsText, Kept, MakesNew, MakesRoom, OpensMade, Reads, ReadsJson, ResolvesNumber, Shrinks, TellsDone, Through, Truncates, WritesJson};
+ghost use Rattle.string_interner_c.specs.Encode.{InternsParts, ListsEntries};
 
 use crate::calls;
 use crate::handle::Handle;
 use crate::status::{done, tell};
-use crate::text::Text;
+use crate::text::{Entry, Text};
 use std::alloc::Global;
 
 /// Opens a handle on an empty interner of a kind. What an open handle held is freed.
@@ -177,4 +178,32 @@ pub extern "C" fn si_from_json_exact(alloc: Global, h: &mut Handle, kind: u32, j
     ensures { TellsDone (λ outcome. OpensMade (ReadsJson ReadsAsExactly kind json.now) h.old outcome h.new) result }
 {
     done(calls::from_json_exact(alloc, h, kind, json))
+}
+
+/// Interns many texts, which lie end to end, and writes their numbers.
+#[unsafe(no_mangle)]
+pub extern "C" fn si_intern_all(
+    h: &mut Handle,
+    bytes: &[u8],
+    ends: &[usize],
+    numbers: &mut [usize],
+    done: &mut usize,
+) -> u32
+    ensures step { TellsDone (λ outcome. Through (λ old status new. InternsParts bytes.now ends.now numbers.old old status new numbers.new done.new) h.old outcome h.new) result }
+    ensures closed { IsFalse h.old.opened → (numbers.new ≡ numbers.old) × (done.new ≡ 0) }
+{
+    crate::status::done(calls::intern_all(h, bytes, ends, numbers, done))
+}
+
+/// Lends all texts, each with its number.
+#[unsafe(no_mangle)]
+pub extern "C" fn si_entries<'a>(
+    h: &'a mut Handle,
+    entries: &mut [Entry<'a>],
+    count: &mut usize,
+) -> u32
+    ensures lists { TellsDone (Reads (λ any outcome. ListsEntries any outcome entries.old entries.new count.new) h.old) result }
+    ensures closed { IsFalse h.old.opened → (entries.new ≡ entries.old) × (count.new ≡ count.old) }
+{
+    done(calls::entries(h, entries, count))
 }

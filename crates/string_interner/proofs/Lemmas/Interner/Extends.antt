@@ -100,7 +100,7 @@ module _ {S : Type 0} (symbol_of : ℕ → Option S) (place : List Text → ℕ)
     cost-more old mid texts text h = rw (fresh-append old texts (text ∷ []), ← all-fresh old texts mid h) (sum_by-append cost (fresh old texts) (fresh mid (text ∷ [])))
 
     -- one more text goes in
-    taken-more : (rule : SlotRule) (old mid new : InternerContents) (texts : List Text) (text : Text) (symbol : S) → TakesIn symbol_of place cost old texts mid → InternsInto symbol_of place cost rule mid text (Ok symbol) new
+    pub taken-more : (rule : SlotRule) (old mid new : InternerContents) (texts : List Text) (text : Text) (symbol : S) → TakesIn symbol_of place cost old texts mid → InternsInto symbol_of place cost rule mid text (Ok symbol) new
         → TakesIn symbol_of place cost old (texts ++ text ∷ []) new
     taken-more rule old mid new texts text symbol taken call = record {
       interned = all-more old.texts texts mid.texts text symbol new.texts taken.interned call.interns;
