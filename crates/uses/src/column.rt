@@ -102,9 +102,7 @@ impl<B: Backend, H: TextHasher, I: TextIndex<B::Symbol>> Column<B, H, I> {
 #[cfg(test)]
 mod tests {
     use super::*;
-    use std::hash::RandomState;
     use std::test::Fail;
-    use string_interner::dedup::StdHasher;
 
     #[test]
     fn rows_are_decoded(rt: HostRuntime) -> Result<(), Fail> {
@@ -117,20 +115,6 @@ mod tests {
             (Some("green"), Some("red"))
         );
         assert_eq!(rt; colors.text(3), None);
-        Ok(())
-    }
-
-    #[test]
-    fn a_hasher_without_a_default_serves(rt: HostRuntime) -> Result<(), Fail> {
-        let hasher = StdHasher::new(RandomState::new(&rt).map_err(|_| "no keys")?);
-        let mut colors = Column::<DefaultBackend, StdHasher<RandomState>>::with_hasher(
-            rt.alloc(),
-            hasher,
-        );
-        let texts = ["red", "green", "red"];
-        colors.encode(texts.iter().copied()).map_err(|_| "refused")?;
-        assert_eq!(rt; (colors.len(), colors.count_distinct()), (3, 2));
-        assert_eq!(rt; colors.text(2), Some("red"));
         Ok(())
     }
 }
