@@ -48,7 +48,7 @@ enum {
   SI_OK = 0,
   SI_BAD_TEXT = 1,   /* the bytes are not UTF-8, or not JSON where JSON is read */
   SI_NO_SYMBOL = 2,  /* the numbers have run out; a new text has none */
-  SI_NO_MEMORY = 3,  /* memory was refused; texts and numbers are as they were */
+  SI_NO_MEMORY = 3,  /* memory was refused; what was asked for changes nothing, and where many texts were, from the refused one on */
   SI_NOTHING = 4,    /* there is no such text, or none at this number */
   SI_CLOSED = 5,     /* the handle is not open */
   SI_NO_ROOM = 6,    /* the room that was handed over is too short */

@@ -3,6 +3,7 @@
 use Rattle.std.specs.Prelude.{◌≡◌, ℕ, ◌<◌, ◌≤◌, ◌↔◌, List, ◌++◌, length, drop, Option, Some, None, MatchOption, IsSome, IsTrue, IsFalse, Result, Ok, Err, alloc_error, ◌⊎◌, ⊤, Vec}
 use Rattle.std.specs.Borrow.{Bor}
 use Rattle.std.specs.Str.{IsUtf8}
+use Rattle.std.specs.Result.{IsOk}
 use Rattle.std.specs.declared.alloc.Global.{Global}
 use Rattle.serde_json.specs.Data.{Data}
 use Rattle.serde_json.specs.View.{view}
@@ -51,11 +52,11 @@ pub record TellsDone (holds : Result (Unit {0}) Status → Type 0) (code : ℕ) 
   pub told : code ≡ code_of_done outcome
   pub outcome_holds : holds outcome
 
--- A handle is opened on what was made, and what it held is gone. It stays as it is where nothing was made, or where there
--- is no memory for it.
+-- A handle is opened on what was made, and what it held is gone. It stays as it is where nothing was made, which is told,
+-- or where there is no memory to hold what was made.
 abbrev pub Opens : Result AnyInterner Status → Handle → Result (Unit {0}) Status → Handle → Type 0
 Opens made old (Ok _) new = IsTrue new.opened × (made ≡ Ok new.value)
-Opens made old (Err status) new = ((made ≡ Err status) ⊎ (status ≡ NoMemory)) × (new ≡ old)
+Opens made old (Err status) new = ((made ≡ Err status) ⊎ (IsOk made × (status ≡ NoMemory))) × (new ≡ old)
 
 -- A handle is opened on what may be made so.
 abbrev pub OpensMade : (Result AnyInterner Status → Type 0) → Handle → Result (Unit {0}) Status → Handle → Type 0

@@ -13,7 +13,7 @@ code_of_kind String = 0
 code_of_kind Bucket = 1
 code_of_kind Buffer = 2
 
--- a number, where it is one of a text: those below 2 ^ 32 - 1 are
+-- a number, where a symbol has it: those below 2 ^ 32 - 1 have one
 abbrev pub numbered : ℕ → Option ℕ
 numbered = number_below (2 ^ 32 - 1)
 

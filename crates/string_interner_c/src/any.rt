@@ -151,9 +151,9 @@ impl AnyInterner {
         ensures { IfOk result (IsSame self.now) }
     {
         Ok(match self {
-            AnyInterner::String(interner) => AnyInterner::String(interner.clone()?),
-            AnyInterner::Bucket(interner) => AnyInterner::Bucket(interner.clone()?),
-            AnyInterner::Buffer(interner) => AnyInterner::Buffer(interner.clone()?),
+            AnyInterner::String(interner) => AnyInterner::String(interner.try_copy()?),
+            AnyInterner::Bucket(interner) => AnyInterner::Bucket(interner.try_copy()?),
+            AnyInterner::Buffer(interner) => AnyInterner::Buffer(interner.try_copy()?),
         })
     }
 

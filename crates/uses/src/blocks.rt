@@ -107,27 +107,3 @@ fn resolve_in<B: Backend, H: TextHasher>(
     let (around, outer) = outer.split_last()?;
     resolve_in(around, outer, name)
 }
-
-#[cfg(test)]
-mod tests {
-    use super::*;
-    use std::test::Fail;
-
-    /// `let x; { let y; let x; x } x y`
-    #[test]
-    fn an_inner_name_hides_an_outer_one(rt: HostRuntime) -> Result<(), Fail> {
-        let mut blocks = <Blocks>::new(rt.alloc());
-        let outer = blocks.declare("x").map_err(|_| "refused")?;
-        blocks.enter(rt.alloc()).map_err(|_| "refused")?;
-        blocks.declare("y").map_err(|_| "refused")?;
-        let inner = blocks.declare("x").map_err(|_| "refused")?;
-        assert_eq!(rt; blocks.resolve("x") == Some((1, inner)), true);
-        assert_eq!(rt; blocks.leave(), true);
-        assert_eq!(rt; blocks.resolve("x") == Some((0, outer)), true);
-        assert_eq!(rt;
-            (blocks.resolve("y").is_none(), blocks.leave()),
-            (true, false)
-        );
-        Ok(())
-    }
-}

@@ -98,23 +98,3 @@ impl<B: Backend, H: TextHasher, I: TextIndex<B::Symbol>> Column<B, H, I> {
         self.dictionary.len()
     }
 }
-
-#[cfg(test)]
-mod tests {
-    use super::*;
-    use std::test::Fail;
-
-    #[test]
-    fn rows_are_decoded(rt: HostRuntime) -> Result<(), Fail> {
-        let mut colors = <Column>::new(rt.alloc());
-        let texts = ["red", "green", "red"];
-        colors.encode(texts.iter().copied()).map_err(|_| "refused")?;
-        assert_eq!(rt; (colors.len(), colors.count_distinct()), (3, 2));
-        assert_eq!(rt;
-            (colors.text(1), colors.text(2)),
-            (Some("green"), Some("red"))
-        );
-        assert_eq!(rt; colors.text(3), None);
-        Ok(())
-    }
-}

@@ -42,29 +42,3 @@ pub fn is_keyword<B: Backend, H: TextHasher>(
     words.symbol_law();
     token.to_usize() <= last.to_usize()
 }
-
-#[cfg(test)]
-mod tests {
-    use super::*;
-    use std::test::Fail;
-    use string_interner::DefaultStringInterner;
-
-    #[test]
-    fn keywords_have_the_least_numbers(rt: HostRuntime) -> Result<(), Fail> {
-        let mut words = <DefaultStringInterner>::new(rt.alloc());
-        words.get_or_intern("let").map_err(|_| "refused")?;
-        let last = words.get_or_intern("in").map_err(|_| "refused")?;
-        let tokens = lex(rt.alloc(), &mut words, "let x = y in x").map_err(|_| "refused")?;
-        assert_eq!(rt; tokens.len(), 6);
-        assert_eq!(rt; (tokens[4] == last, tokens[5] == tokens[1]), (true, true));
-        assert_eq!(rt;
-            (
-                is_keyword(&words, last, tokens[0]),
-                is_keyword(&words, last, tokens[4]),
-                is_keyword(&words, last, tokens[5])
-            ),
-            (true, true, false)
-        );
-        Ok(())
-    }
-}

@@ -118,26 +118,3 @@ pub fn nested_scopes(alloc: Global) -> Result<(bool, bool), InternError>
     let gone = names.find("height").is_none(); // At the end of a block its names are forgotten.
     Ok((seen, gone))
 }
-
-#[cfg(test)]
-mod tests {
-    use super::*;
-    use std::test::Fail;
-
-    #[test]
-    fn lines_answer_as_they_say(rt: HostRuntime) -> Result<(), Fail> {
-        let same = intern_and_compare(rt.alloc()).map_err(|_| "refused")?;
-        let codes = encode(rt.alloc()).map_err(|_| "refused")?;
-        let scopes = nested_scopes(rt.alloc()).map_err(|_| "refused")?;
-        assert_eq!(rt; (same, codes, scopes), (true, 3, (true, true)));
-        assert_eq!(rt; intern_fast(rt.alloc()).map_err(|_| "refused")?, true);
-        let mut names = collect(rt.alloc()).map_err(|_| "refused")?;
-        assert_eq!(rt; names.len(), 4);
-        let again = to_json_and_back(rt.alloc(), &names).map_err(|_| "refused")?;
-        assert_eq!(rt;
-            (again == names, keep_the_first(&mut names), names.len()),
-            (true, false, 1)
-        );
-        Ok(())
-    }
-}

@@ -22,19 +22,3 @@ pub fn same_text<B: Backend, H: TextHasher>(
     interner.symbol_law();
     Ok(left == right)
 }
-
-#[cfg(test)]
-mod tests {
-    use super::*;
-    use std::test::Fail;
-    use string_interner::DefaultStringInterner;
-
-    #[test]
-    fn equal_texts_have_one_symbol(rt: HostRuntime) -> Result<(), Fail> {
-        let mut interner = <DefaultStringInterner>::new(rt.alloc());
-        let same = same_text(&mut interner, "Tiger", "Tiger").map_err(|_| "refused")?;
-        let other = same_text(&mut interner, "Tiger", "Horse").map_err(|_| "refused")?;
-        assert_eq!(rt; (same, other), (true, false));
-        Ok(())
-    }
-}

@@ -1,0 +1,108 @@
+use std::alloc::Global;
+use std::test::Fail;
+use string_interner::DefaultStringInterner;
+use string_interner::backend::InternError;
+use uses::blocks::Blocks;
+use uses::column::Column;
+use uses::lexer::{is_keyword, lex};
+use uses::lines::{
+    collect, encode, intern_and_compare, intern_fast, keep_the_first, nested_scopes,
+    to_json_and_back,
+};
+use uses::same_text::same_text;
+
+/// Passes a test whose calls were not refused, and answered as they should.
+fn passed(answered: Result<bool, InternError>) -> Result<(), Fail> {
+    match answered {
+        Ok(true) => Ok(()),
+        Ok(false) => Err("it answered otherwise".into()),
+        Err(_) => Err("it was refused".into()),
+    }
+}
+
+fn compares(alloc: Global) -> Result<bool, InternError> {
+    let mut interner = <DefaultStringInterner>::new(alloc);
+    let same = same_text(&mut interner, "Tiger", "Tiger")?;
+    let other = same_text(&mut interner, "Tiger", "Horse")?;
+    Ok(same & !other)
+}
+
+#[test]
+fn equal_texts_have_one_symbol(rt: HostRuntime) -> Result<(), Fail> {
+    passed(compares(rt.alloc()))
+}
+
+fn decodes(alloc: Global) -> Result<bool, InternError> {
+    let mut colors = <Column>::new(alloc);
+    colors.encode(["red", "green", "red"].iter().copied())?;
+    let is_counted = (colors.len(), colors.count_distinct()) == (3, 2);
+    let is_read = (colors.text(1), colors.text(2), colors.text(3))
+        == (Some("green"), Some("red"), None);
+    Ok(is_counted & is_read)
+}
+
+#[test]
+fn rows_are_decoded(rt: HostRuntime) -> Result<(), Fail> {
+    passed(decodes(rt.alloc()))
+}
+
+fn lexes(alloc: Global) -> Result<bool, InternError> {
+    let mut words = <DefaultStringInterner>::new(alloc);
+    words.get_or_intern("let")?;
+    let last = words.get_or_intern("in")?;
+    let tokens = lex(alloc, &mut words, "let x = y in x")?;
+    match tokens.as_slice() {
+        [first, x, _, _, fifth, again] => Ok(
+            (*fifth == last)
+                & (*again == *x)
+                & is_keyword(&words, last, *first)
+                & is_keyword(&words, last, *fifth)
+                & !is_keyword(&words, last, *again),
+        ),
+        _ => Ok(false),
+    }
+}
+
+#[test]
+fn keywords_have_the_least_numbers(rt: HostRuntime) -> Result<(), Fail> {
+    passed(lexes(rt.alloc()))
+}
+
+/// `let x; { let y; let x; x } x y`
+fn hides(alloc: Global) -> Result<bool, InternError> {
+    let mut blocks = <Blocks>::new(alloc);
+    let outer = blocks.declare("x")?;
+    blocks.enter(alloc)?;
+    blocks.declare("y")?;
+    let inner = blocks.declare("x")?;
+    let is_hidden = blocks.resolve("x") == Some((1, inner));
+    let has_left = blocks.leave();
+    let is_seen = blocks.resolve("x") == Some((0, outer));
+    Ok(is_hidden & has_left & is_seen & blocks.resolve("y").is_none() & !blocks.leave())
+}
+
+#[test]
+fn an_inner_name_hides_an_outer_one(rt: HostRuntime) -> Result<(), Fail> {
+    passed(hides(rt.alloc()))
+}
+
+fn reads_back(alloc: Global) -> Result<bool, InternError> {
+    let mut names = collect(alloc)?;
+    let Ok(again) = to_json_and_back(alloc, &names) else {
+        return Ok(false);
+    };
+    let is_whole = (names.len() == 4) & (again == names);
+    Ok(is_whole & !keep_the_first(&mut names) & (names.len() == 1))
+}
+
+fn lines_answer(alloc: Global) -> Result<bool, InternError> {
+    let are_equal = intern_and_compare(alloc)? & intern_fast(alloc)?;
+    let codes = encode(alloc)?;
+    Ok(are_equal & (codes == 3) & (nested_scopes(alloc)? == (true, true)))
+}
+
+#[test]
+fn lines_answer_as_they_say(rt: HostRuntime) -> Result<(), Fail> {
+    passed(lines_answer(rt.alloc()))?;
+    passed(reads_back(rt.alloc()))
+}
