@@ -12,12 +12,12 @@ Ended = namedtuple("Ended", "status output error asks")
 SECONDS = 60
 
 
-def compile_refuser(folder):
-    """Compiles `refuse.c` into a folder, and returns the library."""
+def compile_library(folder, name):
+    """Compiles a C file of this folder into another one, as a library to stand before the C library, and returns it."""
     guide = Path(subprocess.run(["rt", "doc"], check=True, capture_output=True, text=True).stdout.split()[-1])
     clang = guide.parent / "toolchain/bin/clang"
-    library = Path(folder) / "refuse.so"
-    source = Path(__file__).resolve().parent / "refuse.c"
+    library = Path(folder) / f"{name}.so"
+    source = Path(__file__).resolve().parent / f"{name}.c"
     command = [clang if clang.exists() else "cc", "-O2", "-shared", "-fPIC", "-nostdlib", "-fuse-ld=lld"]
     subprocess.run([*map(str, command), "-o", str(library), str(source)], check=True)
     return library

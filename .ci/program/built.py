@@ -7,11 +7,12 @@ from refused_memory import SECONDS, Ended, run
 
 
 class Program:
-    """A built program, and the library that refuses it memory."""
+    """A built program, the library that refuses it memory, and the one that breaks its input and output off."""
 
-    def __init__(self, path, library):
+    def __init__(self, path, library, breaking):
         self.path = str(Path(path).resolve())
         self.library = str(library)
+        self.breaking = str(breaking)
 
     def run(self, words, data):
         """Runs it on some bytes."""

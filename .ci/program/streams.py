@@ -1,21 +1,37 @@
 """Inputs and outputs that fail, close or come in pieces."""
 
+import errno
+import fcntl
 import os
 import resource
 import signal
 import subprocess
 import tempfile
 
+from program.cases import OUTPUT_BUFFER
 from program.ends import differs
 from program.list_of_texts import UNREADABLE, UNWRITABLE, answer, bad_line
 from refused_memory import SECONDS
 
 
-def run_over(program, words, given, output=subprocess.PIPE, before=None):
-    """How a run over these files ends."""
+COMMANDS = b"i Tiger\ng Bear\nr 0\nlen\nshrink\nr 9\n"
+LINES = [b"symbol 0\n", b"none\n", b"text Tiger\n", b"len 1\n", b"ok\n", b"no reply\n"]
+
+
+def run_over(program, words, given, output=subprocess.PIPE, before=None, **settings):
+    """How a run over these files ends. With settings, the library that breaks input and output off stands before it."""
+    environment = dict(os.environ, **{name: str(value) for name, value in settings.items()})
+    if settings:
+        # A setting of the other library comes with it.
+        environment["LD_PRELOAD"] = " ".join([program.breaking, program.library][:1 + ("REFUSE" in settings)])
     ended = subprocess.run([program.path, *words], stdin=given, stdout=output, stderr=subprocess.PIPE,
-                           preexec_fn=before, timeout=SECONDS)
+                           preexec_fn=before, timeout=SECONDS, env=environment)
     return ended.returncode, ended.stdout or b"", ended.stderr
+
+
+def without_refusal(told):
+    """What was written to standard error, but for what the library writes that refuses memory."""
+    return told.replace(b"request refused\n", b"")
 
 
 def holding(data):
@@ -45,7 +61,7 @@ def unwritable_output(program):
 
 def output_of_any_length(program):
     """A file that may grow to so many bytes: what was written is the front of the answer."""
-    data = b"i Tiger\ng Bear\nr 0\nlen\nshrink\nr 9\n" + b"r 0\n" * 2000
+    data = COMMANDS + b"r 0\n" * 2000
     whole = answer([b"string"], data)[1]
 
     def limit(count):
@@ -90,6 +106,53 @@ def input_in_pieces(program):
                            (0, "symbol 0\nsymbol 3\ntext é\nlen 2\n".encode(), b""))
 
 
+def input_that_breaks_off(program):
+    """After each byte of a bad line, a character of two bytes, and a byte that begins none."""
+    data = b"i a\nx\ni \xc3\xa9\nlen\n\xff\n"
+    for count in range(len(data)):
+        ended = run_over(program, [b"string"], holding(data), READ_BYTES=count)
+        yield from differs(f"input that breaks off after {count} bytes", ended, UNREADABLE)
+
+
+def refusing_the_buffer(program):
+    """The settings under which the buffer of the output is refused, so that each line is written by itself."""
+    return {"REFUSE": program.run_refused([b"string"], COMMANDS).asks.index(OUTPUT_BUFFER) + 1}
+
+
+def output_that_breaks_off(program):
+    """From each write on: with the buffer there is one, and without it one for each line at least."""
+    for settings, least in ({}, 1), (refusing_the_buffer(program), len(LINES)):
+        for error in (errno.EPIPE, errno.ENOMEM, 0):  # A writer that takes nothing is an error too.
+            name = f"output that breaks off by {error} under {settings}"
+            for broken in range(1, 100):
+                ended = run_over(program, [b"string"], holding(COMMANDS), BROKEN_WRITE=broken, ERROR=error, **settings)
+                if ended[1] == b"".join(LINES):
+                    break
+                if not b"".join(LINES).startswith(ended[1]):
+                    yield f"{name}: what was written is no front of the answer"
+                yield from differs(name, (ended[0], b"", without_refusal(ended[2])), (1, b"", UNWRITABLE))
+            yield from differs(name, (ended[0], ended[1], without_refusal(ended[2])), (0, b"".join(LINES), b""))
+            if broken <= least:
+                yield f"{name}: {broken - 1} writes"
+
+
+def output_in_pieces(program):
+    """Each write takes a few bytes. A pipe that hands on each write by itself shows that none has bytes of two lines."""
+    for settings in ({}, refusing_the_buffer(program)):
+        for size in (1, 5, 8192):
+            reading, writing = os.pipe2(os.O_DIRECT)
+            # Each write takes a page of the pipe.
+            fcntl.fcntl(writing, fcntl.F_SETPIPE_SZ, 1 << 20)
+            status, _, told = run_over(program, [b"string"], holding(COMMANDS), writing, WRITE_BYTES=size, **settings)
+            os.close(writing)
+            with os.fdopen(reading, "rb", buffering=0) as pipe:
+                writes = list(iter(lambda: pipe.read(8192), b""))
+            name = f"output of {size} bytes at a time under {settings}"
+            yield from differs(name, (status, b"".join(writes), without_refusal(told)), (0, b"".join(LINES), b""))
+            if settings and any(b"\n" in it[:-1] for it in writes):
+                yield f"{name}: a write has bytes of two lines"
+
+
 def closed_error(program):
     for data, status in ((b"x\n", 2), (b"\xff", 1), (b"i a\n", 0)):
         closed = subprocess.run([program.path, b"string"], stdin=holding(data), stdout=subprocess.PIPE,
@@ -98,7 +161,17 @@ def closed_error(program):
             yield f"a closed standard error after {data!r}: status {closed.returncode}"
 
 
-TRIALS = (unreadable_input, unwritable_output, output_of_any_length, reader_that_leaves, input_in_pieces, closed_error)
+TRIALS = (
+    unreadable_input,
+    unwritable_output,
+    output_of_any_length,
+    reader_that_leaves,
+    input_in_pieces,
+    input_that_breaks_off,
+    output_that_breaks_off,
+    output_in_pieces,
+    closed_error,
+)
 
 
 def try_streams(program):

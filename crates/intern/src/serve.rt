@@ -175,6 +175,3 @@ pub fn serve<R: Read, W: Write>(
     let replies = replies_of(alloc, choice, &commands)?;
     write_replies(output, &replies)
 }
-
-#[cfg(test)]
-mod tests;
