@@ -59,3 +59,17 @@ three_quarters-laws = record {
     | inr room ↦ absurd (is_full room)
   ];
 }
+
+-- a count of slots that fits a `usize` is at most 2 ^ 63
+pub count_small : (count : ℕ) → IsSlotCount count → count < 2 ^ 64 → count ≤ 2 ^ 63
+count_small count (inl z) l = omega arith
+count_small count (inr p) l =
+    let e = p.1 in
+    elim (cases_lt p.0 61) as (λ _. count ≤ 2 ^ 63) [
+      | inl h ↦ (let b : p.0 ≤ 60 = omega arith in let a : 2 ^ p.0 ≤ 2 ^ 60 = pow_mono {j = 60} b in omega arith)
+      | inr h ↦ (let a : 2 ^ 61 ≤ 2 ^ p.0 = pow_mono {i = 61} h in omega arith)
+    ]
+
+-- a capacity whose slots fit a `usize` is one that 2 ^ 63 slots hold
+pub three_quarters-fits : (capacity slots : ℕ) → IsLeastSlotCount three_quarters capacity slots → slots < 2 ^ 64 → Holds (2 ^ 63) capacity
+three_quarters-fits capacity slots least fits = let small = count_small slots least.allowed fits in let room = least.room in omega arith

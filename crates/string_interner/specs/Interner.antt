@@ -31,7 +31,7 @@ pub record IsMadeFor (rule : SlotRule) (capacity grant : ℕ) (interner : Intern
   pub slots : IsLeastSlotCount rule capacity interner.slot_count
   -- no size beyond a `usize` was asked for
   pub grant_fits : grant < 2 ^ 64
-  pub slots_fit : rule.holds (2 ^ 63) capacity
+  pub slots_fit : interner.slot_count < 2 ^ 64
 
 -- no memory is released: buckets and slot count are unchanged, and there is no less spare capacity
 pub record KeepsMemory (old new : InternerContents) : Type 0 where

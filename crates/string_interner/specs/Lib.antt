@@ -10,6 +10,7 @@ pub mod BufferBackend
 pub mod BufferLaws
 pub mod Walk
 pub mod Entry
+pub mod EntryLaws
 pub mod StandsFor
 pub mod Given
 pub mod Hasher

@@ -3,9 +3,9 @@
 use Rattle.std.proofs.Common.{ℕ, ◌*◌, ◌^◌, ◌<◌, ◌≤◌, ◌⊎◌, inl, inr, arith, refl}
 use Rattle.std.proofs.Math.Pow.{pow_mono}
 use Rattle.std.proofs.lemmas.Bool.{cases_lt}
-use Rattle.string_interner.specs.SlotRule.{IsSlotRule}
+use Rattle.string_interner.specs.SlotRule.{IsLeastSlotCount, IsSlotRule}
 use Rattle.string_interner.specs.Index.{GrowsTo, IsSlotCount}
-use Rattle.string_interner.specs.IndexLaws.{IsSlotCount-grown, above_doubled}
+use Rattle.string_interner.specs.IndexLaws.{IsSlotCount-grown, above_doubled, count_small}
 use Rattle.string_interner.specs.Window.{HoldsInWindow, seven_eighths}
 
 eight_or_more : (m : ℕ) → IsSlotCount m → 0 < m → 8 ≤ m
@@ -37,3 +37,7 @@ seven_eighths-laws = record {
     least = λ m other room. grown-le slots more m allowed grows other (omega arith);
   };
 }
+
+-- a capacity whose slots fit a `usize` is one that 2 ^ 63 slots hold
+pub seven_eighths-fits : (capacity slots : ℕ) → IsLeastSlotCount seven_eighths capacity slots → slots < 2 ^ 64 → HoldsInWindow (2 ^ 63) capacity
+seven_eighths-fits capacity slots least fits = let small = count_small slots least.allowed fits in let room = least.room in omega arith

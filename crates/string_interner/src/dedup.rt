@@ -9,7 +9,7 @@ mod slots;
 mod text_index;
 mod window;
 
-ghost use Rattle.std.specs.Prelude.{◌≡◌, ℕ, ◌+◌, ◌^◌, length, [], IsTrue, IsOk, IfOk, OnOk, OnErr, ◌↔◌};
+ghost use Rattle.std.specs.Prelude.{◌≡◌, ℕ, ◌+◌, ◌<◌, ◌^◌, length, [], IsTrue, IsOk, IfOk, OnOk, OnErr, ◌↔◌};
 ghost use Rattle.string_interner.specs.Text.{IsDistinct};
 ghost use Rattle.string_interner.specs.Entry.{entry_text};
 ghost use Rattle.string_interner.specs.Slots.{symbols};
@@ -88,6 +88,7 @@ impl<S: Symbol> Index<S> {
         ensures greatest { IfOk result (λ index. index.greatest ≡ 0) }
         ensures fits { IfOk result (λ index. FitsAll index.slots) }
         ensures fits_usize { OnOk result (Holds (2 ^ 63) capacity) }
+        ensures slots_fit { IfOk result (λ index. length index.slots < 2 ^ 64) }
     {
         let count = least_slot_count(capacity).ok_or(AllocError)?;
         Ok(Index {

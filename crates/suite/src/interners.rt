@@ -9,7 +9,7 @@ mod texts;
 
 use crate::fault::{Fault, Mistake};
 use crate::line::{Argument, Call, Row, call_of};
-use crate::own::{Copied, Extra, Shown};
+use crate::own::{CopyHasher, Extra, Shown};
 pub use json::{symbol_from_json, symbol_to_json};
 pub use looks::walk_over;
 use looks::{Look, look_at};
@@ -202,7 +202,7 @@ const CALLS: [Row<InternerCall>; 39] = [
 ];
 
 /// Whether the backend and the hasher offer what a call needs.
-fn is_offered<B: Shown, H: Copied>(word: InternerCall) -> bool {
+fn is_offered<B: Shown, H: CopyHasher>(word: InternerCall) -> bool {
     match word {
         InternerCall::Change(Change::TextsAsked) => B::offers(Extra::TextsAsked),
         InternerCall::Both(Pair::TryCopy) => H::offers_try_copy(),
@@ -211,7 +211,7 @@ fn is_offered<B: Shown, H: Copied>(word: InternerCall) -> bool {
 }
 
 /// Reads the call of a line. The backend and the hasher must offer it.
-fn offered_call<B: Shown, H: Copied>(
+fn offered_call<B: Shown, H: CopyHasher>(
     number: usize,
     line: &str,
 ) -> Result<(InternerCall, Call<'_>), Fault> {
@@ -228,7 +228,7 @@ fn offered_call<B: Shown, H: Copied>(
 /// Makes a call on interners.
 fn on_interners<
     B: CopyBackend + Drop,
-    H: Copied + Default + Clone + Drop,
+    H: CopyHasher + Default + Clone + Drop,
     I: CopyIndex<B::Symbol> + Drop,
 >(
     rt: &HostRuntime,
@@ -248,7 +248,7 @@ fn on_interners<
 /// Makes the call of a line.
 fn call_line<
     B: CopyBackend + Shown + Drop,
-    H: Copied + Default + Clone + Drop,
+    H: CopyHasher + Default + Clone + Drop,
     I: CopyIndex<B::Symbol> + Drop,
 >(
     rt: &HostRuntime,
@@ -265,7 +265,7 @@ fn call_line<
 /// Makes the calls of the lines on two interners, of which the first is called.
 fn all_calls<
     B: CopyBackend + Shown + Drop,
-    H: Copied + Default + Clone + Drop,
+    H: CopyHasher + Default + Clone + Drop,
     I: CopyIndex<B::Symbol> + Drop,
 >(
     rt: &HostRuntime,
@@ -284,7 +284,7 @@ fn all_calls<
 /// Makes the calls of the lines on two new interners.
 pub fn interner_session<
     B: CopyBackend + Shown + Drop,
-    H: Copied + Default + Clone + Drop,
+    H: CopyHasher + Default + Clone + Drop,
     I: CopyIndex<B::Symbol> + Drop,
 >(rt: &HostRuntime, lines: &str) -> Result<(), Fault> {
     all_calls::<B, H, I>(

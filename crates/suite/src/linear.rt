@@ -91,10 +91,6 @@ impl<S: Symbol> TextIndex<S> for LinearIndex<S> {
     }
 
     fn with_capacity(alloc: Global, capacity: usize) -> Result<Self, AllocError> {
-        // No allocation has so many bytes. The trait wants it refused where symbols take none, too.
-        if capacity > 1 << 63 {
-            return Err(AllocError);
-        }
         Ok(LinearIndex {
             symbols: Vec::with_capacity(alloc, capacity)?,
         })

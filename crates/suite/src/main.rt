@@ -31,7 +31,7 @@ use input::read_text;
 use interners::interner_session;
 use linear::LinearIndex;
 use odd::{Bit, ByteCount, Constant, Even, Salted};
-use own::{Copied, Shown};
+use own::{CopyHasher, Shown};
 use runs::run_session;
 use scenario::{BackendWord, HasherWord, Level, Scenario, SymbolWord, scenario_of};
 use scopes::scope_session;
@@ -159,7 +159,7 @@ fn index_under<H: TextHasher + Default + Drop>(
 }
 
 /// Runs a scenario on an interner with `SymbolU32` under a hasher.
-fn interner_under<H: Copied + Default + Clone + Drop>(
+fn interner_under<H: CopyHasher + Default + Clone + Drop>(
     rt: &HostRuntime,
     scenario: Scenario<'_>,
 ) -> Result<(), Fault> {
@@ -174,7 +174,7 @@ fn interner_under<H: Copied + Default + Clone + Drop>(
 }
 
 /// Runs a scenario on an interner with a window index over strings, under a hasher.
-fn window_under<S: Symbol, H: Copied + Default + Clone + Drop>(
+fn window_under<S: Symbol, H: CopyHasher + Default + Clone + Drop>(
     rt: &HostRuntime,
     scenario: Scenario<'_>,
 ) -> Result<(), Fault> {
@@ -223,7 +223,7 @@ fn linear_over_backend(rt: &HostRuntime, scenario: Scenario<'_>) -> Result<(), F
 }
 
 /// Runs a scenario on an interner with `SymbolU32`, or on an index, under a hasher of a caller.
-fn under_hasher<H: Copied + Default + Clone + Drop>(
+fn under_hasher<H: CopyHasher + Default + Clone + Drop>(
     rt: &HostRuntime,
     scenario: Scenario<'_>,
 ) -> Result<(), Fault> {
@@ -240,7 +240,7 @@ fn under_hasher<H: Copied + Default + Clone + Drop>(
 }
 
 /// Runs a scenario on an interner over strings with `SymbolU32`, under a hasher of the standard library.
-fn under_std_hasher<H: Copied + Default + Clone + Drop>(
+fn under_std_hasher<H: CopyHasher + Default + Clone + Drop>(
     rt: &HostRuntime,
     scenario: Scenario<'_>,
 ) -> Result<(), Fault> {

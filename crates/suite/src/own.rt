@@ -98,7 +98,7 @@ impl<S: Symbol> Shown for BufferBackend<S> {
 }
 
 /// A hasher, under which an interner may offer `try_copy`.
-pub trait Copied: TextHasher {
+pub trait CopyHasher: TextHasher {
     /// Whether it does.
     fn offers_try_copy() -> bool {
         true
@@ -110,7 +110,7 @@ pub trait Copied: TextHasher {
     ) -> Result<StringInterner<B, Self, I>, AllocError>;
 }
 
-impl Copied for FixedState {
+impl CopyHasher for FixedState {
     fn copy_of<B: CopyBackend + Drop, I: CopyIndex<B::Symbol> + Drop>(
         interner: &StringInterner<B, Self, I>,
     ) -> Result<StringInterner<B, Self, I>, AllocError> {
@@ -118,7 +118,7 @@ impl Copied for FixedState {
     }
 }
 
-impl Copied for Constant {
+impl CopyHasher for Constant {
     fn copy_of<B: CopyBackend + Drop, I: CopyIndex<B::Symbol> + Drop>(
         interner: &StringInterner<B, Self, I>,
     ) -> Result<StringInterner<B, Self, I>, AllocError> {
@@ -126,7 +126,7 @@ impl Copied for Constant {
     }
 }
 
-impl Copied for ByteCount {
+impl CopyHasher for ByteCount {
     fn copy_of<B: CopyBackend + Drop, I: CopyIndex<B::Symbol> + Drop>(
         interner: &StringInterner<B, Self, I>,
     ) -> Result<StringInterner<B, Self, I>, AllocError> {
@@ -134,7 +134,7 @@ impl Copied for ByteCount {
     }
 }
 
-impl<S: BuildHasher + Copy> Copied for StdHasher<S> {
+impl<S: BuildHasher + Copy> CopyHasher for StdHasher<S> {
     fn copy_of<B: CopyBackend + Drop, I: CopyIndex<B::Symbol> + Drop>(
         interner: &StringInterner<B, Self, I>,
     ) -> Result<StringInterner<B, Self, I>, AllocError> {
@@ -143,7 +143,7 @@ impl<S: BuildHasher + Copy> Copied for StdHasher<S> {
 }
 
 /// It is no `Copy` hasher, since its clone has another salt.
-impl Copied for Salted {
+impl CopyHasher for Salted {
     fn offers_try_copy() -> bool {
         false
     }

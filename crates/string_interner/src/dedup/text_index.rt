@@ -1,6 +1,6 @@
 //! What an interner asks of an index of its texts.
 
-ghost use Rattle.std.specs.Prelude.{◌≡◌, ℕ, ◌+◌, ◌^◌, length, Option, Some, None, IsOk, IfOk, OnOk, OnErr};
+ghost use Rattle.std.specs.Prelude.{◌≡◌, ℕ, ◌+◌, ◌<◌, ◌^◌, length, Option, Some, None, IsOk, IfOk, OnOk, OnErr};
 ghost use Rattle.string_interner.specs.Text.{Text, IsDistinct};
 ghost use Rattle.string_interner.specs.Entry.{entry_text};
 ghost use Rattle.string_interner.specs.SlotRule.{SlotRule, IsLoaded, IsLeastSlotCount, IsSlotRule};
@@ -62,7 +62,7 @@ pub trait TextIndex<S: Symbol> {
         ensures slots { IfOk result (λ index. IsLeastSlotCount rule capacity (slots index)) }
         ensures count { IfOk result (λ index. entries index ≡ 0) }
         ensures empty { IfOk result (λ index. (code : Text → ℕ) → indexes index (λ _. None) code) }
-        ensures fits_usize { OnOk result (rule.holds (2 ^ 63) capacity) };
+        ensures fits_usize { IfOk result (λ index. slots index < 2 ^ 64) };
 
     /// Returns the allocator that the index was made with.
     fn allocator(&self) -> Global;

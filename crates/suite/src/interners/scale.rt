@@ -6,7 +6,7 @@ use super::texts::intern_text;
 use crate::counting::signal;
 use crate::decimal::{Progress, in_decimal};
 use crate::line::Call;
-use crate::own::Copied;
+use crate::own::CopyHasher;
 use crate::sight::sight_of;
 use crate::tell::{
     is_refused, tell_bool, tell_count, tell_done, tell_no_memory, tell_outcome, tell_refusal,
@@ -137,7 +137,7 @@ pub fn get_numbers<B: Backend, H: TextHasher, I: TextIndex<B::Symbol>>(
 }
 
 /// Copies an interner into the place of the other one.
-fn put_copy<B: CopyBackend + Drop, H: Copied + Clone + Drop, I: CopyIndex<B::Symbol> + Drop>(
+fn put_copy<B: CopyBackend + Drop, H: CopyHasher + Clone + Drop, I: CopyIndex<B::Symbol> + Drop>(
     interner: &StringInterner<B, H, I>,
     other: &mut StringInterner<B, H, I>,
     how: CopyBy,
@@ -150,7 +150,7 @@ fn put_copy<B: CopyBackend + Drop, H: Copied + Clone + Drop, I: CopyIndex<B::Sym
 }
 
 /// Copies an interner into the place of the other one, again if memory was refused.
-fn copy_into<B: CopyBackend + Drop, H: Copied + Clone + Drop, I: CopyIndex<B::Symbol> + Drop>(
+fn copy_into<B: CopyBackend + Drop, H: CopyHasher + Clone + Drop, I: CopyIndex<B::Symbol> + Drop>(
     rt: &HostRuntime,
     interner: &StringInterner<B, H, I>,
     other: &mut StringInterner<B, H, I>,
@@ -184,7 +184,7 @@ fn json_again<B: Backend + Drop, H: TextHasher + Default + Drop, I: TextIndex<B:
 /// Makes a call on both interners.
 pub fn on_both<
     B: CopyBackend + Drop,
-    H: Copied + Default + Clone + Drop,
+    H: CopyHasher + Default + Clone + Drop,
     I: CopyIndex<B::Symbol> + Drop,
 >(
     rt: &HostRuntime,

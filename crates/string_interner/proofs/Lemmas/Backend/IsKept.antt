@@ -6,7 +6,7 @@ use Rattle.std.proofs.lemmas.List.{length_push, take-append-le, take_all, length
 use Rattle.std.proofs.lemmas.List.Elements.{All-push}
 use Rattle.string_interner.specs.Text.{Text, IsDistinct}
 use Rattle.string_interner.specs.Backend.{IsKept}
-use Rattle.string_interner.proofs.Lemmas.Index.EntryText.{places_grow}
+use Rattle.string_interner.specs.EntryLaws.{places_grow}
 
 -- one more text is kept
 pub kept-more : {S : Type 0} (symbol_of : ℕ → Option S) (place : List Text → ℕ) (xs : List Text) (t : Text) → IsKept symbol_of place xs → IsUtf8 t → IsSome (symbol_of (place xs)) → place (xs ++ t ∷ []) < 2 ^ 64 → IsKept symbol_of place (xs ++ t ∷ [])

@@ -11,7 +11,7 @@ use Rattle.string_interner.specs.Index.{AddsPair, Fits, FitsAll, IndexContents, 
 use Rattle.string_interner.specs.TextIndex.{AddsEntry, IfOccupied, IfVacant, IsNewText, found_by}
 use Rattle.string_interner.specs.declared.dedup.text_index.Entry.{Entry}
 use Rattle.string_interner.specs.declared.dedup.text_index.Entry.TheVariants.{Occupied, Vacant}
-use Rattle.string_interner.proofs.Lemmas.Index.EntryText.{Adds, entry_text-is, entry_text-at}
+use Rattle.string_interner.specs.EntryLaws.{Adds, entry_text-is, entry_text-at}
 use Rattle.string_interner.proofs.Lemmas.Index.Inserts.{text_of_is}
 use Rattle.string_interner.proofs.Lemmas.Index.LookUp.{FirstIs, first_is, entry_from_has}
 use Rattle.string_interner.proofs.Lemmas.Index.Fits.{Fits-kept, look_up-kept}

@@ -2,7 +2,6 @@
 use Rattle.std.proofs.Common.{◌≡◌, ℕ, suc, ◌+◌, ◌-◌, ◌*◌, ◌^◌, ◌<◌, ◌≤◌, ◌%◌, max, bit_and, inl, inr, arith, subst, sym, length}
 use Rattle.std.proofs.Math.Nat.{pow-succ'}
 use Rattle.std.proofs.lemmas.Nat.{and_mask}
-use Rattle.std.proofs.Math.Pow.{pow_mono}
 use Rattle.std.proofs.lemmas.Bool.{cases_lt}
 use Rattle.string_interner.specs.Index.{IndexContents, GrowsTo, IsSlotCount, IsSound, HasRoom, entry_count}
 use Rattle.string_interner.specs.IndexLaws.{IsSlotCount-grown}
@@ -69,16 +68,6 @@ masked n count h (inr e) =
     let d : 2 ^ suc (suc (suc e.0)) ≡ 2 * 2 ^ suc (suc e.0) = pow-succ' 2 (suc (suc e.0)) in
     let f = e.1 in let p : count ≡ 2 ^ suc (suc (suc e.0)) = omega arith in
     rw p (and_mask n (suc (suc (suc e.0))))
-
--- a count of slots that fits a `usize` is at most 2 ^ 63
-pub count_small : (count : ℕ) → IsSlotCount count → count < 2 ^ 64 → count ≤ 2 ^ 63
-count_small count (inl z) l = omega arith
-count_small count (inr p) l =
-    let e = p.1 in
-    elim (cases_lt p.0 61) as (λ _. count ≤ 2 ^ 63) [
-      | inl h ↦ (let b : p.0 ≤ 60 = omega arith in let a : 2 ^ p.0 ≤ 2 ^ 60 = pow_mono {j = 60} b in omega arith)
-      | inr h ↦ (let a : 2 ^ 61 ≤ 2 ^ p.0 = pow_mono {i = 61} h in omega arith)
-    ]
 
 -- a count of slots grows to more
 pub GrowsTo-more : (count more : ℕ) → GrowsTo count more → count < more

@@ -127,6 +127,10 @@ module _ {S : Type 0} where
   empty_from None e = refl
   empty_from (Some s) e = cc
 
+  pub some_from : (o : Option S) → is_some o ≡ true → (s : S) × (o ≡ Some s)
+  some_from None e = absurd (cc)
+  some_from (Some s) e = (s, refl)
+
   pub slot_is : (xs slots : List (Option S)) (at : ℕ) (x : Option S) → xs ≡ slots → at < length slots → x ≡ get_or xs at x → get_or slots at None ≡ x
   slot_is xs slots at x same l e =
       let m : at < length xs = rw same l in sym (get_or_read xs at x m e None ∙ ap (λ ys. get_or ys at None) same)

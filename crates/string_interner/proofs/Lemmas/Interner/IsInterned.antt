@@ -12,7 +12,7 @@ use Rattle.string_interner.specs.Slots.{symbols}
 use Rattle.string_interner.specs.TextIndex.{AddsEntry, IsNewText}
 use Rattle.string_interner.specs.Index.{AddsPair, Fits, IndexContents, Inserts, InsertsByCode, IsAbsent, IsWhole, SameMap, look_up, text_of}
 use Rattle.string_interner.specs.Interner.{Finds, IsInterned, entry_symbol, known_symbol}
-use Rattle.string_interner.proofs.Lemmas.Index.EntryText.{Adds, entry_text-adds, entry_text-at, entry_text-is}
+use Rattle.string_interner.specs.EntryLaws.{Adds, entry_text-adds, entry_text-at, entry_text-is}
 use Rattle.string_interner.proofs.Lemmas.Texts.First.{first_within, first_is, first_none}
 use Rattle.string_interner.proofs.Lemmas.Interner.StandsFor.{one_entry, finds-known}
 use Rattle.string_interner.proofs.Lemmas.Index.IsWhole.{Fits-added, text_of-added, IsAbsent-added, IsWhole-added, look_up-known}

@@ -11,7 +11,7 @@ use Rattle.string_interner.specs.IndexLaws.{IsSlotCount-grown}
 use Rattle.string_interner.specs.Probe.{HasFreeSlot, Rebuilt}
 use Rattle.string_interner.specs.TextIndex.{AddsEntry, IsNewText}
 use Rattle.string_interner.specs.Window.{FillsCoded, HoldsInWindow, IsCoded, IsCounted, IsWindow, WindowContents, kept_code}
-use Rattle.string_interner.proofs.Lemmas.Index.EntryText.{entry_text-at}
+use Rattle.string_interner.specs.EntryLaws.{entry_text-at}
 use Rattle.string_interner.proofs.Lemmas.Index.Inserts.{inserted, puts_at}
 use Rattle.string_interner.proofs.Lemmas.Index.IsWhole.{IsWhole-inserted}
 use Rattle.string_interner.proofs.Lemmas.Index.Rebuilt.{Rebuilt-same}

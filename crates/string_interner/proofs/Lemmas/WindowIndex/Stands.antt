@@ -14,6 +14,10 @@ module _ {S : Type 0} where
     pub walked : Walked test slots home passed at
     pub steps_le : steps ≤ passed
 
+  -- no symbol passes the test of a walk to the first empty slot, so any tag tells that
+  pub none_tells : (window : WindowContents S) (tag : ℕ) → TagTells (λ _. false) window tag
+  none_tells window tag k s l e h = absurd (let d : false ≡ true = h in cc)
+
   module _ (test : S → Bool) (window : WindowContents S) (tag home : ℕ) (h : home < length window.slots)
       (free : length (symbols window.slots) < length window.slots) (tells : TagTells test window tag) where
     -- one slot is empty, so fewer slots are passed than there are

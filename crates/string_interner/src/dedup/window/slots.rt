@@ -163,6 +163,8 @@ impl<S: Symbol> CodedSlots<S> {
     }
 
     /// Puts the symbol of a text with this code into the first empty slot from its home on, wrapping around at the end.
+    /// Filled slots are passed up to sixteen at once.
+    #[inline]
     pub fn put(&mut self, home: usize, symbol: S, code: u64)
         requires home { home < length self.old.slots }
         requires free { length (symbols self.old.slots) < length self.old.slots }
@@ -171,11 +173,15 @@ impl<S: Symbol> CodedSlots<S> {
         let count = self.len();
         let mut at = home;
         for _step in 0..count {
-            if self.symbol_at(at).is_none() {
-                self.set(at, symbol, code);
+            let reached = self.pass(at, 0);
+            if reached == count {
+                at = 0;
+            } else if self.symbol_at(reached).is_none() {
+                self.set(reached, symbol, code);
                 return;
+            } else {
+                at = slot_after(reached, count);
             }
-            at = slot_after(at, count);
         }
     }
 

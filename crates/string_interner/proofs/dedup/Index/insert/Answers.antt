@@ -1,6 +1,7 @@
 use Rattle.std.proofs.Common.{ap, ◌∙◌}
 use Rattle.string_interner.proofs.Lemmas.Index.Vacancy.{by_code_IsVacant}
-use Rattle.string_interner.proofs.Lemmas.Index.EntryText.{entry_text-IsPlace, text_of-resolved}
+use Rattle.string_interner.specs.EntryLaws.{entry_text-IsPlace}
+use Rattle.string_interner.proofs.Lemmas.Index.EntryText.{text_of-resolved}
 use Rattle.string_interner.proofs.dedup.Index.insert.Goals as goal
 
 pub resolve_unchecked-text-requires : goal.resolve_unchecked-text-requires

@@ -1,6 +1,5 @@
 use Rattle.std.proofs.Common.{arith, inr}
-use Rattle.string_interner.proofs.Lemmas.Index.SlotCount.{count_small}
-use Rattle.string_interner.specs.IndexLaws.{least_more}
+use Rattle.string_interner.specs.IndexLaws.{count_small, least_more}
 use Rattle.string_interner.proofs.dedup.growing.least_slot_count.Goals as goal
 
 pub loop-count-preserved : goal.loop-count-preserved

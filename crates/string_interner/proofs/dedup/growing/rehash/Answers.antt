@@ -4,7 +4,8 @@ use Rattle.std.proofs.lemmas.List.{length-replicate}
 use Rattle.string_interner.specs.Index.{IsSlotCount}
 use Rattle.string_interner.proofs.Lemmas.Index.Inserts.{puts_at}
 use Rattle.string_interner.proofs.Lemmas.Index.LookUp.{FillsSlot-length}
-use Rattle.string_interner.proofs.Lemmas.Index.EntryText.{entry_text-IsPlace, text_of-resolved}
+use Rattle.string_interner.specs.EntryLaws.{entry_text-IsPlace}
+use Rattle.string_interner.proofs.Lemmas.Index.EntryText.{text_of-resolved}
 use Rattle.string_interner.proofs.Lemmas.Index.Rebuilt.{slot_entry, Rebuilt-start, skipped, placed_again, has_free}
 use Rattle.string_interner.proofs.dedup.growing.rehash.Goals as goal
 use Rattle.string_interner.proofs.dedup.growing.rehash.Goals.{in-Some, in_default}

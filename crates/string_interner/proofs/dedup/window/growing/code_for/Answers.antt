@@ -2,7 +2,8 @@ use Rattle.std.proofs.Common.{◌%◌, ap, ◌∙◌}
 use Rattle.string_interner.specs.Entry.{entry_text}
 use Rattle.string_interner.specs.Index.{text_of}
 use Rattle.string_interner.specs.Window.{kept_code}
-use Rattle.string_interner.proofs.Lemmas.Index.EntryText.{entry_text-IsPlace, text_of-resolved}
+use Rattle.string_interner.specs.EntryLaws.{entry_text-IsPlace}
+use Rattle.string_interner.proofs.Lemmas.Index.EntryText.{text_of-resolved}
 use Rattle.string_interner.proofs.Lemmas.Index.Inserts.{text_of_is}
 use Rattle.string_interner.proofs.Lemmas.WindowIndex.KeptCode.{kept_code-home}
 use Rattle.string_interner.proofs.dedup.window.growing.code_for.Goals as goal

@@ -1,7 +1,7 @@
 use Rattle.std.proofs.Common.{◌≡◌, suc, ◌*◌, ◌^◌, arith, inr}
 use Rattle.std.proofs.Math.Nat.{pow-succ'}
 use Rattle.std.proofs.lemmas.Nat.{pow_pos}
-use Rattle.string_interner.proofs.Lemmas.Index.SlotCount.{count_small}
+use Rattle.string_interner.specs.IndexLaws.{count_small}
 use Rattle.string_interner.specs.WindowLaws.{grown-le}
 use Rattle.string_interner.proofs.dedup.window.growing.least_slot_count.Goals as goal
 

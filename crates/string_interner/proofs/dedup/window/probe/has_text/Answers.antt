@@ -1,5 +1,6 @@
 use Rattle.std.proofs.Common.{◌∙◌}
-use Rattle.string_interner.proofs.Lemmas.Index.EntryText.{entry_text-IsPlace, has_text-resolved}
+use Rattle.string_interner.specs.EntryLaws.{entry_text-IsPlace}
+use Rattle.string_interner.proofs.Lemmas.Index.EntryText.{has_text-resolved}
 use Rattle.string_interner.proofs.dedup.window.probe.has_text.Goals as goal
 
 pub resolve_unchecked-requires : goal.resolve_unchecked-requires

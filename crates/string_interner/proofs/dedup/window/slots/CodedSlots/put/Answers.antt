@@ -1,32 +1,49 @@
-use Rattle.std.proofs.Common.{sym, subst, ◌≡◌, None, Some, true, length, get_or, set, arith, ap, ◌∙◌}
-use Rattle.std.specs.Option.{is_some}
+use Rattle.std.proofs.Common.{◌≡◌, None, Some, refl, sym, subst, length, get_or, set, arith, ap, ◌∙◌}
 use Rattle.string_interner.specs.Probe.{Follows}
 use Rattle.string_interner.specs.Window.{kept_code}
-use Rattle.string_interner.proofs.Lemmas.Index.Walked.{free_at, passes, comes_to_empty, empty_from}
+use Rattle.string_interner.proofs.Lemmas.Index.Walked.{Walked-start, empty_from, some_from}
 use Rattle.string_interner.proofs.Lemmas.WindowIndex.IsCoded.{FillsCoded-free}
+use Rattle.string_interner.proofs.Lemmas.WindowIndex.Stands.{none_tells, Stands-ends, Stands-free, Stands-missed, Stands-reached, Stands-round}
 use Rattle.string_interner.proofs.dedup.window.slots.CodedSlots.put.Goals as goal
+use Rattle.string_interner.proofs.dedup.window.slots.CodedSlots.put.Goals.{then-reached-count, else-reached-count+else-is_none}
+
+pub loop-step-init : goal.loop-step-init
+loop-step-init g c = record {
+  stands = record { passed = 0; walked = Walked-start _ _ _ c.requires.home; steps_le = omega arith };
+  same = refl;
+}
 
 pub returns-then-is_none : goal.returns-then-is_none
 returns-then-is_none g c =
-    let inv = c.loop-step.invariant in let slots = c.args.self.now.slots in let same = inv.same in
-    let n : c.len-count.result ≡ length slots = c.len-count.ensures in
-    let e = ap (λ x. get_or x.slots c.loop-step.at None) (sym same) ∙ sym c.symbol_at.ensures ∙ empty_from c.symbol_at.result c.if-is_none.ensures in
-    FillsCoded-free c.args.self.now c.set.new.self c.args.home c.loop-step.at c.args.symbol c.args.code
-    (free_at slots _ c.requires.home _ _ _ inv.walked (omega arith) e)
-    (c.set.ensures.slots ∙ ap (λ x. set x.slots c.loop-step.at (Some c.args.symbol)) same)
-    (c.set.ensures.codes ∙ ap (λ x. set x.codes c.loop-step.at (kept_code c.args.code)) same)
+    let inv = c.loop-step.invariant in let window = c.args.self.now in let same = inv.same in
+    let n : c.len-count.result ≡ length window.slots = c.len-count.ensures in let m = ap (λ x. length x.slots) same in
+    let passed = rw same at c.pass-reached.ensures.passed in
+    let e = ap (λ x. get_or x.slots c.pass-reached.result None) (sym same) ∙ sym c.symbol_at.ensures ∙ empty_from c.symbol_at.result c.if-is_none.ensures in
+    let s = Stands-reached _ window 0 _ c.requires.home c.requires.free (none_tells window 0) _ _ inv.stands c.pass-reached.result c.pass-reached.ensures.from (omega arith) passed in
+    FillsCoded-free window c.set.new.self c.args.home c.pass-reached.result c.args.symbol c.args.code
+    (Stands-free _ window 0 _ c.requires.home c.requires.free (none_tells window 0) _ _ s e)
+    (c.set.ensures.slots ∙ ap (λ x. set x.slots c.pass-reached.result (Some c.args.symbol)) same)
+    (c.set.ensures.codes ∙ ap (λ x. set x.codes c.pass-reached.result (kept_code c.args.code)) same)
     (ap (λ x. length x.codes) (sym same) ∙ c.set.ensures.counted ∙ ap (λ x. length x.slots) same)
 
 pub loop-step-preserved : goal.loop-step-preserved
 loop-step-preserved g c =
-    let inv = c.loop-step.invariant in let slots = c.args.self.now.slots in
-    let after : Follows (length slots) c.loop-step.at c.slot_after-at.result = subst (λ n. Follows n c.loop-step.at c.slot_after-at.result) c.len-count.ensures c.slot_after-at.ensures in
-    let n : c.len-count.result ≡ length slots = c.len-count.ensures in
-    let e : is_some (get_or slots c.loop-step.at None) ≡ true =
-    ap is_some (ap (λ x. get_or x.slots c.loop-step.at None) (sym inv.same) ∙ sym c.symbol_at.ensures) ∙ c.if-is_none.ensures in
-    record { walked = passes slots _ c.requires.home _ _ _ inv.walked (omega arith) e after.within after.one_on; same = inv.same }
+    let inv = c.loop-step.invariant in let window = c.args.self.now in let same = inv.same in
+    let n : c.len-count.result ≡ length window.slots = c.len-count.ensures in let m = ap (λ x. length x.slots) same in
+    let passed = rw same at c.pass-reached.ensures.passed in
+    record {
+      stands = elim c.if-reached-count.branch [
+        | then-reached-count w ↦ rw w.at-is (Stands-round _ window 0 _ c.requires.home c.requires.free (none_tells window 0) _ _ inv.stands (λ k a b. passed k a (omega arith)))
+        | else-reached-count+else-is_none w ↦
+            let s = Stands-reached _ window 0 _ c.requires.home c.requires.free (none_tells window 0) _ _ inv.stands c.pass-reached.result c.pass-reached.ensures.from (omega arith) passed in
+            let after : Follows (length window.slots) c.pass-reached.result w.slot_after-at.result = subst (λ n. Follows n c.pass-reached.result w.slot_after-at.result) c.len-count.ensures w.slot_after-at.ensures in
+            let here = some_from w.symbol_at.result w.if-is_none.ensures in
+            rw w.at-is (Stands-missed _ window 0 _ c.requires.home c.requires.free (none_tells window 0) _ _ s here.0 _ (ap (λ x. get_or x.slots c.pass-reached.result None) (sym same) ∙ sym w.symbol_at.ensures ∙ here.1) refl after.within after.one_on)
+      ];
+      same = inv.same;
+    }
 
 pub returns : goal.returns
 returns g c =
     let inv = c.loop-step.invariant in let n : c.len-count.result ≡ length c.args.self.now.slots = c.len-count.ensures in
-    absurd (comes_to_empty c.args.self.now.slots _ c.requires.home _ _ inv.walked (omega arith) c.requires.free)
+    absurd (Stands-ends _ c.args.self.now _ _ c.requires.home c.requires.free (none_tells c.args.self.now 0) _ _ inv.stands (omega arith))
