@@ -97,6 +97,7 @@ impl AnyInterner {
     }
 
     /// Returns the number of a text, if it is known.
+    #[inline(always)]
     pub fn get(&self, text: &str) -> Option<usize>
         ensures { FindsNumber self.now text.now result }
     {
@@ -125,6 +126,10 @@ impl AnyInterner {
     }
 
     /// Returns the text at a number, if one is read there.
+    ///
+    /// Inlined, so that the text goes to the caller's memory at once: through memory between, a load of its pointer and its
+    /// length together waits for both to be written.
+    #[inline(always)]
     pub fn resolve(&self, number: usize) -> Option<&str>
         ensures { option_copied result ≡ text_at self.now number }
     {
