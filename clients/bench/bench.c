@@ -105,12 +105,14 @@ static double time_native(const struct row *row, size_t rounds, size_t *sum) {
   return now() - from;
 }
 
-/* Times a row, and returns whether C costs no more than it may. The library's loop is what twice as many rounds take more. */
+/* Times a row, and returns whether C costs no more than it may. A loop is what twice as many rounds take more: so neither
+ * making the library's interner counts, nor what the other side has put out of the processor's caches. */
 static bool run(const struct row *row, si_interner *h) {
   size_t rounds = count < CALLS_OF_A_RUN ? CALLS_OF_A_RUN / count : 1, sum, native_sum, i;
-  double by_c = 1e18, once = 1e18, twice = 1e18, calls = (double)(rounds * count), native;
+  double once_by_c = 1e18, twice_by_c = 1e18, once = 1e18, twice = 1e18, calls = (double)(rounds * count), by_c, native;
   for (i = 0; i < CALLS / (rounds * count); i++) {
-    by_c = least(by_c, time_by_c(row, h, rounds, &sum));
+    twice_by_c = least(twice_by_c, time_by_c(row, h, 2 * rounds, &sum));
+    once_by_c = least(once_by_c, time_by_c(row, h, rounds, &sum));
     twice = least(twice, time_native(row, 2 * rounds, &native_sum));
     once = least(once, time_native(row, rounds, &native_sum));
     if (sum != native_sum) {
@@ -118,7 +120,7 @@ static bool run(const struct row *row, si_interner *h) {
       return false;
     }
   }
-  by_c /= calls;
+  by_c = (twice_by_c - once_by_c) / calls;
   native = (twice - once) / calls;
   printf("%7zu texts, %-35s %5.1f ns, through C %5.1f, more by %4.1f\n", count, row->name, native, by_c, by_c - native);
   return !row->is_held || by_c - native <= ALLOWED;
