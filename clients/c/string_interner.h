@@ -21,11 +21,11 @@
  *   4. One call at a time on a handle. It may be used by another thread later, if a lock, or a thread's start or end, comes
  *      between. Different handles need no care: there is nothing that they share.
  *   5. A text that si_resolve or si_entries lent is not read after the next call that may change its handle. Those that
- *      only read leave it: si_len, si_get, si_contains, si_resolve, si_copy, si_entries, si_equal, si_to_json, and si_clone
- *      of the handle that is copied.
+ *      only read leave it: si_len, si_get, si_get_utf8, si_contains, si_resolve, si_copy, si_entries, si_equal,
+ *      si_to_json, and si_clone of the handle that is copied.
  *   6. malloc, realloc and free are of one allocator, and align as C says. No call is made from a signal handler, or in the
  *      child of a fork of a process with more than one thread.
- *   7. Of si_get_or_intern_utf8 alone: the bytes are UTF-8.
+ *   7. Of si_get_or_intern_utf8 and si_get_utf8 alone: the bytes are UTF-8.
  *   8. Of si_get_or_intern_static alone: the bytes stay, unchanged, as long as the process runs.
  *
  * What is looked at, and needs no care: bytes that are not UTF-8, ends that fall or pass the bytes, a handle that is not
@@ -125,6 +125,9 @@ uint32_t si_intern_all(si_interner *h, const uint8_t *bytes, size_t bytes_len, c
  * SI_OK; or `number` stays as it was: SI_BAD_TEXT, SI_NOTHING, SI_CLOSED. */
 uint32_t si_get(si_interner *h, const uint8_t *text, size_t text_len, size_t *number);
 
+/* The same, where the caller owes that the bytes are UTF-8, which is not looked at. */
+uint32_t si_get_utf8(si_interner *h, const uint8_t *text, size_t text_len, size_t *number);
+
 /* Reports whether the handle is open and the text known. */
 bool si_contains(si_interner *h, const uint8_t *text, size_t text_len);
 
@@ -150,6 +153,7 @@ uint32_t si_truncate(si_interner *h, size_t len);
 uint32_t si_shrink(si_interner *h);
 
 /* Opens `copy` on an interner of the same kind with the same texts under the same numbers, and frees what it held before.
+ * Hashes no text.
  * SI_OK; or `copy` stays as it was: SI_NO_MEMORY, SI_CLOSED. */
 uint32_t si_clone(si_interner *h, si_interner *copy);
 

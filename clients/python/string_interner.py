@@ -72,7 +72,7 @@ def _declare(lib: ctypes.CDLL) -> None:
         "si_len": (size, (handle,)),
         "si_get_or_intern_utf8": (code, (handle, *text, to_size)),
         "si_intern_all": (code, (handle, *text, *many, *many, to_size)),
-        "si_get": (code, (handle, *text, to_size)),
+        "si_get_utf8": (code, (handle, *text, to_size)),
         "si_contains": (ctypes.c_bool, (handle, *text)),
         "si_copy": (code, (handle, size, *room, to_size)),
         "si_entries": (code, (handle, *many, to_size)),
@@ -204,7 +204,7 @@ class Interner:
         """Returns the number of a text, or None if it is not known."""
         raw, number = text.encode(), ctypes.c_size_t()
         with self._lock:
-            status = _lib.si_get(self._at, raw, len(raw), ctypes.byref(number))
+            status = _lib.si_get_utf8(self._at, raw, len(raw), ctypes.byref(number))
         return number.value if status == _OK else None
 
     def resolve(self, number: int) -> str | None:

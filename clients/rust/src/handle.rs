@@ -97,30 +97,32 @@ impl Handle {
     #[inline]
     pub fn get(&self, text: &str) -> Option<usize> {
         if self.has_lent.get() {
-            self.get_copy(text.as_bytes())
+            self.get_copy(text)
         } else {
-            self.get_foreign(text.as_bytes())
+            self.get_foreign(text)
         }
     }
 
     /// Looks for a text that this handle may have lent. Rule 3 forbids to hand it back, so a copy of it is looked for.
-    fn get_copy(&self, text: &[u8]) -> Option<usize> {
+    fn get_copy(&self, text: &str) -> Option<usize> {
         let mut short = [0; 64];
         match short.get_mut(..text.len()) {
             Some(copy) => {
-                copy.copy_from_slice(text);
-                self.get_foreign(copy)
+                copy.copy_from_slice(text.as_bytes());
+                // SAFETY: these are the bytes of a `&str`.
+                self.get_foreign(unsafe { str::from_utf8_unchecked(copy) })
             }
-            None => self.get_foreign(&text.to_vec()),
+            None => self.get_foreign(&text.to_owned()),
         }
     }
 
     /// Looks for a text that this handle did not lend.
     #[inline]
-    fn get_foreign(&self, text: &[u8]) -> Option<usize> {
+    fn get_foreign(&self, text: &str) -> Option<usize> {
         let mut number = 0;
-        // SAFETY: rules 1 to 4. The call leaves what was lent (5).
-        let status = unsafe { sys::si_get(self.raw.get(), text.as_ptr(), text.len(), &mut number) };
+        // SAFETY: rules 1 to 4. The call leaves what was lent (5), and the text is UTF-8 (7).
+        let status =
+            unsafe { sys::si_get_utf8(self.raw.get(), text.as_ptr(), text.len(), &mut number) };
         told(status, number).ok()
     }
 

@@ -67,8 +67,12 @@ extern "C" {
         text_len: usize,
         number: *mut usize,
     ) -> u32;
-    pub fn si_get(h: *mut si_interner, text: *const u8, text_len: usize, number: *mut usize)
-        -> u32;
+    pub fn si_get_utf8(
+        h: *mut si_interner,
+        text: *const u8,
+        text_len: usize,
+        number: *mut usize,
+    ) -> u32;
     pub fn si_resolve(h: *mut si_interner, number: usize, text: *mut si_text) -> u32;
     pub fn si_entries(
         h: *mut si_interner,

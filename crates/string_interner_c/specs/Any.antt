@@ -9,7 +9,7 @@ use Rattle.string_interner.specs.Json.{json_of_texts, ReadsArray, ReadsArrayExac
 use Rattle.serde_json.specs.Data.{Data}
 use Rattle.string_interner.specs.declared.backend.InternError.{InternError}
 use Rattle.string_interner.specs.declared.json.JsonError.{JsonError}
-use Rattle.string_interner_c.specs.Kind.{numbered, place_in, read_in, cost_in, grant_in}
+use Rattle.string_interner_c.specs.Kind.{numbered, place_in, read_in, cost_in, grant_in, copies_in}
 use Rattle.string_interner_c.specs.declared.kind.Kind.{Kind}
 use Rattle.string_interner_c.specs.declared.kind.Kind.TheVariants as kind
 use Rattle.string_interner_c.specs.declared.any.AnyInterner.{AnyInterner}
@@ -63,11 +63,21 @@ pub record KeepsFirst (len : ℕ) (old new : AnyInterner) : Type 0 where
   pub memory : KeepsMemory (contents old) (contents new)
   pub keeps : KeepsSymbols numbered (place old) (take len (texts_in old)) (texts_in new)
 
--- the other has the same kind and the same texts, each with its number
-pub record IsSame (any other : AnyInterner) : Type 0 where
-  pub kind : kind_of other ≡ kind_of any
-  pub texts : texts_in other ≡ texts_in any
-  pub keeps : KeepsSymbols numbered (place any) (texts_in any) (texts_in other)
+-- the texts stay, with their numbers, and so do buckets and slots
+pub record IsShrunk (old new : AnyInterner) : Type 0 where
+  pub kind : kind_of new ≡ kind_of old
+  pub texts : texts_in new ≡ texts_in old
+  pub buckets : (contents new).buckets ≡ (contents old).buckets
+  pub slots : (contents new).slot_count ≡ (contents old).slot_count
+  pub keeps : KeepsSymbols numbered (place old) (texts_in old) (texts_in new)
+
+-- the copy has the same kind and the same texts, each with its number, as many slots, and the buckets of a copy
+pub record IsCopy (any copy : AnyInterner) : Type 0 where
+  pub kind : kind_of copy ≡ kind_of any
+  pub texts : texts_in copy ≡ texts_in any
+  pub buckets : copies_in (kind_of any) (texts_in any) (contents any).buckets (contents copy).buckets
+  pub slots : (contents copy).slot_count ≡ (contents any).slot_count
+  pub keeps : KeepsSymbols numbered (place any) (texts_in any) (texts_in copy)
 
 abbrev pub same_kind : Kind → Kind → Bool
 same_kind kind.String kind.String = true

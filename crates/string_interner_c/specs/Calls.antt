@@ -14,7 +14,7 @@ use Rattle.string_interner.specs.Text.{Text, first}
 use Rattle.string_interner.specs.Json.{json_of_texts}
 use Rattle.string_interner.specs.declared.backend.InternError.TheVariants.{NoSymbol as InternNoSymbol, Memory}
 use Rattle.string_interner.specs.declared.json.JsonError.{JsonError}
-use Rattle.string_interner_c.specs.Any.{FindsNumber, Interned, IsEmpty, IsMade, IsSame, KeepsFirst, ReadsAs, ReadsAsExactly, kind_of, text_at, texts_in}
+use Rattle.string_interner_c.specs.Any.{FindsNumber, Interned, IsCopy, IsEmpty, IsMade, IsShrunk, KeepsFirst, ReadsAs, ReadsAsExactly, kind_of, text_at, texts_in}
 use Rattle.string_interner_c.specs.Kind.{code_of_kind}
 use Rattle.string_interner_c.specs.Status.{Tells, code_of_done, status_of_json}
 use Rattle.string_interner_c.specs.declared.kind.Kind.{Kind}
@@ -79,7 +79,7 @@ MakesRoom code capacity (Err _) = ⊥
 
 -- A copy is made, or memory is refused.
 abbrev pub Copies : AnyInterner → Result AnyInterner Status → Type 0
-Copies any (Ok copy) = IsSame any copy
+Copies any (Ok copy) = IsCopy any copy
 Copies any (Err NoMemory) = ⊤
 Copies any (Err _) = ⊥
 
@@ -100,18 +100,19 @@ InternsText text old (Err _) new = ⊥
 
 -- Bytes are interned: as a text is, or they are none.
 abbrev pub InternsBytes : List ℕ → AnyInterner → Result ℕ Status → AnyInterner → Type 0
-InternsBytes bytes old (Ok number) new = IsUtf8 bytes × Interned old bytes (Ok number) new
-InternsBytes bytes old (Err NoSymbol) new = IsUtf8 bytes × Interned old bytes (Err InternNoSymbol) new
-InternsBytes bytes old (Err NoMemory) new = IsUtf8 bytes × Interned old bytes (Err (Memory alloc_error)) new
 InternsBytes bytes old (Err BadText) new = ¬ IsUtf8 bytes × (new ≡ old)
-InternsBytes bytes old (Err _) new = ⊥
+InternsBytes bytes old outcome new = IsUtf8 bytes × InternsText bytes old outcome new
 
--- Bytes are looked for: they have a number, or none, or are no text.
+-- A text is looked for: it has a number, or none.
+abbrev pub FindsText : Text → AnyInterner → Result ℕ Status → Type 0
+FindsText text any (Ok number) = FindsNumber any text (Some number)
+FindsText text any (Err Nothing) = FindsNumber any text None
+FindsText text any (Err _) = ⊥
+
+-- Bytes are looked for: as a text is, or they are none.
 abbrev pub FindsBytes : List ℕ → AnyInterner → Result ℕ Status → Type 0
-FindsBytes bytes any (Ok number) = IsUtf8 bytes × FindsNumber any bytes (Some number)
-FindsBytes bytes any (Err Nothing) = IsUtf8 bytes × FindsNumber any bytes None
 FindsBytes bytes any (Err BadText) = ¬ IsUtf8 bytes
-FindsBytes bytes any (Err _) = ⊥
+FindsBytes bytes any outcome = IsUtf8 bytes × FindsText bytes any outcome
 
 -- A number is resolved: to the text that is read there, or to nothing.
 abbrev pub ResolvesNumber : ℕ → AnyInterner → Result LentText Status → Type 0
@@ -143,7 +144,7 @@ Truncates len old (Err _) new = ⊥
 
 -- Memory is given back.
 abbrev pub Shrinks : AnyInterner → Result (Unit {0}) Status → AnyInterner → Type 0
-Shrinks old (Ok _) new = IsSame old new
+Shrinks old (Ok _) new = IsShrunk old new
 Shrinks old (Err _) new = ⊥
 
 -- ---- JSON
@@ -173,12 +174,12 @@ abbrev pub ReadsValue : (Kind → Data → Result AnyInterner JsonError → Type
 ReadsValue reads code bytes outcome = (kind : Kind) × (code_of_kind kind ≡ code)
     × (value : Data) × IsUtf8 bytes × (json_read bytes ≡ Some value) × reads kind value outcome
 
--- Why no interner is made of bytes: no kind has this code, the bytes are no JSON text, memory is refused, or their value is
--- not read.
+-- Why no interner is made of bytes: no kind has this code; or one has, and the bytes are no JSON text, memory is refused, or
+-- their value is not read.
 pub data RefusesJson (reads : Kind → Data → Result AnyInterner JsonError → Type 0) (code : ℕ) (bytes : List ℕ) : Status → Type 0 where
   no_kind : ((kind : Kind) → ¬ (code_of_kind kind ≡ code)) → RefusesJson reads code bytes BadKind
-  no_json : (IsUtf8 bytes → json_read bytes ≡ None) → RefusesJson reads code bytes BadText
-  no_memory : RefusesJson reads code bytes NoMemory
+  no_json : (kind : Kind) → code_of_kind kind ≡ code → (IsUtf8 bytes → json_read bytes ≡ None) → RefusesJson reads code bytes BadText
+  no_memory : (kind : Kind) → code_of_kind kind ≡ code → RefusesJson reads code bytes NoMemory
   not_read : (error : JsonError) → ReadsValue reads code bytes (Err error) → RefusesJson reads code bytes (status_of_json error)
 
 -- A JSON text is read into an interner of the kind with this code.

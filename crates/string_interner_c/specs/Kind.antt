@@ -1,7 +1,9 @@
 -- The kinds of interner: their codes in C, and what each means for the numbers of texts.
 -- Cited by `Kind` and by all that speaks of an interner of any kind.
-use Rattle.std.specs.Prelude.{ℕ, ◌-◌, ◌*◌, ◌^◌, List, length, slice_get, max, Option}
+use Rattle.std.specs.Prelude.{◌≡◌, ℕ, ◌-◌, ◌*◌, ◌^◌, List, [], length, slice_get, max, Option}
 use Rattle.string_interner.specs.Text.{Text}
+use Rattle.string_interner.specs.Backend.{Bucket as BucketOfBytes}
+use Rattle.string_interner.specs.BucketBackend.{CopiesBuckets}
 use Rattle.string_interner.specs.Symbol.{number_below}
 use Rattle.string_interner.specs.BufferBackend.{entry_len, place_of, read_at}
 use Rattle.string_interner_c.specs.declared.kind.Kind.{Kind}
@@ -40,3 +42,9 @@ abbrev pub grant_in : Kind → ℕ → ℕ
 grant_in String capacity = 5 * capacity
 grant_in Bucket capacity = capacity
 grant_in Buffer capacity = 13 * capacity
+
+-- what the buckets of a copy are, by the texts and the buckets that are copied
+abbrev pub copies_in : Kind → List Text → List BucketOfBytes → List BucketOfBytes → Type 0
+copies_in String texts old copy = copy ≡ []
+copies_in Bucket texts old copy = CopiesBuckets texts old copy
+copies_in Buffer texts old copy = copy ≡ []

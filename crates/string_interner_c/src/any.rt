@@ -5,7 +5,7 @@ ghost use Rattle.std.specs.Option.{option_copied};
 ghost use Rattle.serde_json.specs.View.{view};
 ghost use Rattle.string_interner.specs.Text.{first};
 ghost use Rattle.string_interner.specs.Json.{json_of_texts};
-ghost use Rattle.string_interner_c.specs.Any.{FindsNumber, Interned, IsEmpty, IsMade, IsSame, KeepsFirst, ReadsAs, ReadsAsExactly, any_eq, text_at, texts_in};
+ghost use Rattle.string_interner_c.specs.Any.{FindsNumber, Interned, IsCopy, IsEmpty, IsMade, IsShrunk, KeepsFirst, ReadsAs, ReadsAsExactly, any_eq, text_at, texts_in};
 
 mod encode;
 mod entries;
@@ -97,6 +97,7 @@ impl AnyInterner {
     }
 
     /// Returns the number of a text, if it is known.
+    #[inline(always)]
     pub fn get(&self, text: &str) -> Option<usize>
         ensures { FindsNumber self.now text.now result }
     {
@@ -125,6 +126,10 @@ impl AnyInterner {
     }
 
     /// Returns the text at a number, if one is read there.
+    ///
+    /// Inlined, so that the text goes to the caller's memory at once: through memory between, a load of its pointer and its
+    /// length together waits for both to be written.
+    #[inline(always)]
     pub fn resolve(&self, number: usize) -> Option<&str>
         ensures { option_copied result ≡ text_at self.now number }
     {
@@ -141,14 +146,14 @@ impl AnyInterner {
 
     /// Releases memory that no text needs, if it can.
     pub fn shrink_to_fit(&mut self)
-        ensures { IsSame self.old self.new }
+        ensures { IsShrunk self.old self.new }
     {
         each!(self, interner => interner.shrink_to_fit())
     }
 
-    /// Makes a copy: an interner of the same kind with the same texts under the same numbers.
+    /// Makes a copy: an interner of the same kind with the same texts under the same numbers, and as many slots.
     pub fn try_clone(&self) -> Result<AnyInterner, AllocError>
-        ensures { IfOk result (IsSame self.now) }
+        ensures { IfOk result (IsCopy self.now) }
     {
         Ok(match self {
             AnyInterner::String(interner) => AnyInterner::String(interner.try_copy()?),

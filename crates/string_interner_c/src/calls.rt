@@ -3,16 +3,26 @@
 ghost use Rattle.std.specs.Prelude.{◌≡◌, ◌↔◌, ◌&&◌, IsFalse, IsTrue, IsSome, length, Result};
 ghost use Rattle.std.specs.Str.{IsUtf8};
 ghost use Rattle.string_interner.specs.Text.{first};
-ghost use Rattle.string_interner_c.specs.Any.{ReadsAs, ReadsAsExactly, any_eq, texts_in};
-ghost use Rattle.string_interner_c.specs.Calls.{Copies, CopiesOut, CopiesText, FindsBytes, InternsBytes, InternsText, IsJsonOf, IsValueOf, Kept, MakesNew, MakesRoom, OpensMade, Opens, Reads, ReadsJson, ResolvesNumber, Shrinks, Through, Truncates, WritesJson};
+ghost use Rattle.string_interner_c.specs.Any.{any_eq, texts_in};
+ghost use Rattle.string_interner_c.specs.Calls.{Copies, CopiesOut, CopiesText, FindsBytes, FindsText, InternsBytes, InternsText, Kept, MakesNew, MakesRoom, OpensMade, Opens, Reads, ResolvesNumber, Shrinks, Through, Truncates};
 ghost use Rattle.string_interner_c.specs.Encode.{InternsParts, ListsEntries};
+
+/// Ends the call that this stands in where the handle is closed, and tells that.
+macro_rules! must_be_open {
+    ($handle:expr) => {
+        if !$handle.is_open() {
+            return Err(Status::Closed);
+        }
+    };
+}
+
+pub mod json;
 
 use crate::any::AnyInterner;
 use crate::handle::Handle;
 use crate::kind::Kind;
 use crate::status::Status;
 use crate::text::{Entry, Text, text_of};
-use serde_json::Value;
 use std::alloc::Global;
 
 /// Returns the number of texts: none of a closed handle.
@@ -28,9 +38,7 @@ pub fn len(h: &mut Handle) -> usize
 pub fn get_or_intern(h: &mut Handle, text: &str) -> Result<usize, Status>
     ensures { Through (InternsText text.now) h.old result h.new }
 {
-    if !h.is_open() {
-        return Err(Status::Closed);
-    }
+    must_be_open!(h);
     let number = h.interner().get_or_intern(text)?;
     Ok(number)
 }
@@ -39,22 +47,30 @@ pub fn get_or_intern(h: &mut Handle, text: &str) -> Result<usize, Status>
 pub fn get_or_intern_bytes(h: &mut Handle, bytes: &[u8]) -> Result<usize, Status>
     ensures { Through (InternsBytes bytes.now) h.old result h.new }
 {
-    if !h.is_open() {
-        return Err(Status::Closed);
-    }
+    must_be_open!(h);
     let text = text_of(bytes)?;
     let number = h.interner().get_or_intern(text)?;
     Ok(number)
 }
 
+/// Returns the number of a text, if it is known.
+pub fn get(h: &mut Handle, text: &str) -> Result<usize, Status>
+    ensures found { Reads (FindsText text.now) h.old result }
+    ensures same { Kept h.old h.new }
+{
+    must_be_open!(h);
+    match h.interner().get(text) {
+        Some(number) => Ok(number),
+        None => Err(Status::Nothing),
+    }
+}
+
 /// Returns the number of the bytes, if they are a known text.
-pub fn get(h: &mut Handle, bytes: &[u8]) -> Result<usize, Status>
+pub fn get_bytes(h: &mut Handle, bytes: &[u8]) -> Result<usize, Status>
     ensures found { Reads (FindsBytes bytes.now) h.old result }
     ensures same { Kept h.old h.new }
 {
-    if !h.is_open() {
-        return Err(Status::Closed);
-    }
+    must_be_open!(h);
     let text = text_of(bytes)?;
     match h.interner().get(text) {
         Some(number) => Ok(number),
@@ -66,9 +82,7 @@ pub fn get(h: &mut Handle, bytes: &[u8]) -> Result<usize, Status>
 pub fn get_or_intern_static(h: &mut Handle, bytes: &'static [u8]) -> Result<usize, Status>
     ensures { Through (InternsBytes bytes.now) h.old result h.new }
 {
-    if !h.is_open() {
-        return Err(Status::Closed);
-    }
+    must_be_open!(h);
     let text = text_of(bytes)?;
     let number = h.interner().get_or_intern_static(text)?;
     Ok(number)
@@ -93,9 +107,7 @@ pub fn contains(h: &mut Handle, bytes: &[u8]) -> bool
 pub fn truncate(h: &mut Handle, len: usize) -> Result<(), Status>
     ensures { Through (Truncates len) h.old result h.new }
 {
-    if !h.is_open() {
-        return Err(Status::Closed);
-    }
+    must_be_open!(h);
     h.interner().truncate(len);
     Ok(())
 }
@@ -104,9 +116,7 @@ pub fn truncate(h: &mut Handle, len: usize) -> Result<(), Status>
 pub fn shrink_to_fit(h: &mut Handle) -> Result<(), Status>
     ensures { Through Shrinks h.old result h.new }
 {
-    if !h.is_open() {
-        return Err(Status::Closed);
-    }
+    must_be_open!(h);
     h.interner().shrink_to_fit();
     Ok(())
 }
@@ -115,9 +125,7 @@ pub fn shrink_to_fit(h: &mut Handle) -> Result<(), Status>
 pub fn resolve<'a>(h: &'a mut Handle, number: usize) -> Result<Text<'a>, Status>
     ensures { Reads (ResolvesNumber number) h.old result }
 {
-    if !h.is_open() {
-        return Err(Status::Closed);
-    }
+    must_be_open!(h);
     match h.interner().resolve(number) {
         Some(text) => Ok(Text {
             bytes: text.as_bytes(),
@@ -144,9 +152,7 @@ pub fn copy(h: &mut Handle, number: usize, room: &mut [u8], len: &mut usize) -> 
     ensures closed { IsFalse h.old.opened → (room.new ≡ room.old) × (len.new ≡ len.old) }
     ensures same { Kept h.old h.new }
 {
-    if !h.is_open() {
-        return Err(Status::Closed);
-    }
+    must_be_open!(h);
     match h.interner().resolve(number) {
         Some(text) => copy_out(text.as_bytes(), room, len),
         None => Err(Status::Nothing),
@@ -216,9 +222,7 @@ fn cloned(h: &mut Handle) -> Result<AnyInterner, Status>
     ensures copies { Reads Copies h.old result }
     ensures same { Kept h.old h.new }
 {
-    if !h.is_open() {
-        return Err(Status::Closed);
-    }
+    must_be_open!(h);
     match h.interner().try_clone() {
         Ok(copy) => Ok(copy),
         Err(_) => Err(Status::NoMemory),
@@ -249,100 +253,6 @@ pub fn equal(h: &mut Handle, other: &mut Handle) -> bool
     h.interner().equals(other.interner())
 }
 
-/// Returns the JSON array of the texts of a handle.
-fn json_of(alloc: Global, h: &mut Handle) -> Result<Vec<u8>, Status>
-    ensures json { Reads IsJsonOf h.old result }
-    ensures same { Kept h.old h.new }
-{
-    if !h.is_open() {
-        return Err(Status::Closed);
-    }
-    let Ok(value) = h.interner().to_json(alloc) else {
-        return Err(Status::NoMemory);
-    };
-    match value.to_vec(alloc) {
-        Ok(bytes) => Ok(bytes),
-        Err(_) => Err(Status::NoMemory),
-    }
-}
-
-/// Copies the JSON array of the texts to a room.
-pub fn to_json(
-    alloc: Global,
-    h: &mut Handle,
-    room: &mut [u8],
-    len: &mut usize,
-) -> Result<(), Status>
-    ensures writes { Reads (λ any outcome. WritesJson any outcome room.old room.new len.old len.new) h.old result }
-    ensures closed { IsFalse h.old.opened → (room.new ≡ room.old) × (len.new ≡ len.old) }
-    ensures same { Kept h.old h.new }
-{
-    match json_of(alloc, h) {
-        Ok(bytes) => copy_out(&bytes, room, len),
-        Err(status) => Err(status),
-    }
-}
-
-/// Returns the JSON value that the bytes are.
-fn value_of(alloc: Global, bytes: &[u8]) -> Result<Value, Status>
-    ensures { IsValueOf bytes.now result }
-{
-    match Value::from_slice(alloc, bytes) {
-        Ok(value) => Ok(value),
-        Err(error) => {
-            if error.is_memory() {
-                Err(Status::NoMemory)
-            } else {
-                Err(Status::BadText)
-            }
-        }
-    }
-}
-
-/// Makes an interner of the kind with this code from a JSON array of strings.
-#[tactic(auto, using(crate::proofs::Lemmas::Json::refuses_kind, crate::proofs::Lemmas::Json::refuses_bytes, crate::proofs::Lemmas::Json::refuses_value))]
-fn read(alloc: Global, kind: u32, bytes: &[u8]) -> Result<AnyInterner, Status>
-    ensures { ReadsJson ReadsAs kind bytes.now result }
-{
-    let Some(kind) = Kind::from_code(kind) else {
-        return Err(Status::BadKind);
-    };
-    let value = value_of(alloc, bytes)?;
-    match AnyInterner::from_json(alloc, kind, &value) {
-        Ok(interner) => Ok(interner),
-        Err(error) => Err(Status::from(error)),
-    }
-}
-
-/// Opens a handle on an interner of the texts of a JSON array. Repeats add no text.
-pub fn from_json(alloc: Global, h: &mut Handle, kind: u32, bytes: &[u8]) -> Result<(), Status>
-    ensures { OpensMade (ReadsJson ReadsAs kind bytes.now) h.old result h.new }
-{
-    open_on(alloc, h, read(alloc, kind, bytes))
-}
-
-/// Makes an interner of the kind with this code from a JSON array of strings that all differ.
-#[tactic(auto, using(crate::proofs::Lemmas::Json::refuses_kind, crate::proofs::Lemmas::Json::refuses_bytes, crate::proofs::Lemmas::Json::refuses_value))]
-fn read_exact(alloc: Global, kind: u32, bytes: &[u8]) -> Result<AnyInterner, Status>
-    ensures { ReadsJson ReadsAsExactly kind bytes.now result }
-{
-    let Some(kind) = Kind::from_code(kind) else {
-        return Err(Status::BadKind);
-    };
-    let value = value_of(alloc, bytes)?;
-    match AnyInterner::from_json_exact(alloc, kind, &value) {
-        Ok(interner) => Ok(interner),
-        Err(error) => Err(Status::from(error)),
-    }
-}
-
-/// The same of an array in which all texts differ.
-pub fn from_json_exact(alloc: Global, h: &mut Handle, kind: u32, bytes: &[u8]) -> Result<(), Status>
-    ensures { OpensMade (ReadsJson ReadsAsExactly kind bytes.now) h.old result h.new }
-{
-    open_on(alloc, h, read_exact(alloc, kind, bytes))
-}
-
 /// Interns texts that lie end to end in the bytes, and writes their numbers, until one is refused.
 pub fn intern_all(
     h: &mut Handle,
@@ -355,9 +265,7 @@ pub fn intern_all(
     ensures closed { IsFalse h.old.opened → (numbers.new ≡ numbers.old) × (done.new ≡ 0) }
 {
     *done = 0;
-    if !h.is_open() {
-        return Err(Status::Closed);
-    }
+    must_be_open!(h);
     h.interner().intern_all(bytes, ends, numbers, done)
 }
 
@@ -370,8 +278,6 @@ pub fn entries<'a>(
     ensures lists { Reads (λ any outcome. ListsEntries any outcome room.old room.new count.new) h.old result }
     ensures closed { IsFalse h.old.opened → (room.new ≡ room.old) × (count.new ≡ count.old) }
 {
-    if !h.is_open() {
-        return Err(Status::Closed);
-    }
+    must_be_open!(h);
     h.interner().entries(room, count)
 }

@@ -4,12 +4,12 @@ ghost use Rattle.std.specs.Prelude.{◌≡◌, ◌↔◌, ◌&&◌, IsFalse, IsT
 ghost use Rattle.std.specs.Str.{IsUtf8};
 ghost use Rattle.string_interner.specs.Text.{first};
 ghost use Rattle.string_interner_c.specs.Any.{ReadsAs, ReadsAsExactly, any_eq, texts_in};
-ghost use Rattle.string_interner_c.specs.Calls.{Answers, Copies, CopiesText, FindsBytes, InternsBytes, InternsText, Kept, MakesNew, MakesRoom, OpensMade, Reads, ReadsJson, ResolvesNumber, Shrinks, TellsDone, Through, Truncates, WritesJson};
+ghost use Rattle.string_interner_c.specs.Calls.{Answers, Copies, CopiesText, FindsBytes, FindsText, InternsBytes, InternsText, Kept, MakesNew, MakesRoom, OpensMade, Reads, ReadsJson, ResolvesNumber, Shrinks, TellsDone, Through, Truncates, WritesJson};
 ghost use Rattle.string_interner_c.specs.Encode.{InternsParts, ListsEntries};
 
 use crate::calls;
 use crate::handle::Handle;
-use crate::status::{done, tell};
+use crate::status::{finish, tell};
 use crate::text::{Entry, Text};
 use std::alloc::Global;
 
@@ -18,7 +18,7 @@ use std::alloc::Global;
 pub extern "C" fn si_new(alloc: Global, h: &mut Handle, kind: u32) -> u32
     ensures { TellsDone (λ outcome. OpensMade (MakesNew kind) h.old outcome h.new) result }
 {
-    done(calls::open_new(alloc, h, kind))
+    finish(calls::open_new(alloc, h, kind))
 }
 
 /// The same, with room for `capacity` texts.
@@ -26,7 +26,7 @@ pub extern "C" fn si_new(alloc: Global, h: &mut Handle, kind: u32) -> u32
 pub extern "C" fn si_with_capacity(alloc: Global, h: &mut Handle, kind: u32, capacity: usize) -> u32
     ensures { TellsDone (λ outcome. OpensMade (MakesRoom kind capacity) h.old outcome h.new) result }
 {
-    done(calls::open_with_capacity(alloc, h, kind, capacity))
+    finish(calls::open_with_capacity(alloc, h, kind, capacity))
 }
 
 /// Closes a handle, and frees what it held.
@@ -87,6 +87,17 @@ pub extern "C" fn si_get(h: &mut Handle, text: &[u8], number: &mut usize) -> u32
     ensures found { Answers (Reads (FindsBytes text.now) h.old) result number.old number.new }
     ensures same { Kept h.old h.new }
 {
+    tell(calls::get_bytes(h, text), number)
+}
+
+/// The same, where the caller owes that the bytes are UTF-8, which is not looked at.
+#[unsafe(no_mangle)]
+pub unsafe extern "C" fn si_get_utf8(h: &mut Handle, text: &[u8], number: &mut usize) -> u32
+    requires { IsUtf8 text.now }
+    ensures found { Answers (Reads (FindsText text.now) h.old) result number.old number.new }
+    ensures same { Kept h.old h.new }
+{
+    let text = unsafe { std::str::from_utf8_unchecked(text) };
     tell(calls::get(h, text), number)
 }
 
@@ -115,7 +126,7 @@ pub extern "C" fn si_copy(h: &mut Handle, number: usize, room: &mut [u8], len: &
     ensures closed { IsFalse h.old.opened → (room.new ≡ room.old) × (len.new ≡ len.old) }
     ensures same { Kept h.old h.new }
 {
-    done(calls::copy(h, number, room, len))
+    finish(calls::copy(h, number, room, len))
 }
 
 /// Keeps the first `len` texts.
@@ -123,7 +134,7 @@ pub extern "C" fn si_copy(h: &mut Handle, number: usize, room: &mut [u8], len: &
 pub extern "C" fn si_truncate(h: &mut Handle, len: usize) -> u32
     ensures { TellsDone (λ outcome. Through (Truncates len) h.old outcome h.new) result }
 {
-    done(calls::truncate(h, len))
+    finish(calls::truncate(h, len))
 }
 
 /// Releases memory that no text needs, if it can.
@@ -131,7 +142,7 @@ pub extern "C" fn si_truncate(h: &mut Handle, len: usize) -> u32
 pub extern "C" fn si_shrink(h: &mut Handle) -> u32
     ensures { TellsDone (λ outcome. Through Shrinks h.old outcome h.new) result }
 {
-    done(calls::shrink_to_fit(h))
+    finish(calls::shrink_to_fit(h))
 }
 
 /// Opens a second handle on a copy of what the first holds.
@@ -140,7 +151,7 @@ pub extern "C" fn si_clone(alloc: Global, h: &mut Handle, copy: &mut Handle) -> 
     ensures copies { TellsDone (λ outcome. OpensMade (Reads Copies h.old) copy.old outcome copy.new) result }
     ensures same { Kept h.old h.new }
 {
-    done(calls::clone(alloc, h, copy))
+    finish(calls::clone(alloc, h, copy))
 }
 
 /// Reports whether both handles are open, on interners of one kind with the same texts in the same order.
@@ -161,7 +172,7 @@ pub extern "C" fn si_to_json(alloc: Global, h: &mut Handle, room: &mut [u8], len
     ensures closed { IsFalse h.old.opened → (room.new ≡ room.old) × (len.new ≡ len.old) }
     ensures same { Kept h.old h.new }
 {
-    done(calls::to_json(alloc, h, room, len))
+    finish(calls::json::to_json(alloc, h, room, len))
 }
 
 /// Opens a handle on an interner of the texts of a JSON array. Repeats add no text.
@@ -169,7 +180,7 @@ pub extern "C" fn si_to_json(alloc: Global, h: &mut Handle, room: &mut [u8], len
 pub extern "C" fn si_from_json(alloc: Global, h: &mut Handle, kind: u32, json: &[u8]) -> u32
     ensures { TellsDone (λ outcome. OpensMade (ReadsJson ReadsAs kind json.now) h.old outcome h.new) result }
 {
-    done(calls::from_json(alloc, h, kind, json))
+    finish(calls::json::from_json(alloc, h, kind, json))
 }
 
 /// The same of an array in which all texts differ.
@@ -177,7 +188,7 @@ pub extern "C" fn si_from_json(alloc: Global, h: &mut Handle, kind: u32, json: &
 pub extern "C" fn si_from_json_exact(alloc: Global, h: &mut Handle, kind: u32, json: &[u8]) -> u32
     ensures { TellsDone (λ outcome. OpensMade (ReadsJson ReadsAsExactly kind json.now) h.old outcome h.new) result }
 {
-    done(calls::from_json_exact(alloc, h, kind, json))
+    finish(calls::json::from_json_exact(alloc, h, kind, json))
 }
 
 /// Interns many texts, which lie end to end, and writes their numbers.
@@ -192,7 +203,7 @@ pub extern "C" fn si_intern_all(
     ensures step { TellsDone (λ outcome. Through (λ old status new. InternsParts bytes.now ends.now numbers.old old status new numbers.new done.new) h.old outcome h.new) result }
     ensures closed { IsFalse h.old.opened → (numbers.new ≡ numbers.old) × (done.new ≡ 0) }
 {
-    crate::status::done(calls::intern_all(h, bytes, ends, numbers, done))
+    finish(calls::intern_all(h, bytes, ends, numbers, done))
 }
 
 /// Lends all texts, each with its number.
@@ -205,5 +216,5 @@ pub extern "C" fn si_entries<'a>(
     ensures lists { TellsDone (Reads (λ any outcome. ListsEntries any outcome entries.old entries.new count.new) h.old) result }
     ensures closed { IsFalse h.old.opened → (entries.new ≡ entries.old) × (count.new ≡ count.old) }
 {
-    done(calls::entries(h, entries, count))
+    finish(calls::entries(h, entries, count))
 }

@@ -101,7 +101,7 @@ pub fn tell<T: Copy>(outcome: Result<T, Status>, out: &mut T) -> u32
 
 /// Returns the code of an outcome that holds nothing.
 #[inline(always)]
-pub fn done(outcome: Result<(), Status>) -> u32
+pub fn finish(outcome: Result<(), Status>) -> u32
     ensures { result ≡ code_of_done outcome }
 {
     match outcome {

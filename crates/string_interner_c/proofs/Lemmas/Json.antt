@@ -9,7 +9,7 @@ use Rattle.serde_json.specs.Written.{compact_text, has_float, items_have_float}
 use Rattle.string_interner.specs.Text.{Text}
 use Rattle.string_interner.specs.Json.{json_of_texts}
 use Rattle.string_interner.specs.declared.json.JsonError.{JsonError}
-use Rattle.string_interner_c.specs.Calls.{IsValueOf, RefusesJson, no_kind, no_json, no_memory, not_read}
+use Rattle.string_interner_c.specs.Calls.{IsValueOf, ReadsJson, RefusesJson, no_kind, no_json, no_memory, not_read}
 use Rattle.string_interner_c.specs.Kind.{code_of_kind}
 use Rattle.string_interner_c.specs.Status.{status_of_json}
 use Rattle.string_interner_c.specs.declared.any.AnyInterner.{AnyInterner}
@@ -31,18 +31,22 @@ module _ (reads : Kind → Data → Result AnyInterner JsonError → Type 0) (co
   refuses_kind none = no_kind none
 
   -- where the bytes have no value
-  pub refuses_bytes : (status : Status) → IsValueOf bytes (Err status) → RefusesJson reads code bytes status
-  refuses_bytes BadText none = no_json none
-  refuses_bytes NoMemory none = no_memory
-  refuses_bytes NoSymbol none = absurd none
-  refuses_bytes Nothing none = absurd none
-  refuses_bytes Closed none = absurd none
-  refuses_bytes NoRoom none = absurd none
-  refuses_bytes BadKind none = absurd none
-  refuses_bytes BadEnds none = absurd none
-  refuses_bytes NotAList none = absurd none
-  refuses_bytes NotAText none = absurd none
-  refuses_bytes Repeated none = absurd none
+  pub refuses_bytes : (kind : Kind) (status : Status) → code_of_kind kind ≡ code → IsValueOf bytes (Err status) → RefusesJson reads code bytes status
+  refuses_bytes kind BadText is none = no_json kind is none
+  refuses_bytes kind NoMemory is none = no_memory kind is
+  refuses_bytes kind NoSymbol is none = absurd none
+  refuses_bytes kind Nothing is none = absurd none
+  refuses_bytes kind Closed is none = absurd none
+  refuses_bytes kind NoRoom is none = absurd none
+  refuses_bytes kind BadKind is none = absurd none
+  refuses_bytes kind BadEnds is none = absurd none
+  refuses_bytes kind NotAList is none = absurd none
+  refuses_bytes kind NotAText is none = absurd none
+  refuses_bytes kind Repeated is none = absurd none
+
+  -- the same of the outcome of a call
+  pub unread : (kind : Kind) (status : Status) (outcome : Result AnyInterner Status) → outcome ≡ Err status → code_of_kind kind ≡ code → IsValueOf bytes (Err status) → ReadsJson reads code bytes outcome
+  unread kind status outcome told is none = rw told (refuses_bytes kind status is none)
 
   -- where the value is not read
   pub refuses_value : (kind : Kind) (value : Data) (error : JsonError) (status : Status) → code_of_kind kind ≡ code → IsUtf8 bytes → json_read bytes ≡ Some value → reads kind value (Err error) → status ≡ status_of_json error

@@ -4,7 +4,7 @@ use Rattle.string_interner_c.specs.Any.{texts_in}
 use Rattle.string_interner_c.specs.declared.any.AnyInterner.{AnyInterner}
 use Rattle.string_interner_c.specs.declared.handle.Handle.{Handle}
 use Rattle.string_interner_c.proofs.Lemmas.Json.{text_of_json}
-use Rattle.string_interner_c.proofs.calls.json_of.Goals as goal
+use Rattle.string_interner_c.proofs.calls.json.json_of.Goals as goal
 
 pub returns-in-Ok-to_vec-clause-json : goal.returns-in-Ok-to_vec-clause-json
 returns-in-Ok-to_vec-clause-json c = record {
