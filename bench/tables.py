@@ -119,6 +119,11 @@ class Blocks:
                 blocks.append(f"Instructions a call, at 10,000 {INPUTS[name]}:\n\n" + table(["", *PHASES], rows))
         return "\n\n".join(blocks) or "Instructions were not counted."
 
+    def growth(self, kind):
+        before, last = self.results.counts["chosen"][-2:]
+        value = lambda count: count * self.results.value(kind, "chosen", count, "fill")
+        return value(last) / value(before)
+
     def chosen(self):
         counts = self.results.counts["chosen"]
         rows = []
@@ -126,7 +131,11 @@ class Blocks:
             values = [self.results.value(kind, "chosen", count, "fill") for count in counts]
             if any(values):
                 rows.append([name_of(kind), *(short(value * count / 1e6) for value, count in zip(values, counts))])
-        said = ("Milliseconds to fill an interner with so many texts of 84 bytes whose FNV-1a codes agree in their low 32 bits:")
+        more = "; ".join(f"{what} {short(self.growth(kind))}" for what, kind in (
+            ("`Index` under `FixedState`", DEFAULT["string"]), ("`WindowIndex` under `FixedState`", WINDOW),
+            ("the original under FNV", FNV["string"]), ("`WindowIndex` under `RandomState`", KEYED)))
+        said = (f"Over the last doubling of the count the time grows by these factors: {more}. Milliseconds to fill an interner "
+                "with so many texts of 84 bytes whose FNV-1a codes agree in their low 32 bits:")
         return f"![chosen](pictures/chosen.svg)\n\n{said}\n\n" + table(["", *(f"{count:,}" for count in counts)], rows)
 
     def backends(self):
