@@ -12,15 +12,17 @@ from matplotlib.ticker import FuncFormatter, LogLocator, NullFormatter
 
 from results import BACKENDS, DEFAULT, FAST, FNV, INPUTS, KEYED, MAP, ORIGINAL, PHASES, PICTURES, SET, WINDOW, Results
 
-plot.rcParams.update({
-    "font.size": 8,
-    "font.family": "sans-serif",
-    "svg.fonttype": "none",
-    "svg.hashsalt": "string_interner",
-    "axes.spines.top": False,
-    "axes.spines.right": False,
-    "savefig.facecolor": "white",
-})
+plot.rcParams.update(
+    {
+        "font.size": 8,
+        "font.family": "sans-serif",
+        "svg.fonttype": "none",
+        "svg.hashsalt": "string_interner",
+        "axes.spines.top": False,
+        "axes.spines.right": False,
+        "savefig.facecolor": "white",
+    }
+)
 STYLES = [
     {"linestyle": "-", "marker": "o", "color": "black", "linewidth": 1.8},
     {"linestyle": "--", "marker": "s", "color": "black"},
@@ -77,7 +79,9 @@ def name_ends(axes, ends):
     height = axes.get_window_extent().height / axes.figure.dpi
     line = {"arrowstyle": "-", "color": "0.7", "linewidth": 0.5, "shrinkA": 0, "shrinkB": 3}
     for (_, name, end), place in zip(places, spread([place for place, _, _ in places], 0.15 / height)):
-        axes.annotate(name, end, xytext=(1.06, place), textcoords="axes fraction", va="center", fontsize=7, arrowprops=line)
+        axes.annotate(
+            name, end, xytext=(1.06, place), textcoords="axes fraction", va="center", fontsize=7, arrowprops=line
+        )
 
 
 def draw_lines(axes, counts, kinds, value):
@@ -116,13 +120,19 @@ def panels(results, folder, file, title, kinds, parts, columns=2):
     rows = -(-len(parts) // columns)
     figure, all_axes = plot.subplots(rows, columns, figsize=(4.5 * columns, 2.25 * rows + 0.55), squeeze=False)
     figure.subplots_adjust(
-        left=0.105 / columns, right=1 - 0.26 / columns, top=1 - 0.55 / (2.25 * rows + 0.55), bottom=0.6 / (2.25 * rows + 0.55),
-        wspace=0.62, hspace=0.42,
+        left=0.105 / columns,
+        right=1 - 0.26 / columns,
+        top=1 - 0.55 / (2.25 * rows + 0.55),
+        bottom=0.6 / (2.25 * rows + 0.55),
+        wspace=0.62,
+        hspace=0.42,
     )
     figure.suptitle(title, fontsize=10, x=0.01, y=0.995, ha="left", va="top")
     for axes, (name, phase) in zip(all_axes.flat, parts):
         draw_lines(axes, results.counts[name], kinds, lambda kind, count: results.value(kind, name, count, phase))
-        axes.set_title(PHASES[phase] if len({part[0] for part in parts}) == 1 else f"{phase}, {name}", fontsize=8, loc="left")
+        axes.set_title(
+            PHASES[phase] if len({part[0] for part in parts}) == 1 else f"{phase}, {name}", fontsize=8, loc="left"
+        )
     save(figure, results, file, folder)
 
 
@@ -136,8 +146,14 @@ def draw_memory(results, folder):
     names = [name for name in ("identifiers", "words", "long") if results.counts[name]]
     figure, all_axes = plot.subplots(1, len(names), figsize=(9, 3.4), sharey=True, squeeze=False)
     figure.subplots_adjust(left=0.2, right=0.985, top=0.83, bottom=0.16, wspace=0.12)
-    figure.suptitle("Bytes a text: black lives once all are in, white is the most at once; dashed: the bytes of the texts alone",
-                    fontsize=9, x=0.01, y=0.99, ha="left", va="top")
+    figure.suptitle(
+        "Bytes a text: black lives once all are in, white is the most at once; dashed: the bytes of the texts alone",
+        fontsize=9,
+        x=0.01,
+        y=0.99,
+        ha="left",
+        va="top",
+    )
     for axes, name in zip(all_axes.flat, names):
         count = max(results.counts[name])
         places = range(len(kinds))
@@ -162,8 +178,14 @@ def draw_chosen(results, folder):
 
     figure, axes = plot.subplots(figsize=(6, 3.2))
     figure.subplots_adjust(left=0.09, right=0.78, top=0.86, bottom=0.2)
-    figure.suptitle("Milliseconds to fill an interner with texts that were chosen against FNV-1a, by their count",
-                    fontsize=9, x=0.01, y=0.99, ha="left", va="top")
+    figure.suptitle(
+        "Milliseconds to fill an interner with texts that were chosen against FNV-1a, by their count",
+        fontsize=9,
+        x=0.01,
+        y=0.99,
+        ha="left",
+        va="top",
+    )
     draw_lines(axes, results.counts["chosen"], OF_CHOSEN, milliseconds)
     save(figure, results, "chosen", folder)
 
@@ -177,7 +199,9 @@ def main():
     for name in ("identifiers", "words", "long"):
         if results.counts[name]:
             parts = [(name, phase) for phase in PHASES]
-            panels(results, folder, f"calls-{name}", f"Nanoseconds a call, by the count of {INPUTS[name]}", PEERS, parts)
+            panels(
+                results, folder, f"calls-{name}", f"Nanoseconds a call, by the count of {INPUTS[name]}", PEERS, parts
+            )
     parts = [("identifiers", phase) for phase in PHASES]
     title = "The backends: ours (WindowIndex, FoldState) and the original's (its default hasher), nanoseconds a call"
     panels(results, folder, "backends", title, OF_BACKENDS, parts)

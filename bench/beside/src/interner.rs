@@ -95,7 +95,9 @@ where
 
     #[inline]
     fn walk(&self) -> usize {
-        self.iter().map(|(symbol, text)| symbol.to_usize() + text.len()).sum()
+        self.iter()
+            .map(|(symbol, text)| symbol.to_usize() + text.len())
+            .sum()
     }
 }
 
@@ -145,7 +147,11 @@ impl Interner for MapAndList {
 
     #[inline]
     fn walk(&self) -> usize {
-        self.texts.iter().enumerate().map(|(number, text)| number + text.len()).sum()
+        self.texts
+            .iter()
+            .enumerate()
+            .map(|(number, text)| number + text.len())
+            .sum()
     }
 }
 
@@ -189,6 +195,10 @@ impl Interner for Set {
 
     #[inline]
     fn walk(&self) -> usize {
-        self.0.iter().enumerate().map(|(number, text)| number + text.len()).sum()
+        self.0
+            .iter()
+            .enumerate()
+            .map(|(number, text)| number + text.len())
+            .sum()
     }
 }

@@ -2,7 +2,7 @@
 //! texts, bytes a text, what was measured, and the value a text. Progress goes to standard error.
 //!
 //!     beside times WORDS SECONDS PASSES INPUT:COUNT..     nanoseconds
-//!     beside memory WORDS INPUT:COUNT..                   bytes of the heap, where the counter is loaded before the C library
+//!     beside memory WORDS INPUT:COUNT..                   bytes of the heap, where the counter is loaded
 //!     beside once WORDS NAME INPUT:COUNT                  one round of one kind, for callgrind
 //!     beside kinds                                        the names of all kinds
 //!
@@ -18,7 +18,7 @@ mod texts;
 
 use child::in_child;
 use kind::Kind;
-use phases::{Budget, PHASES, Results};
+use phases::{Budget, Results, PHASES};
 use std::io;
 use texts::Inputs;
 
@@ -33,8 +33,12 @@ struct Case {
 impl Case {
     fn parse(word: &str, words: &str) -> Result<Case, Fault> {
         let (name, count) = word.split_once(':').ok_or("an input is NAME:COUNT")?;
-        let inputs = texts::inputs(name, count.parse()?, words).ok_or(format!("no input {name}"))?;
-        Ok(Case { name: name.to_string(), inputs })
+        let inputs =
+            texts::inputs(name, count.parse()?, words).ok_or(format!("no input {name}"))?;
+        Ok(Case {
+            name: name.to_string(),
+            inputs,
+        })
     }
 
     fn count(&self) -> usize {
@@ -46,7 +50,10 @@ impl Case {
         let bytes = self.inputs.new.bytes.len() as f64 / count;
         let name = kind.name.join("\t");
         let value = total as f64 / count;
-        println!("{name}\t{}\t{count}\t{bytes:.1}\t{measure}\t{value:.2}", self.name);
+        println!(
+            "{name}\t{}\t{count}\t{bytes:.1}\t{measure}\t{value:.2}",
+            self.name
+        );
     }
 
     /// Whether a kind is measured on it. Chosen texts take long where they find their victim, so one backend is enough.
@@ -57,14 +64,23 @@ impl Case {
 
 /// Measures each kind for a share of its time, again and again, so that a slow spell of the machine falls on all.
 fn times(case: &Case, kinds: &[&Kind], seconds: f64, passes: u32) -> Result<Vec<Results>, Fault> {
-    let budget = Budget { rounds: 1, nanoseconds: (seconds * 1e9 / f64::from(passes)) as u64 };
+    let budget = Budget {
+        rounds: 1,
+        nanoseconds: (seconds * 1e9 / f64::from(passes)) as u64,
+    };
     let mut all = vec![Results::none(); kinds.len()];
     for pass in 1..=passes {
         eprintln!("{} {}, pass {pass} of {passes}", case.count(), case.name);
         for (kind, results) in kinds.iter().zip(&mut all) {
             let numbers: [u64; 16] = in_child(|| {
                 let Results { nanoseconds, sums } = kind.measure(&case.inputs, budget);
-                std::array::from_fn(|at| if at < 8 { nanoseconds[at] } else { sums[at - 8] })
+                std::array::from_fn(|at| {
+                    if at < 8 {
+                        nanoseconds[at]
+                    } else {
+                        sums[at - 8]
+                    }
+                })
             })
             .map_err(|error| format!("{}: {error}", kind.word()))?;
             results.merge(&Results {
@@ -79,11 +95,21 @@ fn times(case: &Case, kinds: &[&Kind], seconds: f64, passes: u32) -> Result<Vec<
 /// Fails where two kinds that number alike gave different sums in a phase that both made.
 fn compare(kinds: &[&Kind], all: &[Results]) -> Result<(), Fault> {
     for (kind, results) in kinds.iter().zip(all) {
-        let model = kinds.iter().position(|other| kind.numbers_as(other)).unwrap();
+        let model = kinds
+            .iter()
+            .position(|other| kind.numbers_as(other))
+            .unwrap();
         for (phase, name) in PHASES.iter().enumerate() {
-            let both = [results, &all[model]].iter().all(|it| it.nanoseconds[phase] != u64::MAX);
+            let both = [results, &all[model]]
+                .iter()
+                .all(|it| it.nanoseconds[phase] != u64::MAX);
             if both && results.sums[phase] != all[model].sums[phase] {
-                return Err(format!("{} and {} differ in {name}", kind.word(), kinds[model].word()).into());
+                return Err(format!(
+                    "{} and {} differ in {name}",
+                    kind.word(),
+                    kinds[model].word()
+                )
+                .into());
             }
         }
         // A copy has as many texts as a clone.
@@ -136,7 +162,12 @@ fn run(arguments: &[&str]) -> Result<(), Fault> {
         ["times", words, seconds, passes, cases @ ..] => {
             let words = words_at(words)?;
             for case in cases {
-                print_times(&Case::parse(case, &words)?, &kinds, seconds.parse()?, passes.parse()?)?;
+                print_times(
+                    &Case::parse(case, &words)?,
+                    &kinds,
+                    seconds.parse()?,
+                    passes.parse()?,
+                )?;
             }
         }
         ["memory", words, cases @ ..] => {
@@ -147,8 +178,17 @@ fn run(arguments: &[&str]) -> Result<(), Fault> {
         }
         ["once", words, name, case] => {
             let case = Case::parse(case, &words_at(words)?)?;
-            let kind = kinds.iter().find(|kind| kind.word() == *name).ok_or("no such kind")?;
-            kind.measure(&case.inputs, Budget { rounds: 1, nanoseconds: 0 });
+            let kind = kinds
+                .iter()
+                .find(|kind| kind.word() == *name)
+                .ok_or("no such kind")?;
+            kind.measure(
+                &case.inputs,
+                Budget {
+                    rounds: 1,
+                    nanoseconds: 0,
+                },
+            );
         }
         ["kinds"] => kinds.iter().for_each(|kind| println!("{}", kind.word())),
         _ => return Err("the comment at the front of main.rs says how".into()),

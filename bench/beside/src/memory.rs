@@ -16,8 +16,11 @@ fn symbol(name: &std::ffi::CStr) -> Option<*mut libc::c_void> {
 impl Counter {
     /// The counter, where it is loaded.
     pub fn loaded() -> Option<Counter> {
-        let (reset, live, peak) =
-            (symbol(c"counter_reset")?, symbol(c"counter_live")?, symbol(c"counter_peak")?);
+        let (reset, live, peak) = (
+            symbol(c"counter_reset")?,
+            symbol(c"counter_live")?,
+            symbol(c"counter_peak")?,
+        );
         // SAFETY: the functions of these names in `counter.c` have these types.
         unsafe {
             Some(Counter {

@@ -28,7 +28,11 @@ extern "C" {
 }
 
 fn run(kind: u32, inputs: &Inputs, budget: Budget) -> Results {
-    let Inputs { new, known, unknown } = inputs;
+    let Inputs {
+        new,
+        known,
+        unknown,
+    } = inputs;
     let bytes = |texts: &Packed| (texts.bytes.as_ptr(), texts.bytes.len());
     let ends = |texts: &Packed| (texts.ends.as_ptr(), texts.ends.len());
     let mut results = Results::none();
@@ -65,10 +69,24 @@ fn run(kind: u32, inputs: &Inputs, budget: Budget) -> Results {
 
 /// Measures all phases on one kind of interner.
 pub fn measure(kind: u32, inputs: &Inputs, budget: Budget) -> Results {
-    run(kind, inputs, Budget { rounds: budget.rounds.max(1), ..budget })
+    run(
+        kind,
+        inputs,
+        Budget {
+            rounds: budget.rounds.max(1),
+            ..budget
+        },
+    )
 }
 
 /// Fills an interner, and leaves it on the heap, where its memory is counted.
 pub fn leave(kind: u32, inputs: &Inputs) {
-    run(kind, inputs, Budget { rounds: 0, nanoseconds: 0 });
+    run(
+        kind,
+        inputs,
+        Budget {
+            rounds: 0,
+            nanoseconds: 0,
+        },
+    );
 }

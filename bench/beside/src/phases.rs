@@ -5,8 +5,9 @@ use crate::texts::Inputs;
 use std::hint::black_box;
 
 /// The names of the phases. No peer has the last one.
-pub const PHASES: [&str; 8] =
-    ["fill", "known", "unknown", "resolve", "shuffled", "iterate", "clone", "copy"];
+pub const PHASES: [&str; 8] = [
+    "fill", "known", "unknown", "resolve", "shuffled", "iterate", "clone", "copy",
+];
 
 /// More rounds than these make no time smaller.
 const MOST_ROUNDS: u32 = 200;
@@ -27,7 +28,10 @@ pub struct Results {
 
 impl Results {
     pub fn none() -> Self {
-        Results { nanoseconds: [u64::MAX; 8], sums: [0; 8] }
+        Results {
+            nanoseconds: [u64::MAX; 8],
+            sums: [0; 8],
+        }
     }
 
     /// Takes the lesser times of both, which did the same work.
@@ -41,7 +45,10 @@ impl Results {
 
 /// The time of the clock that the library's half reads, too.
 pub fn now() -> u64 {
-    let mut time = libc::timespec { tv_sec: 0, tv_nsec: 0 };
+    let mut time = libc::timespec {
+        tv_sec: 0,
+        tv_nsec: 0,
+    };
     // SAFETY: the place is there for the time of the call.
     unsafe { libc::clock_gettime(libc::CLOCK_MONOTONIC, &mut time) };
     time.tv_sec as u64 * 1_000_000_000 + time.tv_nsec as u64
@@ -50,7 +57,12 @@ pub fn now() -> u64 {
 struct Watch(Results);
 
 impl Watch {
-    fn time<T>(&mut self, phase: usize, work: impl FnOnce() -> T, sum: impl FnOnce(&T) -> usize) -> T {
+    fn time<T>(
+        &mut self,
+        phase: usize,
+        work: impl FnOnce() -> T,
+        sum: impl FnOnce(&T) -> usize,
+    ) -> T {
         let then = now();
         let result = black_box(work());
         let took = now() - then;
@@ -73,12 +85,18 @@ fn intern<I: Interner>(interner: &mut I, texts: &[&str], symbols: &mut Vec<I::Sy
 
 #[inline(never)]
 fn find<I: Interner>(interner: &I, texts: &[&str]) -> usize {
-    texts.iter().filter(|text| interner.find(text).is_some()).count()
+    texts
+        .iter()
+        .filter(|text| interner.find(text).is_some())
+        .count()
 }
 
 #[inline(never)]
 fn resolve<I: Interner>(interner: &I, symbols: &[I::Symbol]) -> usize {
-    symbols.iter().map(|&symbol| interner.resolve(symbol).map_or(0, str::len)).sum()
+    symbols
+        .iter()
+        .map(|&symbol| interner.resolve(symbol).map_or(0, str::len))
+        .sum()
 }
 
 fn round<I: Interner>(watch: &mut Watch, new: &[&str], known: &[&str], unknown: &[&str]) {
@@ -99,7 +117,11 @@ fn round<I: Interner>(watch: &mut Watch, new: &[&str], known: &[&str], unknown: 
 
 /// Measures all phases on one kind of interner.
 pub fn measure<I: Interner>(inputs: &Inputs, budget: Budget) -> Results {
-    let (new, known, unknown) = (inputs.new.list(), inputs.known.list(), inputs.unknown.list());
+    let (new, known, unknown) = (
+        inputs.new.list(),
+        inputs.known.list(),
+        inputs.unknown.list(),
+    );
     let mut watch = Watch(Results::none());
     let begun = now();
     for done in 0..MOST_ROUNDS {

@@ -12,7 +12,10 @@ pub struct Packed {
 impl Packed {
     pub fn list(&self) -> Vec<&str> {
         let starts = std::iter::once(0).chain(self.ends.iter().copied());
-        starts.zip(&self.ends).map(|(start, &end)| &self.bytes[start..end]).collect()
+        starts
+            .zip(&self.ends)
+            .map(|(start, &end)| &self.bytes[start..end])
+            .collect()
     }
 }
 
