@@ -111,7 +111,7 @@ def backends(results):
     ]
     head = [f"{count:,} identifiers", "fill, ns", "known", "unknown", "resolve", "iterate", "bytes a text", "at most"]
     shown = picture("memory", sentences.memory(results), "docs/pictures")
-    return f"{table(head, rows)}\n\n{shown}\n\n{results.line()}"
+    return f"{table(head, rows)}\n\n{shown}"
 
 
 def blocks(results):

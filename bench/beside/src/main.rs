@@ -70,24 +70,14 @@ fn times(case: &Case, kinds: &[&Kind], seconds: f64, passes: u32) -> Result<Vec<
     };
     let mut all = vec![Results::none(); kinds.len()];
     for pass in 1..=passes {
-        eprintln!("{} {}, pass {pass} of {passes}", case.count(), case.name);
+        eprint!("{} {}, pass {pass} of {passes} ", case.count(), case.name);
         for (kind, results) in kinds.iter().zip(&mut all) {
-            let numbers: [u64; 16] = in_child(|| {
-                let Results { nanoseconds, sums } = kind.measure(&case.inputs, budget);
-                std::array::from_fn(|at| {
-                    if at < 8 {
-                        nanoseconds[at]
-                    } else {
-                        sums[at - 8]
-                    }
-                })
-            })
-            .map_err(|error| format!("{}: {error}", kind.word()))?;
-            results.merge(&Results {
-                nanoseconds: std::array::from_fn(|phase| numbers[phase]),
-                sums: std::array::from_fn(|phase| numbers[phase + 8]),
-            });
+            let numbers = in_child(|| kind.measure(&case.inputs, budget).to_numbers())
+                .map_err(|error| format!("{}: {error}", kind.word()))?;
+            results.merge(&Results::from_numbers(numbers));
+            eprint!(".");
         }
+        eprintln!();
     }
     Ok(all)
 }
@@ -136,7 +126,7 @@ fn print_times(case: &Case, kinds: &[Kind], seconds: f64, passes: u32) -> Result
 
 fn print_memory(case: &Case, kinds: &[Kind]) -> Result<(), Fault> {
     let counter = memory::Counter::loaded().ok_or("the counter of memory is not loaded")?;
-    eprintln!("{} {}, memory", case.count(), case.name);
+    eprint!("{} {}, memory ", case.count(), case.name);
     for kind in kinds.iter().filter(|kind| case.is_for(kind)) {
         let [live, peak] = in_child(|| {
             counter.reset();
@@ -145,7 +135,9 @@ fn print_memory(case: &Case, kinds: &[Kind]) -> Result<(), Fault> {
         })?;
         case.print(kind, "live", live);
         case.print(kind, "peak", peak);
+        eprint!(".");
     }
+    eprintln!();
     Ok(())
 }
 

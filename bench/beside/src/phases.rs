@@ -34,6 +34,21 @@ impl Results {
         }
     }
 
+    /// All times, and then all sums.
+    pub fn to_numbers(self) -> [u64; 16] {
+        let mut numbers = [0; 16];
+        numbers[..8].copy_from_slice(&self.nanoseconds);
+        numbers[8..].copy_from_slice(&self.sums);
+        numbers
+    }
+
+    pub fn from_numbers(numbers: [u64; 16]) -> Self {
+        Results {
+            nanoseconds: std::array::from_fn(|phase| numbers[phase]),
+            sums: std::array::from_fn(|phase| numbers[phase + 8]),
+        }
+    }
+
     /// Takes the lesser times of both, which did the same work.
     pub fn merge(&mut self, other: &Results) {
         for (least, &time) in self.nanoseconds.iter_mut().zip(&other.nanoseconds) {
