@@ -1,6 +1,6 @@
 //! What is measured, by name.
 
-use crate::interner::{MapAndList, Set, UnderDefault, UnderFnv};
+use crate::interner::{Interner, MapAndList, Set, UnderDefault, UnderFnv};
 use crate::phases::{Budget, Results};
 use crate::texts::Inputs;
 use crate::{ours, phases};
@@ -10,16 +10,18 @@ const BACKENDS: [&str; 3] = ["string", "bucket", "buffer"];
 const INDEXES: [&str; 2] = ["Index", "WindowIndex"];
 const HASHERS: [&str; 3] = ["FixedState", "FoldState", "RandomState"];
 
+type Measure = Box<dyn Fn(&Inputs, Budget) -> Results>;
+
 /// A kind of interner.
 pub struct Kind {
     /// Library, backend, index and hasher, `-` where there is none to choose.
     pub name: [&'static str; 4],
-    measure: Box<dyn Fn(&Inputs, Budget) -> Results>,
+    measure: Measure,
     leave: Box<dyn Fn(&Inputs)>,
 }
 
 impl Kind {
-    fn of_peer<I: crate::interner::Interner + 'static>(name: [&'static str; 4]) -> Self {
+    fn of_peer<I: Interner + 'static>(name: [&'static str; 4]) -> Self {
         Kind {
             name,
             measure: Box::new(phases::measure::<I>),
