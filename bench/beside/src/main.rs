@@ -35,6 +35,9 @@ impl Case {
         let (name, count) = word.split_once(':').ok_or("an input is NAME:COUNT")?;
         let inputs =
             texts::inputs(name, count.parse()?, words).ok_or(format!("no input {name}"))?;
+        // What was freed goes back to the system, so that no child finds it on its heap.
+        // SAFETY: this process has one thread.
+        unsafe { libc::malloc_trim(0) };
         Ok(Case {
             name: name.to_string(),
             inputs,
