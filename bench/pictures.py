@@ -11,6 +11,7 @@ import matplotlib.pyplot as plot
 from matplotlib.ticker import FuncFormatter, LogLocator, NullFormatter
 
 from results import BACKENDS, DEFAULT, FAST, FNV, INPUTS, KEYED, MAP, ORIGINAL, PHASES, PICTURES, SET, WINDOW, Results
+from sentences import NOUNS
 
 plot.rcParams.update(
     {
@@ -167,7 +168,7 @@ def draw_memory(results, folder):
         axes.set_yticks(list(places), list(kinds))
         axes.invert_yaxis()
         axes.set_xlim(0, max(peak) * 1.24)
-        axes.set_title(f"{count:,} {INPUTS[name]}", fontsize=7.5, loc="left")
+        axes.set_title(f"{count:,} {NOUNS[name]}", fontsize=7.5, loc="left")
     save(figure, results, "memory", folder)
 
 
