@@ -109,7 +109,16 @@ def backends(results):
         [label, *(short(results.value(kind, "identifiers", count, measure)) for measure in measures)]
         for label, kind in kinds.items()
     ]
-    head = [f"{count:,} identifiers", "fill, ns", "known", "unknown", "resolve", "iterate", "bytes a text", "at most"]
+    head = [
+        f"{count:,} identifiers",
+        "fill, ns",
+        "known",
+        "unknown",
+        "resolve, shuffled",
+        "iterate",
+        "bytes a text",
+        "at most",
+    ]
     shown = picture("memory", sentences.memory(results), "docs/pictures")
     return f"{table(head, rows)}\n\n{shown}"
 
