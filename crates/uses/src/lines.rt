@@ -1,4 +1,4 @@
-//! The lines of use that the README shows.
+//! The lines of use that docs/USING.md shows, and the first of them the README.
 
 ghost use Rattle.std.specs.Prelude.{◌≡◌, [], take, true, IfOk};
 

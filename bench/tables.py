@@ -1,0 +1,161 @@
+#!/usr/bin/env python3
+"""tables.py [--docs]: makes tables, and what is said of the pictures, of what bench/run measured, in bench/out/tables.md.
+
+With --docs it also puts each block between its two marker lines in README.md and docs/PERFORMANCE.md, and the results beside
+the pictures."""
+import re
+import shutil
+import sys
+
+import sentences
+from results import BACKENDS, DEFAULT, DOCS, FAST, FNV, HERE, INPUTS, MAP, ORIGINAL, PHASES, SET, WINDOW, Results
+from sentences import short
+
+MEASURES = (*PHASES, "live", "peak")
+TEXTS = ("identifiers", "words", "long")
+PAIRS = [
+    *((f"`Index`, `FixedState`, {name}", DEFAULT[name], FNV[name]) for name in BACKENDS),
+    ("`WindowIndex`, `FixedState`, string", WINDOW, FNV["string"]),
+    *((f"`WindowIndex`, `FoldState`, {name}", FAST[name], ORIGINAL[name]) for name in BACKENDS),
+]
+
+
+def table(head, rows):
+    lines = [f"| {' | '.join(head)} |", "|---|" + "---:|" * (len(head) - 1)]
+    return "\n".join(lines + [f"| {' | '.join(row)} |" for row in rows])
+
+
+def name_of(kind):
+    library, backend, index, hasher = kind
+    if library == "ours":
+        return f"ours, {backend}, `{index}`, `{hasher}`"
+    return f"{library}, {backend}, {hasher}" if library == "original" else library
+
+
+def picture(file, sentence, folder="pictures"):
+    return f"![{file}]({folder}/{file}.svg)\n\n{sentence}"
+
+
+def middle_count(results):
+    return min(results.counts["identifiers"], key=lambda count: abs(count - 100_000))
+
+
+def pictures(results):
+    shown = [picture(f"calls-{name}", sentences.calls(results, name)) for name in TEXTS if results.counts[name]]
+    shown.append(picture("backends", sentences.backends(results)))
+    shown.append(picture("index-and-hasher", sentences.choices(results)))
+    shown.append(picture("memory", sentences.memory(results)))
+    return "\n\n".join([results.line(), *shown])
+
+
+def ratios(results):
+    blocks = [results.line()]
+    for name in filter(results.counts.get, TEXTS):
+        rows = []
+        for label, ours, theirs in PAIRS:
+            for count in results.counts[name]:
+                values = (results.ratio(ours, theirs, name, count, measure) for measure in MEASURES)
+                rows.append([label, f"{count:,}", *map(short, values)])
+        title = INPUTS[name][0].upper() + INPUTS[name][1:]
+        blocks.append(f"{title}:\n\n" + table(["over the original's", "texts", *MEASURES], rows))
+    return "\n\n".join(blocks)
+
+
+def nanoseconds(results):
+    count = middle_count(results)
+    rows = []
+    for kind in results.kinds():
+        row = results.values.get((kind, "identifiers", count), {})
+        rows.append([name_of(kind), *(short(row.get(measure)) for measure in MEASURES)])
+    return f"Nanoseconds a call, and bytes a text, at {count:,} identifiers:\n\n" + table(["", *MEASURES], rows)
+
+
+def instructions(results):
+    measures = [f"{phase} instructions" for phase in PHASES]
+    blocks = []
+    for name in TEXTS:
+        rows = [
+            [name_of(kind), *(short(row.get(measure)) for measure in measures)]
+            for (kind, of, _), row in results.values.items()
+            if of == name and measures[0] in row
+        ]
+        if rows:
+            blocks.append(f"Instructions a call, at 10,000 {INPUTS[name]}:\n\n" + table(["", *PHASES], rows))
+    return "\n\n".join(blocks) or "Instructions were not counted."
+
+
+def chosen(results):
+    counts = results.counts["chosen"]
+    rows = []
+    for kind in results.kinds():
+        values = [results.value(kind, "chosen", count, "fill") for count in counts]
+        if any(values):
+            rows.append([name_of(kind), *(short(value * count / 1e6) for value, count in zip(values, counts))])
+    said = (
+        "Milliseconds to fill an interner with so many texts of 84 bytes whose FNV-1a codes agree in their low 32 bits:"
+    )
+    shown = table(["", *(f"{count:,}" for count in counts)], rows)
+    return f"{picture('chosen', sentences.chosen(results))}\n\n{said}\n\n{shown}"
+
+
+def backends(results):
+    """For the README: the backends, and what a user would take else."""
+    count = middle_count(results)
+    kinds = {f"`FastStringInterner`, {name}": FAST[name] for name in BACKENDS}
+    kinds |= {"`DefaultStringInterner`, string": DEFAULT["string"], "the original, string": ORIGINAL["string"]}
+    kinds |= {"`IndexSet`": SET, "`HashMap` and `Vec`": MAP}
+    measures = ("fill", "known", "unknown", "shuffled", "iterate", "live", "peak")
+    rows = [
+        [label, *(short(results.value(kind, "identifiers", count, measure)) for measure in measures)]
+        for label, kind in kinds.items()
+    ]
+    head = [
+        f"{count:,} identifiers",
+        "fill, ns",
+        "known",
+        "unknown",
+        "resolve, shuffled",
+        "iterate",
+        "bytes a text",
+        "at most",
+    ]
+    shown = picture("memory", sentences.memory(results), "docs/pictures")
+    return f"{table(head, rows)}\n\n{shown}"
+
+
+def blocks(results):
+    """The blocks of the documents, by name."""
+    return {
+        "pictures": pictures(results),
+        "ratios": ratios(results),
+        "nanoseconds": nanoseconds(results),
+        "instructions": instructions(results),
+        "chosen": chosen(results),
+        "speed": picture("interning", sentences.calls(results, "identifiers"), "docs/pictures"),
+        "backends": backends(results),
+    }
+
+
+def put(document, made):
+    """Replaces what stands between the marker lines of each block."""
+    shown = document.read_text(encoding="utf-8")
+    for name, block in made.items():
+        begin, end = f"<!-- bench/run: {name} -->", f"<!-- end: {name} -->"
+        shown = re.sub(f"{begin}\n.*?{end}", lambda _: f"{begin}\n{block}\n{end}", shown, flags=re.S)
+    document.write_text(shown, encoding="utf-8")
+
+
+def main():
+    results = Results()
+    made = blocks(results)
+    (HERE / "out/tables.md").write_text("\n\n".join(made.values()) + "\n", encoding="utf-8")
+    if "--docs" in sys.argv:
+        for document in (DOCS.parent / "README.md", DOCS / "PERFORMANCE.md"):
+            put(document, made)
+        (DOCS / "pictures").mkdir(exist_ok=True)
+        shutil.copy(HERE / "out/results.tsv", DOCS / "pictures/results.tsv")
+    print(f"{made['nanoseconds']}\n\n{results.line()}")
+
+
+if __name__ == "__main__":
+    main()
