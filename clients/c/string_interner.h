@@ -4,24 +4,25 @@
  * number. A handle holds an interner, and each call takes the handle:
  *
  *     si_interner names = SI_INIT;
- *     size_t tiger, again;
- *     si_new(&names, SI_STRING);
- *     si_get_or_intern(&names, (const uint8_t *)"Tiger", 5, &tiger);
- *     si_get_or_intern(&names, (const uint8_t *)"Tiger", 5, &again);   // tiger == again
+ *     size_t tiger = 0, again = 0;
+ *     if (si_new(&names, SI_STRING) != SI_OK) return 1;
+ *     if (si_get_or_intern(&names, (const uint8_t *)"Tiger", 5, &tiger) != SI_OK) return 1;
+ *     if (si_get_or_intern(&names, (const uint8_t *)"Tiger", 5, &again) != SI_OK) return 1;   // tiger == again
  *     si_free(&names);
  *
  * What each call does is proved of the library, as long as its caller keeps to these rules, which nothing can look at:
  *
  *   1. A handle is SI_INIT (all zeros) before its first call. Only the calls below change it, and it is not copied: of two
  *      copies one is dead. It may be moved.
- *   2. No pointer is null, not even that of an empty text, and each leads to as much as the length behind it says. What a
- *      call writes to holds a value before: a si_text is SI_TEXT at first, or one that a call wrote.
+ *   2. No pointer is null, not even that of an empty text or array, and each is aligned and leads to as much as the length
+ *      behind it says. What a call writes to holds a value before: a number any number, room any bytes (from calloc, say),
+ *      and a si_text, that of an si_entry too, SI_TEXT or one that a call wrote.
  *   3. What is handed to one call does not overlap what that call writes. The two handles of si_clone and si_equal are
  *      two, and a text that si_resolve or si_entries lent is not handed to a call on the handle that lent it.
- *   4. One call at a time on a handle. It may be used by another thread later, if a lock, or a thread's start or end, comes
- *      between. Different handles need no care: there is nothing that they share.
- *   5. A text that si_resolve or si_entries lent is not read after the next call that may change its handle. Those that
- *      only read leave it: si_len, si_get, si_get_utf8, si_contains, si_resolve, si_copy, si_entries, si_equal,
+ *   4. One call at a time on a handle, and be it of those that only read. It may be used by another thread later, if a lock,
+ *      or a thread's start or end, comes between. Different handles need no care: there is nothing that they share.
+ *   5. A text that si_resolve or si_entries lent is not read after the next call that may change its handle. Any call may but
+ *      those that only read: si_len, si_get, si_get_utf8, si_contains, si_resolve, si_copy, si_entries, si_equal,
  *      si_to_json, and si_clone of the handle that is copied.
  *   6. malloc, realloc and free are of one allocator, and align as C says. No call is made from a signal handler, or in the
  *      child of a fork of a process with more than one thread.
@@ -53,7 +54,7 @@ enum {
   SI_CLOSED = 5,     /* the handle is not open */
   SI_NO_ROOM = 6,    /* the room that was handed over is too short */
   SI_BAD_KIND = 7,   /* there is no such kind */
-  SI_BAD_ENDS = 8,   /* an end falls, or passes the bytes */
+  SI_BAD_ENDS = 8,   /* an end is less than the one before it, or passes the bytes */
   SI_NOT_A_LIST = 9, /* the JSON value is not an array */
   SI_NOT_A_TEXT = 10, /* an element is not a string */
   SI_REPEATED = 11   /* an element is a string equal to an earlier one */
@@ -62,8 +63,8 @@ enum {
 /* The kind of an interner: how its texts lie in memory. Numbers are below 2^32 - 1. */
 enum {
   SI_STRING = 0, /* joined in one string: fast to fill, to resolve and to walk; numbers 0, 1, 2, .. */
-  SI_BUCKET = 1, /* in buckets that are never moved; numbers 0, 1, 2, .. */
-  SI_BUFFER = 2  /* in one buffer, each behind its length: the least memory; numbers count bytes, with gaps */
+  SI_BUCKET = 1, /* in buckets, so that growth copies no text; numbers 0, 1, 2, .. */
+  SI_BUFFER = 2  /* in one buffer, each behind its length: the least memory; a number tells where, so they have gaps */
 };
 
 /* A handle. All zeros are a closed one. */
@@ -98,7 +99,7 @@ uint32_t si_with_capacity(si_interner *h, uint32_t kind, size_t capacity);
 /* Closes the handle, and frees what it held. Does nothing to a closed one. */
 void si_free(si_interner *h);
 
-/* Returns the number of texts: 0 of a closed handle. */
+/* Returns the number of texts: 0 of a closed handle (`h->open` tells whether it is one). */
 size_t si_len(si_interner *h);
 
 /* Writes the number of the text. A text that is not known is put last. A known one takes no memory.
@@ -116,8 +117,8 @@ uint32_t si_get_or_intern_static(si_interner *h, const uint8_t *text, size_t tex
  * ends. Writes their numbers to the front of `numbers`, which has room for as many. Stops at the first that is refused:
  * `done` is how many went before it, with their numbers, and stay.
  * SI_OK: all went in; SI_BAD_ENDS: the end at `done` falls, or passes the bytes; SI_BAD_TEXT, SI_NO_SYMBOL, SI_NO_MEMORY: as
- * si_get_or_intern says of the text at `done`; SI_NO_ROOM, SI_CLOSED: none went in, and `done` is 0. The rest of `numbers`
- * stays as it was. */
+ * si_get_or_intern says of the text at `done`; SI_NO_ROOM (`numbers` is shorter than `ends`), SI_CLOSED: none went in, and
+ * `done` is 0. The rest of `numbers` stays as it was. */
 uint32_t si_intern_all(si_interner *h, const uint8_t *bytes, size_t bytes_len, const size_t *ends, size_t ends_len,
                        size_t *numbers, size_t numbers_len, size_t *done);
 
@@ -136,7 +137,7 @@ bool si_contains(si_interner *h, const uint8_t *text, size_t text_len);
  * On SI_BUFFER, numbers between those of texts may read something, too: always UTF-8 that lies in the buffer. */
 uint32_t si_resolve(si_interner *h, size_t number, si_text *text);
 
-/* Copies the text at the number to `room`, and writes its length to `len`.
+/* Copies the text at the number to `room`, with no zero behind it, and writes its length to `len`.
  * SI_OK; SI_NO_ROOM: `room` stays as it was, and `len` is the length that it needs; or both stay: SI_NOTHING, SI_CLOSED. */
 uint32_t si_copy(si_interner *h, size_t number, uint8_t *room, size_t room_len, size_t *len);
 
@@ -149,7 +150,7 @@ uint32_t si_entries(si_interner *h, si_entry *entries, size_t entries_len, size_
  * SI_OK, SI_CLOSED. */
 uint32_t si_truncate(si_interner *h, size_t len);
 
-/* Gives back memory that no text needs, if it can. SI_OK, SI_CLOSED. */
+/* Gives back memory that no text needs, as far as the allocator lets it; if not, nothing changes. SI_OK, SI_CLOSED. */
 uint32_t si_shrink(si_interner *h);
 
 /* Opens `copy` on an interner of the same kind with the same texts under the same numbers, and frees what it held before.
@@ -157,16 +158,17 @@ uint32_t si_shrink(si_interner *h);
  * SI_OK; or `copy` stays as it was: SI_NO_MEMORY, SI_CLOSED. */
 uint32_t si_clone(si_interner *h, si_interner *copy);
 
-/* Reports whether both handles are open on interners of one kind with the same texts in the same order. */
+/* Reports whether both handles, which are two, are open on interners of one kind with the same texts in the same order. */
 bool si_equal(si_interner *h, si_interner *other);
 
-/* Writes the JSON array of the texts to `room`, and its length to `len`.
+/* Writes the JSON array of the texts to `room`, in UTF-8 with no zero behind it, and its length to `len`. (A first call with
+ * `room_len` 0 tells the length.)
  * SI_OK; SI_NO_ROOM: `room` stays as it was, and `len` is the length that it needs; or both stay: SI_NO_MEMORY, SI_CLOSED. */
 uint32_t si_to_json(si_interner *h, uint8_t *room, size_t room_len, size_t *len);
 
 /* Opens the handle on an interner of the texts of a JSON array of strings, and frees what it held before. Repeats add no
- * text. SI_OK; or the handle stays as it was: SI_BAD_KIND, SI_BAD_TEXT (not JSON), SI_NOT_A_LIST, SI_NOT_A_TEXT (an element
- * is no string), SI_NO_SYMBOL, SI_NO_MEMORY. */
+ * text. SI_OK; or the handle stays as it was: SI_BAD_KIND, SI_BAD_TEXT (not JSON, nested 128 deep or more, or with a number
+ * that is too great for a double), SI_NOT_A_LIST, SI_NOT_A_TEXT (an element is no string), SI_NO_SYMBOL, SI_NO_MEMORY. */
 uint32_t si_from_json(si_interner *h, uint32_t kind, const uint8_t *json, size_t json_len);
 
 /* The same, but repeats are refused: SI_REPEATED. */
