@@ -1,6 +1,7 @@
 -- A column of texts: a dictionary of the distinct ones, and for each row the symbol of its text.
 -- Cited by `Column`.
-use Rattle.std.specs.Prelude.{◌≡◌, ℕ, List, [], ◌++◌, map, Option, Some, Result, MatchResult, unwrap_or}
+use Rattle.std.specs.Prelude.{◌≡◌, ℕ, List, [], ◌++◌, map, Option, Some, Result, MatchResult, unwrap_or, slice_get, option_map}
+use Rattle.std.specs.List.{AllZip}
 use Rattle.std.specs.Borrow.{Bor}
 use Rattle.std.specs.Iterator.{Drains, YieldsThen}
 use Rattle.string_interner.specs.Text.{Text}
@@ -23,3 +24,11 @@ AppendsRows {I} {W} becomes steps iter old outcome new =
     (walk : W) × (items : List (Bor Text)) × becomes iter walk × (new ≡ old ++ texts_of items) × MatchResult outcome
     (λ _. Drains steps walk items)
     (λ _. (refused : Bor Text) × (rest : W) × YieldsThen steps walk items (Some refused) rest)
+
+-- each number is the index of its row's text in the dictionary
+abbrev pub AreNumbersOf : List Text → List ℕ → List Text → Type 0
+AreNumbersOf dictionary numbers rows = AllZip (λ number row. slice_get dictionary number ≡ Some row) numbers rows
+
+-- the numbers of the symbols of entries
+abbrev pub AreStarts : {S : Type 0} → (S → ℕ) → List (Option S × Text) → List ℕ → Type 0
+AreStarts number entries starts = AllZip (λ entry start. option_map number entry.0 ≡ Some start) entries starts

@@ -1,16 +1,17 @@
 //! A column of texts, encoded by a dictionary: each distinct text once, and a symbol for each row.
 
-ghost use Rattle.std.specs.Prelude.{◌≡◌, [], length, slice_get};
+ghost use Rattle.std.specs.Prelude.{◌≡◌, [], length, slice_get, IfOk};
 ghost use Rattle.std.specs.Option.{option_copied};
 ghost use Rattle.std.specs.Iterator.{IsFiniteIterable};
 ghost use Rattle.string_interner.specs.Collect.{fresh};
-ghost use Rattle.uses.specs.Column.{AppendsRows};
+ghost use Rattle.string_interner.specs.Walk.{entries};
+ghost use Rattle.uses.specs.Column.{AppendsRows, AreNumbersOf, AreStarts};
 
-use std::alloc::Global;
+use std::alloc::{AllocError, Global};
 use std::marker::Model;
-use string_interner::StringInterner;
 use string_interner::backend::{Backend, DefaultBackend, InternError};
 use string_interner::dedup::{FoldState, TextHasher, TextIndex, WindowIndex};
+use string_interner::{StringInterner, Symbol};
 
 /// A list of rows, each a text, of which equal ones are kept once: in a `FastStringInterner`, where no other backend,
 /// hasher or index is named.
@@ -97,4 +98,43 @@ impl<B: Backend, H: TextHasher, I: TextIndex<B::Symbol>> Column<B, H, I> {
     {
         self.dictionary.len()
     }
+
+    /// Returns the distinct texts, in the order in which they first appear in the rows.
+    pub fn dictionary(&self) -> &StringInterner<B, H, I>
+        ensures { result.now.texts ≡ fresh [] self.now }
+    {
+        &self.dictionary
+    }
+
+    /// Returns a number for each row: at which index of the dictionary its text is, whatever numbers the backend gives
+    /// its symbols.
+    ///
+    /// Finds each in the sorted list of the symbols' numbers. Returns `Err` only if an allocation fails.
+    pub fn numbers(&self, alloc: Global) -> Result<Vec<usize>, AllocError>
+        ensures { IfOk result (λ numbers. AreNumbersOf (fresh [] self.now) numbers.items self.now) }
+    {
+        // For the proof: states that a later text has the greater number.
+        self.dictionary.symbol_law();
+        let starts = starts(alloc, &self.dictionary)?;
+        let mut numbers = Vec::with_capacity(alloc, self.codes.len())?;
+        for code in &self.codes {
+            let start = code.to_usize();
+            numbers.push_reserved(starts.partition_point(|other| *other < start));
+        }
+        Ok(numbers)
+    }
+}
+
+/// Returns the number of each text's symbol, in the order of the texts.
+fn starts<B: Backend, H: TextHasher, I: TextIndex<B::Symbol>>(
+    alloc: Global,
+    dictionary: &StringInterner<B, H, I>,
+) -> Result<Vec<usize>, AllocError>
+    ensures { IfOk result (λ starts. AreStarts B.Symbol.number (entries B.Symbol.symbol_of B.place [] dictionary.now.texts) starts.items) }
+{
+    let mut starts = Vec::with_capacity(alloc, dictionary.len())?;
+    for (symbol, _) in dictionary {
+        starts.push_reserved(symbol.to_usize());
+    }
+    Ok(starts)
 }
