@@ -7,6 +7,7 @@ import resource
 import signal
 import subprocess
 import tempfile
+from itertools import product
 
 from program.cases import OUTPUT_BUFFER
 from program.ends import differs
@@ -109,7 +110,7 @@ def input_in_pieces(program):
 def input_that_breaks_off(program):
     """After each byte of a bad line, a character of two bytes, and a byte that begins none."""
     data = b"i a\nx\ni \xc3\xa9\nlen\n\xff\n"
-    for count in range(len(data)):
+    for count in range(len(data) + 1):
         ended = run_over(program, [b"string"], holding(data), READ_BYTES=count)
         yield from differs(f"input that breaks off after {count} bytes", ended, UNREADABLE)
 
@@ -136,21 +137,29 @@ def output_that_breaks_off(program):
                 yield f"{name}: {broken - 1} writes"
 
 
+LISTS = (
+    (b"string", COMMANDS, b"".join(LINES)),
+    (b"buffer", b"i Tiger\nn 1\nn 6\nr 5\nr 1\nr 0\nlen\nshrink\n",
+     b"symbol 0\nnone\nnone\nno reply\nno reply\ntext Tiger\nlen 1\nok\n"),
+    (b"bucket", b"i \nr 0\n", b"symbol 0\ntext \n"),
+    (b"string", b"", b""),
+)
+
+
 def output_in_pieces(program):
     """Each write takes a few bytes. A pipe that hands on each write by itself shows that none has bytes of two lines."""
-    for settings in ({}, refusing_the_buffer(program)):
-        for size in (1, 5, 8192):
-            reading, writing = os.pipe2(os.O_DIRECT)
-            # Each write takes a page of the pipe.
-            fcntl.fcntl(writing, fcntl.F_SETPIPE_SZ, 1 << 20)
-            status, _, told = run_over(program, [b"string"], holding(COMMANDS), writing, WRITE_BYTES=size, **settings)
-            os.close(writing)
-            with os.fdopen(reading, "rb", buffering=0) as pipe:
-                writes = list(iter(lambda: pipe.read(8192), b""))
-            name = f"output of {size} bytes at a time under {settings}"
-            yield from differs(name, (status, b"".join(writes), without_refusal(told)), (0, b"".join(LINES), b""))
-            if settings and any(b"\n" in it[:-1] for it in writes):
-                yield f"{name}: a write has bytes of two lines"
+    for (word, data, lines), settings, size in product(LISTS, ({}, refusing_the_buffer(program)), (1, 5, 8192)):
+        reading, writing = os.pipe2(os.O_DIRECT)
+        # Each write takes a page of the pipe.
+        fcntl.fcntl(writing, fcntl.F_SETPIPE_SZ, 1 << 20)
+        status, _, told = run_over(program, [word], holding(data), writing, WRITE_BYTES=size, **settings)
+        os.close(writing)
+        with os.fdopen(reading, "rb", buffering=0) as pipe:
+            writes = list(iter(lambda: pipe.read(8192), b""))
+        name = f"output of {data!r} in {size} bytes at a time under {settings}"
+        yield from differs(name, (status, b"".join(writes), without_refusal(told)), (0, lines, b""))
+        if settings and any(b"\n" in it[:-1] for it in writes):
+            yield f"{name}: a write has bytes of two lines"
 
 
 def closed_error(program):
