@@ -1,13 +1,25 @@
--- What is written for the lines of some bytes.
--- Cited by `written`.
-use Rattle.std.specs.Prelude.{⊤}
+-- What a run writes for the bytes of its input.
+-- Cited by `answer`.
+use Rattle.std.specs.Prelude.{ℕ, List, Option, ⊤}
+use Rattle.std.specs.Io.KnownBytes.{Appends}
 use Rattle.string_interner.specs.Text.{Text}
 use Rattle.column.specs.File.{Encodes}
 use Rattle.column.specs.declared.arguments.Form.{Form}
 use Rattle.column.specs.declared.arguments.Form.TheVariants.{File, Counts, SortedCounts}
+use Rattle.column.specs.declared.arguments.Task.{Task}
+use Rattle.column.specs.declared.arguments.Task.TheVariants.{Decode, Write}
 
 -- What the text says of the lines of the bytes: of counts nothing.
 abbrev pub Tells : Form → Text → Text → Type 0
 Tells File bytes text = Encodes bytes text
 Tells Counts bytes text = ⊤
 Tells SortedCounts bytes text = ⊤
+
+-- What the text is for the task: of decoding nothing is said here, and the steps of `decoded` say what each does.
+abbrev pub Does : Task → Text → Text → Type 0
+Does Decode bytes text = ⊤
+Does (Write form _) bytes text = Tells form bytes text
+
+-- the known bytes of the output grow by what the task asks for
+abbrev pub Answers : Task → Text → Option (List ℕ) → Option (List ℕ) → Type 0
+Answers task bytes old new = (text : Text) × Does task bytes text × Appends old new text

@@ -1,12 +1,12 @@
 //! From the input to the output.
 
-ghost use Rattle.std.specs.Prelude.{◌≡◌, ◌⊎◌, ℕ, List, [], ◌∷◌, ◌++◌, true, IfOk, IfErr, IfSome, IsErrOf, IsOk, OnOk, IsUtf8, string_bytes};
+ghost use Rattle.std.specs.Prelude.{◌≡◌, ◌⊎◌, ℕ, List, [], ◌∷◌, ◌++◌, true, IfOk, IfErr, IfSome, IsErrOf, IsOk, IsOkUnless, OnOk, IsUtf8, string_bytes};
 ghost use Rattle.std.specs.Io.KnownBytes.{Appends, IsAtEnd};
 ghost use Rattle.column.specs.Fault.{IsReadFault};
 ghost use Rattle.column.specs.Lines.{AreLines, is_newline, newline_if};
 ghost use Rattle.std.specs.List.{slice_split};
 ghost use Rattle.column.specs.File.{Encodes};
-ghost use Rattle.column.specs.Answer.{Tells};
+ghost use Rattle.column.specs.Answer.{Tells, Does, Answers};
 ghost use Rattle.column.specs.declared.fault.Fault.{Fault};
 
 use crate::arguments::{Choice, Form, Task};
@@ -116,6 +116,29 @@ fn written<B: Backend + Drop>(alloc: Global, form: Form, bytes: &[u8]) -> Result
     }
 }
 
+/// Returns what the task asks for.
+fn done(alloc: Global, task: Task, bytes: &[u8]) -> Result<String, Fault>
+    ensures { IfOk result (λ text. Does task bytes.now (string_bytes text)) }
+{
+    match task {
+        Task::Decode => file::decoded(alloc, text_of(bytes)?),
+        Task::Write(form, Choice::String) => written::<StringBackend>(alloc, form, bytes),
+        Task::Write(form, Choice::Bucket) => written::<BucketBackend>(alloc, form, bytes),
+        Task::Write(form, Choice::Buffer) => written::<BufferBackend>(alloc, form, bytes),
+    }
+}
+
+/// Writes a text.
+fn write_text<W: Write>(output: &mut W, text: String) -> Result<(), Fault>
+    ensures written { OnOk result (Appends (W.contents output.old) (W.contents output.new) (string_bytes text)) }
+    ensures fault { IsOkUnless result Fault.Output }
+{
+    output
+        .write_all(text.as_bytes())
+        .map_err(|_| Fault::Output)?;
+    output.flush().map_err(|_| Fault::Output)
+}
+
 /// Writes what the task asks for. Nothing is written before all of it is known.
 pub fn answer<W: Write>(
     alloc: Global,
@@ -123,17 +146,11 @@ pub fn answer<W: Write>(
     bytes: &[u8],
     output: &mut W,
 ) -> Result<(), Fault>
+    ensures answered { OnOk result (Answers task bytes.now (W.contents output.old) (W.contents output.new)) }
+
     // Unless all went well or a write failed, the output was not touched.
     ensures silent { IsOk result ⊎ (IsErrOf result Fault.Output ⊎ (output.new ≡ output.old)) }
 {
-    let text = match task {
-        Task::Decode => file::decoded(alloc, text_of(bytes)?)?,
-        Task::Write(form, Choice::String) => written::<StringBackend>(alloc, form, bytes)?,
-        Task::Write(form, Choice::Bucket) => written::<BucketBackend>(alloc, form, bytes)?,
-        Task::Write(form, Choice::Buffer) => written::<BufferBackend>(alloc, form, bytes)?,
-    };
-    output
-        .write_all(text.as_bytes())
-        .map_err(|_| Fault::Output)?;
-    output.flush().map_err(|_| Fault::Output)
+    let text = done(alloc, task, bytes)?;
+    write_text(output, text)
 }
