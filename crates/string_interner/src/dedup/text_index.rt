@@ -62,7 +62,7 @@ pub trait TextIndex<S: Symbol> {
         ensures slots { IfOk result (λ index. IsLeastSlotCount rule capacity (slots index)) }
         ensures count { IfOk result (λ index. entries index ≡ 0) }
         ensures empty { IfOk result (λ index. (code : Text → ℕ) → indexes index (λ _. None) code) }
-        ensures fits_usize { IfOk result (λ index. slots index < 2 ^ 64) };
+        ensures slots_fit { IfOk result (λ index. slots index < 2 ^ 64) };
 
     /// Returns the allocator that the index was made with.
     fn allocator(&self) -> Global;
