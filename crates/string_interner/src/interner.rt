@@ -168,6 +168,7 @@ impl<B: Backend, H: TextHasher, I: TextIndex<B::Symbol>> StringInterner<B, H, I>
     /// no symbol for the next place, before any allocation, and `Memory` only if an allocation fails or a size does not
     /// fit a `usize`. On `Err` texts and buckets are unchanged. The index grows at most once, and not if the load
     /// factor allows one more entry.
+    #[inline(always)]
     pub fn get_or_intern(&mut self, text: &str) -> Result<B::Symbol, InternError>
         ensures { InternsInto B.Symbol.symbol_of B.place B.cost I.rule self.old text.now result self.new }
     {

@@ -40,6 +40,17 @@ abbrev pub Tells : {T : Type 0} → Result T Status → ℕ → T → T → Type
 Tells (Ok value) code before after = (code ≡ 0) × (after ≡ value)
 Tells (Err status) code before after = (code ≡ code_of status) × (after ≡ before)
 
+-- what a call tells of interning a text
+abbrev pub outcome_of : {T : Type 0} → Result T InternError → Result T Status
+outcome_of (Ok value) = Ok value
+outcome_of (Err error) = Err (status_of error)
+
+-- Interning a text has an outcome, which a code tells, and what is written.
+pub record TellsInterned {T : Type 0} (holds : Result T InternError → Type 0) (code : ℕ) (before after : T) : Type 0 where
+  pub outcome : Result T InternError
+  pub tells : Tells (outcome_of outcome) code before after
+  pub outcome_holds : holds outcome
+
 -- the code of an outcome that holds nothing
 abbrev pub code_of_done : Result (Unit {0}) Status → ℕ
 code_of_done (Ok _) = 0

@@ -6,14 +6,19 @@ ghost use Rattle.serde_json.specs.View.{view};
 ghost use Rattle.string_interner.specs.Text.{first};
 ghost use Rattle.string_interner.specs.Json.{json_of_texts};
 ghost use Rattle.string_interner_c.specs.Any.{FindsNumber, Interned, IsCopy, IsEmpty, IsMade, IsShrunk, KeepsFirst, ReadsAs, ReadsAsExactly, any_eq, text_at, texts_in};
+ghost use Rattle.string_interner.specs.Interner.{InternsInto};
+ghost use Rattle.string_interner.specs.Window.{seven_eighths};
+ghost use Rattle.string_interner_c.specs.Kind.{numbered};
+ghost use Rattle.string_interner_c.specs.Status.{TellsInterned, outcome_of};
 
 mod encode;
 mod entries;
 
 use crate::kind::Kind;
+use crate::status::{Status, tell};
 use serde_json::Value;
 use std::alloc::{AllocError, Global};
-use string_interner::backend::{BucketBackend, BufferBackend, InternError, StringBackend};
+use string_interner::backend::{Backend, BucketBackend, BufferBackend, InternError, StringBackend};
 use string_interner::json::JsonError;
 use string_interner::symbol::{Symbol, SymbolU32};
 use string_interner::{FastStringInterner, StringInterner};
@@ -70,6 +75,29 @@ fn number_given(outcome: Result<SymbolU32, InternError>) -> Result<usize, Intern
     }
 }
 
+/// Returns the number of the symbol that a text was interned under, or why a call tells that it was not.
+#[inline(always)]
+fn status_given(outcome: Result<SymbolU32, InternError>) -> Result<usize, Status>
+    ensures { result ≡ outcome_of outcome }
+{
+    Ok(number_given(outcome)?)
+}
+
+/// Writes the number of a text, and returns the code of the outcome. A new text is appended.
+///
+/// One function for each kind, which a call of C jumps to. The library's own is inlined in it, and it calls nothing for a
+/// known text.
+#[inline(never)]
+fn write_number<B: Backend<Symbol = SymbolU32>>(
+    interner: &mut FastStringInterner<B>,
+    text: &str,
+    number: &mut usize,
+) -> u32
+    ensures { TellsInterned (λ outcome. InternsInto numbered B.place B.cost seven_eighths interner.old text.now outcome interner.new) result number.old number.new }
+{
+    tell(status_given(interner.get_or_intern(text)), number)
+}
+
 impl AnyInterner {
     /// Makes an empty interner of this kind, without spare capacity. Takes no memory.
     pub fn new(alloc: Global, kind: Kind) -> AnyInterner
@@ -109,6 +137,14 @@ impl AnyInterner {
         ensures { IsTrue result ↔ IsSome (first (texts_in self.now) text.now) }
     {
         each!(self, interner => interner.contains(text))
+    }
+
+    /// Writes the number of a text, and returns the code of the outcome. A new text is appended.
+    #[inline(always)]
+    pub fn write_number(&mut self, text: &str, number: &mut usize) -> u32
+        ensures { TellsInterned (λ outcome. Interned self.old text.now outcome self.new) result number.old number.new }
+    {
+        each!(self, interner => write_number(interner, text, number))
     }
 
     /// Returns the number of a text. A new text is appended.

@@ -4,7 +4,7 @@ ghost use Rattle.std.specs.Prelude.{◌≡◌, ◌↔◌, ◌&&◌, IsFalse, IsT
 ghost use Rattle.std.specs.Str.{IsUtf8};
 ghost use Rattle.string_interner.specs.Text.{first};
 ghost use Rattle.string_interner_c.specs.Any.{any_eq, texts_in};
-ghost use Rattle.string_interner_c.specs.Calls.{Copies, CopiesOut, CopiesText, FindsBytes, FindsText, InternsBytes, InternsText, Kept, MakesNew, MakesRoom, OpensMade, Opens, Reads, ResolvesNumber, Shrinks, Through, Truncates};
+ghost use Rattle.string_interner_c.specs.Calls.{Answers, Copies, CopiesOut, CopiesText, FindsBytes, FindsText, InternsBytes, InternsText, Kept, MakesNew, MakesRoom, OpensMade, Opens, Reads, ResolvesNumber, Shrinks, Through, Truncates};
 ghost use Rattle.string_interner_c.specs.Encode.{InternsParts, ListsEntries};
 
 /// Ends the call that this stands in where the handle is closed, and tells that.
@@ -21,7 +21,7 @@ pub mod json;
 use crate::any::AnyInterner;
 use crate::handle::Handle;
 use crate::kind::Kind;
-use crate::status::Status;
+use crate::status::{Status, tell};
 use crate::text::{Entry, Text, text_of};
 use std::alloc::Global;
 
@@ -34,23 +34,27 @@ pub fn len(h: &mut Handle) -> usize
     if h.is_open() { h.interner().len() } else { 0 }
 }
 
-/// Returns the number of a text, and appends the text if it is new.
-pub fn get_or_intern(h: &mut Handle, text: &str) -> Result<usize, Status>
-    ensures { Through (InternsText text.now) h.old result h.new }
+/// Writes the number of a text, and appends the text if it is new. Returns the code of the outcome.
+pub fn get_or_intern(h: &mut Handle, text: &str, number: &mut usize) -> u32
+    ensures { Answers (λ outcome. Through (InternsText text.now) h.old outcome h.new) result number.old number.new }
 {
-    must_be_open!(h);
-    let number = h.interner().get_or_intern(text)?;
-    Ok(number)
+    if !h.is_open() {
+        return tell(Err(Status::Closed), number);
+    }
+    h.interner().write_number(text, number)
 }
 
-/// Returns the number of the bytes, and appends them if they are a new text.
-pub fn get_or_intern_bytes(h: &mut Handle, bytes: &[u8]) -> Result<usize, Status>
-    ensures { Through (InternsBytes bytes.now) h.old result h.new }
+/// Writes the number of the bytes, and appends them if they are a new text. Returns the code of the outcome.
+pub fn get_or_intern_bytes(h: &mut Handle, bytes: &[u8], number: &mut usize) -> u32
+    ensures { Answers (λ outcome. Through (InternsBytes bytes.now) h.old outcome h.new) result number.old number.new }
 {
-    must_be_open!(h);
-    let text = text_of(bytes)?;
-    let number = h.interner().get_or_intern(text)?;
-    Ok(number)
+    if !h.is_open() {
+        return tell(Err(Status::Closed), number);
+    }
+    match text_of(bytes) {
+        Ok(text) => h.interner().write_number(text, number),
+        Err(status) => tell(Err(status), number),
+    }
 }
 
 /// Returns the number of a text, if it is known.

@@ -52,7 +52,7 @@ pub extern "C" fn si_len(h: &mut Handle) -> usize
 pub extern "C" fn si_get_or_intern(h: &mut Handle, text: &[u8], number: &mut usize) -> u32
     ensures { Answers (λ outcome. Through (InternsBytes text.now) h.old outcome h.new) result number.old number.new }
 {
-    tell(calls::get_or_intern_bytes(h, text), number)
+    calls::get_or_intern_bytes(h, text, number)
 }
 
 /// The same, where the caller owes that the bytes are UTF-8, which is not looked at.
@@ -66,7 +66,7 @@ pub unsafe extern "C" fn si_get_or_intern_utf8(
     ensures { Answers (λ outcome. Through (InternsText text.now) h.old outcome h.new) result number.old number.new }
 {
     let text = unsafe { std::str::from_utf8_unchecked(text) };
-    tell(calls::get_or_intern(h, text), number)
+    calls::get_or_intern(h, text, number)
 }
 
 /// The same as `si_get_or_intern`, of bytes that stay where they are.
