@@ -20,7 +20,7 @@ use Rattle.string_interner.specs.declared.json.JsonError.{JsonError}
 use Rattle.string_interner.specs.declared.json.JsonError.TheVariants.{NoSymbol, Memory}
 use Rattle.string_interner.proofs.Lemmas.Json.Reads.{new_text}
 use Rattle.uses.specs.Column.{AreNumbersOf}
-use Rattle.column.specs.File.{file_of, IsFileOf, text_at, texts_at, Says, SaysText, Decodes}
+use Rattle.column.specs.File.{file_of, IsFileOf, text_at, texts_at, Says, SaysText, Encodes, Decodes}
 use Rattle.column.specs.Lines.{has_newline, joined, AreLines}
 use Rattle.column.proofs.Lines.{joined-lines, lines-plain, fresh-plain, texts_of-append}
 
@@ -134,6 +134,18 @@ pub gives-back : (text : Text) (lines said : List Text) (is_ended said_ended : B
     → joined said said_ended ≡ text
 gives-back text lines said is_ended said_ended value are distinct is says =
     says-once value said lines said_ended is_ended says (says-file lines is_ended value distinct (lines-plain text lines is_ended are) is) ∙ joined-lines text lines is_ended are
+
+-- The file that was encoded says the text.
+pub is-decoded : (text file : Text) → Encodes text file → Decodes file text
+is-decoded text file e =
+    let says = says-file e.0 e.1 e.2 e.4 (lines-plain text e.0 e.1 e.3) e.5 in
+    (e.2, (e.0, e.1, says, sym (joined-lines text e.0 e.1 e.3)), e.6)
+
+-- What was encoded comes back: no other text is decoded.
+pub comes-back : (text file said : Text) → Encodes text file → Decodes file said → said ≡ text
+comes-back text file said e d =
+    let says = subst (λ v. SaysText v said) (same_Some d.0 e.2 (sym d.2 ∙ e.6)) d.1 in
+    says.3 ∙ gives-back text e.0 says.0 e.1 says.1 e.2 e.3 e.4 e.5 says.2
 
 -- ---- files that say nothing
 
