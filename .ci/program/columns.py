@@ -1,5 +1,6 @@
 """The program `column`: its cases, damaged files, lines at random, streams that fail, and scale."""
 
+import errno
 import json
 import os
 import random
@@ -113,10 +114,18 @@ def try_no_json(program, row):
     return [] if ended[:2] == (2, b"") and told else [f"no JSON {row[:60]!r}: it ended so: {ended[:3]}"]
 
 
+def over_a_folder(program, words):
+    """How a run ends whose input cannot be read."""
+    folder = os.open("/", os.O_RDONLY)
+    ended = run_over(program, words, folder)
+    os.close(folder)
+    return ended
+
+
 def try_words(program, row):
     """Told before the input is read."""
-    return [fault for data in (b"", b"a\n", b"\xff") for fault in
-            differs(f"words {row!r}", program.run(row.split(), data), USAGE)]
+    faults = differs(f"words {row!r}", program.run(row.split(), b"a\n"), USAGE)
+    return faults + differs(f"words {row!r} over a folder", over_a_folder(program, row.split()), USAGE)
 
 
 TABLES = {"damaged_files": try_damaged, "files_that_are_no_json": try_no_json, "wrong_arguments": try_words}
@@ -155,13 +164,22 @@ def try_both_ways(program, name, data):
     return faults + differs(f"{name}, decoded", program.run([b"decode"], file), (0, data, b""))
 
 
+def text_of(file):
+    """What a file says, as Python reckons it."""
+    value = json.loads(file.decode())
+    lines = [value["dictionary"][number] for number in value["lines"]]
+    return ("\n".join(lines) + "\n" * value["final_newline"]).encode()
+
+
 def try_file_at_random(program, seed):
-    """A file with one byte changed gives lines or is called damaged, and is never both."""
+    """A file with one byte changed gives the lines that it says or is called damaged, and is never both."""
     chance = random.Random(seed)
     file = bytearray(answer([b"encode"], lines_at_random(seed))[1])
     file[chance.randrange(len(file))] = chance.choice(b'0123456789"[]{},:-ntf\\ a\xff')
     ended = program.run([b"decode"], bytes(file))
-    if ended.status == 0 and not ended.error or ended.status == 2 and not ended.output and ended.error.count(b"\n") == 1:
+    if ended.status == 0:
+        return differs(f"file {seed}", ended, (0, text_of(file), b""))
+    if ended.status == 2 and not ended.output and ended.error.count(b"\n") == 1:
         return []
     return [f"file {seed}: it ended so: {ended[:3]}"]
 
@@ -176,27 +194,63 @@ def try_random(program, pool):
     return faults, len(seeds), f"{len(seeds)} lists of lines and files at random"
 
 
-def try_failing_streams(program):
-    folder = os.open("/", os.O_RDONLY)
-    yield from differs("a folder as input", run_over(program, [b"count"], folder), UNREADABLE)
-    os.close(folder)
-    yield from differs("a closed input", run_over(program, [b"count"], None, before=lambda: os.close(0)), UNREADABLE)
+# Words, an input, and what is written for it.
+ANSWERED = (
+    ([b"encode"], b"red\ngreen\nred", b'{"dictionary":["red","green"],"final_newline":false,"lines":[0,1,0]}'),
+    ([b"decode"], '{"dictionary":["é",""],"final_newline":true,"lines":[1,0,0]}'.encode(), "\né\né\n".encode()),
+    ([b"count", b"--sorted"], "red\né\né\n".encode(), "2 é\n1 red\n".encode()),
+)
+
+
+def failing_streams(program):
+    yield "a folder as input", over_a_folder(program, [b"count"]), UNREADABLE
+    yield "a closed input", run_over(program, [b"count"], None, before=lambda: os.close(0)), UNREADABLE
     for words, data, wanted in (([b"count"], b"a\n", UNWRITABLE), ([b"count"], b"\xff", failed(2, b"line 1 is not UTF-8")),
                                 ([b"decode"], b"{}", failed(2, b'no array "dictionary"')), ([b"--help"], b"", UNWRITABLE)):
         with open("/dev/full", "wb") as full:
-            yield from differs(f"a full disk, {words} {data!r}", run_over(program, words, holding(data), full), wanted)
+            yield f"a full disk, {words} {data!r}", run_over(program, words, holding(data), full), wanted
 
 
-def try_help(program):
+def input_that_breaks_off(program):
+    """After each byte, and so in characters of two and where what was read is no file or not UTF-8."""
+    for words, data, _ in ANSWERED:
+        for count in range(len(data) + 1):
+            name = f"{words}, input that breaks off after {count} bytes"
+            yield name, run_over(program, words, holding(data), READ_BYTES=count), UNREADABLE
+
+
+def output_that_breaks_off(program):
+    """From each write on, of which each takes three bytes: what was written is the front of the answer."""
+    for words, data, whole in ANSWERED:
+        for error in errno.EPIPE, errno.ENOMEM, 0:  # A writer that takes nothing is an error too.
+            for count in range(0, len(whole), 3):
+                ended = run_over(program, words, holding(data), WRITE_BYTES=3, BROKEN_WRITE=count // 3 + 1, ERROR=error)
+                name = f"{words}, output that breaks off by {error} after {count} bytes"
+                yield name, ended, (1, whole[:count], UNWRITABLE[2])
+
+
+def output_in_pieces(program):
+    for words, data, whole in ANSWERED:
+        for size in 1, 3, 8192:
+            name = f"{words}, output of {size} bytes at a time"
+            yield name, run_over(program, words, holding(data), WRITE_BYTES=size), (0, whole, b"")
+
+
+def help_asked_for(program):
     ended = program.run([b"--help"], b"\xff")
-    if ended.status != 0 or ended.error or not ended.output.startswith(b"usage: column encode "):
-        yield f"--help ended so: {ended[:3]}"
-    yield from differs("--help at the end", program.run([b"count", b"--help"], b""), ended[:3])
+    begin = b"usage: column encode "
+    yield "--help", (ended.status, ended.output[:len(begin)], ended.error), (0, begin, b"")
+    yield "--help at the end", program.run([b"count", b"--help"], b""), ended[:3]
+    yield "--help over a folder", over_a_folder(program, [b"--help"]), ended[:3]
+
+
+STREAMS = (failing_streams, input_that_breaks_off, output_that_breaks_off, output_in_pieces, help_asked_for)
 
 
 def try_streams(program, pool):
-    faults = [*try_failing_streams(program), *try_help(program)]
-    return faults, 8, "inputs and outputs that fail, and help"
+    trials = [trial for trials in STREAMS for trial in trials(program)]
+    faults = [fault for trial in trials for fault in differs(*trial)]
+    return faults, len(trials), f"{len(trials)} inputs and outputs that fail, break off or come in pieces, and help"
 
 
 def large_inputs():

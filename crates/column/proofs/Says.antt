@@ -1,10 +1,10 @@
 -- What a file says: at most one list of lines, and the file of some lines says these.
-use Rattle.std.proofs.Common.{◌≡◌, ℕ, zero, suc, ◌+◌, ◌≤◌, lit≤, Bool, true, false, List, [], ◌∷◌, ◌++◌, map, codes, Option, Some, None, Result, Ok, Err, MatchResult, IfErr, Bor, option_map, option_and_then, refl, sym, ap, subst, ◌∙◌}
+use Rattle.std.proofs.Common.{◌≡◌, ◌≢◌, ℕ, zero, suc, ◌+◌, ◌≤◌, lit≤, Bool, true, false, List, [], ◌∷◌, ◌++◌, map, codes, Option, Some, None, Result, Ok, Err, MatchResult, IfErr, Bor, option_map, option_and_then, refl, sym, ap, subst, ◌∙◌}
 use Rattle.std.specs.Prelude.{slice_get, ⊤}
 use Rattle.std.specs.List.{list_any}
 use Rattle.std.proofs.lemmas.List.{append_assoc}
 use Rattle.std.proofs.lemmas.Option.{same_Some}
-use Rattle.serde_json.specs.Read.{max_depth}
+use Rattle.serde_json.specs.Read.{max_depth, read}
 use Rattle.serde_json.specs.Data.{depth, items_depth, Data, null, boolean, number, string, array, object, unsigned, Items, no_items, item, member, no_members}
 use Rattle.serde_json.specs.Find.{get, as_number, as_u64}
 use Rattle.serde_json.specs.View.{items_of}
@@ -20,7 +20,7 @@ use Rattle.string_interner.specs.declared.json.JsonError.{JsonError}
 use Rattle.string_interner.specs.declared.json.JsonError.TheVariants.{NoSymbol, Memory}
 use Rattle.string_interner.proofs.Lemmas.Json.Reads.{new_text}
 use Rattle.uses.specs.Column.{AreNumbersOf}
-use Rattle.column.specs.File.{file_of, IsFileOf, text_at, texts_at, Says}
+use Rattle.column.specs.File.{file_of, IsFileOf, text_at, texts_at, Says, SaysText, Encodes, Decodes}
 use Rattle.column.specs.Lines.{has_newline, joined, AreLines}
 use Rattle.column.proofs.Lines.{joined-lines, lines-plain, fresh-plain, texts_of-append}
 
@@ -134,6 +134,52 @@ pub gives-back : (text : Text) (lines said : List Text) (is_ended said_ended : B
     → joined said said_ended ≡ text
 gives-back text lines said is_ended said_ended value are distinct is says =
     says-once value said lines said_ended is_ended says (says-file lines is_ended value distinct (lines-plain text lines is_ended are) is) ∙ joined-lines text lines is_ended are
+
+-- The file that was encoded says the text.
+pub is-decoded : (text file : Text) → Encodes text file → Decodes file text
+is-decoded text file e =
+    let says = says-file e.0 e.1 e.2 e.4 (lines-plain text e.0 e.1 e.3) e.5 in
+    (e.2, (e.0, e.1, says, sym (joined-lines text e.0 e.1 e.3)), e.6)
+
+-- What was encoded comes back: no other text is decoded.
+pub comes-back : (text file said : Text) → Encodes text file → Decodes file said → said ≡ text
+comes-back text file said e d =
+    let says = subst (λ v. SaysText v said) (same_Some d.0 e.2 (sym d.2 ∙ e.6)) d.1 in
+    says.3 ∙ gives-back text e.0 says.0 e.1 says.1 e.2 e.3 e.4 e.5 says.2
+
+-- ---- files that say nothing
+
+module _ (value : Data) where
+  pub no-dictionary : ((texts : List Text) → IsDistinct texts → get (codes "dictionary") value ≢ Some (json_of_texts texts)) → (text : Text) → ¬ (SaysText value text)
+  no-dictionary none text says = let s = says.2 in none s.dictionary s.distinct s.texts
+
+  pub no-numbers : ((numbers : Items) → get (codes "lines") value ≢ Some (array numbers)) → (text : Text) → ¬ (SaysText value text)
+  no-numbers none text says = let s = says.2 in none s.numbers s.indexes
+
+  pub no-end : ((is_ended : Bool) → get (codes "final_newline") value ≢ Some (boolean is_ended)) → (text : Text) → ¬ (SaysText value text)
+  no-end none text says = let s = says.2 in none says.1 s.end
+
+  module _ (dictionary : List Text) (texts : get (codes "dictionary") value ≡ Some (json_of_texts dictionary)) where
+    pub more-than-a-line : list_any has_newline dictionary ≡ true → (text : Text) → ¬ (SaysText value text)
+    more-than-a-line has text says =
+        let s = says.2 in
+        let same = same-texts dictionary s.dictionary (sym texts ∙ s.texts) in
+        let both : true ≡ false = sym has ∙ ap (list_any has_newline) same ∙ s.each_a_line in absurd (cc)
+
+    pub no-index : (numbers : Items) → get (codes "lines") value ≡ Some (array numbers) → texts_at dictionary numbers ≡ None → (text : Text) → ¬ (SaysText value text)
+    no-index numbers indexes none text says =
+        let s = says.2 in
+        let same = same-texts dictionary s.dictionary (sym texts ∙ s.texts) in
+        let items = same-items numbers s.numbers (sym indexes ∙ s.indexes) in
+        let both : None ≡ Some says.0 = sym none ∙ ap (λ d. texts_at d numbers) same ∙ ap (texts_at s.dictionary) items ∙ s.picked in absurd (cc)
+
+-- text that is no JSON is no file
+pub no-json : (file : Text) → read file ≡ None → (text : Text) → ¬ (Decodes file text)
+no-json file none text says = let both : None ≡ Some says.0 = sym none ∙ says.2 in absurd (cc)
+
+-- text that reads as a value is a file of what this says
+pub reads-as : (file text : Text) (value : Data) → read file ≡ Some value → ¬ (SaysText value text) → ¬ (Decodes file text)
+reads-as file text value is not says = not (subst (λ v. SaysText v text) (same_Some _ _ (sym says.2 ∙ is)) says.1)
 
 -- ---- the steps of reading
 

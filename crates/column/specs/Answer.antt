@@ -3,7 +3,7 @@
 use Rattle.std.specs.Prelude.{ℕ, List, Option, ⊤}
 use Rattle.std.specs.Io.KnownBytes.{Appends}
 use Rattle.string_interner.specs.Text.{Text}
-use Rattle.column.specs.File.{Encodes}
+use Rattle.column.specs.File.{Encodes, Decodes}
 use Rattle.column.specs.declared.arguments.Form.{Form}
 use Rattle.column.specs.declared.arguments.Form.TheVariants.{File, Counts, SortedCounts}
 use Rattle.column.specs.declared.arguments.Task.{Task}
@@ -15,9 +15,9 @@ Tells File bytes text = Encodes bytes text
 Tells Counts bytes text = ⊤
 Tells SortedCounts bytes text = ⊤
 
--- What the text is for the task: of decoding nothing is said here, and the steps of `decoded` say what each does.
+-- what the text is for the task
 abbrev pub Does : Task → Text → Text → Type 0
-Does Decode bytes text = ⊤
+Does Decode bytes text = Decodes bytes text
 Does (Write form _) bytes text = Tells form bytes text
 
 -- the known bytes of the output grow by what the task asks for

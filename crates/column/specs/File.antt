@@ -10,7 +10,7 @@ use Rattle.string_interner.specs.Text.{Text, IsDistinct}
 use Rattle.string_interner.specs.Collect.{fresh}
 use Rattle.string_interner.specs.Json.{json_of_texts, json_of_number}
 use Rattle.uses.specs.Column.{AreNumbersOf}
-use Rattle.column.specs.Lines.{has_newline, AreLines}
+use Rattle.column.specs.Lines.{has_newline, joined, AreLines}
 
 -- the object with these texts, numbers and truth value
 abbrev pub file_of : List Text → List ℕ → Bool → Data
@@ -48,3 +48,11 @@ pub record Says (value : Data) (lines : List Text) (is_ended : Bool) : Type 0 wh
 abbrev pub Encodes : Text → Text → Type 0
 Encodes bytes text = (lines : List Text) × (is_ended : Bool) × (value : Data) × AreLines bytes lines is_ended
     × IsDistinct (fresh [] lines) × IsFileOf lines is_ended value × (read text ≡ Some value)
+
+-- a value says the text of some lines
+abbrev pub SaysText : Data → Text → Type 0
+SaysText value text = (lines : List Text) × (is_ended : Bool) × Says value lines is_ended × (text ≡ joined lines is_ended)
+
+-- the bytes are a file, and the text is what it says
+abbrev pub Decodes : Text → Text → Type 0
+Decodes bytes text = (value : Data) × SaysText value text × (read bytes ≡ Some value)

@@ -2,7 +2,7 @@
 
 ghost use Rattle.std.specs.Prelude.{◌≡◌, ◌≢◌, [], List, map, Bool, true, false, codes, Some, None, IfOk, IfErr, OnOk, string_bytes};
 ghost use Rattle.std.specs.List.{list_any};
-ghost use Rattle.serde_json.specs.Data.{Data, array};
+ghost use Rattle.serde_json.specs.Data.{Data, boolean, array, Items};
 ghost use Rattle.serde_json.specs.Find.{get};
 ghost use Rattle.serde_json.specs.Read.{read};
 ghost use Rattle.serde_json.specs.View.{view, items_of, items_view};
@@ -10,7 +10,7 @@ ghost use Rattle.string_interner.specs.Text.{Text, IsDistinct};
 ghost use Rattle.string_interner.specs.Collect.{fresh, texts_of};
 ghost use Rattle.string_interner.specs.Json.{json_of_texts, json_of_number};
 ghost use Rattle.column.specs.Fault.{IsDamage};
-ghost use Rattle.column.specs.File.{IsFileOf, texts_at};
+ghost use Rattle.column.specs.File.{IsFileOf, texts_at, SaysText, Decodes};
 ghost use Rattle.column.specs.Lines.{has_newline, joined};
 
 use crate::fault::Fault;
@@ -123,30 +123,60 @@ fn text_of(alloc: Global, lines: &[&str], is_ended: bool) -> Result<String, Allo
     Ok(text)
 }
 
-/// Returns the text that a file was made of.
-///
-/// Faults are looked for in the order of the file's members. Each tells where the file is damaged.
-pub fn decoded(alloc: Global, file: &str) -> Result<String, Fault> {
-    let file = match Value::from_str(alloc, file) {
-        Ok(file) => file,
-        Err(error) if error.is_memory() => return Err(Fault::Memory),
-        Err(error) => {
-            return Err(Fault::NotJson {
-                line: error.line(),
-                column: error.column(),
-            });
-        }
-    };
-    let dictionary = dictionary_of(alloc, &file)?;
-    let texts = texts_of(alloc, &dictionary)?;
-    let numbers = file
-        .get("lines")
+/// Finds the numbers of the lines.
+fn numbers_of(file: &Value) -> Result<&Vec<Value>, Fault>
+    ensures ok { IfOk result (λ numbers. get (codes "lines") (view file.now) ≡ Some (array (items_view numbers.now.items))) }
+    ensures err { IfErr result (λ fault. (numbers : Items) → get (codes "lines") (view file.now) ≢ Some (array numbers)) }
+{
+    file.get("lines")
         .and_then(Value::as_array)
-        .ok_or(Fault::NoLines)?;
-    let lines = lines_of(alloc, &texts, numbers)?;
-    let is_ended = file
-        .get("final_newline")
+        .ok_or(Fault::NoLines)
+}
+
+/// Finds whether the last line ends in a newline.
+fn end_of(file: &Value) -> Result<bool, Fault>
+    ensures ok { IfOk result (λ is_ended. get (codes "final_newline") (view file.now) ≡ Some (boolean is_ended)) }
+    ensures err { IfErr result (λ fault. (is_ended : Bool) → get (codes "final_newline") (view file.now) ≢ Some (boolean is_ended)) }
+{
+    file.get("final_newline")
         .and_then(Value::as_bool)
-        .ok_or(Fault::NoFinalNewline)?;
+        .ok_or(Fault::NoFinalNewline)
+}
+
+/// Returns the text that the file says. Faults are looked for in the order of its members.
+fn said(alloc: Global, file: &Value) -> Result<String, Fault>
+    ensures ok { IfOk result (λ text. SaysText (view file.now) (string_bytes text)) }
+    ensures err { IfErr result (λ fault. IsDamage fault → (text : Text) → ¬ (SaysText (view file.now) text)) }
+{
+    let dictionary = dictionary_of(alloc, file)?;
+    let texts = texts_of(alloc, &dictionary)?;
+    let lines = lines_of(alloc, &texts, numbers_of(file)?)?;
+    let is_ended = end_of(file)?;
     text_of(alloc, &lines, is_ended).map_err(|_| Fault::Memory)
+}
+
+/// Reads the JSON of a file.
+fn parsed(alloc: Global, file: &str) -> Result<Value, Fault>
+    ensures ok { IfOk result (λ value. read file.now ≡ Some (view value)) }
+    ensures err { IfErr result (λ fault. IsDamage fault → read file.now ≡ None) }
+{
+    match Value::from_str(alloc, file) {
+        Ok(value) => Ok(value),
+        Err(error) if error.is_memory() => Err(Fault::Memory),
+        Err(error) => Err(Fault::NotJson {
+            line: error.line(),
+            column: error.column(),
+        }),
+    }
+}
+
+/// Returns the text that a file was made of, or where the file is damaged.
+pub fn decoded(alloc: Global, file: &str) -> Result<String, Fault>
+    ensures ok { IfOk result (λ text. Decodes file.now (string_bytes text)) }
+
+    // A file that says a text is never called damaged.
+    ensures err { IfErr result (λ fault. IsDamage fault → (text : Text) → ¬ (Decodes file.now text)) }
+{
+    let value = parsed(alloc, file)?;
+    said(alloc, &value)
 }
