@@ -1,8 +1,7 @@
-use Rattle.std.proofs.Common.{◌≡◌, true, None, IfErr, ap, sym, ◌∙◌, rules}
+use Rattle.std.proofs.Common.{◌≡◌, true, None, IfErr, rules}
 use Rattle.std.specs.List.{list_any}
 use Rattle.std.proofs.lemmas.Result.{IfErr-weaker}
 use Rattle.serde_json.specs.View.{view, items_view}
-use Rattle.string_interner.specs.Collect.{texts_of}
 use Rattle.column.specs.Fault.{IsDamage}
 use Rattle.column.specs.File.{texts_at}
 use Rattle.column.specs.Lines.{has_newline}
