@@ -1,0 +1,121 @@
+-- Interning parts one after another, and listing entries.
+use Rattle.std.proofs.Common.{◌≡◌, ℕ, suc, ◌+◌, ◌<◌, ◌≤◌, List, [], ◌∷◌, ◌++◌, length, take, drop, set, refl, sym, ap, ◌∙◌, subst, arith, inl, inr, Option, Ok}
+use Rattle.std.specs.Prelude.{Result, Err, slice_index, slice_range, map}
+use Rattle.std.specs.Borrow.{Bor}
+use Rattle.std.specs.Str.{IsUtf8}
+use Rattle.std.proofs.lemmas.Bool.{cases_lt}
+use Rattle.std.proofs.lemmas.List.{append_assoc, map_push, take_more_set, drop-set-lt, length-set}
+use Rattle.std.proofs.lemmas.Grind.{drop_more_same}
+use Rattle.string_interner.specs.Text.{Text}
+use Rattle.string_interner.specs.StandsFor.{StandsFor, KeepsSymbols, StandInOrder, none, next}
+use Rattle.string_interner.specs.Interner.{InternsInto}
+use Rattle.string_interner.specs.Window.{seven_eighths}
+use Rattle.string_interner.proofs.Lemmas.Interner.Extends.{taken-more}
+use Rattle.handles.specs.Kind.{numbered, cost_in, place_in}
+use Rattle.handles.specs.Any.{Interned, contents, kind_of, place, texts_in}
+use Rattle.handles.specs.Encode.{Encoded, InternsParts, IsEnd, IsTextBetween, part, parts, told}
+use Rattle.handles.specs.Status.{status_of}
+use Rattle.handles.specs.declared.status.Status.{Status}
+use Rattle.handles.specs.declared.status.Status.TheVariants.{BadText, NoSymbol, NoMemory, Nothing, Closed, NoRoom, BadKind, BadEnds, NotAList, NotAText, Repeated}
+use Rattle.handles.specs.declared.text.Entry.{Entry}
+use Rattle.string_interner.specs.StringBackend.{start_at}
+use Rattle.string_interner.specs.declared.backend.InternError.{InternError}
+use Rattle.string_interner.specs.declared.backend.InternError.TheVariants.{NoSymbol as InternNoSymbol, Memory}
+use Rattle.handles.specs.declared.any.AnyInterner.{AnyInterner}
+use Rattle.handles.specs.declared.kind.Kind.{Kind}
+
+module _ {S : Type 0} (symbol_of : ℕ → Option S) (place : List Text → ℕ) where
+  -- symbols that stand for texts still do where another is interned, and so does its own after them
+  stand-more : (old new : List Text) → KeepsSymbols symbol_of place old new → (symbols : List S) (texts : List Text) (symbol : S) (text : Text)
+      → StandInOrder symbol_of place old symbols texts → StandsFor symbol_of place new symbol text → StandInOrder symbol_of place new (symbols ++ symbol ∷ []) (texts ++ text ∷ [])
+  stand-more old new keeps _ _ symbol text none is = next is none
+  stand-more old new keeps _ _ symbol text (next {symbol = s} {text = t} {symbols = symbols} {rest = rest} first more) is = next (keeps s t first) (stand-more old new keeps symbols rest symbol text more is)
+
+parts-more : (bytes ends : List ℕ) (done : ℕ) → parts bytes ends (done + 1) ≡ parts bytes ends done ++ part bytes ends done ∷ []
+parts-more bytes ends done = let is : done + 1 ≡ suc done = omega arith in ap (λ (n : ℕ). parts bytes ends n) is
+
+-- where the part behind the next one begins
+pub start-more : (ends : List ℕ) (done : ℕ) → start_at ends (done + 1) ≡ slice_index ends done
+start-more ends done = let is : done + 1 ≡ suc done = omega arith in ap (λ (n : ℕ). start_at ends n) is
+
+-- before the first part
+pub encoded-none : (bytes ends before : List ℕ) (old : AnyInterner) → Encoded bytes ends before old 0 old before
+encoded-none bytes ends before old = record {
+  kind = refl;
+  ends_are = λ i lt. absurd (omega (arith, lt));
+  taken = record { interned = refl; keeps = λ symbol text stands. stands; spent = omega arith; known = λ none. refl };
+  stand = none;
+  rest = refl;
+  same_length = refl;
+}
+
+-- one more part goes in
+pub encoded-more : (bytes ends before : List ℕ) (old mid new : AnyInterner) (done number : ℕ) (so_far after : List ℕ) → Encoded bytes ends before old done mid so_far → done < length before
+    → IsEnd bytes ends done → (text : Text) → text ≡ part bytes ends done → Interned mid text (Ok number) new → after ≡ set so_far done number → Encoded bytes ends before old (done + 1) new after
+encoded-more bytes ends before old mid new done number so_far after encoded fits is_end text is call now =
+    let call_is = subst (λ (k : Kind). InternsInto numbered (place_in k) (cost_in k) seven_eighths (contents mid) text (Ok number) (contents new)) encoded.kind call.interned in
+    let lt : done < length so_far = omega (arith, fits, encoded.same_length) in
+    let front : take (done + 1) after ≡ take done so_far ++ number ∷ [] = ap (λ (xs : List ℕ). take (done + 1) xs) now ∙ take_more_set so_far done number lt in
+    let texts_are : parts bytes ends (done + 1) ≡ parts bytes ends done ++ text ∷ [] = parts-more bytes ends done ∙ ap (λ (t : Text). parts bytes ends done ++ t ∷ []) (sym is) in
+    let taken = taken-more numbered (place old) (cost_in (kind_of old)) seven_eighths (contents old) (contents mid) (contents new) (parts bytes ends done) text number encoded.taken call_is in
+    let stand = stand-more numbered (place old) (texts_in mid) (texts_in new) call_is.keeps (take done so_far) (parts bytes ends done) number text encoded.stand call_is.stands in
+    record {
+      kind = call.kind ∙ encoded.kind;
+      ends_are = λ i below. elim (cases_lt i done) as (λ _. IsEnd bytes ends i) [
+        | inl lt ↦ encoded.ends_are i lt
+        | inr not_lt ↦ let same : done ≡ i = omega (arith, below, not_lt) in subst (λ (k : ℕ). IsEnd bytes ends k) same is_end
+      ];
+      taken = rw texts_are taken;
+      stand = rw (front, texts_are) stand;
+      rest = ap (λ (xs : List ℕ). drop (done + 1) xs) now ∙ drop-set-lt (done + 1) so_far done number (omega arith) ∙ drop_more_same so_far before done encoded.rest;
+      same_length = ap length now ∙ length-set so_far done number ∙ encoded.same_length;
+    }
+
+module _ (bytes ends before : List ℕ) (old mid : AnyInterner) (done : ℕ) (so_far : List ℕ) (encoded : Encoded bytes ends before old done mid so_far) (more : done < length ends) (from end : ℕ) (from_is : from ≡ start_at ends done) (end_is : end ≡ slice_index ends done) where
+  pub is_end : from ≤ end → end ≤ length bytes → IsEnd bytes ends done
+  is_end rises within = record { rises = rw (← from_is, ← end_is) rises; within = rw (← end_is) within }
+
+  pub part_is : (text : Bor Text) → IsTextBetween bytes from end (Ok text) → text.now ≡ part bytes ends done
+  part_is text h = h.3 ∙ (λ i. slice_range bytes (from_is i) (end_is i))
+
+  -- where the next part is no text, or these are no ends
+  pub part_refused : (status : Status) (outcome : Result (Unit {0}) Status) → outcome ≡ Err status → IsTextBetween bytes from end (Err status) → InternsParts bytes ends before old outcome mid so_far done
+  part_refused BadText outcome is h = rw is (mid, encoded, more, is_end h.0 h.1, (rw (← from_is, ← end_is) h.2, refl))
+  part_refused BadEnds outcome is h = rw is (more, (λ e. h (rw (from_is, end_is) e.rises, rw end_is e.within)), encoded)
+  part_refused NoMemory outcome is h = absurd h
+  part_refused NoSymbol outcome is h = absurd h
+  part_refused Nothing outcome is h = absurd h
+  part_refused Closed outcome is h = absurd h
+  part_refused NoRoom outcome is h = absurd h
+  part_refused BadKind outcome is h = absurd h
+  part_refused NotAList outcome is h = absurd h
+  part_refused NotAText outcome is h = absurd h
+  part_refused Repeated outcome is h = absurd h
+
+  -- where the next part is a text that is refused
+  pub text_refused : (text : Bor Text) → IsTextBetween bytes from end (Ok text) → (new : AnyInterner) (error : InternError) (status : Status) (outcome : Result (Unit {0}) Status) → outcome ≡ Err status → status ≡ status_of error
+      → Interned mid text.now (Err error) new → InternsParts bytes ends before old outcome new so_far done
+  text_refused text h new error status outcome is told call =
+      let same : text.now ≡ part bytes ends done = part_is text h in
+      let utf8 = subst IsUtf8 same h.2 in
+      let part_call = subst (λ (t : Text). Interned mid t (Err error) new) same call in
+      rw (is, told) (of error utf8 part_call)
+    where
+      of : (error : InternError) → IsUtf8 (part bytes ends done) → Interned mid (part bytes ends done) (Err error) new → InternsParts bytes ends before old (Err (status_of error)) new so_far done
+      of InternNoSymbol utf8 part_call = (mid, encoded, more, is_end h.0 h.1, (utf8, part_call))
+      of (Memory e) utf8 part_call = (mid, encoded, more, is_end h.0 h.1, (utf8, part_call))
+
+-- one more entry is listed
+pub listed-more : (all ahead rest : List (Option ℕ × Text)) (room after : List Entry) (index : ℕ) (entry : Entry) → map told (take index room) ++ ahead ≡ all → ahead ≡ told entry ∷ rest → index < length room → after ≡ set room index entry
+    → map told (take (index + 1) after) ++ rest ≡ all
+listed-more all ahead rest room after index entry before first fits now =
+    let front : take (index + 1) after ≡ take index room ++ entry ∷ [] = ap (λ (es : List Entry). take (index + 1) es) now ∙ take_more_set room index entry fits in
+    ap (λ (es : List Entry). map told es ++ rest) front
+    ∙ ap (λ (es : List (Option ℕ × Text)). es ++ rest) (map_push told (take index room) entry)
+    ∙ append_assoc (map told (take index room)) (told entry ∷ []) rest
+    ∙ ap (λ (es : List (Option ℕ × Text)). map told (take index room) ++ es) (sym first)
+    ∙ before
+
+-- and the rest of the room stays
+pub rest-more : (room before after : List Entry) (index : ℕ) (entry : Entry) → drop index room ≡ drop index before → after ≡ set room index entry → drop (index + 1) after ≡ drop (index + 1) before
+rest-more room before after index entry same now = ap (λ (es : List Entry). drop (index + 1) es) now ∙ drop-set-lt (index + 1) room index entry (omega arith) ∙ drop_more_same room before index same

@@ -1,0 +1,100 @@
+-- An interner of any kind: its texts, and what its calls do to them.
+-- Cited by `AnyInterner` and by the calls on handles.
+use Rattle.std.specs.Prelude.{◌≡◌, ℕ, ◌&&◌, Bool, true, false, List, take, Option, Result, Ok, Err, option_and_then}
+use Rattle.string_interner.specs.Text.{Text, texts_eq}
+use Rattle.string_interner.specs.StandsFor.{KeepsSymbols}
+use Rattle.string_interner.specs.Interner.{InternerContents, InternsInto, Finds, IsMadeFor, IsNew, KeepsMemory}
+use Rattle.string_interner.specs.Window.{seven_eighths}
+use Rattle.string_interner.specs.Json.{json_of_texts, ReadsArray, ReadsArrayExactly}
+use Rattle.serde_json.specs.Data.{Data}
+use Rattle.string_interner.specs.declared.backend.InternError.{InternError}
+use Rattle.string_interner.specs.declared.json.JsonError.{JsonError}
+use Rattle.handles.specs.Kind.{numbered, place_in, read_in, cost_in, grant_in, copies_in}
+use Rattle.handles.specs.declared.kind.Kind.{Kind}
+use Rattle.handles.specs.declared.kind.Kind.TheVariants as kind
+use Rattle.handles.specs.declared.any.AnyInterner.{AnyInterner}
+use Rattle.handles.specs.declared.any.AnyInterner.TheVariants.{String, Bucket, Buffer}
+
+abbrev pub kind_of : AnyInterner → Kind
+kind_of (String _) = kind.String
+kind_of (Bucket _) = kind.Bucket
+kind_of (Buffer _) = kind.Buffer
+
+-- what the library's contracts see of it
+abbrev pub contents : AnyInterner → InternerContents
+contents (String interner) = interner
+contents (Bucket interner) = interner
+contents (Buffer interner) = interner
+
+abbrev pub texts_in : AnyInterner → List Text
+texts_in any = (contents any).texts
+
+-- the number of the next text behind a list
+abbrev pub place : AnyInterner → List Text → ℕ
+place any = place_in (kind_of any)
+
+-- the text that is read at a number, if one is
+abbrev pub text_at : AnyInterner → ℕ → Option Text
+text_at any number = option_and_then (read_in (kind_of any) (texts_in any)) (numbered number)
+
+-- A text is looked for, and this is found.
+abbrev pub FindsNumber : AnyInterner → Text → Option ℕ → Type 0
+FindsNumber any text found = Finds numbered (place any) (texts_in any) text found
+
+-- Interning a text has this outcome: that of the library.
+pub record Interned (old : AnyInterner) (text : Text) (outcome : Result ℕ InternError) (new : AnyInterner) : Type 0 where
+  pub kind : kind_of new ≡ kind_of old
+  pub interned : InternsInto numbered (place old) (cost_in (kind_of old)) seven_eighths (contents old) text outcome (contents new)
+
+-- a new interner of this kind
+pub record IsEmpty (kind : Kind) (made : AnyInterner) : Type 0 where
+  pub kind_is : kind_of made ≡ kind
+  pub new : IsNew (contents made)
+
+-- a new interner of this kind, made with a capacity
+pub record IsMade (kind : Kind) (capacity : ℕ) (made : AnyInterner) : Type 0 where
+  pub kind_is : kind_of made ≡ kind
+  pub made_for : IsMadeFor seven_eighths capacity (grant_in kind capacity) (contents made)
+
+-- the first texts stay, with their numbers, and the memory
+pub record KeepsFirst (len : ℕ) (old new : AnyInterner) : Type 0 where
+  pub kind : kind_of new ≡ kind_of old
+  pub first : texts_in new ≡ take len (texts_in old)
+  pub memory : KeepsMemory (contents old) (contents new)
+  pub keeps : KeepsSymbols numbered (place old) (take len (texts_in old)) (texts_in new)
+
+-- the texts stay, with their numbers, and so do buckets and slots
+pub record IsShrunk (old new : AnyInterner) : Type 0 where
+  pub kind : kind_of new ≡ kind_of old
+  pub texts : texts_in new ≡ texts_in old
+  pub buckets : (contents new).buckets ≡ (contents old).buckets
+  pub slots : (contents new).slot_count ≡ (contents old).slot_count
+  pub keeps : KeepsSymbols numbered (place old) (texts_in old) (texts_in new)
+
+-- the copy has the same kind and the same texts, each with its number, as many slots, and the buckets of a copy
+pub record IsCopy (any copy : AnyInterner) : Type 0 where
+  pub kind : kind_of copy ≡ kind_of any
+  pub texts : texts_in copy ≡ texts_in any
+  pub buckets : copies_in (kind_of any) (texts_in any) (contents any).buckets (contents copy).buckets
+  pub slots : (contents copy).slot_count ≡ (contents any).slot_count
+  pub keeps : KeepsSymbols numbered (place any) (texts_in any) (texts_in copy)
+
+abbrev pub same_kind : Kind → Kind → Bool
+same_kind kind.String kind.String = true
+same_kind kind.Bucket kind.Bucket = true
+same_kind kind.Buffer kind.Buffer = true
+same_kind _ _ = false
+
+-- whether both have one kind and the same texts in the same order
+abbrev pub any_eq : AnyInterner → AnyInterner → Bool
+any_eq any other = same_kind (kind_of any) (kind_of other) && texts_eq (texts_in any) (texts_in other)
+
+-- A JSON value is read into an interner of this kind, as the library reads it.
+abbrev pub ReadsAs : Kind → Data → Result AnyInterner JsonError → Type 0
+ReadsAs kind value (Ok any) = (kind_of any ≡ kind) × ReadsArray numbered (place_in kind) value (Ok (contents any))
+ReadsAs kind value (Err error) = ReadsArray numbered (place_in kind) value (Err error)
+
+-- The same where no string may be equal to an earlier one. The value is then the JSON form of the texts.
+abbrev pub ReadsAsExactly : Kind → Data → Result AnyInterner JsonError → Type 0
+ReadsAsExactly kind value (Ok any) = (kind_of any ≡ kind) × (value ≡ json_of_texts (texts_in any)) × ReadsArrayExactly numbered (place_in kind) value (Ok (contents any))
+ReadsAsExactly kind value (Err error) = ReadsArrayExactly numbered (place_in kind) value (Err error)

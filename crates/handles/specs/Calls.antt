@@ -1,0 +1,188 @@
+-- What the calls on a handle do, and how they end.
+-- Cited by `calls` and by every export.
+use Rattle.std.specs.Prelude.{◌≡◌, ℕ, ◌<◌, ◌≤◌, ◌↔◌, List, ◌++◌, length, drop, Option, Some, None, MatchOption, IsSome, IsTrue, IsFalse, Result, Ok, Err, alloc_error, ◌⊎◌, ⊤, Vec}
+use Rattle.std.specs.Borrow.{Bor}
+use Rattle.std.specs.Str.{IsUtf8}
+use Rattle.std.specs.Result.{IsOk}
+use Rattle.std.specs.declared.alloc.Global.{Global}
+use Rattle.serde_json.specs.Data.{Data}
+use Rattle.serde_json.specs.View.{view}
+use Rattle.serde_json.specs.declared.value.Value.{Value}
+use Rattle.serde_json.specs.Read.{read as json_read}
+use Rattle.serde_json.specs.Written.{compact_text}
+use Rattle.string_interner.specs.Text.{Text, first}
+use Rattle.string_interner.specs.Json.{json_of_texts}
+use Rattle.string_interner.specs.declared.backend.InternError.TheVariants.{NoSymbol as InternNoSymbol, Memory}
+use Rattle.string_interner.specs.declared.json.JsonError.{JsonError}
+use Rattle.handles.specs.Any.{FindsNumber, Interned, IsCopy, IsEmpty, IsMade, IsShrunk, KeepsFirst, ReadsAs, ReadsAsExactly, kind_of, text_at, texts_in}
+use Rattle.handles.specs.Kind.{code_of_kind}
+use Rattle.handles.specs.Status.{Tells, code_of_done, status_of_json}
+use Rattle.handles.specs.declared.kind.Kind.{Kind}
+use Rattle.handles.specs.declared.any.AnyInterner.{AnyInterner}
+use Rattle.handles.specs.declared.handle.Handle.{Handle}
+use Rattle.handles.specs.declared.text.Text.{Text as LentText}
+use Rattle.handles.specs.declared.status.Status.{Status}
+use Rattle.handles.specs.declared.status.Status.TheVariants.{BadText, NoSymbol, NoMemory, Nothing, Closed, NoRoom, BadKind}
+
+-- ---- how a call goes through a handle
+
+-- A handle stays as it is: open or closed, and with what it holds.
+abbrev pub Kept : Handle → Handle → Type 0
+Kept old new = (new.opened ≡ old.opened) × (new.value ≡ old.value)
+
+-- A call through a handle takes this step. A closed handle is told, and stays as it is.
+pub record Through {T : Type 0} (step : AnyInterner → Result T Status → AnyInterner → Type 0) (old : Handle) (outcome : Result T Status) (new : Handle) : Type 0 where
+  pub closed : IsFalse old.opened → (outcome ≡ Err Closed) × (new ≡ old)
+  pub opened : IsTrue old.opened → IsTrue new.opened × step old.value outcome new.value
+
+-- A call through a handle reads this, and a closed handle is told.
+pub record Reads {T : Type 0} (answer : AnyInterner → Result T Status → Type 0) (handle : Handle) (outcome : Result T Status) : Type 0 where
+  pub closed : IsFalse handle.opened → outcome ≡ Err Closed
+  pub opened : IsTrue handle.opened → answer handle.value outcome
+
+-- A call has an outcome, which its code tells, and what it writes.
+pub record Answers {T : Type 0} (holds : Result T Status → Type 0) (code : ℕ) (before after : T) : Type 0 where
+  pub outcome : Result T Status
+  pub tells : Tells outcome code before after
+  pub outcome_holds : holds outcome
+
+-- A call that writes nothing else has an outcome, which its code tells.
+pub record TellsDone (holds : Result (Unit {0}) Status → Type 0) (code : ℕ) : Type 0 where
+  pub outcome : Result (Unit {0}) Status
+  pub told : code ≡ code_of_done outcome
+  pub outcome_holds : holds outcome
+
+-- A handle is opened on what was made, and what it held is gone. It stays as it is where nothing was made, which is told,
+-- or where there is no memory to hold what was made.
+abbrev pub Opens : Result AnyInterner Status → Handle → Result (Unit {0}) Status → Handle → Type 0
+Opens made old (Ok _) new = IsTrue new.opened × (made ≡ Ok new.value)
+Opens made old (Err status) new = ((made ≡ Err status) ⊎ (IsOk made × (status ≡ NoMemory))) × (new ≡ old)
+
+-- A handle is opened on what may be made so.
+abbrev pub OpensMade : (Result AnyInterner Status → Type 0) → Handle → Result (Unit {0}) Status → Handle → Type 0
+OpensMade making old outcome new = (made : Result AnyInterner Status) × making made × Opens made old outcome new
+
+-- ---- making an interner
+
+-- A new interner of the kind with this code.
+abbrev pub MakesNew : ℕ → Result AnyInterner Status → Type 0
+MakesNew code (Ok any) = (code_of_kind (kind_of any) ≡ code) × IsEmpty (kind_of any) any
+MakesNew code (Err BadKind) = (kind : Kind) → ¬ (code_of_kind kind ≡ code)
+MakesNew code (Err _) = ⊥
+
+-- The same with room.
+abbrev pub MakesRoom : ℕ → ℕ → Result AnyInterner Status → Type 0
+MakesRoom code capacity (Ok any) = (code_of_kind (kind_of any) ≡ code) × IsMade (kind_of any) capacity any
+MakesRoom code capacity (Err BadKind) = (kind : Kind) → ¬ (code_of_kind kind ≡ code)
+MakesRoom code capacity (Err NoMemory) = (kind : Kind) × (code_of_kind kind ≡ code)
+MakesRoom code capacity (Err _) = ⊥
+
+-- A copy is made, or memory is refused.
+abbrev pub Copies : AnyInterner → Result AnyInterner Status → Type 0
+Copies any (Ok copy) = IsCopy any copy
+Copies any (Err NoMemory) = ⊤
+Copies any (Err _) = ⊥
+
+-- ---- one text
+
+-- Bytes are a text, or they are not UTF-8.
+abbrev pub IsTextOf : List ℕ → Result (Bor Text) Status → Type 0
+IsTextOf bytes (Ok text) = IsUtf8 bytes × (text.now ≡ bytes)
+IsTextOf bytes (Err BadText) = ¬ IsUtf8 bytes
+IsTextOf bytes (Err _) = ⊥
+
+-- A text is interned.
+abbrev pub InternsText : Text → AnyInterner → Result ℕ Status → AnyInterner → Type 0
+InternsText text old (Ok number) new = Interned old text (Ok number) new
+InternsText text old (Err NoSymbol) new = Interned old text (Err InternNoSymbol) new
+InternsText text old (Err NoMemory) new = Interned old text (Err (Memory alloc_error)) new
+InternsText text old (Err _) new = ⊥
+
+-- Bytes are interned: as a text is, or they are none.
+abbrev pub InternsBytes : List ℕ → AnyInterner → Result ℕ Status → AnyInterner → Type 0
+InternsBytes bytes old (Err BadText) new = ¬ IsUtf8 bytes × (new ≡ old)
+InternsBytes bytes old outcome new = IsUtf8 bytes × InternsText bytes old outcome new
+
+-- A text is looked for: it has a number, or none.
+abbrev pub FindsText : Text → AnyInterner → Result ℕ Status → Type 0
+FindsText text any (Ok number) = FindsNumber any text (Some number)
+FindsText text any (Err Nothing) = FindsNumber any text None
+FindsText text any (Err _) = ⊥
+
+-- Bytes are looked for: as a text is, or they are none.
+abbrev pub FindsBytes : List ℕ → AnyInterner → Result ℕ Status → Type 0
+FindsBytes bytes any (Err BadText) = ¬ IsUtf8 bytes
+FindsBytes bytes any outcome = IsUtf8 bytes × FindsText bytes any outcome
+
+-- A number is resolved: to the text that is read there, or to nothing.
+abbrev pub ResolvesNumber : ℕ → AnyInterner → Result LentText Status → Type 0
+ResolvesNumber number any (Ok lent) = text_at any number ≡ Some lent.bytes.now
+ResolvesNumber number any (Err Nothing) = text_at any number ≡ None
+ResolvesNumber number any (Err _) = ⊥
+
+-- ---- bytes that are copied out
+
+-- Bytes are copied to the front of a room, or it is too short for them and stays as it is. Their count is told in both
+-- cases.
+abbrev pub CopiesOut : List ℕ → Result (Unit {0}) Status → List ℕ → List ℕ → ℕ → Type 0
+CopiesOut bytes (Ok _) room after told = (length bytes ≤ length room) × (after ≡ bytes ++ drop (length bytes) room) × (told ≡ length bytes)
+CopiesOut bytes (Err NoRoom) room after told = (length room < length bytes) × (after ≡ room) × (told ≡ length bytes)
+CopiesOut bytes (Err _) room after told = ⊥
+
+-- The text at a number is copied out, or there is none, and nothing changes.
+abbrev pub CopiesText : ℕ → AnyInterner → Result (Unit {0}) Status → List ℕ → List ℕ → ℕ → ℕ → Type 0
+CopiesText number any outcome room after len told = MatchOption (text_at any number)
+    ((outcome ≡ Err Nothing) × (after ≡ room) × (told ≡ len))
+    (λ text. CopiesOut text outcome room after told)
+
+-- ---- all texts
+
+-- The first texts are kept.
+abbrev pub Truncates : ℕ → AnyInterner → Result (Unit {0}) Status → AnyInterner → Type 0
+Truncates len old (Ok _) new = KeepsFirst len old new
+Truncates len old (Err _) new = ⊥
+
+-- Memory is given back.
+abbrev pub Shrinks : AnyInterner → Result (Unit {0}) Status → AnyInterner → Type 0
+Shrinks old (Ok _) new = IsShrunk old new
+Shrinks old (Err _) new = ⊥
+
+-- ---- JSON
+
+-- The JSON form of the texts is copied out, or memory is refused, and nothing changes.
+abbrev pub WritesJson : AnyInterner → Result (Unit {0}) Status → List ℕ → List ℕ → ℕ → ℕ → Type 0
+WritesJson any (Ok _) room after len told = CopiesOut (compact_text (json_of_texts (texts_in any))) (Ok tt) room after told
+WritesJson any (Err NoRoom) room after len told = CopiesOut (compact_text (json_of_texts (texts_in any))) (Err NoRoom) room after told
+WritesJson any (Err NoMemory) room after len told = (after ≡ room) × (told ≡ len)
+WritesJson any (Err _) room after len told = ⊥
+
+-- Bytes are the JSON form of the texts, or memory is refused.
+abbrev pub IsJsonOf : AnyInterner → Result (Vec ℕ Global) Status → Type 0
+IsJsonOf any (Ok json) = json.items ≡ compact_text (json_of_texts (texts_in any))
+IsJsonOf any (Err NoMemory) = ⊤
+IsJsonOf any (Err _) = ⊥
+
+-- Bytes are a JSON text of this value, or they are none, or memory is refused.
+abbrev pub IsValueOf : List ℕ → Result Value Status → Type 0
+IsValueOf bytes (Ok value) = IsUtf8 bytes × (json_read bytes ≡ Some (view value))
+IsValueOf bytes (Err BadText) = IsUtf8 bytes → json_read bytes ≡ None
+IsValueOf bytes (Err NoMemory) = ⊤
+IsValueOf bytes (Err _) = ⊥
+
+-- The bytes are a JSON text, whose value gives this outcome for the kind with this code.
+abbrev pub ReadsValue : (Kind → Data → Result AnyInterner JsonError → Type 0) → ℕ → List ℕ → Result AnyInterner JsonError → Type 0
+ReadsValue reads code bytes outcome = (kind : Kind) × (code_of_kind kind ≡ code)
+    × (value : Data) × IsUtf8 bytes × (json_read bytes ≡ Some value) × reads kind value outcome
+
+-- Why no interner is made of bytes: no kind has this code; or one has, and the bytes are no JSON text, memory is refused, or
+-- their value is not read.
+pub data RefusesJson (reads : Kind → Data → Result AnyInterner JsonError → Type 0) (code : ℕ) (bytes : List ℕ) : Status → Type 0 where
+  no_kind : ((kind : Kind) → ¬ (code_of_kind kind ≡ code)) → RefusesJson reads code bytes BadKind
+  no_json : (kind : Kind) → code_of_kind kind ≡ code → (IsUtf8 bytes → json_read bytes ≡ None) → RefusesJson reads code bytes BadText
+  no_memory : (kind : Kind) → code_of_kind kind ≡ code → RefusesJson reads code bytes NoMemory
+  not_read : (error : JsonError) → ReadsValue reads code bytes (Err error) → RefusesJson reads code bytes (status_of_json error)
+
+-- A JSON text is read into an interner of the kind with this code.
+abbrev pub ReadsJson : (Kind → Data → Result AnyInterner JsonError → Type 0) → ℕ → List ℕ → Result AnyInterner Status → Type 0
+ReadsJson reads code bytes (Ok any) = ReadsValue reads code bytes (Ok any)
+ReadsJson reads code bytes (Err status) = RefusesJson reads code bytes status

@@ -1,0 +1,17 @@
+-- What is written through the interner of a handle.
+-- Cited by `Handle::interner`.
+use base.Fml.{Fml}
+use denote.Ref.{MutBor}
+use denote.Follow.{follows}
+use Rattle.handles.specs.Holds.{Inner}
+use Rattle.handles.specs.declared.any.AnyInterner.{AnyInterner}
+use Rattle.handles.specs.declared.handle.Handle.{Handle}
+use Rattle.handles.specs.contracts.handle.Handle.{the_row as handle-row}
+
+-- a handle after its interner was written
+abbrev pub with_value : Handle → AnyInterner → Handle
+with_value h value = record { at = h.at; opened = h.opened; alloc = h.alloc; value = value }
+
+-- once the borrow of the interner ends, the handle holds the last value that was written through it
+abbrev pub handle_follows : MutBor Handle → MutBor AnyInterner → Fml
+handle_follows handle interner = follows handle-row Inner handle.ghost_name interner.ghost_name (with_value handle.now)

@@ -1,0 +1,50 @@
+-- The kinds of interner: their codes in C, and what each means for the numbers of texts.
+-- Cited by `Kind` and by all that speaks of an interner of any kind.
+use Rattle.std.specs.Prelude.{◌≡◌, ℕ, ◌-◌, ◌*◌, ◌^◌, List, [], length, slice_get, max, Option}
+use Rattle.string_interner.specs.Text.{Text}
+use Rattle.string_interner.specs.Backend.{Bucket as BucketOfBytes}
+use Rattle.string_interner.specs.BucketBackend.{CopiesBuckets}
+use Rattle.string_interner.specs.Symbol.{number_below}
+use Rattle.string_interner.specs.BufferBackend.{entry_len, place_of, read_at}
+use Rattle.handles.specs.declared.kind.Kind.{Kind}
+use Rattle.handles.specs.declared.kind.Kind.TheVariants.{String, Bucket, Buffer}
+
+-- the code of a kind in C
+abbrev pub code_of_kind : Kind → ℕ
+code_of_kind String = 0
+code_of_kind Bucket = 1
+code_of_kind Buffer = 2
+
+-- a number, where a symbol has it: those below 2 ^ 32 - 1 have one
+abbrev pub numbered : ℕ → Option ℕ
+numbered = number_below (2 ^ 32 - 1)
+
+-- the number of the text behind a list
+abbrev pub place_in : Kind → List Text → ℕ
+place_in String = length
+place_in Bucket = length
+place_in Buffer = place_of
+
+-- what is read at a number
+abbrev pub read_in : Kind → List Text → ℕ → Option Text
+read_in String = slice_get
+read_in Bucket = slice_get
+read_in Buffer = read_at
+
+-- the most that a text takes of the room
+abbrev pub cost_in : Kind → Text → ℕ
+cost_in String text = max 5 (length text)
+cost_in Bucket text = max 1 (length text)
+cost_in Buffer text = entry_len text
+
+-- the room that a capacity grants
+abbrev pub grant_in : Kind → ℕ → ℕ
+grant_in String capacity = 5 * capacity
+grant_in Bucket capacity = capacity
+grant_in Buffer capacity = 13 * capacity
+
+-- what the buckets of a copy are, by the texts and the buckets that are copied
+abbrev pub copies_in : Kind → List Text → List BucketOfBytes → List BucketOfBytes → Type 0
+copies_in String texts old copy = copy ≡ []
+copies_in Bucket texts old copy = CopiesBuckets texts old copy
+copies_in Buffer texts old copy = copy ≡ []

@@ -1,0 +1,237 @@
+//! An interner of any kind.
+
+ghost use Rattle.std.specs.Prelude.{◌≡◌, ◌↔◌, length, IfOk, IsTrue, IsSome};
+ghost use Rattle.std.specs.Option.{option_copied};
+ghost use Rattle.serde_json.specs.View.{view};
+ghost use Rattle.string_interner.specs.Text.{first};
+ghost use Rattle.string_interner.specs.Json.{json_of_texts};
+ghost use Rattle.handles.specs.Any.{FindsNumber, Interned, IsCopy, IsEmpty, IsMade, IsShrunk, KeepsFirst, ReadsAs, ReadsAsExactly, any_eq, text_at, texts_in};
+ghost use Rattle.string_interner.specs.Interner.{InternsInto};
+ghost use Rattle.string_interner.specs.Window.{seven_eighths};
+ghost use Rattle.handles.specs.Kind.{numbered};
+ghost use Rattle.handles.specs.Status.{TellsInterned, outcome_of};
+
+mod encode;
+mod entries;
+
+use crate::kind::Kind;
+use crate::status::{Status, tell};
+use serde_json::Value;
+use std::alloc::{AllocError, Global};
+use string_interner::backend::{Backend, BucketBackend, BufferBackend, InternError, StringBackend};
+use string_interner::json::JsonError;
+use string_interner::symbol::{Symbol, SymbolU32};
+use string_interner::{FastStringInterner, StringInterner};
+
+/// An interner of one of the kinds.
+#[derive(Drop)]
+pub enum AnyInterner {
+    String(FastStringInterner<StringBackend<SymbolU32>>),
+    Bucket(FastStringInterner<BucketBackend<SymbolU32>>),
+    Buffer(FastStringInterner<BufferBackend<SymbolU32>>),
+}
+
+/// What the expression says of the interner, of whatever kind that is.
+macro_rules! each {
+    ($any:expr, $interner:ident => $value:expr) => {
+        match $any {
+            AnyInterner::String($interner) => $value,
+            AnyInterner::Bucket($interner) => $value,
+            AnyInterner::Buffer($interner) => $value,
+        }
+    };
+}
+
+/// An interner of this kind, from an expression for the interner in it.
+macro_rules! made {
+    ($kind:expr, $value:expr) => {
+        match $kind {
+            Kind::String => AnyInterner::String($value),
+            Kind::Bucket => AnyInterner::Bucket($value),
+            Kind::Buffer => AnyInterner::Buffer($value),
+        }
+    };
+}
+
+/// Returns the number of the symbol, if there is one.
+#[inline(always)]
+fn number_found(found: Option<SymbolU32>) -> Option<usize>
+    ensures { result ≡ found }
+{
+    match found {
+        Some(symbol) => Some(symbol.to_usize()),
+        None => None,
+    }
+}
+
+/// Returns the number of the symbol that a text was interned under.
+#[inline(always)]
+fn number_given(outcome: Result<SymbolU32, InternError>) -> Result<usize, InternError>
+    ensures { result ≡ outcome }
+{
+    match outcome {
+        Ok(symbol) => Ok(symbol.to_usize()),
+        Err(error) => Err(error),
+    }
+}
+
+/// Returns the number of the symbol that a text was interned under, or why a call tells that it was not.
+#[inline(always)]
+fn status_given(outcome: Result<SymbolU32, InternError>) -> Result<usize, Status>
+    ensures { result ≡ outcome_of outcome }
+{
+    Ok(number_given(outcome)?)
+}
+
+/// Writes the number of a text, and returns the code of the outcome. A new text is appended.
+///
+/// One function for each kind, which a call of C jumps to. The library's own is inlined in it, and it calls nothing for a
+/// known text.
+#[inline(never)]
+fn write_number<B: Backend<Symbol = SymbolU32>>(
+    interner: &mut FastStringInterner<B>,
+    text: &str,
+    number: &mut usize,
+) -> u32
+    ensures { TellsInterned (λ outcome. InternsInto numbered B.place B.cost seven_eighths interner.old text.now outcome interner.new) result number.old number.new }
+{
+    tell(status_given(interner.get_or_intern(text)), number)
+}
+
+impl AnyInterner {
+    /// Makes an empty interner of this kind, without spare capacity. Takes no memory.
+    pub fn new(alloc: Global, kind: Kind) -> AnyInterner
+        ensures { IsEmpty kind result }
+    {
+        made!(kind, StringInterner::new(alloc))
+    }
+
+    /// Makes an empty interner of this kind with room for `capacity` texts.
+    pub fn with_capacity(
+        alloc: Global,
+        kind: Kind,
+        capacity: usize,
+    ) -> Result<AnyInterner, AllocError>
+        ensures { IfOk result (IsMade kind capacity) }
+    {
+        Ok(made!(kind, StringInterner::with_capacity(alloc, capacity)?))
+    }
+
+    /// Returns the number of texts.
+    pub fn len(&self) -> usize
+        ensures { result ≡ length (texts_in self.now) }
+    {
+        each!(self, interner => interner.len())
+    }
+
+    /// Returns the number of a text, if it is known.
+    #[inline(always)]
+    pub fn get(&self, text: &str) -> Option<usize>
+        ensures { FindsNumber self.now text.now result }
+    {
+        number_found(each!(self, interner => interner.get(text)))
+    }
+
+    /// Reports whether a text is known.
+    pub fn contains(&self, text: &str) -> bool
+        ensures { IsTrue result ↔ IsSome (first (texts_in self.now) text.now) }
+    {
+        each!(self, interner => interner.contains(text))
+    }
+
+    /// Writes the number of a text, and returns the code of the outcome. A new text is appended.
+    #[inline(always)]
+    pub fn write_number(&mut self, text: &str, number: &mut usize) -> u32
+        ensures { TellsInterned (λ outcome. Interned self.old text.now outcome self.new) result number.old number.new }
+    {
+        each!(self, interner => write_number(interner, text, number))
+    }
+
+    /// Returns the number of a text. A new text is appended.
+    pub fn get_or_intern(&mut self, text: &str) -> Result<usize, InternError>
+        ensures { Interned self.old text.now result self.new }
+    {
+        number_given(each!(self, interner => interner.get_or_intern(text)))
+    }
+
+    /// Returns the number of a text, as `get_or_intern` does. A new one may stay where it is, uncopied.
+    pub fn get_or_intern_static(&mut self, text: &'static str) -> Result<usize, InternError>
+        ensures { Interned self.old text.now result self.new }
+    {
+        number_given(each!(self, interner => interner.get_or_intern_static(text)))
+    }
+
+    /// Returns the text at a number, if one is read there.
+    ///
+    /// Inlined, so that the text goes to the caller's memory at once: through memory between, a load of its pointer and its
+    /// length together waits for both to be written.
+    #[inline(always)]
+    pub fn resolve(&self, number: usize) -> Option<&str>
+        ensures { option_copied result ≡ text_at self.now number }
+    {
+        let symbol = SymbolU32::try_from_usize(number)?;
+        each!(self, interner => interner.resolve(symbol))
+    }
+
+    /// Keeps the first `len` texts.
+    pub fn truncate(&mut self, len: usize)
+        ensures { KeepsFirst len self.old self.new }
+    {
+        each!(self, interner => interner.truncate(len))
+    }
+
+    /// Releases memory that no text needs, if it can.
+    pub fn shrink_to_fit(&mut self)
+        ensures { IsShrunk self.old self.new }
+    {
+        each!(self, interner => interner.shrink_to_fit())
+    }
+
+    /// Makes a copy: an interner of the same kind with the same texts under the same numbers, and as many slots.
+    pub fn try_clone(&self) -> Result<AnyInterner, AllocError>
+        ensures { IfOk result (IsCopy self.now) }
+    {
+        Ok(match self {
+            AnyInterner::String(interner) => AnyInterner::String(interner.try_copy()?),
+            AnyInterner::Bucket(interner) => AnyInterner::Bucket(interner.try_copy()?),
+            AnyInterner::Buffer(interner) => AnyInterner::Buffer(interner.try_copy()?),
+        })
+    }
+
+    /// Reports whether the other interner has the same kind and the same texts in the same order.
+    pub fn equals(&self, other: &AnyInterner) -> bool
+        ensures { result ≡ any_eq self.now other.now }
+    {
+        match (self, other) {
+            (AnyInterner::String(one), AnyInterner::String(other)) => one == other,
+            (AnyInterner::Bucket(one), AnyInterner::Bucket(other)) => one == other,
+            (AnyInterner::Buffer(one), AnyInterner::Buffer(other)) => one == other,
+            _ => false,
+        }
+    }
+
+    /// Returns the JSON array of the texts.
+    pub fn to_json(&self, alloc: Global) -> Result<Value, AllocError>
+        ensures { IfOk result (λ value. view value ≡ json_of_texts (texts_in self.now)) }
+    {
+        each!(self, interner => interner.to_json(alloc))
+    }
+
+    /// Makes an interner of this kind from a JSON array of strings. Repeats add no text.
+    pub fn from_json(alloc: Global, kind: Kind, value: &Value) -> Result<AnyInterner, JsonError>
+        ensures { ReadsAs kind (view value.now) result }
+    {
+        Ok(made!(kind, StringInterner::from_json(alloc, value)?))
+    }
+
+    /// Makes an interner of this kind from a JSON array of strings that all differ.
+    pub fn from_json_exact(
+        alloc: Global,
+        kind: Kind,
+        value: &Value,
+    ) -> Result<AnyInterner, JsonError>
+        ensures { ReadsAsExactly kind (view value.now) result }
+    {
+        Ok(made!(kind, StringInterner::from_json_exact(alloc, value)?))
+    }
+}

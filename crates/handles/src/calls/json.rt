@@ -1,0 +1,105 @@
+//! JSON: the array of the texts, and an interner of such an array.
+
+ghost use Rattle.std.specs.Prelude.{◌≡◌, IsFalse, Result};
+ghost use Rattle.handles.specs.Any.{ReadsAs, ReadsAsExactly};
+ghost use Rattle.handles.specs.Calls.{IsJsonOf, IsValueOf, Kept, OpensMade, Reads, ReadsJson, WritesJson};
+
+use super::{copy_out, open_on};
+use crate::any::AnyInterner;
+use crate::handle::Handle;
+use crate::kind::Kind;
+use crate::status::Status;
+use serde_json::Value;
+use std::alloc::Global;
+
+/// Returns the JSON array of the texts of a handle.
+fn json_of(alloc: Global, h: &mut Handle) -> Result<Vec<u8>, Status>
+    ensures json { Reads IsJsonOf h.old result }
+    ensures same { Kept h.old h.new }
+{
+    must_be_open!(h);
+    let Ok(value) = h.interner().to_json(alloc) else {
+        return Err(Status::NoMemory);
+    };
+    match value.to_vec(alloc) {
+        Ok(bytes) => Ok(bytes),
+        Err(_) => Err(Status::NoMemory),
+    }
+}
+
+/// Copies the JSON array of the texts to a room.
+pub fn to_json(
+    alloc: Global,
+    h: &mut Handle,
+    room: &mut [u8],
+    len: &mut usize,
+) -> Result<(), Status>
+    ensures writes { Reads (λ any outcome. WritesJson any outcome room.old room.new len.old len.new) h.old result }
+    ensures closed { IsFalse h.old.opened → (room.new ≡ room.old) × (len.new ≡ len.old) }
+    ensures same { Kept h.old h.new }
+{
+    match json_of(alloc, h) {
+        Ok(bytes) => copy_out(&bytes, room, len),
+        Err(status) => Err(status),
+    }
+}
+
+/// Returns the JSON value that the bytes are.
+fn value_of(alloc: Global, bytes: &[u8]) -> Result<Value, Status>
+    ensures { IsValueOf bytes.now result }
+{
+    match Value::from_slice(alloc, bytes) {
+        Ok(value) => Ok(value),
+        Err(error) => {
+            if error.is_memory() {
+                Err(Status::NoMemory)
+            } else {
+                Err(Status::BadText)
+            }
+        }
+    }
+}
+
+/// Makes an interner of the kind with this code from a JSON array of strings.
+#[tactic(auto, using(crate::proofs::Lemmas::Json::refuses_kind, crate::proofs::Lemmas::Json::refuses_value))]
+fn read(alloc: Global, kind: u32, bytes: &[u8]) -> Result<AnyInterner, Status>
+    ensures { ReadsJson ReadsAs kind bytes.now result }
+{
+    let Some(kind) = Kind::from_code(kind) else {
+        return Err(Status::BadKind);
+    };
+    let value = value_of(alloc, bytes)?;
+    match AnyInterner::from_json(alloc, kind, &value) {
+        Ok(interner) => Ok(interner),
+        Err(error) => Err(Status::from(error)),
+    }
+}
+
+/// Opens a handle on an interner of the texts of a JSON array. Repeats add no text.
+pub fn from_json(alloc: Global, h: &mut Handle, kind: u32, bytes: &[u8]) -> Result<(), Status>
+    ensures { OpensMade (ReadsJson ReadsAs kind bytes.now) h.old result h.new }
+{
+    open_on(alloc, h, read(alloc, kind, bytes))
+}
+
+/// Makes an interner of the kind with this code from a JSON array of strings that all differ.
+#[tactic(auto, using(crate::proofs::Lemmas::Json::refuses_kind, crate::proofs::Lemmas::Json::refuses_value))]
+fn read_exact(alloc: Global, kind: u32, bytes: &[u8]) -> Result<AnyInterner, Status>
+    ensures { ReadsJson ReadsAsExactly kind bytes.now result }
+{
+    let Some(kind) = Kind::from_code(kind) else {
+        return Err(Status::BadKind);
+    };
+    let value = value_of(alloc, bytes)?;
+    match AnyInterner::from_json_exact(alloc, kind, &value) {
+        Ok(interner) => Ok(interner),
+        Err(error) => Err(Status::from(error)),
+    }
+}
+
+/// The same of an array in which all texts differ.
+pub fn from_json_exact(alloc: Global, h: &mut Handle, kind: u32, bytes: &[u8]) -> Result<(), Status>
+    ensures { OpensMade (ReadsJson ReadsAsExactly kind bytes.now) h.old result h.new }
+{
+    open_on(alloc, h, read_exact(alloc, kind, bytes))
+}

@@ -1,0 +1,111 @@
+//! How a call ends.
+
+ghost use Rattle.std.specs.Prelude.{◌≡◌};
+ghost use Rattle.handles.specs.Status.{Tells, code_of_done, code_of, status_of, status_of_json};
+
+use string_interner::backend::InternError;
+use string_interner::json::JsonError;
+
+/// Why a call did not do what it was asked for.
+#[derive(Clone, Copy)]
+pub enum Status {
+    /// The bytes are not UTF-8, or not JSON where JSON is read.
+    BadText,
+    /// The numbers of this kind have run out.
+    NoSymbol,
+    /// Memory was refused.
+    NoMemory,
+    /// There is no such text.
+    Nothing,
+    /// The handle is not open.
+    Closed,
+    /// The room that was handed over is too short.
+    NoRoom,
+    /// No kind has this code.
+    BadKind,
+    /// The ends fall, or pass the bytes.
+    BadEnds,
+    /// The JSON value is not an array.
+    NotAList,
+    /// An element is not a string.
+    NotAText,
+    /// An element is a string equal to an earlier one.
+    Repeated,
+}
+
+/// The code of a call that did what it was asked for.
+pub const OK: u32 = 0;
+
+impl Status {
+    /// Returns the code that C sees.
+    pub fn code(self) -> u32
+        ensures { result ≡ code_of self }
+    {
+        match self {
+            Status::BadText => 1,
+            Status::NoSymbol => 2,
+            Status::NoMemory => 3,
+            Status::Nothing => 4,
+            Status::Closed => 5,
+            Status::NoRoom => 6,
+            Status::BadKind => 7,
+            Status::BadEnds => 8,
+            Status::NotAList => 9,
+            Status::NotAText => 10,
+            Status::Repeated => 11,
+        }
+    }
+}
+
+/// Why a text was not interned.
+impl From<InternError> for Status {
+    ghost from_gives = { λ error status. status ≡ status_of error };
+
+    fn from(error: InternError) -> Status {
+        match error {
+            InternError::NoSymbol => Status::NoSymbol,
+            InternError::Memory(_) => Status::NoMemory,
+        }
+    }
+}
+
+/// Why a JSON value was not read.
+impl From<JsonError> for Status {
+    ghost from_gives = { λ error status. status ≡ status_of_json error };
+
+    fn from(error: JsonError) -> Status {
+        match error {
+            JsonError::NoSymbol => Status::NoSymbol,
+            JsonError::Memory(_) => Status::NoMemory,
+            JsonError::NotAList => Status::NotAList,
+            JsonError::NotAText { .. } => Status::NotAText,
+            JsonError::Repeated { .. } => Status::Repeated,
+            JsonError::NotANumber => Status::NotAText,
+        }
+    }
+}
+
+/// Returns the code of an outcome, and writes out what it holds.
+#[inline(always)]
+pub fn tell<T: Copy>(outcome: Result<T, Status>, out: &mut T) -> u32
+    ensures { Tells outcome result out.old out.new }
+{
+    match outcome {
+        Ok(value) => {
+            *out = value;
+            OK
+        }
+        Err(status) => status.code(),
+    }
+}
+
+/// Returns the code of an outcome that holds nothing.
+#[inline(always)]
+pub fn finish(outcome: Result<(), Status>) -> u32
+    ensures { result ≡ code_of_done outcome }
+{
+    match outcome {
+        Ok(()) => OK,
+        Err(status) => status.code(),
+    }
+}

@@ -1,7 +1,0 @@
-use Rattle.std.proofs.Common.{rules}
-use Rattle.string_interner_c.specs.Any.{ReadsAs}
-use Rattle.string_interner_c.proofs.Lemmas.Json.{unread}
-use Rattle.string_interner_c.proofs.calls.json.read.Goals as goal
-
-pub returns-in_err-value : goal.returns-in_err-value
-returns-in_err-value c = unread ReadsAs _ _ c.in-Some.kind _ c.from_residual.result (search rules) c.in-Some.ensures.named c.in_err-value.ensures
