@@ -1,12 +1,13 @@
 -- The JSON forms of a list of texts and of a symbol, and reading them.
 -- Cited by `to_json`, `from_json` and `from_json_exact`, and by `symbol_to_json` and `symbol_from_json`.
-use Rattle.std.specs.Prelude.{◌≡◌, ℕ, ◌+◌, List, [], map, Option, MatchOption, MatchResult, option_and_then, Result, Ok, Err, IfOk, IsOkAnd, ⊤}
+use Rattle.std.specs.Prelude.{◌≡◌, ℕ, ◌+◌, List, [], length, map, Option, MatchOption, MatchResult, option_and_then, Result, Ok, Err, IfOk, IsOkAnd, ⊤}
 use Rattle.std.specs.Option.{ok_or, option_map_or}
 use Rattle.serde_json.specs.Data.{Data, number, unsigned, string, array, Items, no_items, item}
 use Rattle.serde_json.specs.Find.{as_array, as_number, as_str, as_u64}
 use Rattle.serde_json.specs.View.{items_of}
 use Rattle.string_interner.specs.Text.{Text, first}
 use Rattle.string_interner.specs.Backend.{Appends}
+use Rattle.string_interner.specs.SlotRule.{SlotRule, IsLeastSlotCount}
 use Rattle.string_interner.specs.StandsFor.{KeepsSymbols}
 use Rattle.string_interner.specs.Interner.{AreInterned, InternerContents, Interns}
 use Rattle.string_interner.specs.declared.backend.InternError.{InternError}
@@ -26,6 +27,16 @@ json_of_number n = number (unsigned n)
 abbrev pub refused : InternError → JsonError
 refused InternNoSymbol = NoSymbol
 refused (InternMemory error) = Memory error
+
+-- what comes of reading into an interner: the interner as it is then, or why reading failed
+abbrev pub read_into : InternerContents → Result (Unit {0}) JsonError → Result InternerContents JsonError
+read_into interner (Ok _) = Ok interner
+read_into interner (Err error) = Err error
+
+-- where reading did not fail, the slots are the least for the texts, if they were before
+abbrev pub KeepsLeastSlots : SlotRule → InternerContents → Result (Unit {0}) JsonError → InternerContents → Type 0
+KeepsLeastSlots rule old (Ok _) new = IsLeastSlotCount rule (length old.texts) old.slot_count → IsLeastSlotCount rule (length new.texts) new.slot_count
+KeepsLeastSlots rule old (Err _) new = ⊤
 
 module _ {S : Type 0} (symbol_of : ℕ → Option S) where
   -- the symbol whose number the JSON value is, or the error

@@ -1,9 +1,9 @@
 //! JSON: an interner is the array of its texts, and a symbol its number.
 
 ghost use Rattle.std.specs.Prelude.{◌≡◌, length, Ok, IfOk, IsOkAnd};
-ghost use Rattle.serde_json.specs.View.{view};
+ghost use Rattle.serde_json.specs.View.{view, items_view};
 ghost use Rattle.string_interner.specs.SlotRule.{IsLeastSlotCount};
-ghost use Rattle.string_interner.specs.Json.{json_of_texts, json_of_number, refused, ReadsArray, ReadsArrayExactly, ReadsBack, symbol_read};
+ghost use Rattle.string_interner.specs.Json.{json_of_texts, json_of_number, read_into, refused, KeepsLeastSlots, ReadsArray, ReadsArrayExactly, ReadsBack, ReadsElements, ReadsElementsExactly, symbol_read};
 
 use crate::backend::{Backend, InternError};
 use crate::dedup::{TextHasher, TextIndex};
@@ -63,6 +63,40 @@ impl<B: Backend, H: TextHasher, I: TextIndex<B::Symbol>> StringInterner<B, H, I>
     }
 }
 
+impl<B: Backend, H: TextHasher, I: TextIndex<B::Symbol>> StringInterner<B, H, I> {
+    /// Interns the elements of an array in order. The first that fails decides.
+    fn read(&mut self, elements: &[Value]) -> Result<(), JsonError>
+        ensures reads { ReadsElements B.Symbol.symbol_of B.place self.old.texts 0 (items_view elements.now) (read_into self.new result) }
+        ensures slots { KeepsLeastSlots I.rule self.old result self.new }
+    {
+        for (index, element) in elements.iter().enumerate() {
+            let text = element.as_str().ok_or(JsonError::NotAText { index })?;
+            self.get_or_intern(text)?;
+            // For the proof: states the load factor.
+            let _ = self.len();
+        }
+        Ok(())
+    }
+
+    /// Interns the elements of an array in order, which must all be new. The first that fails decides.
+    fn read_exactly(&mut self, elements: &[Value]) -> Result<(), JsonError>
+        ensures reads { ReadsElementsExactly B.Symbol.symbol_of B.place self.old.texts 0 (items_view elements.now) (read_into self.new result) }
+        ensures slots { KeepsLeastSlots I.rule self.old result self.new }
+    {
+        for (index, element) in elements.iter().enumerate() {
+            let Some(text) = element.as_str() else {
+                return Err(JsonError::NotAText { index });
+            };
+            let known = self.len();
+            self.get_or_intern(text)?;
+            if self.len() == known {
+                return Err(JsonError::Repeated { index });
+            }
+        }
+        Ok(())
+    }
+}
+
 impl<
     B: Backend + Drop,
     H: TextHasher + Default + Drop,
@@ -84,12 +118,7 @@ impl<
     {
         let elements = value.as_array().ok_or(JsonError::NotAList)?;
         let mut interner = StringInterner::new(alloc);
-        for (index, element) in elements.iter().enumerate() {
-            let text = element.as_str().ok_or(JsonError::NotAText { index })?;
-            interner.get_or_intern(text)?;
-            // For the proof: states the load factor.
-            let _ = interner.len();
-        }
+        interner.read(elements)?;
         Ok(interner)
     }
 
@@ -110,16 +139,7 @@ impl<
             return Err(JsonError::NotAList);
         };
         let mut different = StringInterner::new(alloc);
-        for (index, element) in elements.iter().enumerate() {
-            let Some(text) = element.as_str() else {
-                return Err(JsonError::NotAText { index });
-            };
-            different.get_or_intern(text)?;
-            // Each element before this one lengthened the list, and one that is repeated does not.
-            if different.len() == index {
-                return Err(JsonError::Repeated { index });
-            }
-        }
+        different.read_exactly(elements)?;
         Ok(different)
     }
 }

@@ -1,10 +1,10 @@
 -- Writing a list element after element, and reading one.
-use Rattle.std.proofs.Common.{◌≡◌, ℕ, ◌+◌, ◌<◌, ◌≤◌, List, [], ◌∷◌, ◌++◌, length, drop, get_or, map, refl, sym, ap, subst, ◌∙◌, arith, Bool, true, false, Option, Some, None, Result, Ok, Err, IsSome}
+use Rattle.std.proofs.Common.{◌≡◌, ℕ, ◌+◌, ◌<◌, List, [], ◌∷◌, ◌++◌, length, drop, get_or, map, refl, sym, ap, subst, ◌∙◌, arith, Bool, true, false, Option, Some, None, Result, Ok, Err, IsSome}
 use Rattle.std.specs.Prelude.{◌≢◌, IfOk, MatchResult}
 use Rattle.std.specs.Str.{bytes_eq}
 use Rattle.std.proofs.Math.Seq.{take-append_seam, get_or-append_seam}
 use Rattle.std.proofs.lemmas.Grind.{common_steps}
-use Rattle.std.proofs.lemmas.List.{append_assoc, append-nil, map-append, length-append, get_or_append_left, drop_more, drop_all}
+use Rattle.std.proofs.lemmas.List.{append_assoc, append-nil, map-append, length-append, get_or_append_left, drop_more}
 use Rattle.std.proofs.lemmas.Slice.Eq.{bytes_eq-Decides}
 use Rattle.serde_json.specs.Data.{Data, string, Items, item}
 use Rattle.serde_json.specs.Find.{as_str}
@@ -20,7 +20,6 @@ use Rattle.string_interner.proofs.Lemmas.Texts.First.{first_new}
 use Rattle.string_interner.specs.declared.backend.InternError.{InternError}
 use Rattle.string_interner.specs.declared.backend.InternError.TheVariants.{NoSymbol as InternNoSymbol, Memory as InternMemory}
 use Rattle.string_interner.specs.declared.json.JsonError.{JsonError}
-use Rattle.string_interner.specs.declared.json.JsonError.TheVariants.{NotAText}
 
 -- in a loop that writes each of a list: what is written and what is ahead stay all
 pub written_on : {X Y Z : Type 0} (f : X → Z) (g : Y → Z) (kept more : List X) (x : X) (y : Y) (ahead ahead' : List Y) (all : List Z)
@@ -51,15 +50,6 @@ pub next_element : (elements : List Value) (i : ℕ) (element : Value) → i < l
 next_element elements i element h is = ap items_view (drop_more elements i element h ∙ ap (λ v. v ∷ drop (i + 1) elements) (sym is))
 
 module _ {S : Type 0} (symbol_of : ℕ → Option S) (place : List Text → ℕ) where
-  -- nothing is left to read
-  pub reads_nothing : (i : ℕ) (elements : List Value) (interner : InternerContents) → length elements ≤ i → ReadsElements symbol_of place interner.texts i (items_view (drop i elements)) (Ok interner)
-  reads_nothing i elements interner long = rw (drop_all i elements long) refl
-
-  -- the next element is no string
-  pub reads_no_text : (old : List Text) (i : ℕ) (element : Data) (rest all : Items) (outcome : Result InternerContents JsonError) → all ≡ item element rest → as_str element ≡ None
-      → outcome ≡ Err (NotAText i) → ReadsElements symbol_of place old i all outcome
-  reads_no_text old i element rest all outcome is none e = rw (is, none) e
-
   -- the next element is a string, and its text is refused
   pub reads_refused : (old : List Text) (i : ℕ) (element : Data) (rest all : Items) (outcome : Result InternerContents JsonError) → all ≡ item element rest
       → (text : Text) (error : InternError) (mid : List Text) → as_str element ≡ Some text → Interns symbol_of place old text (Err error) mid

@@ -1,11 +1,10 @@
 -- Reading the elements of an array that are all different.
-use Rattle.std.proofs.Common.{◌≡◌, ℕ, ◌+◌, ◌≤◌, List, [], ◌∷◌, ◌++◌, length, drop, map, refl, sym, ap, subst, ◌∙◌, arith, Option, Some, None, Result, Ok, Err}
+use Rattle.std.proofs.Common.{◌≡◌, ℕ, ◌+◌, List, [], ◌∷◌, ◌++◌, length, map, refl, sym, ap, subst, ◌∙◌, arith, Option, Some, None, Result, Ok, Err}
 use Rattle.std.specs.Prelude.{◌≢◌, MatchOption, MatchResult}
-use Rattle.std.proofs.lemmas.List.{append_assoc, append-nil, length_push, drop_all}
+use Rattle.std.proofs.lemmas.List.{append_assoc, append-nil, length_push}
 use Rattle.serde_json.specs.Data.{Data, null, boolean, number, string, array, object, Items, no_items, item}
 use Rattle.serde_json.specs.Find.{as_str}
-use Rattle.serde_json.specs.View.{items_of, items_view}
-use Rattle.serde_json.specs.declared.value.Value.{Value}
+use Rattle.serde_json.specs.View.{items_of}
 use Rattle.string_interner.specs.Text.{Text, IsDistinct, first}
 use Rattle.string_interner.specs.Backend.{Appends}
 use Rattle.string_interner.specs.Interner.{InternerContents, Interns, entry_symbol}
@@ -39,10 +38,6 @@ module _ {S : Type 0} (symbol_of : ℕ → Option S) (place : List Text → ℕ)
       of : (o : Option ℕ) → MatchOption o (Appends symbol_of place old text (Err error) new) (λ i. ⊥ × (new ≡ old)) → (o ≡ None) × Appends symbol_of place old text (Err error) new
       of None put = (refl, put)
       of (Some i) known = absurd known.0
-
-  -- nothing is left to read
-  pub exact_nothing : (i : ℕ) (elements : List Value) (interner : InternerContents) → length elements ≤ i → ReadsElementsExactly symbol_of place interner.texts i (items_view (drop i elements)) (Ok interner)
-  exact_nothing i elements interner long = rw (drop_all i elements long) refl
 
   module _ (old : List Text) (i : ℕ) (element : Data) (rest all : Items) (outcome : Result InternerContents JsonError) (is : all ≡ item element rest) where
     -- the next element is no string
