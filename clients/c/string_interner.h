@@ -32,6 +32,9 @@
  * What is looked at, and needs no care: bytes that are not UTF-8, ends that fall or pass the bytes, a handle that is not
  * open (so that freeing twice does nothing), a number without a text, room that is too short, a kind that there is not,
  * numbers that run out, and memory that is refused.
+ *
+ * What nothing guards against: someone who chooses texts so that all go to one place of the index, since its hasher has no
+ * key. Interning n such texts takes time that grows with the square of n.
  */
 #ifndef STRING_INTERNER_H
 #define STRING_INTERNER_H
