@@ -1,5 +1,5 @@
 -- An interner of any kind: its texts, and what its calls do to them.
--- Cited by `AnyInterner` and by the calls on handles.
+-- Cited by `AnyInterner`, by the calls on handles, and by exports.
 use Rattle.std.specs.Prelude.{◌≡◌, ℕ, ◌&&◌, Bool, true, false, List, take, Option, Result, Ok, Err, option_and_then}
 use Rattle.string_interner.specs.Text.{Text, texts_eq}
 use Rattle.string_interner.specs.StandsFor.{KeepsSymbols}

@@ -1,5 +1,5 @@
 -- What the calls on a handle do, and how they end.
--- Cited by `calls` and by every export.
+-- Cited by `text`, by `calls`, and by every export.
 use Rattle.std.specs.Prelude.{◌≡◌, ℕ, ◌<◌, ◌≤◌, ◌↔◌, List, ◌++◌, length, drop, Option, Some, None, MatchOption, IsSome, IsTrue, IsFalse, Result, Ok, Err, alloc_error, ◌⊎◌, ⊤, Vec}
 use Rattle.std.specs.Borrow.{Bor}
 use Rattle.std.specs.Str.{IsUtf8}

@@ -1,5 +1,5 @@
 -- How a call ends: the codes that C sees, and what they tell.
--- Cited by `Status` and by every export.
+-- Cited by `status`, by `any` where it writes a number, and by `Calls`.
 use Rattle.std.specs.Prelude.{◌≡◌, ℕ, Result, Ok, Err}
 use Rattle.string_interner.specs.declared.backend.InternError.{InternError}
 use Rattle.string_interner.specs.declared.backend.InternError.TheVariants.{NoSymbol as InternNoSymbol, Memory}

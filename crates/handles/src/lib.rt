@@ -1,7 +1,7 @@
 //! Interners behind a handle, as the library for C exports them.
 //!
 //! A [`Handle`](handle::Handle) holds an interner of a [`kind`](kind::Kind): how its texts lie in memory, and so how they are
-//! numbered. From then on one set of [`calls`] serves all kinds.
+//! numbered. One set of [`calls`] serves all kinds.
 #![tactic(auto)]
 
 pub mod any;

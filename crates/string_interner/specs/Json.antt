@@ -1,5 +1,6 @@
 -- The JSON forms of a list of texts and of a symbol, and reading them.
--- Cited by `to_json`, `from_json` and `from_json_exact`, and by `symbol_to_json` and `symbol_from_json`.
+-- Cited by `to_json`, by `from_json` and `from_json_exact` and the calls that read elements for them, and by `symbol_to_json` and
+-- `symbol_from_json`.
 use Rattle.std.specs.Prelude.{◌≡◌, ℕ, ◌+◌, List, [], length, map, Option, MatchOption, MatchResult, option_and_then, Result, Ok, Err, IfOk, IsOkAnd, ⊤}
 use Rattle.std.specs.Option.{ok_or, option_map_or}
 use Rattle.serde_json.specs.Data.{Data, number, unsigned, string, array, Items, no_items, item}
@@ -33,10 +34,9 @@ abbrev pub read_into : InternerContents → Result (Unit {0}) JsonError → Resu
 read_into interner (Ok _) = Ok interner
 read_into interner (Err error) = Err error
 
--- where reading did not fail, the slots are the least for the texts, if they were before
-abbrev pub KeepsLeastSlots : SlotRule → InternerContents → Result (Unit {0}) JsonError → InternerContents → Type 0
-KeepsLeastSlots rule old (Ok _) new = IsLeastSlotCount rule (length old.texts) old.slot_count → IsLeastSlotCount rule (length new.texts) new.slot_count
-KeepsLeastSlots rule old (Err _) new = ⊤
+-- the slots are the least for the texts, if they were before
+abbrev pub KeepsLeastSlots : SlotRule → InternerContents → InternerContents → Type 0
+KeepsLeastSlots rule old new = IsLeastSlotCount rule (length old.texts) old.slot_count → IsLeastSlotCount rule (length new.texts) new.slot_count
 
 module _ {S : Type 0} (symbol_of : ℕ → Option S) where
   -- the symbol whose number the JSON value is, or the error

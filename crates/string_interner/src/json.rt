@@ -65,9 +65,9 @@ impl<B: Backend, H: TextHasher, I: TextIndex<B::Symbol>> StringInterner<B, H, I>
 
 impl<B: Backend, H: TextHasher, I: TextIndex<B::Symbol>> StringInterner<B, H, I> {
     /// Interns the elements of an array in order. The first that fails decides.
-    fn read(&mut self, elements: &[Value]) -> Result<(), JsonError>
+    fn read_elements(&mut self, elements: &[Value]) -> Result<(), JsonError>
         ensures reads { ReadsElements B.Symbol.symbol_of B.place self.old.texts 0 (items_view elements.now) (read_into self.new result) }
-        ensures slots { KeepsLeastSlots I.rule self.old result self.new }
+        ensures slots { IfOk result (λ _. KeepsLeastSlots I.rule self.old self.new) }
     {
         for (index, element) in elements.iter().enumerate() {
             let text = element.as_str().ok_or(JsonError::NotAText { index })?;
@@ -79,9 +79,9 @@ impl<B: Backend, H: TextHasher, I: TextIndex<B::Symbol>> StringInterner<B, H, I>
     }
 
     /// Interns the elements of an array in order, which must all be new. The first that fails decides.
-    fn read_exactly(&mut self, elements: &[Value]) -> Result<(), JsonError>
+    fn read_elements_exactly(&mut self, elements: &[Value]) -> Result<(), JsonError>
         ensures reads { ReadsElementsExactly B.Symbol.symbol_of B.place self.old.texts 0 (items_view elements.now) (read_into self.new result) }
-        ensures slots { KeepsLeastSlots I.rule self.old result self.new }
+        ensures slots { IfOk result (λ _. KeepsLeastSlots I.rule self.old self.new) }
     {
         for (index, element) in elements.iter().enumerate() {
             let Some(text) = element.as_str() else {
@@ -118,7 +118,7 @@ impl<
     {
         let elements = value.as_array().ok_or(JsonError::NotAList)?;
         let mut interner = StringInterner::new(alloc);
-        interner.read(elements)?;
+        interner.read_elements(elements)?;
         Ok(interner)
     }
 
@@ -139,7 +139,7 @@ impl<
             return Err(JsonError::NotAList);
         };
         let mut different = StringInterner::new(alloc);
-        different.read_exactly(elements)?;
+        different.read_elements_exactly(elements)?;
         Ok(different)
     }
 }

@@ -9,9 +9,9 @@ use Rattle.std.proofs.lemmas.Iterator.{YieldsList}
 use Rattle.std.proofs.lemmas.List.Sums.{sum_by-append}
 use Rattle.string_interner.specs.Text.{Text, first}
 use Rattle.string_interner.specs.Backend.{Appends}
-use Rattle.string_interner.specs.SlotRule.{SlotRule, IsLoaded, GrowsFor, IsSlotRule}
+use Rattle.string_interner.specs.SlotRule.{SlotRule, IsLoaded, IsLeastSlotCount, GrowsFor, IsSlotRule}
 use Rattle.string_interner.specs.Interner.{InternerContents, IsNew, Interns, InternsInto, entry_symbol}
-use Rattle.string_interner.proofs.Lemmas.Index.SlotRule.{GrowsFor-room}
+use Rattle.string_interner.proofs.Lemmas.Index.SlotRule.{GrowsFor-room, least-grown}
 use Rattle.string_interner.specs.Collect.{texts_of, fresh, IsMemory, InternsAll, TakesIn, StopsAt, Extends, Collects, InternsInOrder}
 use Rattle.string_interner.proofs.Laws.{refused-keeps}
 use Rattle.string_interner.specs.declared.backend.InternError.{InternError}
@@ -78,6 +78,11 @@ module _ {S : Type 0} (symbol_of : ℕ → Option S) (place : List Text → ℕ)
         of None h known = let n : length new.texts ≡ length mid.texts + 1 = ap length h.1 ∙ length_push mid.texts text in
             subst (λ k. P k new.slot_count) (sym n) (more (subst (λ k. rule.holds new.slot_count k) n loaded.load))
         of (Some i) h known = subst (λ (it : InternerContents). P (length it.texts) it.slot_count) (sym (known refl)) now
+
+    -- slots that were the least for the texts are so once a text was interned
+    pub interned-least : (rule : SlotRule) (laws : IsSlotRule rule) (mid new : InternerContents) (text : Text) (symbol : S) → InternsInto symbol_of place cost rule mid text (Ok symbol) new → IsLoaded rule new.slot_count (length new.texts)
+        → IsLeastSlotCount rule (length mid.texts) mid.slot_count → IsLeastSlotCount rule (length new.texts) new.slot_count
+    interned-least rule laws mid new text symbol call loaded before = interned-slots rule (IsLeastSlotCount rule) mid new text symbol call loaded (least-grown rule laws _ _ _ before call.slots) before
 
     -- a text that is interned takes its cost, and nothing where it was known
     spent-fresh : (mid new : InternerContents) (text : Text) → (IsSome (first mid.texts text) → new ≡ mid) → mid.room ≤ new.room + cost text → mid.room ≤ new.room + sum_by cost (fresh mid.texts (text ∷ []))

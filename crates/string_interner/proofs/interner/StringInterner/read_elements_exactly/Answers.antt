@@ -1,18 +1,16 @@
 use Rattle.std.proofs.Common.{rules, refl, sym, ◌∙◌, Err}
 use Rattle.string_interner.specs.declared.json.JsonError.TheVariants.{NotAText, Repeated}
-use Rattle.string_interner.specs.SlotRule.{IsLeastSlotCount}
-use Rattle.string_interner.proofs.Lemmas.Index.SlotRule.{least-grown}
-use Rattle.string_interner.proofs.Lemmas.Interner.Extends.{interned-slots}
+use Rattle.string_interner.proofs.Lemmas.Interner.Extends.{interned-least}
 use Rattle.string_interner.proofs.Lemmas.Json.Reads.{next_element}
 use Rattle.string_interner.proofs.Lemmas.Json.ReadsExactly.{lengthened, exact_no_text, exact_refused, exact_repeated, exact_more}
-use Rattle.string_interner.proofs.interner.StringInterner.read_exactly.Goals as goal
+use Rattle.string_interner.proofs.interner.StringInterner.read_elements_exactly.Goals as goal
 
 pub loop-index-preserved : goal.loop-index-preserved
 loop-index-preserved g c =
     let new = lengthened g.B.Symbol.Symbol.symbol_of g.B.Backend.place _ _ _ _ c.in_ok-get_or_intern.ensures.interns (λ same. c.if-len-known.false (c.len.ensures.value ∙ same ∙ sym c.len-known.ensures.value)) in
     let call = c.in_ok-get_or_intern.ensures in record {
       reads = λ outcome more. c.loop-index.invariant.reads outcome (exact_more g.B.Symbol.Symbol.symbol_of g.B.Backend.place _ _ _ _ _ _ (next_element _ _ _ c.loop-index-test.true c.index-elements-index.is) _ (search rules) _ _ new more);
-      slots = λ before. interned-slots g.B.Symbol.Symbol.symbol_of g.B.Backend.place g.B.Backend.cost g.I.TextIndex.rule (IsLeastSlotCount g.I.TextIndex.rule) _ _ _ _ call c.len.ensures.loaded (least-grown g.I.TextIndex.rule g.met.I.TextIndex.rule_laws _ _ _ (c.loop-index.invariant.slots before) call.slots) (c.loop-index.invariant.slots before);
+      slots = λ before. interned-least g.B.Symbol.Symbol.symbol_of g.B.Backend.place g.B.Backend.cost g.I.TextIndex.rule g.met.I.TextIndex.rule_laws _ _ _ _ call c.len.ensures.loaded (c.loop-index.invariant.slots before);
     }
 
 pub returns-in_default-clause-reads : goal.returns-in_default-clause-reads

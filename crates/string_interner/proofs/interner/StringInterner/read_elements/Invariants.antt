@@ -1,10 +1,9 @@
-use Rattle.std.proofs.Common.{drop, length, Result}
+use Rattle.std.proofs.Common.{drop, Result}
 use Rattle.serde_json.specs.View.{items_view}
-use Rattle.string_interner.specs.SlotRule.{IsLeastSlotCount}
 use Rattle.string_interner.specs.Interner.{InternerContents}
-use Rattle.string_interner.specs.Json.{ReadsElements}
+use Rattle.string_interner.specs.Json.{KeepsLeastSlots, ReadsElements}
 use Rattle.string_interner.specs.declared.json.JsonError.{JsonError}
-use Rattle.string_interner.proofs.interner.StringInterner.read.Given as goal
+use Rattle.string_interner.proofs.interner.StringInterner.read_elements.Given as goal
 
 -- what comes of reading the elements ahead into the texts so far comes of reading all, and the slots are the least for
 -- these texts, if they were before
@@ -12,5 +11,5 @@ abbrev pub invariant-loop-index : goal.invariant-loop-index
 invariant-loop-index g l = record {
   reads : (outcome : Result InternerContents JsonError) → ReadsElements g.B.Symbol.Symbol.symbol_of g.B.Backend.place l.self.texts l.index (items_view (drop l.index l.elements)) outcome
       → ReadsElements g.B.Symbol.Symbol.symbol_of g.B.Backend.place l.fn.self.texts 0 (items_view l.elements) outcome;
-  slots : IsLeastSlotCount g.I.TextIndex.rule (length l.fn.self.texts) l.fn.self.slot_count → IsLeastSlotCount g.I.TextIndex.rule (length l.self.texts) l.self.slot_count;
+  slots : KeepsLeastSlots g.I.TextIndex.rule l.fn.self l.self;
 }

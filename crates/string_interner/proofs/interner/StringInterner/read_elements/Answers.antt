@@ -1,14 +1,12 @@
 use Rattle.std.proofs.Common.{rules}
-use Rattle.string_interner.specs.SlotRule.{IsLeastSlotCount}
-use Rattle.string_interner.proofs.Lemmas.Index.SlotRule.{least-grown}
-use Rattle.string_interner.proofs.Lemmas.Interner.Extends.{interned-slots}
+use Rattle.string_interner.proofs.Lemmas.Interner.Extends.{interned-least}
 use Rattle.string_interner.proofs.Lemmas.Json.Reads.{next_element, reads_refused, reads_more}
-use Rattle.string_interner.proofs.interner.StringInterner.read.Goals as goal
+use Rattle.string_interner.proofs.interner.StringInterner.read_elements.Goals as goal
 
 pub loop-index-preserved : goal.loop-index-preserved
 loop-index-preserved g c = let call = c.in_ok-get_or_intern.ensures in record {
   reads = λ outcome more. c.loop-index.invariant.reads outcome (reads_more g.B.Symbol.Symbol.symbol_of g.B.Backend.place _ _ _ _ _ _ (next_element _ _ _ c.loop-index-test.true c.index-elements-index.is) _ _ _ (search rules) call.interns more);
-  slots = λ before. interned-slots g.B.Symbol.Symbol.symbol_of g.B.Backend.place g.B.Backend.cost g.I.TextIndex.rule (IsLeastSlotCount g.I.TextIndex.rule) _ _ _ _ call c.len.ensures.loaded (least-grown g.I.TextIndex.rule g.met.I.TextIndex.rule_laws _ _ _ (c.loop-index.invariant.slots before) call.slots) (c.loop-index.invariant.slots before);
+  slots = λ before. interned-least g.B.Symbol.Symbol.symbol_of g.B.Backend.place g.B.Backend.cost g.I.TextIndex.rule g.met.I.TextIndex.rule_laws _ _ _ _ call c.len.ensures.loaded (c.loop-index.invariant.slots before);
 }
 
 pub returns-in_err-get_or_intern-clause-reads : goal.returns-in_err-get_or_intern-clause-reads
