@@ -1,0 +1,178 @@
+#!/usr/bin/env python3
+"""usage: touched.py    prints which planted bugs the changes since the last full run can touch, a line each: CRATE NAME
+
+The commit of the last full run stands in tools/tried-in-full. A planted bug of must-fail/ is touched if, since then,
+
+  - its own file is new or has changed,
+  - its function has changed, or a proof file of that function,
+  - the file that it changes has changed outside functions (types, invariants, ghost members),
+  - a trait's contract for a method of its function's name has changed,
+  - or a definition has changed that its function's contract cites, by itself or through other definitions.
+
+Where the text does not tell, the bug counts as touched. With no such commit, all are.
+"""
+
+import re
+import subprocess
+from functools import cache
+
+from edits import TOP, below, crates, edits_of
+
+TRIED = TOP / "tools/tried-in-full"
+WORD = re.compile(r"[\w'-]+")
+FUNCTION = re.compile(r'^(?P<indent> *)(?:pub(?:\(\w+\))? |final |unsafe |extern "C" )*fn (?P<name>\w+)\b', re.M)
+HEAD_END = re.compile(r";$|\{\}$|\{$", re.M)
+TRAIT = re.compile(r"^(?:pub )?trait \w+.*?^\}$", re.M | re.S)
+DEFINES = re.compile(r"^ *(?:(?:pub|abbrev|unfoldable) )+(?:record |data )?([^\s:(]+)", re.M)
+RECORD = re.compile(r"^ *(?:pub )?(?:record|data) (\S+)")
+
+
+def git(*words):
+    """What git prints, or None if it fails."""
+    ran = subprocess.run(["git", *words], cwd=TOP, capture_output=True, encoding="utf-8", check=False)
+    return ran.stdout if ran.returncode == 0 else None
+
+
+def without_comments(text):
+    """The text without comments and imports, which no verdict rests on."""
+    lines = (line for line in text.splitlines() if not re.match(r"\s*(?://|--|(?:pub )?(?:ghost )?use )", line))
+    return "\n".join(line.rstrip() for line in lines if line.strip())
+
+
+def functions(text):
+    """The functions of a source file as pairs of a name and a text, which begins with the contract."""
+    found = []
+    for start in FUNCTION.finditer(text):
+        # A declaration ends with a semicolon, and else the body with a brace below the `fn`.
+        head = HEAD_END.search(text, start.end())
+        end = re.compile(rf"^{start['indent']}\}}$", re.M).search(text, head.end()) if head and head[0] == "{" else head
+        found.append((start["name"], text[start.start() : end.end() if end else len(text)]))
+    return found
+
+
+def functions_by_name(text):
+    """For each name the texts of the functions that have it."""
+    found = {}
+    for name, function in functions(text):
+        found.setdefault(name, []).append(without_comments(function))
+    return found
+
+
+def outside_functions(text):
+    """What stands in a source file outside its functions."""
+    for _, function in functions(text):
+        text = text.replace(function, "")
+    return without_comments(text)
+
+
+def contract(function):
+    """The signature and the clauses of a function."""
+    indent = re.match(" *", function)[0]
+    return re.split(rf"^{indent}\{{$", function, maxsplit=1, flags=re.M)[0]
+
+
+def definitions(text):
+    """The definitions of a specs file as pairs of the names that they define and their text."""
+    found = []
+    for block in re.split(r"\n\s*\n", re.sub(r"^ *--.*\n", "", text, flags=re.M)):
+        record = RECORD.match(block)
+        found.append(({record[1]} if record else set(DEFINES.findall(block)), without_comments(block)))
+    return [it for it in found if it[1]]
+
+
+class Changes:
+    """What has changed since a commit, as far as a verdict on a planted bug can rest on it."""
+
+    def __init__(self, commit):
+        self.commit = commit
+        listed = git("diff", "--name-only", commit, "--", "crates"), git("ls-files", "--others", "--exclude-standard", "crates")
+        self.files = {name for names in listed for name in names.split()}
+
+    @cache
+    def versions(self, file):
+        """The text of a file at that commit and now, empty where there is none."""
+        now = TOP / file
+        return git("show", f"{self.commit}:{file}") or "", now.read_text(encoding="utf-8") if now.exists() else ""
+
+    def changed_below(self, crate, suffix):
+        """The changed files of a crate and of the crates below it that have this suffix, each in its two versions."""
+        folders = tuple(f"crates/{it}/{'src' if suffix == '.rt' else 'specs'}/" for it in [crate, *below(crate)])
+        return [self.versions(it) for it in sorted(self.files) if it.startswith(folders) and it.endswith(suffix)]
+
+    @cache
+    def methods(self, crate):
+        """The names of methods whose declaration in a trait has changed."""
+        names = set()
+        for versions in self.changed_below(crate, ".rt"):
+            old, new = ({it for trait in TRAIT.findall(text) for it in functions(trait)} for text in versions)
+            names |= {name for name, _ in old ^ new}
+        return names
+
+    @cache
+    def definitions(self, crate):
+        """The names of the definitions that have changed, and of those that cite them, one through another."""
+        names = set()
+        for versions in self.changed_below(crate, ".antt"):
+            old, new = ({(frozenset(it), text) for it, text in definitions(version)} for version in versions)
+            names |= {name for defined, _ in old ^ new for name in defined}
+        cited = [(defined, set(WORD.findall(text))) for defined, text in all_definitions(crate)] if names else []
+        while more := {name for defined, words in cited if words & names for name in defined} - names:
+            names |= more
+        return names
+
+    def touch(self, edit):
+        """Reports whether a planted bug is touched."""
+        crate = f"crates/{edit.crate}"
+        name = edit.function.rpartition("::")[2]
+        own = (f"{crate}/must-fail/{edit.name}.edit", f"{crate}/proofs/{edit.function.replace('::', '/')}/")
+        if name in self.methods(edit.crate) or any(file.startswith(own) for file in self.files):
+            return True
+        cited = words_of_methods(edit.crate, name)
+        for file in (f"{crate}/{it}" for it in edit.files):
+            old, new = self.versions(file)
+            if functions_by_name(old).get(name) != functions_by_name(new).get(name) or outside_functions(old) != outside_functions(new):
+                return True
+            # What a type's invariant or a ghost member cites is part of each contract in its file.
+            cited = cited.union(WORD.findall(outside_functions(new)))
+            cited |= {word for it, text in functions(new) if it == name for word in WORD.findall(contract(text))}
+        return bool(cited & self.definitions(edit.crate))
+
+
+def all_definitions(crate):
+    """The definitions that contracts of a crate can cite."""
+    for it in [crate, *below(crate)]:
+        for path in sorted(TOP.glob(f"crates/{it}/specs/*.antt")):
+            yield from definitions(path.read_text(encoding="utf-8"))
+
+
+@cache
+def words_of_methods(crate, name):
+    """The words of the contracts that traits give to methods of a name."""
+    texts = (path.read_text(encoding="utf-8") for it in [crate, *below(crate)] for path in TOP.glob(f"crates/{it}/src/**/*.rt"))
+    declared = (it for text in texts for trait in TRAIT.findall(text) for it in functions(trait))
+    return frozenset(word for own, text in declared if own == name for word in WORD.findall(contract(text)))
+
+
+def last_full_run():
+    """The commit of the last full run, or None where the file or the commit is not there."""
+    commit = TRIED.read_text(encoding="utf-8").strip() if TRIED.exists() else ""
+    return commit if commit and git("cat-file", "-e", f"{commit}^{{commit}}") is not None else None
+
+
+def touched():
+    """The names of the planted bugs that are touched, for each crate that has any."""
+    commit = last_full_run()
+    changes = Changes(commit) if commit else None
+    found = {}
+    for crate in crates():
+        edits = edits_of(crate)
+        names = [it.name for it in edits if not changes or changes.touch(it)]
+        if names:
+            found[crate] = names
+    return found
+
+
+if __name__ == "__main__":
+    for crate, names in touched().items():
+        for name in names:
+            print(crate, name)
