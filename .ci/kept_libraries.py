@@ -1,17 +1,18 @@
-#!/usr/bin/env python3
-"""usage: kept_libraries.py TREE    has `rt` take the libraries that `rt ci` built in TREE, so that none is proved again
+"""Has `rt` take the libraries that `rt ci` built in a copy of the tree, so that none is proved again.
 
-`rt ci` leaves no stamp beside what it built. This writes one, by the toolchain's own reckoning.
+`rt ci` leaves no stamp beside what it built, by which `rt` knows of what text a library is. This writes one, by the
+toolchain's own reckoning.
 """
 import os
 import shutil
 import sys
 
+sys.path.append(os.path.dirname(os.path.realpath(shutil.which("rt"))))
+import rtlib
+
 
 def stamp_libraries(tree):
-    sys.path.insert(0, os.path.dirname(os.path.realpath(shutil.which("rt"))))
-    import rtlib
-
+    """Writes the missing stamps in a copy in which `rt ci` has passed."""
     for it in rtlib.crates_below(tree):
         stamp = f"{it.folder}/out/rlib/stamp"
         if os.path.isdir(it.rlib) and not os.path.exists(stamp):
@@ -19,7 +20,10 @@ def stamp_libraries(tree):
                 file.write(it.stamp())
 
 
-if __name__ == "__main__":
-    if len(sys.argv) != 2:
-        sys.exit(__doc__)
-    stamp_libraries(sys.argv[1])
+def take_libraries(tree, top):
+    """Puts the stamped libraries of a copy into the checkout."""
+    for it in rtlib.crates_below(tree):
+        kept = f"{top}/crates/{it.name}/out/rlib"
+        if os.path.exists(f"{it.folder}/out/rlib/stamp"):
+            shutil.rmtree(kept, ignore_errors=True)
+            shutil.copytree(f"{it.folder}/out/rlib", kept)
