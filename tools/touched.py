@@ -1,7 +1,8 @@
 #!/usr/bin/env python3
 """usage: touched.py    prints which planted bugs the changes since the last full run can touch, a line each: CRATE NAME
 
-The commit of the last full run stands in tools/tried-in-full. A planted bug of must-fail/ is touched if, since then,
+The file tools/tried-in-full names the commit of the last full run: the last one on which all planted bugs of must-fail/ were
+tried and refused. A planted bug is touched if, since then,
 
   - its own file is new or has changed,
   - its function has changed, or a proof file of that function,
@@ -157,6 +158,15 @@ def last_full_run():
     """The commit of the last full run, or None where the file or the commit is not there."""
     commit = TRIED.read_text(encoding="utf-8").strip() if TRIED.exists() else ""
     return commit if commit and git("cat-file", "-e", f"{commit}^{{commit}}") is not None else None
+
+
+def note_full_run():
+    """Writes the commit that is checked out to the file, unless the checkout differs from it, and says so."""
+    if git("status", "--porcelain"):
+        return "not noted as a full run: the checkout differs from its commit"
+    commit = git("rev-parse", "HEAD")
+    TRIED.write_text(commit, encoding="utf-8")
+    return f"noted as a full run in {TRIED.relative_to(TOP)}: {commit.strip()}"
 
 
 def touched():
