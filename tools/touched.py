@@ -18,12 +18,10 @@ import subprocess
 from functools import cache
 
 from edits import TOP, below, crates, edits_of
+from source import functions, functions_of_traits, outside_functions, without_comments
 
 TRIED = TOP / "tools/tried-in-full"
 WORD = re.compile(r"[\w'-]+")
-FUNCTION = re.compile(r'^(?P<indent> *)(?:pub(?:\(\w+\))? |final |unsafe |extern "C" )*fn (?P<name>\w+)\b', re.M)
-HEAD_END = re.compile(r";$|\{\}$|\{$", re.M)
-TRAIT = re.compile(r"^(?:pub )?trait \w+.*?^\}$", re.M | re.S)
 DEFINES = re.compile(r"^ *(?:(?:pub|abbrev|unfoldable) )+(?:record |data )?([^\s:(]+)", re.M)
 RECORD = re.compile(r"^ *(?:pub )?(?:record|data) (\S+)")
 
@@ -34,42 +32,12 @@ def git(*words):
     return ran.stdout if ran.returncode == 0 else None
 
 
-def without_comments(text):
-    """The text without comments and imports, which no verdict rests on."""
-    lines = (line for line in text.splitlines() if not re.match(r"\s*(?://|--|(?:pub )?(?:ghost )?use )", line))
-    return "\n".join(line.rstrip() for line in lines if line.strip())
-
-
-def functions(text):
-    """The functions of a source file as pairs of a name and a text, which begins with the contract."""
-    found = []
-    for start in FUNCTION.finditer(text):
-        # A declaration ends with a semicolon, and else the body with a brace below the `fn`.
-        head = HEAD_END.search(text, start.end())
-        end = re.compile(rf"^{start['indent']}\}}$", re.M).search(text, head.end()) if head and head[0] == "{" else head
-        found.append((start["name"], text[start.start() : end.end() if end else len(text)]))
-    return found
-
-
 def functions_by_name(text):
     """For each name the texts of the functions that have it."""
     found = {}
-    for name, function in functions(text):
-        found.setdefault(name, []).append(without_comments(function))
+    for function in functions(text):
+        found.setdefault(function.name, []).append(without_comments(function.text))
     return found
-
-
-def outside_functions(text):
-    """What stands in a source file outside its functions."""
-    for _, function in functions(text):
-        text = text.replace(function, "")
-    return without_comments(text)
-
-
-def contract(function):
-    """The signature and the clauses of a function."""
-    indent = re.match(" *", function)[0]
-    return re.split(rf"^{indent}\{{$", function, maxsplit=1, flags=re.M)[0]
 
 
 def definitions(text):
@@ -105,7 +73,7 @@ class Changes:
         """The names of methods whose declaration in a trait has changed."""
         names = set()
         for versions in self.changed_below(crate, ".rt"):
-            old, new = ({it for trait in TRAIT.findall(text) for it in functions(trait)} for text in versions)
+            old, new = ({(it.name, without_comments(it.text)) for it in functions_of_traits(text)} for text in versions)
             names |= {name for name, _ in old ^ new}
         return names
 
@@ -135,7 +103,7 @@ class Changes:
                 return True
             # What a type's invariant or a ghost member cites is part of each contract in its file.
             cited = cited.union(WORD.findall(outside_functions(new)))
-            cited |= {word for it, text in functions(new) if it == name for word in WORD.findall(contract(text))}
+            cited |= {word for it in functions(new) if it.name == name for word in WORD.findall(it.contract)}
         return bool(cited & self.definitions(edit.crate))
 
 
@@ -150,8 +118,8 @@ def all_definitions(crate):
 def words_of_methods(crate, name):
     """The words of the contracts that traits give to methods of a name."""
     texts = (path.read_text(encoding="utf-8") for it in [crate, *below(crate)] for path in TOP.glob(f"crates/{it}/src/**/*.rt"))
-    declared = (it for text in texts for trait in TRAIT.findall(text) for it in functions(trait))
-    return frozenset(word for own, text in declared if own == name for word in WORD.findall(contract(text)))
+    declared = (it for text in texts for it in functions_of_traits(text) if it.name == name)
+    return frozenset(word for it in declared for word in WORD.findall(it.contract))
 
 
 def last_full_run():

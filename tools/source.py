@@ -1,0 +1,76 @@
+"""Reads Rattle's sources as `rt fmt` lays them out: where functions begin and end, and what stands around them."""
+
+import re
+from dataclasses import dataclass
+
+FUNCTION = re.compile(r'^(?P<indent> *)(?:pub(?:\(\w+\))? |final |unsafe |extern "C" )*fn (?P<name>\w+)\b', re.M)
+# What ends the head of a function: its body, an empty body, or the semicolon of a declaration.
+HEAD_END = re.compile(r";$|\{\}$|\{$", re.M)
+TRAIT = re.compile(r"^(?:pub )?trait \w+.*?^\}$", re.M | re.S)
+BLOCK = re.compile(r"^(?:pub )?(?P<kind>impl|trait)\b.*?\{$", re.M | re.S)
+
+
+@dataclass(frozen=True)
+class Function:
+    """A function of a source text, by the offsets where it begins, where its name ends, and where it ends."""
+
+    name: str
+    start: int
+    name_end: int
+    end: int
+    text: str
+
+    @property
+    def contract(self):
+        """The signature and the clauses."""
+        indent = re.match(" *", self.text)[0]
+        return re.split(rf"^{indent}\{{$", self.text, maxsplit=1, flags=re.M)[0]
+
+    @property
+    def is_method(self):
+        return self.text.startswith(" ")
+
+
+def functions(text):
+    """The functions of a source text, in order."""
+    found = []
+    for start in FUNCTION.finditer(text):
+        head = HEAD_END.search(text, start.end())
+        last = re.compile(rf"^{start['indent']}\}}$", re.M).search(text, head.end()) if head and head[0] == "{" else head
+        end = last.end() if last else len(text)
+        found.append(Function(start["name"], start.start(), start.end(), end, text[start.start() : end]))
+    return found
+
+
+def functions_of_traits(text):
+    """The functions that the traits of a source text declare."""
+    return [function for trait in TRAIT.findall(text) for function in functions(trait)]
+
+
+def block_around(text, function):
+    """The line that opens the `impl` or `trait` of a method, as a match with `kind`, or None."""
+    return [None, *BLOCK.finditer(text[: function.start])][-1] if function.is_method else None
+
+
+def names_a_type(text, at):
+    """Reports whether the generic parameters that stand at an offset, if any, are more than lifetimes."""
+    if text[at] != "<":
+        return False
+    end, depth = at, 0
+    while depth or end == at:
+        depth += {"<": 1, ">": -(text[end - 1] != "-")}.get(text[end], 0)
+        end += 1
+    return bool(re.search(r"[<,]\s*\w", text[at:end]))
+
+
+def without_comments(text):
+    """The text without comments and imports, on which no verdict rests."""
+    lines = (line for line in text.splitlines() if not re.match(r"\s*(?://|--|(?:pub )?(?:ghost )?use )", line))
+    return "\n".join(line.rstrip() for line in lines if line.strip())
+
+
+def outside_functions(text):
+    """What stands outside functions, without comments."""
+    for function in functions(text):
+        text = text.replace(function.text, "")
+    return without_comments(text)

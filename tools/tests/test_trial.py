@@ -1,0 +1,100 @@
+"""How planted bugs are tried: what is changed where, and what proof file tries the goal."""
+
+import unittest
+
+from small import SOURCE, SmallRepository
+import proof_file
+from source import functions, names_a_type, outside_functions
+from trial import Trial, Unfit, apply
+
+
+class SourceTest(unittest.TestCase):
+    def test_functions(self):
+        self.assertEqual([it.name for it in functions(SOURCE)], ["area", "area", "double", "half"])
+        declared, method, double, _ = functions(SOURCE)
+        self.assertTrue(declared.text.endswith("ensures { AreaOf self.now result };"))
+        self.assertTrue(method.text.endswith("side * side\n    }"))
+        self.assertEqual(double.contract, "pub fn double(number: u32) -> u32\n    ensures { IsTwice number result }\n")
+
+    def test_outside_functions(self):
+        outside = outside_functions(SOURCE)
+        self.assertIn("side: u32", outside)
+        self.assertNotIn("side * side", outside)
+        self.assertNotIn("Doubles", outside)
+
+    def test_names_a_type(self):
+        for text, does in (("<'a>(", False), ("<'a, T>(", True), ("<T: Into<u8>>(", True), ("(", False), ("<F: Fn(u8) -> u8>", True)):
+            with self.subTest(text):
+                self.assertEqual(names_a_type(text, 0), does)
+
+
+class TrialTest(SmallRepository):
+    def test_it_replaces_its_text(self):
+        trial = Trial(self.edit("halves_twice"), False)
+        apply(trial.put(self.top / "crates/low"), self.top / "crates/low")
+        self.assertEqual((self.top / "crates/low/src/lib.rt").read_text(), SOURCE.replace("number / 2", "number / 4"))
+
+    def test_a_copy_stands_behind_its_function(self):
+        folder = self.top / "crates/low"
+        trial = Trial(self.edit("doubles_once"), False)
+        self.assertTrue(trial.has_copies)
+        apply(trial.put_beside(folder), folder)
+        names = [it.name for it in functions((folder / "src/lib.rt").read_text())]
+        self.assertEqual(names, ["area", "area", "double", "double_in_doubles_once", "half"])
+        copied = (folder / "proofs/double_in_doubles_once/Answers.antt").read_text()
+        self.assertIn("use Rattle.low.proofs.double_in_doubles_once.Goals as goal", copied)
+        self.assertIn("pub fn double_in_doubles_once(number: u32)", (folder / "src/lib.rt").read_text())
+
+    def test_a_method_of_a_trait_has_no_copy(self):
+        self.assertFalse(Trial(self.edit("area_is_the_side"), False).has_copies)
+
+    def test_a_function_that_calls_itself_has_no_copy(self):
+        self.write("crates/low/src/lib.rt", SOURCE.replace("number / 2", "half(number) / 2"))
+        self.write_edit("halves_twice", "half(number) / 2", "half(number) / 4", "half", "returns")
+        self.assertFalse(Trial(self.edit("halves_twice"), False).has_copies)
+
+    def test_a_control_changes_nothing_but_the_name(self):
+        folder = self.top / "crates/low"
+        control = Trial(self.edit("doubles_once"), False).control()
+        apply(control.put_beside(folder), folder)
+        double, copy = (it for it in functions((folder / "src/lib.rt").read_text()) if it.name.startswith("double"))
+        self.assertEqual(copy.text.replace("_in_doubles_once_without_the_bug", ""), double.text)
+
+    def test_tactics_answer_a_goal_without_an_answer(self):
+        trial = Trial(self.edit("halves_twice"), False)
+        self.assertFalse(trial.is_answered)
+        self.assertIn(f"pub returns : goal.returns\nreturns c = {proof_file.TACTICS}\n", trial.tries())
+
+    def test_an_answer_serves_alone_unless_the_trial_is_thorough(self):
+        self.assertEqual(Trial(self.edit("doubles_once"), False).tactics, [])
+        self.assertIn("by-tactics : goal.returns\nby-tactics g c = ", Trial(self.edit("doubles_once"), True).tries())
+
+    def test_unfit(self):
+        for old, function in (("number", "double"), ("number / 3", "half"), ("number / 2", "third")):
+            self.write_edit("halves_twice", old, "0", function, "returns")
+            with self.subTest(old), self.assertRaises(Unfit):
+                Trial(self.edit("halves_twice"), False)
+
+
+class ProofFileTest(SmallRepository):
+    def setUp(self):
+        super().setUp()
+        self.answers = (self.top / "crates/low/proofs/double/Answers.antt").read_text()
+
+    def test_only_the_named_answer_stays(self):
+        left = proof_file.without_answers(self.answers, "returns")
+        self.assertIn("returns g c = lemma", left)
+        self.assertNotIn("returns-then-ne", left)
+
+    def test_what_the_named_answer_cites_gets_a_hole(self):
+        left = proof_file.without_answers(self.answers, "returns-then-ne")
+        self.assertIn("pub returns : goal.returns\nreturns = ?\n", left)
+
+    def test_without_any_answer_no_goal_is_named(self):
+        left = proof_file.without_any_answer(self.answers)
+        self.assertIn("lemma = refl", left)
+        self.assertNotIn("goal", left)
+
+
+if __name__ == "__main__":
+    unittest.main()
