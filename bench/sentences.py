@@ -1,5 +1,5 @@
-"""What there is to see in each picture, in a sentence whose figures are those of the results."""
-from results import BACKENDS, DEFAULT, FAST, FNV, KEYED, MAP, ORIGINAL, SET, WINDOW
+"""What there is to see in a picture that no table stands below, in a sentence whose figures are those of the results."""
+from results import BACKENDS, DEFAULT, FAST, FNV, KEYED, ORIGINAL, WINDOW
 
 NOUNS = {"identifiers": "identifiers", "words": "words", "long": "texts of 200 bytes"}
 
@@ -26,24 +26,14 @@ def over(results, kind, other, name, measure):
     return listed(short(ratio) for ratio in ratios if ratio is not None)
 
 
-def calls(results, name):
-    fast, theirs = FAST["string"], ORIGINAL["string"]
-    return (
-        f"At {counts(results, name)} `FastStringInterner` takes, of the original's time under its default hasher, "
-        f"{over(results, fast, theirs, name, 'fill')} to fill, {over(results, fast, theirs, name, 'known')} for known "
-        f"texts and {over(results, fast, theirs, name, 'unknown')} for unknown ones; the default interner takes "
-        f"{over(results, DEFAULT['string'], FNV['string'], name, 'fill')} of the time under FNV to fill."
-    )
-
-
 def backends(results):
     def each(measure):
         ratios = (over(results, FAST[it], ORIGINAL[it], "identifiers", measure) for it in BACKENDS)
         return "; ".join(f"{ratio} over {it}" for it, ratio in zip(("strings", "buckets", "the byte buffer"), ratios))
 
     return (
-        f"At {counts(results, 'identifiers')} it takes, of the original's time with the same backend, to fill "
-        f"{each('fill')}; and to resolve in any order {each('shuffled')}."
+        f"At {counts(results, 'identifiers')} `FastStringInterner` takes, of the original's time with the same backend, "
+        f"to fill {each('fill')}; and to resolve in any order {each('shuffled')}."
     )
 
 
@@ -54,21 +44,6 @@ def choices(results):
         f"time to find that an identifier is unknown, and {over(results, fast, default, 'long', 'fill')} to be filled with "
         f"texts of 200 bytes; under `RandomState` these are {over(results, KEYED, default, 'identifiers', 'unknown')}, and "
         f"{over(results, KEYED, default, 'long', 'fill')}."
-    )
-
-
-def memory(results):
-    count = max(results.counts["identifiers"])
-    kinds = {
-        "with `WindowIndex`": FAST["string"],
-        "with `Index`": DEFAULT["string"],
-        "in the original": FNV["string"],
-    }
-    live = (f"{short(results.value(kind, 'identifiers', count, 'live'))} {what}" for what, kind in kinds.items())
-    others = (short(results.value(kind, "identifiers", count, "live")) for kind in (SET, MAP))
-    return (
-        f"At {count:,} identifiers of 10 bytes in the mean a string backend and its index hold, in bytes a text, "
-        f"{listed(live)}; an `IndexSet` and a `HashMap` with a `Vec` hold {listed(others)}."
     )
 
 

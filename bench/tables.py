@@ -1,5 +1,5 @@
 #!/usr/bin/env python3
-"""tables.py [--docs]: makes tables, and what is said of the pictures, of what bench/run measured, in bench/out/tables.md.
+"""tables.py [--docs]: makes tables, and what is said of some pictures, of what bench/run measured, in bench/out/tables.md.
 
 With --docs it also puts each block between its two marker lines in README.md and docs/PERFORMANCE.md, and the results beside
 the pictures."""
@@ -12,6 +12,7 @@ from results import BACKENDS, DEFAULT, DOCS, FAST, FNV, HERE, INPUTS, MAP, ORIGI
 from sentences import short
 
 MEASURES = (*PHASES, "live", "peak")
+CALLS = ("fill", "known", "unknown")
 TEXTS = ("identifiers", "words", "long")
 PAIRS = [
     *((f"`Index`, `FixedState`, {name}", DEFAULT[name], FNV[name]) for name in BACKENDS),
@@ -32,19 +33,46 @@ def name_of(kind):
     return f"{library}, {backend}, {hasher}" if library == "original" else library
 
 
-def picture(file, sentence, folder="pictures"):
-    return f"![{file}]({folder}/{file}.svg)\n\n{sentence}"
+def picture(file, below, folder="pictures"):
+    return f"![{file}]({folder}/{file}.svg)\n\n{below}"
 
 
 def middle_count(results):
     return min(results.counts["identifiers"], key=lambda count: abs(count - 100_000))
 
 
+def calls(results, name):
+    """The two interners over the original under the same kind of hasher, at each count."""
+    kinds = {
+        "`FastStringInterner`": (FAST["string"], ORIGINAL["string"]),
+        "`DefaultStringInterner`": (DEFAULT["string"], FNV["string"]),
+    }
+    rows = [
+        [label, f"{count:,}", *(short(results.ratio(*pair, name, count, phase)) for phase in CALLS)]
+        for label, pair in kinds.items()
+        for count in results.counts[name]
+    ]
+    said = (
+        "Time divided by the original's; lower is better. The original runs under its default hasher for "
+        "`FastStringInterner`, and under FNV for `DefaultStringInterner`:"
+    )
+    return f"{said}\n\n{table(['', sentences.NOUNS[name], *CALLS], rows)}"
+
+
+def memory(results):
+    count = max(results.counts["identifiers"])
+    kinds = {"`WindowIndex`": FAST["string"], "`Index`": DEFAULT["string"], "the original": FNV["string"]}
+    kinds |= {"`IndexSet`": SET, "`HashMap` and `Vec`": MAP}
+    row = [short(results.value(kind, "identifiers", count, "live")) for kind in kinds.values()]
+    said = f"Bytes per text at {count:,} identifiers of 10 bytes on average; the first three have a string backend:"
+    return f"{said}\n\n{table(['', *kinds], [['bytes', *row]])}"
+
+
 def pictures(results):
-    shown = [picture(f"calls-{name}", sentences.calls(results, name)) for name in TEXTS if results.counts[name]]
+    shown = [picture(f"calls-{name}", calls(results, name)) for name in TEXTS if results.counts[name]]
     shown.append(picture("backends", sentences.backends(results)))
     shown.append(picture("index-and-hasher", sentences.choices(results)))
-    shown.append(picture("memory", sentences.memory(results)))
+    shown.append(picture("memory", memory(results)))
     return "\n\n".join([results.line(), *shown])
 
 
@@ -119,7 +147,7 @@ def backends(results):
         "bytes a text",
         "at most",
     ]
-    shown = picture("memory", sentences.memory(results), "docs/pictures")
+    shown = picture("memory", memory(results), "docs/pictures")
     return f"{table(head, rows)}\n\n{shown}"
 
 
@@ -131,7 +159,7 @@ def blocks(results):
         "nanoseconds": nanoseconds(results),
         "instructions": instructions(results),
         "chosen": chosen(results),
-        "speed": picture("interning", sentences.calls(results, "identifiers"), "docs/pictures"),
+        "speed": picture("interning", calls(results, "identifiers"), "docs/pictures"),
         "backends": backends(results),
     }
 
