@@ -43,20 +43,18 @@ def middle_count(results):
 
 def calls(results, name):
     """The two interners over the original under the same kind of hasher, at each count."""
-    kinds = {
-        "`FastStringInterner`": (FAST["string"], ORIGINAL["string"]),
-        "`DefaultStringInterner`": (DEFAULT["string"], FNV["string"]),
-    }
+    pairs = [(FAST["string"], ORIGINAL["string"]), (DEFAULT["string"], FNV["string"])]
     rows = [
-        [label, f"{count:,}", *(short(results.ratio(*pair, name, count, phase)) for phase in CALLS)]
-        for label, pair in kinds.items()
+        [f"{count:,}", *(short(results.ratio(*pair, name, count, phase)) for pair in pairs for phase in CALLS)]
         for count in results.counts[name]
     ]
     said = (
-        "Time divided by the original's; lower is better. The original runs under its default hasher for "
-        "`FastStringInterner`, and under FNV for `DefaultStringInterner`:"
+        "Time to intern new texts (fill), to intern them again (known) and to look for others (unknown), divided by the "
+        "original's; lower is better. *Fast* is `FastStringInterner` beside the original under its default hasher, "
+        "*default* is `DefaultStringInterner` beside the original under FNV:"
     )
-    return f"{said}\n\n{table(['', sentences.NOUNS[name], *CALLS], rows)}"
+    head = [f"{kind}{phase}" for kind in ("*fast* ", "*default* ") for phase in CALLS]
+    return f"{said}\n\n{table([sentences.NOUNS[name], *head], rows)}"
 
 
 def memory(results):
@@ -137,18 +135,9 @@ def backends(results):
         [label, *(short(results.value(kind, "identifiers", count, measure)) for measure in measures)]
         for label, kind in kinds.items()
     ]
-    head = [
-        f"{count:,} identifiers",
-        "fill, ns",
-        "known",
-        "unknown",
-        "resolve, shuffled",
-        "iterate",
-        "bytes a text",
-        "at most",
-    ]
-    shown = picture("memory", memory(results), "docs/pictures")
-    return f"{table(head, rows)}\n\n{shown}"
+    said = f"Nanoseconds per call, and bytes per text, at {count:,} identifiers:"
+    head = ["", "fill", "known", "unknown", "resolve, shuffled", "iterate", "bytes", "most bytes while filling"]
+    return f"{said}\n\n{table(head, rows)}\n\n![memory](docs/pictures/memory.svg)"
 
 
 def blocks(results):
