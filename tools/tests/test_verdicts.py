@@ -1,0 +1,95 @@
+"""What is read in the output of `rt check`. The outputs are cut down to the lines that matter."""
+
+import unittest
+from dataclasses import dataclass, field
+
+import small  # brings the tools into reach
+from verdicts import BY_FORM_ALONE, LET_THROUGH, REFUSED, Verdicts, is_complete
+
+# A goal that its answer does not prove, another that has none here, and the verdict on the function.
+REFUSAL = """\
+checked low::double, 1 of 1
+./proofs/double/Answers.antt:6:15: error: `returns`: `search`: no proof of `c.result ≡ c.number + c.number`
+  was found. Every way was tried: a deeper search would find nothing either.
+note: src/lib.rt:18:5: it is not proved that what the function ensures holds when it returns (`returns-then-ne`)
+help: `#[tactic(none)]` holds here: answer these goals in the function's `Answers.antt`
+fn low::double: not proved; it stands on `Rattle.low.proofs.double.Answers.returns`, which antt refuses
+crate low: modules loaded=4 checked=1
+only=1 holes=0
+"""
+# The goal has an answer that proves it; what is open are goals that have none here.
+PROVED = """\
+note: src/lib.rt:18:5: it is not proved that what the function ensures holds when it returns (`returns-then-ne`)
+fn low::double: no proof: expected answers in ./proofs/double/Answers.antt; `#[tactic(none)]` leaves `returns-then-ne`
+only=1 holes=0
+"""
+MISSING_GOAL = """\
+./proofs/double/Answers.antt:5:15: error: `returns`: `goal.returns`: module `Rattle.low.proofs.double.Goals` has no `returns` that can be named from here
+fn low::double: not proved; it stands on `Rattle.low.proofs.double.Answers.returns`, which antt refuses
+only=1 holes=0
+"""
+MISSING_STATE = """\
+./proofs/double/Answers.antt:3:10: error: `lemma`: `In-Vacant` is not in scope
+./proofs/double/Answers.antt:6:15: error: `returns`: `search`: no proof of `c.result ≡ 2`
+  was found.
+fn low::double: not proved; it stands on `Rattle.low.proofs.double.Answers.returns`, which antt refuses
+only=1 holes=0
+"""
+TACTICS_TOO = REFUSAL.replace("help:", "./proofs/double/Answers.antt:9:15: error: `by-tactics`: `grind`: no proof\nhelp:")
+
+
+@dataclass
+class Tried:
+    """The part of a trial that a verdict looks at."""
+
+    function: str = "double"
+    tried_in: str = "double"
+    goal: str | None = "returns"
+    goals: list[str] = field(default_factory=lambda: ["returns", "returns-then-ne"])
+    is_answered: bool = True
+    tactics: list[str] = field(default_factory=list)
+
+
+class VerdictsTest(unittest.TestCase):
+    def outcome(self, output, **trial):
+        return Verdicts(output, "low").outcome(Tried(**trial))
+
+    def test_a_goal_that_its_answer_does_not_prove(self):
+        self.assertEqual(self.outcome(REFUSAL), REFUSED)
+
+    def test_a_goal_that_is_proved(self):
+        self.assertEqual(self.outcome(PROVED), LET_THROUGH)
+
+    def test_the_failure_of_another_goal_is_none(self):
+        self.assertEqual(self.outcome(REFUSAL.replace("`returns`: `search`", "`returns-then-ne`: `search`")), LET_THROUGH)
+
+    def test_a_name_that_is_gone(self):
+        self.assertEqual(self.outcome(MISSING_GOAL), BY_FORM_ALONE)
+        self.assertEqual(self.outcome(MISSING_STATE), BY_FORM_ALONE)
+
+    def test_a_thorough_trial_wants_both_to_fail(self):
+        self.assertEqual(self.outcome(REFUSAL, tactics=["by-tactics"]), LET_THROUGH)
+        self.assertEqual(self.outcome(TACTICS_TOO, tactics=["by-tactics"]), REFUSED)
+
+    def test_a_function_of_which_nothing_is_said(self):
+        self.assertNotIn(self.outcome(REFUSAL, tried_in="half"), (REFUSED, LET_THROUGH))
+
+    def test_without_a_goal_the_open_goals_are_told(self):
+        trial = Tried(goal=None, goals=[])
+        self.assertEqual(Verdicts(REFUSAL, "low").opened(trial), ["returns-then-ne", "returns"])
+        self.assertEqual(Verdicts(REFUSAL, "low").outcome(trial), REFUSED)
+        self.assertEqual(self.outcome("fn low::double: proved\nonly=1 proved=1\n", goal=None), LET_THROUGH)
+
+    def test_a_goal_out_of_reach(self):
+        self.assertTrue(Verdicts(REFUSAL, "low").is_out_of_reach(Tried(is_answered=False)))
+        self.assertFalse(Verdicts(REFUSAL, "low").is_out_of_reach(Tried(is_answered=True)))
+        self.assertFalse(Verdicts(MISSING_GOAL, "low").is_out_of_reach(Tried(is_answered=False)))
+
+    def test_a_check_that_was_cut_off_says_nothing(self):
+        self.assertTrue(is_complete(REFUSAL, 1))
+        self.assertFalse(is_complete(REFUSAL, -9))
+        self.assertFalse(is_complete("checked low::double, 1 of 1\n", 1))
+
+
+if __name__ == "__main__":
+    unittest.main()
