@@ -4,7 +4,7 @@ A planted bug is a file NAME.edit: in crates/CRATE/must-fail/ if the prover must
 if the prover passes it and a run of a built program must catch it. Its lines:
 
   file:       a file of the crate; the pairs below change it, until another such line
-  old:        a text that stands there once
+  old:        a text that stands there once; for caught-by-runs it may be empty, for the whole file, if there is one
   new:        what replaces it; may repeat, for a text of several lines
   function:   the function whose promise the bug breaks, for must-fail
   opens:      the goal of this function's proof, or the lemma of its proof file, that no longer holds
