@@ -322,7 +322,7 @@ impl<B: CopyBackend + Drop, H: TextHasher + Copy, I: CopyIndex<B::Symbol> + Drop
         ensures slots { IfOk result (λ copy. copy.slot_count ≡ self.now.slot_count) }
         ensures keeps { IfOk result (λ copy. KeepsSymbols B.Symbol.symbol_of B.place self.now.texts copy.texts) }
     {
-        let index = self.index.try_copy()?;
+        let index = self.index.try_copy(&self.backend)?;
         Ok(StringInterner {
             backend: self.backend.try_copy()?,
             hasher: self.hasher,

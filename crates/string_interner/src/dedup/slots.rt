@@ -1,6 +1,6 @@
 //! The slots of the index, and the one way to read one of them through a shared reference, which counts.
 
-ghost use Rattle.std.specs.Prelude.{◌≡◌, ◌+◌, ◌<◌, ◌^◌, length, slice_index_or, slice_set, replicate, [], IfNone, IfOk, IfSome, IsSome, None, Some};
+ghost use Rattle.std.specs.Prelude.{◌≡◌, ◌+◌, ◌<◌, ◌^◌, length, slice_index_or, slice_set, replicate, [], IfNone, IfOk, IfSome, IsSome, Contains, None, Some};
 ghost use Rattle.string_interner.specs.Entry.{entry_text};
 ghost use Rattle.string_interner.specs.Slots.{symbols};
 ghost use Rattle.string_interner.specs.Index.{has_text};
@@ -106,7 +106,12 @@ impl<S: Symbol> Slots<S> {
 
     /// Returns as many slots with the same symbols, copied at once. Reads no text. Returns `Err` only if an allocation
     /// fails.
-    pub fn try_copy(&self) -> Result<Self, AllocError>
+    ///
+    /// Takes the backend of the symbols' entries, which a look-up has in its `Looks` alone. So no look-up can copy the
+    /// slots, and read them without a look.
+    pub fn try_copy<B: Backend<Symbol = S>>(&self, backend: &B) -> Result<Self, AllocError>
+        requires { (s : S) → Contains self.now (Some s)
+            → IsSome (entry_text S.number B.place (B.texts backend.now) s) }
         ensures { IfOk result (λ copy. copy ≡ self.now) }
     {
         Ok(Slots {

@@ -137,7 +137,9 @@ pub trait CopyIndex<S: Symbol>: TextIndex<S> {
     /// Returns an equal index. Hashes and reads no text.
     ///
     /// Returns `Err` only if an allocation fails.
-    fn try_copy(&self) -> Result<Self, AllocError>
+    fn try_copy<B: Backend<Symbol = S>>(&self, backend: &B) -> Result<Self, AllocError>
+        requires { (code : Text → ℕ)
+            × Self.indexes self.now (entry_text S.number B.place (B.texts backend.now)) code }
         ensures { IfOk result (λ copy. copy ≡ self.now) };
 }
 
@@ -206,9 +208,9 @@ impl<S: Symbol> TextIndex<S> for Index<S> {
 }
 
 impl<S: Symbol> CopyIndex<S> for Index<S> {
-    fn try_copy(&self) -> Result<Self, AllocError> {
+    fn try_copy<B: Backend<Symbol = S>>(&self, backend: &B) -> Result<Self, AllocError> {
         Ok(Index {
-            slots: self.slots.try_copy()?,
+            slots: self.slots.try_copy(backend)?,
             len: self.len,
             put_back: self.put_back,
             greatest: self.greatest,

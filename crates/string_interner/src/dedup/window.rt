@@ -157,7 +157,7 @@ impl<S: Symbol> TextIndex<S> for WindowIndex<S> {
 }
 
 impl<S: Symbol> CopyIndex<S> for WindowIndex<S> {
-    fn try_copy(&self) -> Result<Self, AllocError> {
+    fn try_copy<B: Backend<Symbol = S>>(&self, _backend: &B) -> Result<Self, AllocError> {
         Ok(WindowIndex {
             slots: self.slots.try_copy()?,
             len: self.len,
