@@ -39,6 +39,13 @@ CopyReply text (TextReply copy) = string_bytes copy ≡ text
 CopyReply text NoMemory = ⊤
 CopyReply text _ = ⊥
 
+-- the command interns no text
+abbrev pub InternsNone : Command → Type 0
+InternsNone (Intern _) = ⊥
+InternsNone (InternStatic _) = ⊥
+InternsNone (Extend _) = ⊥
+InternsNone _ = ⊤
+
 module _ {S : Type 0} (symbol_of : ℕ → Option S) (number : S → ℕ) (place : List Text → ℕ) (read : List Text → ℕ → Option Text) where
   -- the text at a number, if the number has a symbol and a text is read there
   abbrev pub number_read : List Text → ℕ → Option Text

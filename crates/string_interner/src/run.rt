@@ -1,10 +1,10 @@
 //! Running a list of commands on an interner, with one reply for each.
 
-ghost use Rattle.std.specs.Prelude.{◌≡◌, [], slice_get, Option, Some, None, IfOk, OnErr};
+ghost use Rattle.std.specs.Prelude.{◌≡◌, [], All, slice_get, Option, Some, None, IfOk, OnErr};
 ghost use Rattle.std.specs.Option.{option_copied};
 ghost use Rattle.string_interner.specs.Collect.{texts_of};
 ghost use Rattle.string_interner.specs.ListAnswers.{AnswersAsAList};
-ghost use Rattle.string_interner.specs.Run.{refusal, intern_reply, number_told, CopyReply, number_read, NumberReply, ExtendReply, Step, Run};
+ghost use Rattle.string_interner.specs.Run.{refusal, intern_reply, number_told, CopyReply, number_read, NumberReply, ExtendReply, InternsNone, Step, Run};
 
 use crate::backend::{Backend, InternError};
 use crate::dedup::{TextHasher, TextIndex};
@@ -141,8 +141,10 @@ fn step<B: Backend, H: TextHasher, I: TextIndex<B::Symbol>>(
     earlier: &[Reply],
     command: &Command<'_>,
 ) -> Reply
-    ensures { Step B.Symbol.symbol_of B.Symbol.number B.place B.read interner.old.texts earlier.now command.now result
-        interner.new.texts }
+    ensures step { Step B.Symbol.symbol_of B.Symbol.number B.place B.read interner.old.texts earlier.now command.now
+        result interner.new.texts }
+    ensures stays { InternsNone command.now
+        → (interner.new.buckets ≡ interner.old.buckets) × (interner.new.slot_count ≡ interner.old.slot_count) }
 {
     match command {
         Command::Intern(text) => intern_reply(interner.get_or_intern(text)),
@@ -194,6 +196,10 @@ pub fn run<B: Backend, H: TextHasher, I: TextIndex<B::Symbol>>(
     ensures as_a_list { IfOk result (λ replies. AnswersAsAList B.place interner.old.texts commands.now replies.items
         interner.new.texts) }
     ensures err { OnErr result (interner.new ≡ interner.old) }
+
+    // If no command interns a text, buckets and slots are unchanged.
+    ensures stays { All InternsNone commands.now
+        → (interner.new.buckets ≡ interner.old.buckets) × (interner.new.slot_count ≡ interner.old.slot_count) }
 {
     let mut replies = Vec::with_capacity(alloc, commands.len())?;
     for command in commands {

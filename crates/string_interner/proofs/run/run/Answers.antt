@@ -1,4 +1,4 @@
-use Rattle.std.proofs.Common.{rules}
+use Rattle.std.proofs.Common.{rules, ◌∙◌}
 use Rattle.std.proofs.lemmas.List.{take_all}
 use Rattle.string_interner.proofs.Lemmas.Run.ListAnswers.{Run-tells}
 use Rattle.string_interner.proofs.Lemmas.Run.Run.{Run-step}
@@ -6,9 +6,13 @@ use Rattle.string_interner.proofs.run.run.Goals as goal
 
 pub loop-command-preserved : goal.loop-command-preserved
 loop-command-preserved g c = record {
-  ran = Run-step g.B.Symbol.Symbol.symbol_of g.B.Symbol.Symbol.number g.B.Backend.place g.B.Backend.read _ _ _ _ _ _ _ _ _ _ c.loop-command-test.true c.loop-command.invariant.ran c.deref.ensures.value c.step-reply.ensures (search rules);
+  ran = Run-step g.B.Symbol.Symbol.symbol_of g.B.Symbol.Symbol.number g.B.Backend.place g.B.Backend.read _ _ _ _ _ _ _ _ _ _ c.loop-command-test.true c.loop-command.invariant.ran c.deref.ensures.value c.step-reply.ensures.step (search rules);
   count = search rules;
   room = search rules;
+  stays = λ none.
+      let before = c.loop-command.invariant.stays none in
+      let after = c.step-reply.ensures.stays (none c.loop-command.command-index _ c.loop-command-test.true) in
+      (after.0 ∙ before.0, after.1 ∙ before.1);
 }
 
 pub returns-clause-as_a_list : goal.returns-clause-as_a_list
