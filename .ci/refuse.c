@@ -1,8 +1,9 @@
-/* Stands before the C library of a program (LD_PRELOAD), to refuse it memory and to see what it asks for.
+/* Stands before the C library of a program (LD_PRELOAD), to refuse it memory and to see what it asks for and gives back.
 
    REFUSE=N refuses the Nth request, counted from 1, and says `request refused` on standard error. TELL_ASKS, set to
    anything, says `asks BYTES` there for each request. Both lines are written at once, so that they stand before whatever
-   the program prints next.
+   the program prints next. TELL_HELD, set to anything, says `holds BLOCKS` there as the program ends: how many blocks
+   it was granted and did not give back.
 
    It includes nothing: the kit's compiler runs where no headers of the C library are installed. */
 typedef unsigned long size_type;
@@ -20,6 +21,7 @@ static int is_ready;
 static int tells_asks;
 static size_type refused;
 static size_type requests;
+static size_type held;
 
 static void read_settings(void) {
     const char *number = getenv("REFUSE");
@@ -28,15 +30,18 @@ static void read_settings(void) {
     is_ready = 1;
 }
 
-/* printf would ask for memory itself. */
-static void tell_ask(size_type bytes) {
-    char line[32] = "asks ";
+/* Says a short word and a number. printf would ask for memory itself. */
+static void tell(const char *word, size_type number) {
+    char line[32];
     char digits[20];
-    int count = 0, end = 5;
+    int count = 0, end = 0;
+    while (*word) {
+        line[end++] = *word++;
+    }
     do {
-        digits[count++] = (char)('0' + bytes % 10);
-        bytes /= 10;
-    } while (bytes != 0);
+        digits[count++] = (char)('0' + number % 10);
+        number /= 10;
+    } while (number != 0);
     while (count != 0) {
         line[end++] = digits[--count];
     }
@@ -51,7 +56,7 @@ static int is_refused(size_type bytes) {
     }
     requests++;
     if (tells_asks) {
-        tell_ask(bytes);
+        tell("asks ", bytes);
     }
     if (requests != refused) {
         return 0;
@@ -60,12 +65,25 @@ static int is_refused(size_type bytes) {
     return 1;
 }
 
+/* All that is held then is the program's own: before `main` neither the C library nor the toolchain's runtime asks for
+   memory, as a scenario shows that takes none. */
+__attribute__((destructor)) static void tell_held(void) {
+    if (getenv("TELL_HELD")) {
+        tell("holds ", held);
+    }
+}
+
+static void *counted(void *block) {
+    held += block != 0;
+    return block;
+}
+
 void *malloc(size_type bytes) {
     static void *(*next)(size_type);
     if (!next) {
         next = dlsym(RTLD_NEXT, "malloc");
     }
-    return is_refused(bytes) ? 0 : next(bytes);
+    return is_refused(bytes) ? 0 : counted(next(bytes));
 }
 
 void *calloc(size_type count, size_type bytes) {
@@ -73,7 +91,7 @@ void *calloc(size_type count, size_type bytes) {
     if (!next) {
         next = dlsym(RTLD_NEXT, "calloc");
     }
-    return is_refused(count * bytes) ? 0 : next(count, bytes);
+    return is_refused(count * bytes) ? 0 : counted(next(count, bytes));
 }
 
 void *realloc(void *block, size_type bytes) {
@@ -81,5 +99,20 @@ void *realloc(void *block, size_type bytes) {
     if (!next) {
         next = dlsym(RTLD_NEXT, "realloc");
     }
-    return is_refused(bytes) ? 0 : next(block, bytes);
+    if (is_refused(bytes)) {
+        return 0;
+    }
+    void *moved = next(block, bytes);
+    /* The old block is given back where there is a new one, and where no bytes are wanted. */
+    held += (moved != 0) - (block != 0 && (moved != 0 || bytes == 0));
+    return moved;
+}
+
+void free(void *block) {
+    static void (*next)(void *);
+    if (!next) {
+        next = dlsym(RTLD_NEXT, "free");
+    }
+    held -= block != 0;
+    next(block);
 }

@@ -1,4 +1,5 @@
-"""Runs a built program with one of its requests for memory refused, and sees what it asks for."""
+"""Runs a built program with one of its requests for memory refused, and sees what it asks for and that it holds nothing
+at its end."""
 
 import os
 import subprocess
@@ -10,6 +11,9 @@ from pathlib import Path
 Ended = namedtuple("Ended", "status output error asks")
 
 SECONDS = 60
+
+# The last line that a run tells under TELL_HELD, where it gave back all memory that it was granted.
+HELD_NOTHING = b"holds 0\n"
 
 
 def compile_library(folder, name):
@@ -23,11 +27,16 @@ def compile_library(folder, name):
     return library
 
 
+def without_held(told):
+    """What a run told, without the line that it holds nothing at its end. Without that line, more than it told."""
+    return told.removesuffix(HELD_NOTHING) if told.endswith(HELD_NOTHING) else told + b"not all memory was given back\n"
+
+
 def run(program, words, data, library=None, refused=0):
     """Runs the program on some bytes. With a library its requests are told, and the one with this number is refused."""
     environment = {"PATH": os.environ.get("PATH", "")}
     if library is not None:
-        environment.update(LD_PRELOAD=str(library), TELL_ASKS="1", REFUSE=str(refused))
+        environment.update(LD_PRELOAD=str(library), TELL_ASKS="1", TELL_HELD="1", REFUSE=str(refused))
     with tempfile.TemporaryFile() as given:
         given.write(data)
         given.seek(0)
@@ -37,7 +46,7 @@ def run(program, words, data, library=None, refused=0):
     error = ended.stderr if library is None else b""
     asks = []
     if library is not None:
-        for line in ended.stderr.splitlines(keepends=True):
+        for line in without_held(ended.stderr).splitlines(keepends=True):
             if line.startswith(b"asks "):
                 asks.append(int(line[5:]))
             elif line != b"request refused\n":

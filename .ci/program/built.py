@@ -19,7 +19,8 @@ class Program:
         return self.end(words, data)
 
     def run_refused(self, words, data, number=0):
-        """Runs it with the request of this number refused, counted from 1; 0 refuses none. The requests are told."""
+        """Runs it with the request of this number refused, counted from 1; 0 refuses none. The requests are told, and on
+        standard error whether it holds memory at its end."""
         return self.end(words, data, self.library, number)
 
     def end(self, *given):

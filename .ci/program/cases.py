@@ -110,7 +110,9 @@ def try_case(program, path):
     faults = differs(f"{case.name}, the case by the rules", answer(case.words, case.data), case.wanted)
     faults += differs(case.name, program.run(case.words, case.data), case.wanted)
     faults += asks_of_lines(case)
-    asks = program.run_refused(case.words, case.data).asks
+    told = program.run_refused(case.words, case.data)
+    faults += differs(f"{case.name}, its requests told", told, case.wanted)
+    asks = told.asks
     words = asks.index(OUTPUT_BUFFER) if OUTPUT_BUFFER in asks else len(asks)
     wanted = list(case.requests())
     if asks[words:] != [size for _, size in wanted]:

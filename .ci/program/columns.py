@@ -64,8 +64,9 @@ class Case:
 
 def try_refused(program, name, words, data, wanted):
     """The faults where each request for memory of a run is refused in turn, and how many requests there are."""
-    faults = []
-    asks = program.run_refused(words, data).asks
+    ended = program.run_refused(words, data)
+    faults = differs(f"{name}, its requests told", ended, wanted)
+    asks = ended.asks
     # The list of words is asked for before the input. Its room is asked for ahead, and again as it fills.
     count = asks.index(FIRST_INPUT) if FIRST_INPUT in asks else len(asks)
     for number in range(1, len(asks) + 1):

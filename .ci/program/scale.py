@@ -42,7 +42,9 @@ def try_large(program, trial):
     start = time.monotonic()
     faults = differs(name, program.run([word], data), wanted)
     seconds = time.monotonic() - start
-    asks = program.run_refused([word], data).asks
+    ended = program.run_refused([word], data)
+    faults += differs(f"{name}, its requests told", ended, wanted)
+    asks = ended.asks
     count = data.count(b"\n") + 1
     # Beside those of the lines: the words, the output, the commands and replies, and an input that doubles.
     others = 8 + 2 + len(data).bit_length()
