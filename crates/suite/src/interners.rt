@@ -11,14 +11,16 @@ use crate::fault::{Fault, Mistake};
 use crate::line::{Argument, Call, Row, call_of};
 use crate::own::{CopyHasher, Extra, Shown};
 pub use json::{symbol_from_json, symbol_to_json};
-pub use looks::walk_over;
-use looks::{Look, look_at};
+pub use looks::{Look, look_at, walk_over};
+pub use makers::put;
 use makers::{Maker, make};
+pub use scale::{CopyBy, put_copy};
 use scale::{Pair, on_both};
 use std::io;
 use string_interner::StringInterner;
 use string_interner::backend::CopyBackend;
 use string_interner::dedup::CopyIndex;
+pub use texts::intern_text;
 use texts::{Change, change_one};
 
 /// A call on an interner.

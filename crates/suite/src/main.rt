@@ -9,6 +9,7 @@ mod backends;
 mod counting;
 mod decimal;
 mod fault;
+mod hashing;
 mod indexes;
 mod input;
 mod interners;
@@ -26,6 +27,7 @@ mod tell;
 use backends::backend_session;
 use counting::Counting;
 use fault::{Fault, Mistake};
+use hashing::{hashing_session, scope_hashing_session};
 use indexes::index_session;
 use input::read_text;
 use interners::interner_session;
@@ -256,6 +258,19 @@ fn under_std_hasher<H: CopyHasher + Default + Clone + Drop>(
     }
 }
 
+/// Runs a scenario over strings with `SymbolU32`, under the hasher that counts the texts that it hashes.
+fn under_counting_hasher(rt: &HostRuntime, scenario: Scenario<'_>) -> Result<(), Fault> {
+    if scenario.symbol != SymbolWord::U32 || scenario.backend != BackendWord::String {
+        return not_built();
+    }
+    match scenario.level {
+        Level::Interner => hashing_session::<StringBackend, DefaultIndex>(rt, scenario.lines),
+        Level::Window => hashing_session::<StringBackend, FastIndex>(rt, scenario.lines),
+        Level::Scopes => scope_hashing_session::<StringBackend>(rt, scenario.lines),
+        _ => not_built(),
+    }
+}
+
 /// Runs a scenario.
 fn run_scenario(rt: &HostRuntime, scenario: Scenario<'_>) -> Result<(), Fault> {
     if scenario.level == Level::Index && scenario.symbol != SymbolWord::U32 {
@@ -274,6 +289,7 @@ fn run_scenario(rt: &HostRuntime, scenario: Scenario<'_>) -> Result<(), Fault> {
         HasherWord::Salted => under_hasher::<Salted>(rt, scenario),
         HasherWord::Fold => under_std_hasher::<FoldState>(rt, scenario),
         HasherWord::Sip => under_std_hasher::<SipState>(rt, scenario),
+        HasherWord::Counting => under_counting_hasher(rt, scenario),
     }
 }
 

@@ -50,6 +50,7 @@ pub enum HasherWord {
     Salted,
     Fold,
     Sip,
+    Counting,
 }
 
 const LEVELS: [(&'static str, Level); 8] = [
@@ -80,13 +81,14 @@ const SYMBOLS: [(&'static str, SymbolWord); 6] = [
     ("Bit", SymbolWord::Bit),
 ];
 
-const HASHERS: [(&'static str, HasherWord); 6] = [
+const HASHERS: [(&'static str, HasherWord); 7] = [
     ("default", HasherWord::Default),
     ("constant", HasherWord::Constant),
     ("length", HasherWord::Length),
     ("salted", HasherWord::Salted),
     ("fold", HasherWord::Fold),
     ("sip", HasherWord::Sip),
+    ("counting", HasherWord::Counting),
 ];
 
 /// What the first line says, and the lines after it.

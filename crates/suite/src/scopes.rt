@@ -68,7 +68,7 @@ fn enter<B: Backend, H: TextHasher>(
 }
 
 /// Calls `declare`.
-fn declared<B: Backend, H: TextHasher>(
+pub fn declared<B: Backend, H: TextHasher>(
     scopes: &mut Scopes<B, H>,
     text: &str,
 ) -> Result<usize, InternError> {
@@ -104,12 +104,15 @@ fn resolve<B: Backend, H: TextHasher>(
 }
 
 /// Leaves the innermost scope, and prints whether there was one.
-fn leave<B: Backend, H: TextHasher>(rt: &HostRuntime, scopes: &mut Scopes<B, H>) -> io::Result<()> {
+pub fn leave<B: Backend, H: TextHasher>(
+    rt: &HostRuntime,
+    scopes: &mut Scopes<B, H>,
+) -> io::Result<()> {
     tell_bool(rt, scopes.leave())
 }
 
 /// Prints the symbol of a text, if there is one.
-fn find<B: Backend, H: TextHasher>(
+pub fn find<B: Backend, H: TextHasher>(
     rt: &HostRuntime,
     scopes: &Scopes<B, H>,
     text: &str,

@@ -30,7 +30,7 @@ pub enum Pair {
 
 /// By which call an interner is copied.
 #[derive(Clone, Copy)]
-enum CopyBy {
+pub enum CopyBy {
     /// `clone`
     Clone,
     /// `try_copy`
@@ -137,7 +137,11 @@ pub fn get_numbers<B: Backend, H: TextHasher, I: TextIndex<B::Symbol>>(
 }
 
 /// Copies an interner into the place of the other one.
-fn put_copy<B: CopyBackend + Drop, H: CopyHasher + Clone + Drop, I: CopyIndex<B::Symbol> + Drop>(
+pub fn put_copy<
+    B: CopyBackend + Drop,
+    H: CopyHasher + Clone + Drop,
+    I: CopyIndex<B::Symbol> + Drop,
+>(
     interner: &StringInterner<B, H, I>,
     other: &mut StringInterner<B, H, I>,
     how: CopyBy,
