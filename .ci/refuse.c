@@ -1,7 +1,7 @@
 /* Stands before the C library of a program (LD_PRELOAD), to refuse it memory and to see what it asks for and gives back.
 
-   REFUSE=N refuses the Nth request, counted from 1, and says `request refused` on standard error. TELL_ASKS, set to
-   anything, says `asks BYTES` there for each request. Both lines are written at once, so that they stand before whatever
+   REFUSE=N refuses the Nth request, counted from 1, and with REFUSE_ON, set to anything, all after it. It says `request
+   refused` on standard error for each. TELL_ASKS, set to anything, says `asks BYTES` there for each request. Both lines are written at once, so that they stand before whatever
    the program prints next. TELL_HELD, set to anything, says `holds BLOCKS` there as the program ends: how many blocks
    it was granted and did not give back.
 
@@ -19,6 +19,7 @@ extern void *dlsym(void *library, const char *name);
 
 static int is_ready;
 static int tells_asks;
+static int refuses_on;
 static size_type refused;
 static size_type requests;
 static size_type held;
@@ -27,6 +28,7 @@ static void read_settings(void) {
     const char *number = getenv("REFUSE");
     refused = number ? strtoul(number, 0, 10) : 0;
     tells_asks = getenv("TELL_ASKS") != 0;
+    refuses_on = getenv("REFUSE_ON") != 0;
     is_ready = 1;
 }
 
@@ -58,7 +60,7 @@ static int is_refused(size_type bytes) {
     if (tells_asks) {
         tell("asks ", bytes);
     }
-    if (requests != refused) {
+    if (refuses_on ? requests < refused : requests != refused) {
         return 0;
     }
     write(STANDARD_ERROR, told, sizeof told - 1);

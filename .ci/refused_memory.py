@@ -14,6 +14,8 @@ SECONDS = 60
 
 # The last line that a run tells under TELL_HELD, where it gave back all memory that it was granted.
 HELD_NOTHING = b"holds 0\n"
+# What is told where it did not.
+HELD = b"not all memory was given back\n"
 
 
 def compile_library(folder, name):
@@ -29,14 +31,15 @@ def compile_library(folder, name):
 
 def without_held(told):
     """What a run told, without the line that it holds nothing at its end. Without that line, more than it told."""
-    return told.removesuffix(HELD_NOTHING) if told.endswith(HELD_NOTHING) else told + b"not all memory was given back\n"
+    return told.removesuffix(HELD_NOTHING) if told.endswith(HELD_NOTHING) else told + HELD
 
 
-def run(program, words, data, library=None, refused=0):
-    """Runs the program on some bytes. With a library its requests are told, and the one with this number is refused."""
+def run(program, words, data, library=None, refused=0, **settings):
+    """Runs the program on some bytes. With a library its requests are told, and the one with this number is refused. There
+    may be more settings of the library."""
     environment = {"PATH": os.environ.get("PATH", "")}
     if library is not None:
-        environment.update(LD_PRELOAD=str(library), TELL_ASKS="1", TELL_HELD="1", REFUSE=str(refused))
+        environment.update(LD_PRELOAD=str(library), TELL_ASKS="1", TELL_HELD="1", REFUSE=str(refused), **settings)
     with tempfile.TemporaryFile() as given:
         given.write(data)
         given.seek(0)
