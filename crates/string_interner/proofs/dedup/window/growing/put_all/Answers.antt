@@ -5,7 +5,9 @@ use Rattle.string_interner.proofs.Lemmas.Index.LookUp.{FillsSlot-length}
 use Rattle.string_interner.proofs.Lemmas.Index.Refills.{placed-start, placed-next, placed-end}
 use Rattle.string_interner.proofs.Lemmas.WindowIndex.IsCoded.{IsCoded-none, IsCoded-put}
 use Rattle.string_interner.proofs.Lemmas.WindowIndex.IsWindow.{entry-ahead}
+use Rattle.string_interner.proofs.Lemmas.Interner.IsInterned.{IsFilled}
 use Rattle.string_interner.proofs.dedup.window.growing.put_all.Goals as goal
+use Rattle.string_interner.proofs.dedup.window.growing.put_all.Given.{Over}
 
 pub loop-symbol-init : goal.loop-symbol-init
 loop-symbol-init g c = record {
@@ -25,8 +27,12 @@ loop-symbol-preserved g c =
       size = FillsSlot-length _ _ _ _ puts ∙ inv.size;
     }
 
+-- once the walk has ended, all entries are in the slots
+filled : (g : Over) (c : goal.In-None g) → IsFilled g.S.Symbol.symbol_of g.B.Backend.place g.S.Symbol.number (g.H.TextHasher.code c.args.hasher.now) (g.B.Backend.texts c.args.backend.now) c.loop-symbol.slots.slots
+filled g c = placed-end g.S.Symbol.symbol_of g.S.Symbol.number g.B.Backend.place g.met.S.Symbol.numbered g.met.S.Symbol.injective g.met.B.Backend.grows (g.H.TextHasher.code c.args.hasher.now) (g.B.Backend.texts c.args.backend.now) c.requires.kept c.requires.distinct _ _ c.loop-symbol.slots.slots c.loop-symbol.invariant.placed c.in-None.ensures.steps.0
+
 pub returns-clause-whole : goal.returns-clause-whole
-returns-clause-whole g c = record {
-  whole = (placed-end g.S.Symbol.symbol_of g.S.Symbol.number g.B.Backend.place g.met.S.Symbol.numbered g.met.S.Symbol.injective g.met.B.Backend.grows (g.H.TextHasher.code c.args.hasher.now) (g.B.Backend.texts c.args.backend.now) c.requires.kept c.requires.distinct _ _ c.loop-symbol.slots.slots c.loop-symbol.invariant.placed c.in-None.ensures.steps.0).whole;
-  coded = c.loop-symbol.invariant.coded;
-}
+returns-clause-whole g c = record { whole = (filled g c).whole; coded = c.loop-symbol.invariant.coded }
+
+pub returns-clause-entries : goal.returns-clause-entries
+returns-clause-entries g c = (filled g c).count
