@@ -2,19 +2,26 @@ use Rattle.std.proofs.Common.{◌≡◌, ◌+◌, ◌-◌, ◌≤◌, ◌++◌, 
 use Rattle.string_interner.specs.BucketBackend.{BucketContents, Puts, buckets_of, interned_text, IsInBuckets}
 use Rattle.string_interner.proofs.Lemmas.BucketBackend.Buckets.{stored-puts, spent-puts, Stays-puts}
 use Rattle.string_interner.proofs.backend.bucket.BucketBackendBackend.intern.Goals as goal
-use Rattle.string_interner.proofs.backend.bucket.BucketBackendBackend.intern.Goals.{After-push_reserved}
+use Rattle.string_interner.proofs.backend.bucket.BucketBackendBackend.intern.Goals.{After-push_reserved, After-from_residual-in_err-interned}
 use Rattle.string_interner.proofs.backend.bucket.BucketBackendBackend.intern.Given.{Over}
+
+-- the text is put into the buckets
+puts : (g : Over) (c : After-push_reserved g) → Puts c.args.text.now c.self.inside.full.items c.self.inside.head c.store.new.full.items c.store.new.head
+puts g c = search rules
+
+-- on `Err` the buckets are unchanged
+same : (g : Over) (c : After-from_residual-in_err-interned g) → (c.store.new.full.items ≡ c.self.inside.full.items) × (c.store.new.head ≡ c.self.inside.head)
+same g c = search rules
 
 -- the text is stored
 stored : (g : Over) (c : After-push_reserved g) → (map (interned_text (buckets_of c.store.new.full.items c.store.new.head)) c.push_reserved.new.self.items ≡ map (interned_text (buckets_of c.self.inside.full.items c.self.inside.head)) c.self.inside.entries.items ++ c.args.text.now ∷ []) × IsInBuckets g.S.Symbol.symbol_of c.store.new.full.items c.store.new.head c.push_reserved.new.self.items
-stored g c = stored-puts g.S.Symbol.symbol_of c.args.text.now _ _ _ _ c.in_ok-interned.interned _ _ c.self.invariant c.utf8.text (rw (ap (λ (b : BucketContents). b.texts) c.self.view_is) (search rules)) (omega (arith, c.push_reserved.new.self.small, c.push_reserved.new.self.ok.1, c.push_reserved.new.self.ok.0, c.push_reserved.ensures.len, c.self.inside.entries.ok.0)) (search rules) (search rules) (search rules)
+stored g c = stored-puts g.S.Symbol.symbol_of c.args.text.now _ _ _ _ c.in_ok-interned.interned _ _ c.self.invariant c.utf8.text (rw (ap (λ (b : BucketContents). b.texts) c.self.view_is) (search rules)) (omega (arith, c.push_reserved.new.self.small, c.push_reserved.new.self.ok.1, c.push_reserved.new.self.ok.0, c.push_reserved.ensures.len, c.self.inside.entries.ok.0)) (puts g c) (search rules) (search rules)
 
 pub returns-in_err-interned-clause-appends : goal.returns-in_err-interned-clause-appends
 returns-in_err-interned-clause-appends g c =
-    let same : (c.store.new.full.items ≡ c.self.inside.full.items) × (c.store.new.head ≡ c.self.inside.head) = search rules in
     record {
       appends = search rules;
-      kept = rw (same.0, same.1, c.reserve.ensures.items) c.self.invariant.kept;
+      kept = rw ((same g c).0, (same g c).1, c.reserve.ensures.items) c.self.invariant.kept;
       buckets = search rules;
       room = search rules;
     }
@@ -24,11 +31,10 @@ invariant_of-self-2 g c = (stored g c).1
 
 pub returns-clause-appends : goal.returns-clause-appends
 returns-clause-appends g c =
-    let puts : Puts c.args.text.now c.self.inside.full.items c.self.inside.head c.store.new.full.items c.store.new.head = search rules in
     let free = vec_capacity c.self.inside.entries - vec_len c.self.inside.entries in
     let left = vec_capacity c.push_reserved.new.self - vec_len c.push_reserved.new.self in
     let entry : free ≤ left + 1 = omega arith in
-    let spent = spent-puts c.args.text.now _ _ _ _ free left puts entry in
+    let spent = spent-puts c.args.text.now _ _ _ _ free left (puts g c) entry in
     record {
       appends = (search rules, (stored g c).0 ∙ ap (λ (b : BucketContents). b.texts ++ c.args.text.now ∷ []) c.self.view_is);
       kept = (stored g c).1.kept;
@@ -37,4 +43,7 @@ returns-clause-appends g c =
     }
 
 pub returns-clause-stays : goal.returns-clause-stays
-returns-clause-stays g c = rw (← ap (λ (b : BucketContents). b.full) c.self.view_is, ← ap (λ (b : BucketContents). b.head) c.self.view_is) (Stays-puts c.args.text.now _ _ _ _ c.utf8.text (search rules))
+returns-clause-stays g c = rw (← ap (λ (b : BucketContents). b.full) c.self.view_is, ← ap (λ (b : BucketContents). b.head) c.self.view_is) (Stays-puts c.args.text.now _ _ _ _ c.utf8.text (puts g c))
+
+pub returns-clause-puts : goal.returns-clause-puts
+returns-clause-puts g c = rw (← ap (λ (b : BucketContents). b.full) c.self.view_is, ← ap (λ (b : BucketContents). b.head) c.self.view_is) (puts g c)
