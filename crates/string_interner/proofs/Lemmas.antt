@@ -4,6 +4,7 @@ pub mod BufferBackend
 pub mod Index
 pub mod Interner
 pub mod Json
+pub mod Results
 pub mod Run
 pub mod Scopes
 pub mod StringBackend

@@ -60,6 +60,10 @@ Stays-grow old new grow = record {
 same_bucket : (b : Bucket) → GetsText b b
 same_bucket b = record { capacity = refl; more = []; bytes = sym (append-nil b.bytes); utf8 = IsUtf8-nil }
 
+-- buckets stay where nothing is put
+pub Stays-same : (buckets : List Bucket) → Stays buckets buckets
+Stays-same buckets = Stays-grow _ _ (record { count = omega arith; each = λ k _. same_bucket (bucket_at buckets k) })
+
 -- the last bucket got a text
 grow-head : (full : List Bucket) (head new : Bucket) (text : Text) → IsUtf8 text → new ≡ record head { bytes = head.bytes ++ text } → Grow (buckets_of full head) (buckets_of full new)
 grow-head full head new text utf8 is = rw is (record {

@@ -1,17 +1,18 @@
-use Rattle.std.proofs.Common.{◌≡◌, ◌+◌, ◌-◌, ◌≤◌, ◌++◌, ◌∷◌, [], map, vec_len, vec_capacity, arith, rules, ap, ◌∙◌}
+use Rattle.std.proofs.Common.{◌≡◌, ◌+◌, ◌-◌, ◌≤◌, ◌++◌, ◌∷◌, [], map, vec_len, vec_capacity, arith, rules, refl, ap, ◌∙◌}
 use Rattle.string_interner.specs.BucketBackend.{BucketContents, Puts, buckets_of, interned_text, IsInBuckets}
-use Rattle.string_interner.proofs.Lemmas.BucketBackend.Buckets.{stored-puts, spent-puts, Stays-puts}
+use Rattle.string_interner.proofs.Lemmas.BucketBackend.Buckets.{stored-puts, spent-puts, Stays-puts, Stays-same}
+use Rattle.string_interner.proofs.Lemmas.Results.{OnOk-passed, OnErr-failed, OnErr-always}
 use Rattle.string_interner.proofs.backend.bucket.BucketBackendBackend.intern.Goals as goal
 use Rattle.string_interner.proofs.backend.bucket.BucketBackendBackend.intern.Goals.{After-push_reserved, After-from_residual-in_err-interned}
 use Rattle.string_interner.proofs.backend.bucket.BucketBackendBackend.intern.Given.{Over}
 
 -- the text is put into the buckets
 puts : (g : Over) (c : After-push_reserved g) → Puts c.args.text.now c.self.inside.full.items c.self.inside.head c.store.new.full.items c.store.new.head
-puts g c = search rules
+puts g c = OnOk-passed c.store.result _ c.in_ok-interned.ensures.variant c.store.ensures.puts
 
 -- on `Err` the buckets are unchanged
 same : (g : Over) (c : After-from_residual-in_err-interned g) → (c.store.new.full.items ≡ c.self.inside.full.items) × (c.store.new.head ≡ c.self.inside.head)
-same g c = search rules
+same g c = OnErr-failed c.store.result _ c.in_err-interned.ensures.variant c.store.ensures.err
 
 -- the text is stored
 stored : (g : Over) (c : After-push_reserved g) → (map (interned_text (buckets_of c.store.new.full.items c.store.new.head)) c.push_reserved.new.self.items ≡ map (interned_text (buckets_of c.self.inside.full.items c.self.inside.head)) c.self.inside.entries.items ++ c.args.text.now ∷ []) × IsInBuckets g.S.Symbol.symbol_of c.store.new.full.items c.store.new.head c.push_reserved.new.self.items
@@ -22,9 +23,15 @@ returns-in_err-interned-clause-appends g c =
     record {
       appends = search rules;
       kept = rw ((same g c).0, (same g c).1, c.reserve.ensures.items) c.self.invariant.kept;
-      buckets = search rules;
+      buckets = rw (← ap (λ (b : BucketContents). b.full) c.self.view_is, ← ap (λ (b : BucketContents). b.head) c.self.view_is, (same g c).0, (same g c).1) (OnErr-always _ _ refl);
       room = search rules;
     }
+
+pub returns-in_err-interned-clause-stays : goal.returns-in_err-interned-clause-stays
+returns-in_err-interned-clause-stays g c = rw (← ap (λ (b : BucketContents). b.full) c.self.view_is, ← ap (λ (b : BucketContents). b.head) c.self.view_is, (same g c).0, (same g c).1) (Stays-same _)
+
+pub returns-in_err-interned-clause-err : goal.returns-in_err-interned-clause-err
+returns-in_err-interned-clause-err g c = rw (← c.self.view_is, (same g c).0, (same g c).1, c.reserve.ensures.items) (OnErr-always _ _ refl)
 
 pub invariant_of-self-2 : goal.invariant_of-self-2
 invariant_of-self-2 g c = (stored g c).1
@@ -38,8 +45,8 @@ returns-clause-appends g c =
     record {
       appends = (search rules, (stored g c).0 ∙ ap (λ (b : BucketContents). b.texts ++ c.args.text.now ∷ []) c.self.view_is);
       kept = (stored g c).1.kept;
-      buckets = search rules;
-      room = record { granted = search rules; spent = omega (arith, spent, ap (λ (b : BucketContents). b.room) c.self.view_is); unspent = search rules };
+      buckets = tt;
+      room = record { granted = λ _ _. refl; spent = omega (arith, spent, ap (λ (b : BucketContents). b.room) c.self.view_is); unspent = tt };
     }
 
 pub returns-clause-stays : goal.returns-clause-stays
