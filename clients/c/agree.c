@@ -142,7 +142,7 @@ static void refuse_no_text(si_interner *h) {
 static void look_up(si_interner *h, const list *known) {
   text sought = some_text();
   size_t at = find(known, &sought), number = 7777;
-  uint32_t (*get)(si_interner *, const uint8_t *, size_t, size_t *) = below(2) ? si_get : si_get_utf8;
+  uint32_t (*get)(const si_interner *, const uint8_t *, size_t, size_t *) = below(2) ? si_get : si_get_utf8;
   MUST(si_contains(h, sought.bytes, sought.len) == (at < known->count));
   if (at < known->count) {
     MUST(get(h, sought.bytes, sought.len, &number) == SI_OK && number == known->numbers[at]);

@@ -17,17 +17,22 @@
  *   2. No pointer is null, not even that of an empty text or array, and each is aligned and leads to as much as the length
  *      behind it says. What a call writes to holds a value before: a number any number, room any bytes (from calloc, say),
  *      and a si_text, that of an si_entry too, SI_TEXT or one that a call wrote.
- *   3. What is handed to one call does not overlap what that call writes. The two handles of si_clone and si_equal are
- *      two, and a text that si_resolve or si_entries lent is not handed to a call on the handle that lent it.
- *   4. One call at a time on a handle, and be it of those that only read. It may be used by another thread later, if a lock,
- *      or a thread's start or end, comes between. Different handles need no care: there is nothing that they share.
- *   5. A text that si_resolve or si_entries lent is not read after the next call that may change its handle. Any call may but
- *      those that only read: si_len, si_get, si_get_utf8, si_contains, si_resolve, si_copy, si_entries, si_equal,
- *      si_to_json, and si_clone of the handle that is copied.
+ *   3. What is handed to one call does not overlap what that call writes. The two handles of si_clone are two, and a text
+ *      that si_resolve or si_entries lent is not handed to a call that may change the handle that lent it.
+ *   4. While a call that may change a handle runs, no other call on that handle does. Calls that only read may run side by
+ *      side on one handle. Between a change and a call of another thread comes a lock, or a thread's start or end. Different
+ *      handles need no care: there is nothing that they share.
+ *   5. A text that si_resolve or si_entries lent is not read after the next call that may change its handle. Any call may
+ *      but those that only read, whose handle is const: si_len, si_get, si_get_utf8, si_contains, si_resolve, si_copy,
+ *      si_entries, si_equal, si_to_json, and si_clone of the handle that is copied.
  *   6. malloc, realloc and free are of one allocator, and align as C says. No call is made from a signal handler, or in the
  *      child of a fork of a process with more than one thread.
  *   7. Of si_get_or_intern_utf8 and si_get_utf8 alone: the bytes are UTF-8.
  *   8. Of si_get_or_intern_static alone: the bytes stay, unchanged, as long as the process runs.
+ *
+ * One part of rules 3 and 4 is tested and not proved: that calls that only read may run side by side on one handle, and may
+ * take a text that it lent, or one handle twice (si_equal). The proof has each call alone with its handle. The tests make
+ * each of these calls while all memory of the handle is read-only, and from three threads under two checkers of races.
  *
  * What is looked at, and needs no care: bytes that are not UTF-8, ends that fall or pass the bytes, a handle that is not
  * open (so that freeing twice does nothing), a number without a text, room that is too short, a kind that there is not,
@@ -103,7 +108,7 @@ uint32_t si_with_capacity(si_interner *h, uint32_t kind, size_t capacity);
 void si_free(si_interner *h);
 
 /* Returns the number of texts: 0 of a closed handle (`h->open` tells whether it is one). */
-size_t si_len(si_interner *h);
+size_t si_len(const si_interner *h);
 
 /* Writes the number of the text. A text that is not known is put last. A known one takes no memory.
  * SI_OK; or the texts stay as they were, and `number` too: SI_BAD_TEXT, SI_NO_SYMBOL, SI_NO_MEMORY, SI_CLOSED. */
@@ -127,27 +132,27 @@ uint32_t si_intern_all(si_interner *h, const uint8_t *bytes, size_t bytes_len, c
 
 /* Writes the number of the text, if the text is known. Takes no memory.
  * SI_OK; or `number` stays as it was: SI_BAD_TEXT, SI_NOTHING, SI_CLOSED. */
-uint32_t si_get(si_interner *h, const uint8_t *text, size_t text_len, size_t *number);
+uint32_t si_get(const si_interner *h, const uint8_t *text, size_t text_len, size_t *number);
 
 /* The same, where the caller owes that the bytes are UTF-8, which is not looked at. */
-uint32_t si_get_utf8(si_interner *h, const uint8_t *text, size_t text_len, size_t *number);
+uint32_t si_get_utf8(const si_interner *h, const uint8_t *text, size_t text_len, size_t *number);
 
 /* Reports whether the handle is open and the text known. */
-bool si_contains(si_interner *h, const uint8_t *text, size_t text_len);
+bool si_contains(const si_interner *h, const uint8_t *text, size_t text_len);
 
 /* Lends the text at the number, until the next call that may change the handle.
  * SI_OK; or `text` stays as it was: SI_NOTHING, SI_CLOSED.
  * On SI_BUFFER, numbers between those of texts may read something, too: always UTF-8 that lies in the buffer. */
-uint32_t si_resolve(si_interner *h, size_t number, si_text *text);
+uint32_t si_resolve(const si_interner *h, size_t number, si_text *text);
 
 /* Copies the text at the number to `room`, with no zero behind it, and writes its length to `len`.
  * SI_OK; SI_NO_ROOM: `room` stays as it was, and `len` is the length that it needs; or both stay: SI_NOTHING, SI_CLOSED. */
-uint32_t si_copy(si_interner *h, size_t number, uint8_t *room, size_t room_len, size_t *len);
+uint32_t si_copy(const si_interner *h, size_t number, uint8_t *room, size_t room_len, size_t *len);
 
 /* Writes the number and the text of each entry to `entries`, in the order of first interning, and their count to `count`.
  * The texts are lent.
  * SI_OK; SI_NO_ROOM: `entries` stays as it was, and `count` is how many it needs; SI_CLOSED: both stay. */
-uint32_t si_entries(si_interner *h, si_entry *entries, size_t entries_len, size_t *count);
+uint32_t si_entries(const si_interner *h, si_entry *entries, size_t entries_len, size_t *count);
 
 /* Keeps the first `len` texts with their numbers, and drops the others. Takes and gives back no memory.
  * SI_OK, SI_CLOSED. */
@@ -159,15 +164,15 @@ uint32_t si_shrink(si_interner *h);
 /* Opens `copy` on an interner of the same kind with the same texts under the same numbers, and frees what it held before.
  * Hashes no text.
  * SI_OK; or `copy` stays as it was: SI_NO_MEMORY, SI_CLOSED. */
-uint32_t si_clone(si_interner *h, si_interner *copy);
+uint32_t si_clone(const si_interner *h, si_interner *copy);
 
-/* Reports whether both handles, which are two, are open on interners of one kind with the same texts in the same order. */
-bool si_equal(si_interner *h, si_interner *other);
+/* Reports whether both handles are open on interners of one kind with the same texts in the same order. */
+bool si_equal(const si_interner *h, const si_interner *other);
 
 /* Writes the JSON array of the texts to `room`, in UTF-8 with no zero behind it, and its length to `len`. (A first call with
  * `room_len` 0 tells the length.)
  * SI_OK; SI_NO_ROOM: `room` stays as it was, and `len` is the length that it needs; or both stay: SI_NO_MEMORY, SI_CLOSED. */
-uint32_t si_to_json(si_interner *h, uint8_t *room, size_t room_len, size_t *len);
+uint32_t si_to_json(const si_interner *h, uint8_t *room, size_t room_len, size_t *len);
 
 /* Opens the handle on an interner of the texts of a JSON array of strings, and frees what it held before. Repeats add no
  * text. SI_OK; or the handle stays as it was: SI_BAD_KIND, SI_BAD_TEXT (not JSON, nested 128 deep or more, or with a number
