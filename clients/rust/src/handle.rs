@@ -1,10 +1,10 @@
 //! A handle of the library, whose owner can't break the rules that `string_interner.h` states.
 //!
 //! Each comment at an `unsafe` block names the rules that it rests on. Of all blocks: the handle was open since it was
-//! made (rule 1), pointers come from references, slices and local variables (2, 3), and no two threads have it (4).
+//! made (rule 1), pointers come from references, slices and local variables (2, 3), and calls that may change the handle
+//! have it alone, since they take `&mut self` (4).
 
 use crate::sys;
-use std::cell::{Cell, UnsafeCell};
 use std::ptr;
 use std::slice;
 use std::str;
@@ -15,13 +15,14 @@ pub struct Status(pub u32);
 
 /// An open handle.
 pub struct Handle {
-    raw: UnsafeCell<sys::si_interner>,
-    /// Whether a text of this handle may be lent to someone.
-    has_lent: Cell<bool>,
+    raw: sys::si_interner,
 }
 
 // SAFETY: a handle may be used by another thread later (rule 4). Sending it orders the two.
 unsafe impl Send for Handle {}
+
+// SAFETY: all calls that take `&self` only read, and those may run side by side (rule 4).
+unsafe impl Sync for Handle {}
 
 fn told<T>(status: u32, value: T) -> Result<T, Status> {
     if status == sys::SI_OK {
@@ -34,11 +35,9 @@ fn told<T>(status: u32, value: T) -> Result<T, Status> {
 impl Handle {
     /// Opens a handle by a call, which is handed a closed one.
     fn open(call: impl FnOnce(*mut sys::si_interner) -> u32) -> Result<Self, Status> {
-        let handle = Handle {
-            raw: UnsafeCell::new(sys::SI_INIT),
-            has_lent: Cell::new(false),
-        };
-        told(call(handle.raw.get()), handle)
+        let mut handle = Handle { raw: sys::SI_INIT };
+        let status = call(&mut handle.raw);
+        told(status, handle)
     }
 
     pub fn new(kind: u32) -> Result<Self, Status> {
@@ -58,28 +57,22 @@ impl Handle {
 
     pub fn try_clone(&self) -> Result<Self, Status> {
         // SAFETY: rules 1 to 4. The copy's handle is a new one (3), and the call leaves what this one lent (5).
-        Self::open(|copy| unsafe { sys::si_clone(self.raw.get(), copy) })
+        Self::open(|copy| unsafe { sys::si_clone(&self.raw, copy) })
     }
 
     #[inline]
     pub fn len(&self) -> usize {
         // SAFETY: rules 1 to 4. The call leaves what was lent (5).
-        unsafe { sys::si_len(self.raw.get()) }
-    }
-
-    /// Returns the handle for a call that may change it. All that was lent is dead, since it borrowed `self`.
-    #[inline]
-    fn changed(&mut self) -> *mut sys::si_interner {
-        self.has_lent.set(false);
-        self.raw.get()
+        unsafe { sys::si_len(&self.raw) }
     }
 
     #[inline]
     pub fn get_or_intern(&mut self, text: &str) -> Result<usize, Status> {
         let mut number = 0;
-        // SAFETY: rules 1 to 5. The text is none that this handle lent (3), and is UTF-8 (7).
+        // SAFETY: rules 1 to 5. What this handle lent is dead, since it borrowed `self`, so the text is none of that (3, 5),
+        // and it is UTF-8 (7).
         let status = unsafe {
-            sys::si_get_or_intern_utf8(self.changed(), text.as_ptr(), text.len(), &mut number)
+            sys::si_get_or_intern_utf8(&mut self.raw, text.as_ptr(), text.len(), &mut number)
         };
         told(status, number)
     }
@@ -87,42 +80,20 @@ impl Handle {
     #[inline]
     pub fn get_or_intern_static(&mut self, text: &'static str) -> Result<usize, Status> {
         let mut number = 0;
-        // SAFETY: rules 1 to 5. The text is none that this handle lent (3), and stays (8).
+        // SAFETY: rules 1 to 5. What this handle lent is dead, since it borrowed `self`, so the text is none of that (3, 5),
+        // and it stays (8).
         let status = unsafe {
-            sys::si_get_or_intern_static(self.changed(), text.as_ptr(), text.len(), &mut number)
+            sys::si_get_or_intern_static(&mut self.raw, text.as_ptr(), text.len(), &mut number)
         };
         told(status, number)
     }
 
     #[inline]
     pub fn get(&self, text: &str) -> Option<usize> {
-        if self.has_lent.get() {
-            self.get_copy(text)
-        } else {
-            self.get_foreign(text)
-        }
-    }
-
-    /// Looks for a text that this handle may have lent. Rule 3 forbids to hand it back, so a copy of it is looked for.
-    fn get_copy(&self, text: &str) -> Option<usize> {
-        let mut short = [0; 64];
-        match short.get_mut(..text.len()) {
-            Some(copy) => {
-                copy.copy_from_slice(text.as_bytes());
-                // SAFETY: these are the bytes of a `&str`.
-                self.get_foreign(unsafe { str::from_utf8_unchecked(copy) })
-            }
-            None => self.get_foreign(&text.to_owned()),
-        }
-    }
-
-    /// Looks for a text that this handle did not lend.
-    #[inline]
-    fn get_foreign(&self, text: &str) -> Option<usize> {
         let mut number = 0;
-        // SAFETY: rules 1 to 4. The call leaves what was lent (5), and the text is UTF-8 (7).
-        let status =
-            unsafe { sys::si_get_utf8(self.raw.get(), text.as_ptr(), text.len(), &mut number) };
+        // SAFETY: rules 1 to 4. The call only reads, so this handle may have lent the text (3), and what it lent stays (5).
+        // The text is UTF-8 (7).
+        let status = unsafe { sys::si_get_utf8(&self.raw, text.as_ptr(), text.len(), &mut number) };
         told(status, number).ok()
     }
 
@@ -130,7 +101,7 @@ impl Handle {
     pub fn resolve(&self, number: usize) -> Option<&str> {
         let mut lent = sys::SI_TEXT;
         // SAFETY: rules 1 to 4. The call leaves what was lent (5).
-        let status = unsafe { sys::si_resolve(self.raw.get(), number, &mut lent) };
+        let status = unsafe { sys::si_resolve(&self.raw, number, &mut lent) };
         told(status, ()).ok()?;
         // SAFETY: the call lent it.
         Some(unsafe { self.lent(lent) })
@@ -144,7 +115,6 @@ impl Handle {
     /// A call on this handle lent the text, and none that may change the handle came after it.
     #[inline]
     unsafe fn lent(&self, text: sys::si_text) -> &str {
-        self.has_lent.set(true);
         // SAFETY: owed by the caller.
         unsafe { str::from_utf8_unchecked(slice::from_raw_parts(text.bytes, text.len)) }
     }
@@ -158,14 +128,8 @@ impl Handle {
         let mut entries = vec![empty; self.len()];
         let mut count = 0;
         // SAFETY: rules 1 to 4. The call leaves what was lent (5).
-        let status = unsafe {
-            sys::si_entries(
-                self.raw.get(),
-                entries.as_mut_ptr(),
-                entries.len(),
-                &mut count,
-            )
-        };
+        let status =
+            unsafe { sys::si_entries(&self.raw, entries.as_mut_ptr(), entries.len(), &mut count) };
         assert_eq!((status, count), (sys::SI_OK, entries.len()));
         // SAFETY: the call lent each text.
         entries
@@ -176,12 +140,12 @@ impl Handle {
 
     pub fn truncate(&mut self, len: usize) {
         // SAFETY: rules 1 to 5.
-        unsafe { sys::si_truncate(self.changed(), len) };
+        unsafe { sys::si_truncate(&mut self.raw, len) };
     }
 
     pub fn shrink(&mut self) {
         // SAFETY: rules 1 to 5.
-        unsafe { sys::si_shrink(self.changed()) };
+        unsafe { sys::si_shrink(&mut self.raw) };
     }
 
     pub fn to_json(&self) -> Result<String, Status> {
@@ -190,7 +154,7 @@ impl Handle {
             let mut len = 0;
             // SAFETY: rules 1 to 4. The call leaves what was lent (5).
             let status =
-                unsafe { sys::si_to_json(self.raw.get(), room.as_mut_ptr(), room.len(), &mut len) };
+                unsafe { sys::si_to_json(&self.raw, room.as_mut_ptr(), room.len(), &mut len) };
             match status {
                 sys::SI_NO_ROOM => room = vec![0; len],
                 status => {
@@ -204,14 +168,14 @@ impl Handle {
 
 impl PartialEq for Handle {
     fn eq(&self, other: &Self) -> bool {
-        // SAFETY: rules 1 to 4. The handles are two (3), and the call leaves what they lent (5).
-        ptr::eq(self, other) || unsafe { sys::si_equal(self.raw.get(), other.raw.get()) }
+        // SAFETY: rules 1 to 4. The call leaves what both lent (5).
+        ptr::eq(self, other) || unsafe { sys::si_equal(&self.raw, &other.raw) }
     }
 }
 
 impl Drop for Handle {
     fn drop(&mut self) {
         // SAFETY: rules 1 to 5.
-        unsafe { sys::si_free(self.changed()) };
+        unsafe { sys::si_free(&mut self.raw) };
     }
 }

@@ -84,8 +84,6 @@ impl<B: Backend> StringInterner<B> {
     }
 
     /// Returns the symbol of a text, if it is known.
-    ///
-    /// While a text that this interner resolved may be in use, the one that is looked for is copied first.
     #[inline]
     pub fn get<T: AsRef<str>>(&self, string: T) -> Option<B::Symbol> {
         self.handle

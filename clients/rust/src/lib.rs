@@ -29,7 +29,6 @@
 //!
 //! - A backend is a name for how the library keeps texts, and has no calls of its own. A caller can't write another.
 //! - The library hashes by itself, so the hasher of an interner is always [`DefaultHashBuilder`].
-//! - An interner is `Send` and not `Sync`: the library takes one call at a time.
 //! - Numbers of all symbol types are below 2³² − 1, since those of the library are.
 //! - A text for which no symbol is left panics, as in the original, and is not kept.
 //! - [`StringInterner::to_json`] and [`StringInterner::from_json`] take the place of serde's traits, and
@@ -44,8 +43,8 @@
 //! |---|---|
 //! | 1: a handle is zeros at first, changed by calls alone, and not copied | `Handle` begins as zeros, its fields are private, it is no `Copy`, and is freed once, by `Drop` |
 //! | 2: pointers are not null and as long as they say; what is written to holds a value | all come from references, slices and texts, which are set before the call |
-//! | 3: what is handed over does not overlap | what is written to is a local variable; a handle is not compared with itself; a text that may be lent is copied before it is looked for |
-//! | 4: one call at a time on a handle | `Handle` is not `Sync`, and no call of the library calls back; it may be sent, since Rust orders what sends it |
+//! | 3: what is handed over does not overlap | what is written to is a local variable; a lent text borrows the `Handle`, so calls that may change it are not handed one |
+//! | 4: a call that may change a handle has it alone | calls that only read take `&self`, and all others `&mut self`; no call of the library calls back |
 //! | 5: a lent text is not read after a call that may change its handle | it borrows the `Handle`, and calls that may change it take `&mut self` |
 //! | 6: one allocator; no signal handlers or forks | owed by the program, as for any C library and for Rust's own allocator |
 //! | 7: bytes that are not looked at are UTF-8 | they are those of a `&str` |

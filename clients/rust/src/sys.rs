@@ -54,7 +54,7 @@ extern "C" {
     pub fn si_new(h: *mut si_interner, kind: u32) -> u32;
     pub fn si_with_capacity(h: *mut si_interner, kind: u32, capacity: usize) -> u32;
     pub fn si_free(h: *mut si_interner);
-    pub fn si_len(h: *mut si_interner) -> usize;
+    pub fn si_len(h: *const si_interner) -> usize;
     pub fn si_get_or_intern_utf8(
         h: *mut si_interner,
         text: *const u8,
@@ -68,22 +68,27 @@ extern "C" {
         number: *mut usize,
     ) -> u32;
     pub fn si_get_utf8(
-        h: *mut si_interner,
+        h: *const si_interner,
         text: *const u8,
         text_len: usize,
         number: *mut usize,
     ) -> u32;
-    pub fn si_resolve(h: *mut si_interner, number: usize, text: *mut si_text) -> u32;
+    pub fn si_resolve(h: *const si_interner, number: usize, text: *mut si_text) -> u32;
     pub fn si_entries(
-        h: *mut si_interner,
+        h: *const si_interner,
         entries: *mut si_entry,
         entries_len: usize,
         count: *mut usize,
     ) -> u32;
     pub fn si_truncate(h: *mut si_interner, len: usize) -> u32;
     pub fn si_shrink(h: *mut si_interner) -> u32;
-    pub fn si_clone(h: *mut si_interner, copy: *mut si_interner) -> u32;
-    pub fn si_equal(h: *mut si_interner, other: *mut si_interner) -> bool;
-    pub fn si_to_json(h: *mut si_interner, room: *mut u8, room_len: usize, len: *mut usize) -> u32;
+    pub fn si_clone(h: *const si_interner, copy: *mut si_interner) -> u32;
+    pub fn si_equal(h: *const si_interner, other: *const si_interner) -> bool;
+    pub fn si_to_json(
+        h: *const si_interner,
+        room: *mut u8,
+        room_len: usize,
+        len: *mut usize,
+    ) -> u32;
     pub fn si_from_json(h: *mut si_interner, kind: u32, json: *const u8, json_len: usize) -> u32;
 }

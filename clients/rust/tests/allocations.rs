@@ -1,0 +1,59 @@
+//! Calls that ask Rust's allocator for nothing. (What the library asks malloc for is not counted.)
+
+use std::alloc::{GlobalAlloc, Layout, System};
+use std::cell::Cell;
+
+use string_interner::backend::{Backend, BucketBackend, BufferBackend, StringBackend};
+use string_interner::StringInterner;
+
+thread_local! {
+    static REQUESTS: Cell<usize> = const { Cell::new(0) };
+}
+
+struct Counting;
+
+#[global_allocator]
+static ALLOCATOR: Counting = Counting;
+
+// SAFETY: it hands all on to the system's allocator.
+unsafe impl GlobalAlloc for Counting {
+    unsafe fn alloc(&self, layout: Layout) -> *mut u8 {
+        REQUESTS.set(REQUESTS.get() + 1);
+        unsafe { System.alloc(layout) }
+    }
+
+    unsafe fn dealloc(&self, block: *mut u8, layout: Layout) {
+        unsafe { System.dealloc(block, layout) }
+    }
+}
+
+/// Returns how often the call asked for memory, with what it returned.
+fn count_requests<T>(call: impl FnOnce() -> T) -> (usize, T) {
+    let before = REQUESTS.get();
+    let returned = call();
+    (REQUESTS.get() - before, returned)
+}
+
+/// A text is not copied when it is looked for, not even while another one is lent.
+fn look_up<B: Backend>() {
+    let long = "long ".repeat(100);
+    let interner: StringInterner<B> = ["Tiger", &long].into_iter().collect();
+    let symbol = interner.get(&long).unwrap();
+    let lent = interner.resolve(symbol).unwrap();
+    assert_eq!(lent, long);
+    let (requests, found) = count_requests(|| interner.get(lent));
+    assert!(found == Some(symbol));
+    assert_eq!(requests, 0);
+}
+
+#[test]
+fn look_up_over_each_backend() {
+    look_up::<StringBackend>();
+    look_up::<BucketBackend>();
+    look_up::<BufferBackend>();
+}
+
+#[test]
+fn requests_are_counted() {
+    assert_eq!(count_requests(|| Box::new(7)).0, 1);
+}
