@@ -34,6 +34,14 @@
 //! - [`StringInterner::to_json`] and [`StringInterner::from_json`] take the place of serde's traits, and
 //!   [`StringInterner::truncate`] is new.
 //!
+//! # Features
+//!
+//! A crate may ask for the features `std`, `inline-more` and `backends`. They change nothing: the crate always uses std, its
+//! short calls can always be inlined, and the backends are always there.
+//!
+//! The feature `serde` does not compile, and its message says what to write. A dependency on serde, even an optional one, would
+//! keep cargo from building this crate where no registry is at hand.
+//!
 //! # Why it is safe
 //!
 //! All `unsafe` of this crate is in the module `handle`. It stands on the rules in the front of `string_interner.h`, and
@@ -55,6 +63,13 @@
     unsafe_op_in_unsafe_fn,
     clippy::undocumented_unsafe_blocks
 )]
+
+#[cfg(feature = "serde")]
+compile_error!(
+    "string-interner: the feature `serde` is not there, since this crate builds without a registry. \
+     Serialize `interner.iter().map(|(_, text)| text)` as a sequence, and collect the texts again to deserialize, \
+     or call `to_json` and `from_json`. A symbol serializes as the number `to_usize` returns."
+);
 
 pub mod backend;
 mod handle;
