@@ -6,40 +6,211 @@
 //! | [`BucketBackend`] | in buckets that are never moved; static texts where they are | texts are long or many, or many are `'static` |
 //! | [`BufferBackend`] | in one buffer, each behind its length | memory counts most; symbols have gaps, and run out by bytes |
 
+use crate::handle::{expect, panic_for, Handle, Status};
+use crate::iter::Iter;
 use crate::symbol::{DefaultSymbol, Symbol};
 use crate::sys;
+use std::fmt;
+use std::iter::FusedIterator;
 use std::marker::PhantomData;
+use std::panic::{RefUnwindSafe, UnwindSafe};
 
 /// The backend of an interner that names no other.
 pub type DefaultBackend = StringBackend<DefaultSymbol>;
 
-/// A kind of interner that the library has, with the symbol that is used with it.
-pub trait Backend: sealed::Kind {
+/// What keeps the texts of an interner. It may be used alone, too, to give texts symbols and to resolve them.
+///
+/// Those of the library are all that there are: a caller can't write another. Calls that may take memory panic where it is
+/// refused, and leave the backend as it was.
+pub trait Backend:
+    Default + fmt::Debug + Send + Sync + Unpin + UnwindSafe + RefUnwindSafe + sealed::Kind
+{
     /// The symbol that stands for a text.
     type Symbol: Symbol;
+
+    /// Yields each text with its symbol, in the order of first interning.
+    type Iter<'a>: ExactSizeIterator<Item = (Self::Symbol, &'a str)> + FusedIterator + Clone
+    where
+        Self: 'a;
+
+    /// Returns a backend without texts, with room for about `cap` of them.
+    #[track_caller]
+    fn with_capacity(cap: usize) -> Self;
+
+    /// Returns the symbol of a text. A text that is not known is put last.
+    ///
+    /// # Panics
+    ///
+    /// If no symbol is left for a new text.
+    #[track_caller]
+    fn intern(&mut self, string: &str) -> Self::Symbol;
+
+    /// The same for a static text, which [`BucketBackend`] does not copy.
+    ///
+    /// # Panics
+    ///
+    /// If no symbol is left for a new text.
+    #[track_caller]
+    fn intern_static(&mut self, string: &'static str) -> Self::Symbol;
+
+    /// Gives back memory that no text needs, if it can.
+    fn shrink_to_fit(&mut self);
+
+    /// Returns the text of a symbol, or `None` if there is none at its number.
+    fn resolve(&self, symbol: Self::Symbol) -> Option<&str>;
+
+    /// Returns the text of a symbol. It is looked at all the same.
+    ///
+    /// # Safety
+    ///
+    /// The symbol is one of this backend.
+    unsafe fn resolve_unchecked(&self, symbol: Self::Symbol) -> &str;
+
+    /// Walks over all texts with their symbols, in the order of first interning.
+    fn iter(&self) -> Self::Iter<'_>;
 }
 
 pub(crate) mod sealed {
-    /// The number by which the library knows the kind.
+    use crate::handle::Handle;
+
+    /// A backend as an interner has it. Callers of the crate may name neither this trait nor a handle.
     pub trait Kind {
+        /// The number by which the library knows the kind.
         const KIND: u32;
+
+        /// Returns the backend over a handle, which is open on an interner of this kind.
+        fn of(handle: Handle) -> Self;
+
+        fn handle(&self) -> &Handle;
+
+        /// Keeps the first `len` texts with their symbols, and drops the others.
+        fn truncate(&mut self, len: usize);
+    }
+}
+
+/// Interns a text by a call, and returns its symbol. If the symbol type has none for it, a new text is dropped again.
+#[inline]
+#[track_caller]
+fn intern_by<S: Symbol>(
+    handle: &mut Handle,
+    call: impl FnOnce(&mut Handle) -> Result<usize, Status>,
+) -> S {
+    let len = handle.len();
+    match S::try_from_usize(expect(call(handle))) {
+        Some(symbol) => symbol,
+        None => {
+            handle.truncate(len);
+            panic_for(Status(sys::SI_NO_SYMBOL))
+        }
     }
 }
 
 macro_rules! backend {
     ($(#[$doc:meta])* $name:ident, $kind:expr) => {
         $(#[$doc])*
-        #[derive(Debug)]
         pub struct $name<S = DefaultSymbol> {
+            handle: Handle,
             symbol: PhantomData<fn() -> S>,
+        }
+
+        impl<S> sealed::Kind for $name<S> {
+            const KIND: u32 = $kind;
+
+            fn of(handle: Handle) -> Self {
+                $name {
+                    handle,
+                    symbol: PhantomData,
+                }
+            }
+
+            #[inline]
+            fn handle(&self) -> &Handle {
+                &self.handle
+            }
+
+            fn truncate(&mut self, len: usize) {
+                self.handle.truncate(len);
+            }
         }
 
         impl<S: Symbol> Backend for $name<S> {
             type Symbol = S;
+            type Iter<'a>
+                = Iter<'a, Self>
+            where
+                Self: 'a;
+
+            fn with_capacity(cap: usize) -> Self {
+                sealed::Kind::of(expect(Handle::with_capacity($kind, cap)))
+            }
+
+            #[inline]
+            fn intern(&mut self, string: &str) -> S {
+                intern_by(&mut self.handle, |handle| handle.get_or_intern(string))
+            }
+
+            #[inline]
+            fn intern_static(&mut self, string: &'static str) -> S {
+                intern_by(&mut self.handle, |handle| handle.get_or_intern_static(string))
+            }
+
+            fn shrink_to_fit(&mut self) {
+                self.handle.shrink();
+            }
+
+            #[inline]
+            fn resolve(&self, symbol: S) -> Option<&str> {
+                self.handle.resolve(symbol.to_usize())
+            }
+
+            #[inline]
+            unsafe fn resolve_unchecked(&self, symbol: S) -> &str {
+                self.resolve(symbol).expect("the symbol is not of this backend")
+            }
+
+            #[inline]
+            fn iter(&self) -> Iter<'_, Self> {
+                Iter::over(&self.handle)
+            }
         }
 
-        impl<S: Symbol> sealed::Kind for $name<S> {
-            const KIND: u32 = $kind;
+        impl<S> Default for $name<S> {
+            fn default() -> Self {
+                sealed::Kind::of(expect(Handle::new($kind)))
+            }
+        }
+
+        impl<S> Clone for $name<S> {
+            /// Returns a backend with the same texts under the same symbols.
+            fn clone(&self) -> Self {
+                sealed::Kind::of(expect(self.handle.try_clone()))
+            }
+        }
+
+        impl<S: Symbol> PartialEq for $name<S> {
+            /// Reports whether both have the same texts in the same order.
+            fn eq(&self, other: &Self) -> bool {
+                self.handle == other.handle
+            }
+        }
+
+        impl<S: Symbol> Eq for $name<S> {}
+
+        impl<S> fmt::Debug for $name<S> {
+            fn fmt(&self, f: &mut fmt::Formatter<'_>) -> fmt::Result {
+                f.debug_struct(stringify!($name))
+                    .field("texts", &self.handle)
+                    .finish()
+            }
+        }
+
+        impl<'a, S: Symbol> IntoIterator for &'a $name<S> {
+            type Item = (S, &'a str);
+            type IntoIter = Iter<'a, $name<S>>;
+
+            fn into_iter(self) -> Self::IntoIter {
+                self.iter()
+            }
         }
     };
 }
@@ -54,5 +225,7 @@ backend! {
 }
 backend! {
     /// Texts in one buffer of bytes. The number of a symbol is where its entry begins.
+    ///
+    /// A symbol of another backend or interner may read some part of the buffer.
     BufferBackend, sys::SI_BUFFER
 }

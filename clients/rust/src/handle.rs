@@ -5,6 +5,7 @@
 //! have it alone, since they take `&mut self` (4).
 
 use crate::sys;
+use std::fmt;
 use std::ptr;
 use std::slice;
 use std::str;
@@ -24,6 +25,27 @@ unsafe impl Send for Handle {}
 // SAFETY: all calls that take `&self` only read, and those may run side by side (rule 4).
 unsafe impl Sync for Handle {}
 
+/// Returns what a call of the library gave. Panics if there was no symbol or no memory.
+#[inline]
+#[track_caller]
+pub fn expect<T>(outcome: Result<T, Status>) -> T {
+    // A closure would hide from the panic who called.
+    match outcome {
+        Ok(value) => value,
+        Err(status) => panic_for(status),
+    }
+}
+
+#[cold]
+#[track_caller]
+pub fn panic_for(status: Status) -> ! {
+    match status.0 {
+        sys::SI_NO_SYMBOL => panic!("no symbol is left"),
+        sys::SI_NO_MEMORY => panic!("out of memory"),
+        other => unreachable!("status {other}"),
+    }
+}
+
 fn told<T>(status: u32, value: T) -> Result<T, Status> {
     if status == sys::SI_OK {
         Ok(value)
@@ -40,34 +62,34 @@ impl Handle {
         told(status, handle)
     }
 
-    pub fn new(kind: u32) -> Result<Self, Status> {
+    pub(crate) fn new(kind: u32) -> Result<Self, Status> {
         // SAFETY: rules 1 to 4.
         Self::open(|h| unsafe { sys::si_new(h, kind) })
     }
 
-    pub fn with_capacity(kind: u32, capacity: usize) -> Result<Self, Status> {
+    pub(crate) fn with_capacity(kind: u32, capacity: usize) -> Result<Self, Status> {
         // SAFETY: rules 1 to 4.
         Self::open(|h| unsafe { sys::si_with_capacity(h, kind, capacity) })
     }
 
-    pub fn from_json(kind: u32, json: &str) -> Result<Self, Status> {
+    pub(crate) fn from_json(kind: u32, json: &str) -> Result<Self, Status> {
         // SAFETY: rules 1 to 4.
         Self::open(|h| unsafe { sys::si_from_json(h, kind, json.as_ptr(), json.len()) })
     }
 
-    pub fn try_clone(&self) -> Result<Self, Status> {
+    pub(crate) fn try_clone(&self) -> Result<Self, Status> {
         // SAFETY: rules 1 to 4. The copy's handle is a new one (3), and the call leaves what this one lent (5).
         Self::open(|copy| unsafe { sys::si_clone(&self.raw, copy) })
     }
 
     #[inline]
-    pub fn len(&self) -> usize {
+    pub(crate) fn len(&self) -> usize {
         // SAFETY: rules 1 to 4. The call leaves what was lent (5).
         unsafe { sys::si_len(&self.raw) }
     }
 
     #[inline]
-    pub fn get_or_intern(&mut self, text: &str) -> Result<usize, Status> {
+    pub(crate) fn get_or_intern(&mut self, text: &str) -> Result<usize, Status> {
         let mut number = 0;
         // SAFETY: rules 1 to 5. What this handle lent is dead, since it borrowed `self`, so the text is none of that (3, 5),
         // and it is UTF-8 (7).
@@ -78,7 +100,7 @@ impl Handle {
     }
 
     #[inline]
-    pub fn get_or_intern_static(&mut self, text: &'static str) -> Result<usize, Status> {
+    pub(crate) fn get_or_intern_static(&mut self, text: &'static str) -> Result<usize, Status> {
         let mut number = 0;
         // SAFETY: rules 1 to 5. What this handle lent is dead, since it borrowed `self`, so the text is none of that (3, 5),
         // and it stays (8).
@@ -89,7 +111,7 @@ impl Handle {
     }
 
     #[inline]
-    pub fn get(&self, text: &str) -> Option<usize> {
+    pub(crate) fn get(&self, text: &str) -> Option<usize> {
         let mut number = 0;
         // SAFETY: rules 1 to 4. The call only reads, so this handle may have lent the text (3), and what it lent stays (5).
         // The text is UTF-8 (7).
@@ -98,7 +120,7 @@ impl Handle {
     }
 
     #[inline]
-    pub fn resolve(&self, number: usize) -> Option<&str> {
+    pub(crate) fn resolve(&self, number: usize) -> Option<&str> {
         let mut lent = sys::SI_TEXT;
         // SAFETY: rules 1 to 4. The call leaves what was lent (5).
         let status = unsafe { sys::si_resolve(&self.raw, number, &mut lent) };
@@ -120,7 +142,7 @@ impl Handle {
     }
 
     /// Returns all texts with their numbers, in the order of first interning.
-    pub fn entries(&self) -> Vec<(usize, &str)> {
+    pub(crate) fn entries(&self) -> Vec<(usize, &str)> {
         let empty = sys::si_entry {
             number: 0,
             text: sys::SI_TEXT,
@@ -138,17 +160,17 @@ impl Handle {
             .collect()
     }
 
-    pub fn truncate(&mut self, len: usize) {
+    pub(crate) fn truncate(&mut self, len: usize) {
         // SAFETY: rules 1 to 5.
         unsafe { sys::si_truncate(&mut self.raw, len) };
     }
 
-    pub fn shrink(&mut self) {
+    pub(crate) fn shrink(&mut self) {
         // SAFETY: rules 1 to 5.
         unsafe { sys::si_shrink(&mut self.raw) };
     }
 
-    pub fn to_json(&self) -> Result<String, Status> {
+    pub(crate) fn to_json(&self) -> Result<String, Status> {
         let mut room = Vec::new();
         loop {
             let mut len = 0;
@@ -163,6 +185,14 @@ impl Handle {
                 }
             }
         }
+    }
+}
+
+/// Shows the list of texts.
+impl fmt::Debug for Handle {
+    fn fmt(&self, f: &mut fmt::Formatter<'_>) -> fmt::Result {
+        let texts = self.entries().into_iter().map(|(_, text)| text);
+        f.debug_list().entries(texts).finish()
     }
 }
 

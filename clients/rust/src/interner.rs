@@ -1,80 +1,61 @@
 use crate::backend::{Backend, DefaultBackend};
-use crate::handle::{Handle, Status};
+use crate::handle::{expect, Handle};
+use crate::hasher::{DefaultHashBuilder, InternerHasher};
 use crate::json::JsonError;
 use crate::symbol::Symbol;
-use crate::sys;
 use std::fmt;
-use std::iter::FusedIterator;
 use std::marker::PhantomData;
-use std::vec;
-
-/// The hasher of every interner: the library's own.
-///
-/// It gives the same codes in each run and does not protect against chosen texts.
-#[derive(Clone, Copy, Debug, Default)]
-pub struct DefaultHashBuilder;
 
 /// A list of distinct texts, each with a symbol.
 ///
 /// Calls that may take memory panic where it is refused, and leave the interner as it was.
 pub struct StringInterner<B: Backend, H = DefaultHashBuilder> {
-    handle: Handle,
-    kind: PhantomData<fn() -> (B, H)>,
+    backend: B,
+    hasher: PhantomData<fn() -> H>,
 }
 
-/// Returns what a call of the library gave. Panics where there was no symbol or no memory.
-#[inline]
-#[track_caller]
-fn expect<T>(outcome: Result<T, Status>) -> T {
-    outcome.unwrap_or_else(|status| panic_for(status))
-}
-
-#[cold]
-#[track_caller]
-fn panic_for(status: Status) -> ! {
-    match status.0 {
-        sys::SI_NO_SYMBOL => panic!("no symbol is left"),
-        sys::SI_NO_MEMORY => panic!("out of memory"),
-        other => unreachable!("status {other}"),
-    }
-}
-
-impl<B: Backend> StringInterner<B> {
-    fn of(handle: Handle) -> Self {
+impl<B: Backend, H> StringInterner<B, H> {
+    fn of(backend: B) -> Self {
         StringInterner {
-            handle,
-            kind: PhantomData,
+            backend,
+            hasher: PhantomData,
         }
     }
+}
 
+impl<B: Backend, H: InternerHasher> StringInterner<B, H> {
     /// Returns an interner without texts.
     #[must_use]
+    #[track_caller]
     pub fn new() -> Self {
-        Self::of(expect(Handle::new(B::KIND)))
+        Self::of(B::default())
     }
 
     /// Returns an interner without texts, with room for about `cap` of them.
     #[must_use]
+    #[track_caller]
     pub fn with_capacity(cap: usize) -> Self {
-        Self::of(expect(Handle::with_capacity(B::KIND, cap)))
+        Self::of(B::with_capacity(cap))
     }
 
     /// The same as [`StringInterner::new`], since there is one hasher.
     #[must_use]
-    pub fn with_hasher(_: DefaultHashBuilder) -> Self {
+    #[track_caller]
+    pub fn with_hasher(_: H) -> Self {
         Self::new()
     }
 
     /// The same as [`StringInterner::with_capacity`], since there is one hasher.
     #[must_use]
-    pub fn with_capacity_and_hasher(cap: usize, _: DefaultHashBuilder) -> Self {
+    #[track_caller]
+    pub fn with_capacity_and_hasher(cap: usize, _: H) -> Self {
         Self::with_capacity(cap)
     }
 
     /// Returns the number of texts.
     #[inline]
     pub fn len(&self) -> usize {
-        self.handle.len()
+        self.backend.handle().len()
     }
 
     /// Reports whether there are no texts.
@@ -86,9 +67,8 @@ impl<B: Backend> StringInterner<B> {
     /// Returns the symbol of a text, if it is known.
     #[inline]
     pub fn get<T: AsRef<str>>(&self, string: T) -> Option<B::Symbol> {
-        self.handle
-            .get(string.as_ref())
-            .and_then(B::Symbol::try_from_usize)
+        let number = self.backend.handle().get(string.as_ref())?;
+        B::Symbol::try_from_usize(number)
     }
 
     /// Returns the symbol of a text. A text that is not known is put last.
@@ -99,8 +79,7 @@ impl<B: Backend> StringInterner<B> {
     #[inline]
     #[track_caller]
     pub fn get_or_intern<T: AsRef<str>>(&mut self, string: T) -> B::Symbol {
-        let number = expect(self.handle.get_or_intern(string.as_ref()));
-        B::Symbol::try_from_usize(number).unwrap_or_else(|| self.drop_last())
+        self.backend.intern(string.as_ref())
     }
 
     /// The same for a static text, which [`BucketBackend`](crate::backend::BucketBackend) does not copy.
@@ -111,26 +90,17 @@ impl<B: Backend> StringInterner<B> {
     #[inline]
     #[track_caller]
     pub fn get_or_intern_static(&mut self, string: &'static str) -> B::Symbol {
-        let number = expect(self.handle.get_or_intern_static(string));
-        B::Symbol::try_from_usize(number).unwrap_or_else(|| self.drop_last())
-    }
-
-    /// Drops a text that was just put last, and whose number the symbol type does not have.
-    #[cold]
-    #[track_caller]
-    fn drop_last(&mut self) -> B::Symbol {
-        self.handle.truncate(self.len() - 1);
-        panic_for(Status(sys::SI_NO_SYMBOL))
+        self.backend.intern_static(string)
     }
 
     /// Gives back memory that no text needs, if it can.
     pub fn shrink_to_fit(&mut self) {
-        self.handle.shrink();
+        self.backend.shrink_to_fit();
     }
 
     /// Keeps the first `len` texts with their symbols, and drops the others.
     pub fn truncate(&mut self, len: usize) {
-        self.handle.truncate(len);
+        self.backend.truncate(len);
     }
 
     /// Returns the text of a symbol, or `None` if there is none at its number.
@@ -148,7 +118,7 @@ impl<B: Backend> StringInterner<B> {
     /// ```
     #[inline]
     pub fn resolve(&self, symbol: B::Symbol) -> Option<&str> {
-        self.handle.resolve(symbol.to_usize())
+        self.backend.resolve(symbol)
     }
 
     /// Returns the text of a symbol. It is looked at all the same.
@@ -158,23 +128,22 @@ impl<B: Backend> StringInterner<B> {
     /// The symbol is one of this interner.
     #[inline]
     pub unsafe fn resolve_unchecked(&self, symbol: B::Symbol) -> &str {
-        self.resolve(symbol)
-            .expect("the symbol is not of this interner")
+        // SAFETY: owed by the caller.
+        unsafe { self.backend.resolve_unchecked(symbol) }
     }
 
     /// Walks over all texts with their symbols, in the order of first interning.
     ///
     /// They are gathered first, which takes memory for three words a text.
-    pub fn iter(&self) -> Iter<'_, B> {
-        Iter {
-            entries: self.handle.entries().into_iter(),
-            kind: PhantomData,
-        }
+    #[inline]
+    pub fn iter(&self) -> B::Iter<'_> {
+        self.backend.iter()
     }
 
     /// Returns the JSON array of the texts.
+    #[track_caller]
     pub fn to_json(&self) -> String {
-        expect(self.handle.to_json())
+        expect(self.backend.handle().to_json())
     }
 
     /// Returns an interner of the texts of a JSON array of strings. Repeats add no text.
@@ -183,13 +152,16 @@ impl<B: Backend> StringInterner<B> {
     ///
     /// If it is not such an array, or a text has no symbol, or memory is refused.
     pub fn from_json(json: &str) -> Result<Self, JsonError> {
-        let read = Self::of(Handle::from_json(B::KIND, json)?);
-        let entries = read.handle.entries();
-        let have_symbols = entries
+        let handle = Handle::from_json(B::KIND, json)?;
+        let have_symbols = handle
+            .entries()
             .iter()
             .all(|&(number, _)| B::Symbol::try_from_usize(number).is_some());
-        drop(entries);
-        have_symbols.then_some(read).ok_or(JsonError::NoSymbol)
+        if have_symbols {
+            Ok(Self::of(B::of(handle)))
+        } else {
+            Err(JsonError::NoSymbol)
+        }
     }
 }
 
@@ -199,30 +171,48 @@ impl Default for StringInterner<DefaultBackend> {
     }
 }
 
-impl<B: Backend> Clone for StringInterner<B> {
+impl<B: Backend, H> Clone for StringInterner<B, H> {
     /// Returns an interner with the same texts under the same symbols.
     fn clone(&self) -> Self {
-        Self::of(expect(self.handle.try_clone()))
+        Self::of(B::of(expect(self.backend.handle().try_clone())))
     }
 }
 
-impl<B: Backend> PartialEq for StringInterner<B> {
+impl<B: Backend, H> PartialEq for StringInterner<B, H> {
     /// Reports whether both have the same texts in the same order.
     fn eq(&self, other: &Self) -> bool {
-        self.handle == other.handle
+        self.backend.handle() == other.backend.handle()
     }
 }
 
-impl<B: Backend> Eq for StringInterner<B> {}
+impl<B: Backend, H> Eq for StringInterner<B, H> {}
 
-impl<B: Backend> fmt::Debug for StringInterner<B> {
+impl<B: Backend, H> fmt::Debug for StringInterner<B, H>
+where
+    B::Symbol: fmt::Debug,
+{
     fn fmt(&self, f: &mut fmt::Formatter<'_>) -> fmt::Result {
-        let texts = self.handle.entries().into_iter();
-        f.debug_map().entries(texts).finish()
+        f.debug_struct("StringInterner")
+            .field("dedup", &Symbols(&self.backend))
+            .field("backend", &self.backend)
+            .finish()
     }
 }
 
-impl<B: Backend, T: AsRef<str>> FromIterator<T> for StringInterner<B> {
+/// Shows the symbols of a backend as the keys of the map that string-interner has for look-up.
+struct Symbols<'a, B>(&'a B);
+
+impl<B: Backend> fmt::Debug for Symbols<'_, B>
+where
+    B::Symbol: fmt::Debug,
+{
+    fn fmt(&self, f: &mut fmt::Formatter<'_>) -> fmt::Result {
+        let symbols = self.0.iter().map(|(symbol, _)| (symbol, ()));
+        f.debug_map().entries(symbols).finish()
+    }
+}
+
+impl<B: Backend, H: InternerHasher, T: AsRef<str>> FromIterator<T> for StringInterner<B, H> {
     fn from_iter<I: IntoIterator<Item = T>>(iter: I) -> Self {
         let iter = iter.into_iter();
         let mut interner = Self::with_capacity(iter.size_hint().0);
@@ -231,7 +221,8 @@ impl<B: Backend, T: AsRef<str>> FromIterator<T> for StringInterner<B> {
     }
 }
 
-impl<B: Backend, T: AsRef<str>> Extend<T> for StringInterner<B> {
+impl<B: Backend, H: InternerHasher, T: AsRef<str>> Extend<T> for StringInterner<B, H> {
+    #[track_caller]
     fn extend<I: IntoIterator<Item = T>>(&mut self, iter: I) {
         for string in iter {
             self.get_or_intern(string);
@@ -239,44 +230,12 @@ impl<B: Backend, T: AsRef<str>> Extend<T> for StringInterner<B> {
     }
 }
 
-impl<'a, B: Backend> IntoIterator for &'a StringInterner<B> {
+impl<'a, B: Backend, H> IntoIterator for &'a StringInterner<B, H> {
     type Item = (B::Symbol, &'a str);
-    type IntoIter = Iter<'a, B>;
+    type IntoIter = B::Iter<'a>;
 
+    #[inline]
     fn into_iter(self) -> Self::IntoIter {
-        self.iter()
+        self.backend.iter()
     }
 }
-
-/// Yields each text with its symbol.
-pub struct Iter<'a, B> {
-    entries: vec::IntoIter<(usize, &'a str)>,
-    kind: PhantomData<fn() -> B>,
-}
-
-impl<B> Clone for Iter<'_, B> {
-    fn clone(&self) -> Self {
-        Iter {
-            entries: self.entries.clone(),
-            kind: PhantomData,
-        }
-    }
-}
-
-impl<'a, B: Backend> Iterator for Iter<'a, B> {
-    type Item = (B::Symbol, &'a str);
-
-    fn next(&mut self) -> Option<Self::Item> {
-        let (number, text) = self.entries.next()?;
-        let symbol = B::Symbol::try_from_usize(number).expect("each text has a symbol");
-        Some((symbol, text))
-    }
-
-    fn size_hint(&self) -> (usize, Option<usize>) {
-        self.entries.size_hint()
-    }
-}
-
-impl<B: Backend> ExactSizeIterator for Iter<'_, B> {}
-
-impl<B: Backend> FusedIterator for Iter<'_, B> {}

@@ -27,8 +27,10 @@
 //!
 //! # What differs from string-interner 0.19
 //!
-//! - A backend is a name for how the library keeps texts, and has no calls of its own. A caller can't write another.
-//! - The library hashes by itself, so the hasher of an interner is always [`DefaultHashBuilder`].
+//! - A caller can't write a backend, since the library keeps the texts. A backend that is used alone finds a text that it
+//!   has, where the original's keeps it again.
+//! - The library hashes by itself, so the hasher of an interner is always [`DefaultHashBuilder`]. Its codes are the same in
+//!   each process, where the original's differ: who chooses the texts can make it slow.
 //! - Numbers of all symbol types are below 2³² − 1, since those of the library are.
 //! - A text for which no symbol is left panics, as in the original, and is not kept.
 //! - [`StringInterner::to_json`] and [`StringInterner::from_json`] take the place of serde's traits, and
@@ -73,13 +75,17 @@ compile_error!(
 
 pub mod backend;
 mod handle;
+mod hasher;
 mod interner;
+mod iter;
 mod json;
 pub mod symbol;
 mod sys;
 
 pub use backend::DefaultBackend;
-pub use interner::{DefaultHashBuilder, Iter, StringInterner};
+pub use hasher::DefaultHashBuilder;
+pub use interner::StringInterner;
+pub use iter::Iter;
 pub use json::JsonError;
 pub use symbol::{DefaultSymbol, Symbol};
 

@@ -6,7 +6,9 @@ use string_interner::{
     DefaultHashBuilder, DefaultStringInterner, JsonError, StringInterner, Symbol,
 };
 
+use std::cell::Cell;
 use std::collections::HashMap;
+use std::fmt::Debug;
 use std::panic::{catch_unwind, AssertUnwindSafe};
 use std::thread;
 
@@ -73,7 +75,7 @@ fn fill_in_all_ways<B: Backend>() {
     let mut interned = StringInterner::<B>::with_hasher(DefaultHashBuilder);
     for text in TEXTS {
         let symbol = interned.get_or_intern_static(text);
-        assert!(interned.get_or_intern(text.to_owned()) == symbol);
+        assert!(interned.get_or_intern(String::from(text)) == symbol);
         assert!(interned.get_or_intern_static(text) == symbol);
     }
     interned.shrink_to_fit();
@@ -158,11 +160,6 @@ fn json<B: Backend>() {
     assert_eq!(StringInterner::<B>::new().to_json(), "[]");
 }
 
-fn debug<B: Backend>() {
-    let interner: StringInterner<B> = ["a"].into_iter().collect();
-    assert_eq!(format!("{interner:?}"), "{0: \"a\"}");
-}
-
 /// An interner is filled, sent to another thread and read there.
 fn send<B: Backend + 'static>() {
     let interner: StringInterner<B> = TEXTS.into_iter().collect();
@@ -233,7 +230,7 @@ macro_rules! over_each_backend {
 }
 
 over_each_backend! {
-    fill_in_all_ways compare_and_copy truncate walk find_what_was_lent json debug send agree_with_a_map
+    fill_in_all_ways compare_and_copy truncate walk find_what_was_lent json send agree_with_a_map
 }
 
 #[test]
@@ -318,6 +315,63 @@ fn defaults() {
             .len(),
         0
     );
+}
+
+fn show<B: Backend>() -> String
+where
+    B::Symbol: Debug,
+{
+    format!("{:?}", StringInterner::<B>::from_iter(["a", "é"]))
+}
+
+/// The interner has the fields of the original, and a backend its texts.
+#[test]
+fn debug() {
+    assert_eq!(
+        show::<StringBackend<SymbolU32>>(),
+        "StringInterner { dedup: {SymbolU32 { value: 1 }: (), SymbolU32 { value: 2 }: ()}, \
+         backend: StringBackend { texts: [\"a\", \"é\"] } }"
+    );
+    assert_eq!(
+        show::<BucketBackend<usize>>(),
+        "StringInterner { dedup: {0: (), 1: ()}, backend: BucketBackend { texts: [\"a\", \"é\"] } }"
+    );
+    assert_eq!(
+        show::<BufferBackend<usize>>(),
+        "StringInterner { dedup: {0: (), 2: ()}, backend: BufferBackend { texts: [\"a\", \"é\"] } }"
+    );
+}
+
+thread_local! {
+    static LIMIT: Cell<usize> = const { Cell::new(9) };
+}
+
+/// A symbol whose type has the numbers below a limit, which changes.
+#[derive(Clone, Copy, Debug, PartialEq, Eq)]
+struct Limited(usize);
+
+impl Symbol for Limited {
+    fn try_from_usize(index: usize) -> Option<Self> {
+        (index < LIMIT.get()).then_some(Limited(index))
+    }
+
+    fn to_usize(self) -> usize {
+        self.0
+    }
+}
+
+#[test]
+fn a_known_text_without_a_symbol_drops_none() {
+    let mut interner: StringInterner<StringBackend<Limited>> =
+        ["a", "b", "c"].into_iter().collect();
+    LIMIT.set(1);
+    for known in ["b", "c"] {
+        assert!(panics(|| interner.get_or_intern(known)));
+        assert!(panics(|| interner.get_or_intern_static(known)));
+    }
+    assert!(panics(|| interner.get_or_intern("d")));
+    LIMIT.set(9);
+    assert_eq!(texts(&interner), ["a", "b", "c"]);
 }
 
 #[test]

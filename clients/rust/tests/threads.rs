@@ -88,7 +88,7 @@ fn lent_texts<B: Backend>() {
     });
 }
 
-fn caught_panics<B: Backend + RefUnwindSafe>() {
+fn caught_panics<B: Backend>() {
     let interner = fill::<B>();
     let panicked = catch_unwind(|| interner.get("text number 7").is_some() && panic!("by intent"));
     assert!(panicked.is_err());

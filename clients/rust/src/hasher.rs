@@ -1,0 +1,30 @@
+use std::hash::{BuildHasher, DefaultHasher, RandomState};
+use std::sync::LazyLock;
+
+/// The hasher of an interner that names no other.
+///
+/// An interner does not ask it, since the library hashes by itself: with the same codes in each run, and without protection
+/// from chosen texts. As the hasher of anything else, a `HashMap` say, it is SipHash as std's [`RandomState`] has it, with keys
+/// that each process draws anew and that no one foresees.
+#[derive(Clone, Copy, Debug, Default)]
+pub struct DefaultHashBuilder;
+
+impl BuildHasher for DefaultHashBuilder {
+    type Hasher = DefaultHasher;
+
+    #[inline]
+    fn build_hasher(&self) -> DefaultHasher {
+        static KEYS: LazyLock<RandomState> = LazyLock::new(RandomState::new);
+        KEYS.build_hasher()
+    }
+}
+
+/// A hasher that an interner may have. Callers of the crate can't name this trait.
+#[diagnostic::on_unimplemented(
+    message = "an interner can't hash by `{Self}`",
+    label = "is not `DefaultHashBuilder`",
+    note = "the library hashes by itself, so the hasher of an interner is `DefaultHashBuilder`"
+)]
+pub trait InternerHasher: BuildHasher {}
+
+impl InternerHasher for DefaultHashBuilder {}
