@@ -72,7 +72,9 @@ enum {
 enum {
   SI_STRING = 0, /* joined in one string: fast to fill, to resolve and to walk; numbers 0, 1, 2, .. */
   SI_BUCKET = 1, /* in buckets, so that growth copies no text; numbers 0, 1, 2, .. */
-  SI_BUFFER = 2  /* in one buffer, each behind its length: the least memory; a number tells where, so they have gaps */
+  SI_BUFFER = 2  /* in one buffer, each behind its length: the least memory; a number tells where, so they have gaps: the
+                  * first is 0, and the next one is further by the bytes of the text and of its length (1 up to 127, 2 up to
+                  * 16,383, and so on) */
 };
 
 /* A handle. All zeros are a closed one. */

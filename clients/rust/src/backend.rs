@@ -7,7 +7,7 @@
 //! | [`BufferBackend`] | in one buffer, each behind its length | memory counts most; symbols have gaps, and run out by bytes |
 
 use crate::handle::{expect, panic_for, Handle, Status};
-use crate::iter::Iter;
+use crate::iter::{Entries, Iter};
 use crate::symbol::{DefaultSymbol, Symbol};
 use crate::sys;
 use std::fmt;
@@ -198,8 +198,10 @@ macro_rules! backend {
 
         impl<S> fmt::Debug for $name<S> {
             fn fmt(&self, f: &mut fmt::Formatter<'_>) -> fmt::Result {
+                let entries = Entries::over(&self.handle, $kind);
+                let texts: Vec<&str> = entries.map(|(_, text)| text).collect();
                 f.debug_struct(stringify!($name))
-                    .field("texts", &self.handle)
+                    .field("texts", &texts)
                     .finish()
             }
         }

@@ -5,7 +5,6 @@
 //! have it alone, since they take `&mut self` (4).
 
 use crate::sys;
-use std::fmt;
 use std::ptr;
 use std::slice;
 use std::str;
@@ -125,39 +124,9 @@ impl Handle {
         // SAFETY: rules 1 to 4. The call leaves what was lent (5).
         let status = unsafe { sys::si_resolve(&self.raw, number, &mut lent) };
         told(status, ()).ok()?;
-        // SAFETY: the call lent it.
-        Some(unsafe { self.lent(lent) })
-    }
-
-    /// Returns a text that a call lent: it is UTF-8, and lives until a call that may change the handle (rule 5). Such a
-    /// call wants `&mut self`.
-    ///
-    /// # Safety
-    ///
-    /// A call on this handle lent the text, and none that may change the handle came after it.
-    #[inline]
-    unsafe fn lent(&self, text: sys::si_text) -> &str {
-        // SAFETY: owed by the caller.
-        unsafe { str::from_utf8_unchecked(slice::from_raw_parts(text.bytes, text.len)) }
-    }
-
-    /// Returns all texts with their numbers, in the order of first interning.
-    pub(crate) fn entries(&self) -> Vec<(usize, &str)> {
-        let empty = sys::si_entry {
-            number: 0,
-            text: sys::SI_TEXT,
-        };
-        let mut entries = vec![empty; self.len()];
-        let mut count = 0;
-        // SAFETY: rules 1 to 4. The call leaves what was lent (5).
-        let status =
-            unsafe { sys::si_entries(&self.raw, entries.as_mut_ptr(), entries.len(), &mut count) };
-        assert_eq!((status, count), (sys::SI_OK, entries.len()));
-        // SAFETY: the call lent each text.
-        entries
-            .into_iter()
-            .map(|entry| (entry.number, unsafe { self.lent(entry.text) }))
-            .collect()
+        // SAFETY: the call lent the text: it is UTF-8, and lives until a call that may change the handle (5). Such a call takes
+        // `&mut self`.
+        Some(unsafe { str::from_utf8_unchecked(slice::from_raw_parts(lent.bytes, lent.len)) })
     }
 
     pub(crate) fn truncate(&mut self, len: usize) {
@@ -185,14 +154,6 @@ impl Handle {
                 }
             }
         }
-    }
-}
-
-/// Shows the list of texts.
-impl fmt::Debug for Handle {
-    fn fmt(&self, f: &mut fmt::Formatter<'_>) -> fmt::Result {
-        let texts = self.entries().into_iter().map(|(_, text)| text);
-        f.debug_list().entries(texts).finish()
     }
 }
 

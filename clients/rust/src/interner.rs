@@ -1,6 +1,7 @@
 use crate::backend::{Backend, DefaultBackend};
 use crate::handle::{expect, Handle};
 use crate::hasher::{DefaultHashBuilder, InternerHasher};
+use crate::iter::Entries;
 use crate::json::JsonError;
 use crate::symbol::Symbol;
 use std::fmt;
@@ -133,8 +134,6 @@ impl<B: Backend, H: InternerHasher> StringInterner<B, H> {
     }
 
     /// Walks over all texts with their symbols, in the order of first interning.
-    ///
-    /// They are gathered first, which takes memory for three words a text.
     #[inline]
     pub fn iter(&self) -> B::Iter<'_> {
         self.backend.iter()
@@ -153,10 +152,8 @@ impl<B: Backend, H: InternerHasher> StringInterner<B, H> {
     /// If it is not such an array, or a text has no symbol, or memory is refused.
     pub fn from_json(json: &str) -> Result<Self, JsonError> {
         let handle = Handle::from_json(B::KIND, json)?;
-        let have_symbols = handle
-            .entries()
-            .iter()
-            .all(|&(number, _)| B::Symbol::try_from_usize(number).is_some());
+        let have_symbols = Entries::over(&handle, B::KIND)
+            .all(|(number, _)| B::Symbol::try_from_usize(number).is_some());
         if have_symbols {
             Ok(Self::of(B::of(handle)))
         } else {

@@ -1,21 +1,77 @@
 use crate::backend::Backend;
 use crate::handle::Handle;
 use crate::symbol::Symbol;
+use crate::sys;
 use std::iter::FusedIterator;
 use std::marker::PhantomData;
-use std::vec;
 
-/// Yields each text with its symbol, in the order of first interning.
-pub struct Iter<'a, B> {
-    entries: vec::IntoIter<(usize, &'a str)>,
-    kind: PhantomData<fn() -> B>,
+/// Yields each text with its number, in the order of first interning.
+#[derive(Clone)]
+pub struct Entries<'a> {
+    handle: &'a Handle,
+    kind: u32,
+    /// The number of the next text.
+    number: usize,
+    left: usize,
 }
 
-impl<'a, B> Iter<'a, B> {
+impl<'a> Entries<'a> {
+    /// Walks over a handle of a kind.
+    #[inline]
+    pub fn over(handle: &'a Handle, kind: u32) -> Self {
+        Entries {
+            handle,
+            kind,
+            number: 0,
+            left: handle.len(),
+        }
+    }
+
+    /// Returns how far the number behind a text of this length is from its own. On a buffer that is the length of its entry:
+    /// its length, with seven bits in a byte, and its bytes.
+    #[inline]
+    fn step_over(&self, len: usize) -> usize {
+        if self.kind == sys::SI_BUFFER {
+            let bits = usize::BITS - (len | 1).leading_zeros();
+            bits.div_ceil(7) as usize + len
+        } else {
+            1
+        }
+    }
+}
+
+impl<'a> Iterator for Entries<'a> {
+    type Item = (usize, &'a str);
+
+    #[inline]
+    fn next(&mut self) -> Option<Self::Item> {
+        self.left = self.left.checked_sub(1)?;
+        let number = self.number;
+        let text = self.handle.resolve(number).expect("each number has a text");
+        self.number += self.step_over(text.len());
+        Some((number, text))
+    }
+
+    #[inline]
+    fn size_hint(&self) -> (usize, Option<usize>) {
+        (self.left, Some(self.left))
+    }
+}
+
+/// Yields each text with its symbol, in the order of first interning.
+///
+/// It reads a text when it is asked for one, so a walk over the first few takes no longer in a large interner.
+pub struct Iter<'a, B> {
+    entries: Entries<'a>,
+    backend: PhantomData<fn() -> B>,
+}
+
+impl<'a, B: Backend> Iter<'a, B> {
+    #[inline]
     pub(crate) fn over(handle: &'a Handle) -> Self {
         Iter {
-            entries: handle.entries().into_iter(),
-            kind: PhantomData,
+            entries: Entries::over(handle, B::KIND),
+            backend: PhantomData,
         }
     }
 }
@@ -24,7 +80,7 @@ impl<B> Clone for Iter<'_, B> {
     fn clone(&self) -> Self {
         Iter {
             entries: self.entries.clone(),
-            kind: PhantomData,
+            backend: PhantomData,
         }
     }
 }
@@ -32,12 +88,14 @@ impl<B> Clone for Iter<'_, B> {
 impl<'a, B: Backend> Iterator for Iter<'a, B> {
     type Item = (B::Symbol, &'a str);
 
+    #[inline]
     fn next(&mut self) -> Option<Self::Item> {
         let (number, text) = self.entries.next()?;
         let symbol = B::Symbol::try_from_usize(number).expect("each text has a symbol");
         Some((symbol, text))
     }
 
+    #[inline]
     fn size_hint(&self) -> (usize, Option<usize>) {
         self.entries.size_hint()
     }

@@ -29,7 +29,6 @@ pub const SI_INIT: si_interner = si_interner {
 };
 
 #[repr(C)]
-#[derive(Clone, Copy)]
 #[allow(non_camel_case_types)]
 pub struct si_text {
     pub bytes: *const u8,
@@ -41,14 +40,6 @@ pub const SI_TEXT: si_text = si_text {
     bytes: b"".as_ptr(),
     len: 0,
 };
-
-#[repr(C)]
-#[derive(Clone, Copy)]
-#[allow(non_camel_case_types)]
-pub struct si_entry {
-    pub number: usize,
-    pub text: si_text,
-}
 
 extern "C" {
     pub fn si_new(h: *mut si_interner, kind: u32) -> u32;
@@ -74,12 +65,6 @@ extern "C" {
         number: *mut usize,
     ) -> u32;
     pub fn si_resolve(h: *const si_interner, number: usize, text: *mut si_text) -> u32;
-    pub fn si_entries(
-        h: *const si_interner,
-        entries: *mut si_entry,
-        entries_len: usize,
-        count: *mut usize,
-    ) -> u32;
     pub fn si_truncate(h: *mut si_interner, len: usize) -> u32;
     pub fn si_shrink(h: *mut si_interner) -> u32;
     pub fn si_clone(h: *const si_interner, copy: *mut si_interner) -> u32;

@@ -46,6 +46,26 @@ fn look_up<B: Backend>() {
     assert_eq!(requests, 0);
 }
 
+/// A walk takes no memory, however far it goes.
+fn walk<B: Backend>() {
+    let interner: StringInterner<B> = (0..1_000).map(|i| i.to_string()).collect();
+    assert_eq!(
+        count_requests(|| interner.iter().next().unwrap().1),
+        (0, "0")
+    );
+    assert_eq!(count_requests(|| interner.iter().take(9).count()), (0, 9));
+    let (requests, found) = count_requests(|| interner.iter().find(|(_, text)| *text == "99"));
+    assert!(found == interner.get("99").map(|symbol| (symbol, "99")));
+    assert_eq!(requests, 0);
+}
+
+#[test]
+fn walk_over_each_backend() {
+    walk::<StringBackend>();
+    walk::<BucketBackend>();
+    walk::<BufferBackend>();
+}
+
 #[test]
 fn look_up_over_each_backend() {
     look_up::<StringBackend>();

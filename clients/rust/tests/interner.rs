@@ -126,6 +126,24 @@ fn walk<B: Backend>() {
     assert!(walk.next().is_none());
 }
 
+/// Texts whose lengths take one byte, two and three on a buffer, before and after some are dropped.
+fn walk_over_all_lengths<B: Backend>() {
+    let lengths = [0, 1, 126, 127, 128, 129, 16_383, 16_384, 20_000, 2, 3];
+    let texts = lengths.map(|len| "x".repeat(len));
+    let mut interner: StringInterner<B> = texts.iter().collect();
+    for kept in [texts.len(), 9, 5] {
+        interner.truncate(kept);
+        let walked: Vec<(B::Symbol, &str)> = interner.iter().collect();
+        assert_eq!(walked.len(), kept);
+        for ((symbol, text), put) in walked.into_iter().zip(&texts) {
+            assert_eq!(text, put);
+            assert!(interner.get(put) == Some(symbol));
+        }
+    }
+    interner.get_or_intern("behind them");
+    assert_eq!(interner.iter().last().unwrap().1, "behind them");
+}
+
 /// A text that an interner lent is looked for in the same interner, and its bytes stay.
 fn find_what_was_lent<B: Backend>() {
     let long = "long ".repeat(100);
@@ -230,7 +248,7 @@ macro_rules! over_each_backend {
 }
 
 over_each_backend! {
-    fill_in_all_ways compare_and_copy truncate walk find_what_was_lent json send agree_with_a_map
+    fill_in_all_ways compare_and_copy truncate walk walk_over_all_lengths find_what_was_lent json send agree_with_a_map
 }
 
 #[test]
