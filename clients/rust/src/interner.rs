@@ -129,8 +129,8 @@ impl<B: Backend, H: InternerHasher> StringInterner<B, H> {
     /// The symbol is one of this interner.
     #[inline]
     pub unsafe fn resolve_unchecked(&self, symbol: B::Symbol) -> &str {
-        // SAFETY: owed by the caller.
-        unsafe { self.backend.resolve_unchecked(symbol) }
+        self.resolve(symbol)
+            .expect("the symbol is not of this interner")
     }
 
     /// Walks over all texts with their symbols, in the order of first interning.

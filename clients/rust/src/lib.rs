@@ -1,4 +1,4 @@
-//! A string interner: the names and traits of the crate string-interner 0.19, over a library in which every function is
+//! A string interner for programs written for the crate string-interner 0.19, over a library in which every function is
 //! proved.
 //!
 //! An interner keeps each distinct text once and gives it a small symbol. Symbols are copied, compared and hashed as
@@ -27,14 +27,26 @@
 //!
 //! # What differs from string-interner 0.19
 //!
-//! - A caller can't write a backend, since the library keeps the texts. A backend that is used alone finds a text that it
-//!   has, where the original's keeps it again.
-//! - The library hashes by itself, so the hasher of an interner is always [`DefaultHashBuilder`]. Its codes are the same in
-//!   each process, where the original's differ: who chooses the texts can make it slow.
+//! Most programs written for string-interner compile over this crate. Those that need one of these do not:
+//!
+//! | What does not compile | Why |
+//! |---|---|
+//! | a backend of the program's own, `impl Backend for ..` | the library keeps the texts |
+//! | an interner with another hasher than [`DefaultHashBuilder`], and a function that takes interners with any `H: BuildHasher` | the library hashes by itself |
+//! | serde's traits | see below |
+//! | targets other than Linux with 64 bits, and programs without std | the library is built for these |
+//!
+//! What compiles and behaves differently:
+//!
+//! - An interner's hash codes are the same in each process, where the original's differ, so who chooses the texts can make it
+//!   slow. [`DefaultHashBuilder`] as the hasher of a `HashMap` has keys of the process.
 //! - Numbers of all symbol types are below 2³² − 1, since those of the library are.
 //! - A text for which no symbol is left panics, as in the original, and is not kept.
-//! - [`StringInterner::to_json`] and [`StringInterner::from_json`] take the place of serde's traits, and
-//!   [`StringInterner::truncate`] is new.
+//! - A backend that is used alone finds a text that it has, where the original's keeps it again.
+//! - `Debug` shows a backend's texts, and not how they lie.
+//! - Memory comes from malloc, and not from Rust's global allocator.
+//!
+//! New are [`StringInterner::truncate`], [`StringInterner::to_json`] and [`StringInterner::from_json`].
 //!
 //! # Features
 //!
@@ -46,7 +58,7 @@
 //!
 //! # Why it is safe
 //!
-//! All `unsafe` of this crate is in the module `handle`. It stands on the rules in the front of `string_interner.h`, and
+//! All `unsafe` blocks of this crate are in the module `handle`. They stand on the rules in the front of `string_interner.h`, and
 //! each call of the library keeps them so:
 //!
 //! | Rule | Kept by |
@@ -79,6 +91,8 @@ mod hasher;
 mod interner;
 mod iter;
 mod json;
+#[cfg(doctest)]
+mod refused;
 pub mod symbol;
 mod sys;
 
