@@ -184,28 +184,23 @@ impl<B: Backend, H> PartialEq for StringInterner<B, H> {
 
 impl<B: Backend, H> Eq for StringInterner<B, H> {}
 
-impl<B: Backend, H> fmt::Debug for StringInterner<B, H>
-where
-    B::Symbol: fmt::Debug,
-{
+impl<B: Backend, H> fmt::Debug for StringInterner<B, H> {
     fn fmt(&self, f: &mut fmt::Formatter<'_>) -> fmt::Result {
         f.debug_struct("StringInterner")
-            .field("dedup", &Symbols(&self.backend))
+            .field("dedup", &Numbers(&self.backend))
             .field("backend", &self.backend)
             .finish()
     }
 }
 
-/// Shows the symbols of a backend as the keys of the map that string-interner has for look-up.
-struct Symbols<'a, B>(&'a B);
+/// Shows the numbers of all symbols as the keys of the map that string-interner has for look-up.
+struct Numbers<'a, B>(&'a B);
 
-impl<B: Backend> fmt::Debug for Symbols<'_, B>
-where
-    B::Symbol: fmt::Debug,
-{
+impl<B: Backend> fmt::Debug for Numbers<'_, B> {
     fn fmt(&self, f: &mut fmt::Formatter<'_>) -> fmt::Result {
-        let symbols = self.0.iter().map(|(symbol, _)| (symbol, ()));
-        f.debug_map().entries(symbols).finish()
+        let entries = Entries::over(self.0.handle(), B::KIND);
+        let numbers = entries.map(|(number, _)| (number, ()));
+        f.debug_map().entries(numbers).finish()
     }
 }
 

@@ -43,7 +43,7 @@
 //! - Numbers of all symbol types are below 2³² − 1, since those of the library are.
 //! - A text for which no symbol is left panics, as in the original, and is not kept.
 //! - A backend that is used alone finds a text that it has, where the original's keeps it again.
-//! - `Debug` shows a backend's texts, and not how they lie.
+//! - `Debug` shows symbols by number, and a backend's texts and not how they lie.
 //! - Memory comes from malloc, and not from Rust's global allocator.
 //!
 //! New are [`StringInterner::truncate`], [`StringInterner::to_json`] and [`StringInterner::from_json`].

@@ -8,7 +8,6 @@ use string_interner::{
 
 use std::cell::Cell;
 use std::collections::HashMap;
-use std::fmt::Debug;
 use std::panic::{catch_unwind, AssertUnwindSafe};
 use std::thread;
 
@@ -335,20 +334,16 @@ fn defaults() {
     );
 }
 
-fn show<B: Backend>() -> String
-where
-    B::Symbol: Debug,
-{
+fn show<B: Backend>() -> String {
     format!("{:?}", StringInterner::<B>::from_iter(["a", "é"]))
 }
 
-/// The interner has the fields of the original, and a backend its texts.
+/// An interner has the fields of the original, with numbers for symbols, and a backend its texts.
 #[test]
 fn debug() {
     assert_eq!(
         show::<StringBackend<SymbolU32>>(),
-        "StringInterner { dedup: {SymbolU32 { value: 1 }: (), SymbolU32 { value: 2 }: ()}, \
-         backend: StringBackend { texts: [\"a\", \"é\"] } }"
+        "StringInterner { dedup: {0: (), 1: ()}, backend: StringBackend { texts: [\"a\", \"é\"] } }"
     );
     assert_eq!(
         show::<BucketBackend<usize>>(),
