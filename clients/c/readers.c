@@ -1,5 +1,5 @@
-/* readers [intern]: threads that read one handle side by side, and see what it holds. It is made for checkers of races, which
- * are to report nothing; with `intern` one thread interns a text meanwhile, which they are to report. */
+/* readers [intern]: three threads read one handle at the same time, and find what it holds. A race detector must report
+ * nothing; with `intern` one of the threads interns a text, which it must report. */
 #include "string_interner.h"
 #include <pthread.h>
 #include <stdio.h>

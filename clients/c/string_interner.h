@@ -19,20 +19,21 @@
  *      and a si_text, that of an si_entry too, SI_TEXT or one that a call wrote.
  *   3. What is handed to one call does not overlap what that call writes. The two handles of si_clone are two, and a text
  *      that si_resolve or si_entries lent is not handed to a call that may change the handle that lent it.
- *   4. While a call that may change a handle runs, no other call on that handle does. Calls that only read may run side by
- *      side on one handle. Between a change and a call of another thread comes a lock, or a thread's start or end. Different
- *      handles need no care: there is nothing that they share.
- *   5. A text that si_resolve or si_entries lent is not read after the next call that may change its handle. Any call may
- *      but those that only read, whose handle is const: si_len, si_get, si_get_utf8, si_contains, si_resolve, si_copy,
+ *   4. A call that may change a handle runs alone on that handle. Calls that only read may run at the same time on one
+ *      handle. A lock, or a thread's start or end, separates a change from the calls of other threads. Handles share
+ *      nothing, so calls on different handles need no care.
+ *   5. A text that si_resolve or si_entries lent is not read after the next call that may change its handle. Any call may,
+ *      except those that only read, whose handle is const: si_len, si_get, si_get_utf8, si_contains, si_resolve, si_copy,
  *      si_entries, si_equal, si_to_json, and si_clone of the handle that is copied.
  *   6. malloc, realloc and free are of one allocator, and align as C says. No call is made from a signal handler, or in the
  *      child of a fork of a process with more than one thread.
  *   7. Of si_get_or_intern_utf8 and si_get_utf8 alone: the bytes are UTF-8.
  *   8. Of si_get_or_intern_static alone: the bytes stay, unchanged, as long as the process runs.
  *
- * One part of rules 3 and 4 is tested and not proved: that calls that only read may run side by side on one handle, and may
- * take a text that it lent, or one handle twice (si_equal). The proof has each call alone with its handle. The tests make
- * each of these calls while all memory of the handle is read-only, and from three threads under two checkers of races.
+ * One part of rules 3 and 4 is tested and not proved: calls that only read may run at the same time on one handle, and may be
+ * given a text that it lent, or the same handle twice (si_equal). The proof assumes that each call is alone with its handle.
+ * The tests make each of these calls while all memory of the handle is read-only, and from three threads under two race
+ * detectors.
  *
  * What is looked at, and needs no care: bytes that are not UTF-8, ends that fall or pass the bytes, a handle that is not
  * open (so that freeing twice does nothing), a number without a text, room that is too short, a kind that there is not,

@@ -18,10 +18,10 @@ use std::panic::{RefUnwindSafe, UnwindSafe};
 /// The backend of an interner that names no other.
 pub type DefaultBackend = StringBackend<DefaultSymbol>;
 
-/// What keeps the texts of an interner. It may be used alone, too, to give texts symbols and to resolve them.
+/// Stores the texts of an interner. It can also be used alone, to give symbols to texts and to resolve them.
 ///
-/// Those of the library are all that there are: a caller can't write another. Calls that may take memory panic where it is
-/// refused, and leave the backend as it was.
+/// The trait is sealed: the backends of this module are all there are. A call that fails to allocate panics, and leaves the
+/// backend as it was.
 pub trait Backend:
     Default + fmt::Debug + Send + Sync + Unpin + UnwindSafe + RefUnwindSafe + sealed::Kind
 {
@@ -73,7 +73,7 @@ pub trait Backend:
 pub(crate) mod sealed {
     use crate::handle::Handle;
 
-    /// A backend as an interner has it. Callers of the crate may name neither this trait nor a handle.
+    /// What an interner asks of its backend. Other crates can't name this trait, nor call a handle.
     pub trait Kind {
         /// The number by which the library knows the kind.
         const KIND: u32;
@@ -88,7 +88,8 @@ pub(crate) mod sealed {
     }
 }
 
-/// Interns a text by a call, and returns its symbol. If the symbol type has none for it, a new text is dropped again.
+/// Interns a text by a call, and returns its symbol. If the symbol type has none, drops the text again if it was new, and
+/// panics.
 #[inline]
 #[track_caller]
 fn intern_by<S: Symbol>(

@@ -21,7 +21,7 @@ pub struct Handle {
 // SAFETY: a handle may be used by another thread later (rule 4). Sending it orders the two.
 unsafe impl Send for Handle {}
 
-// SAFETY: all calls that take `&self` only read, and those may run side by side (rule 4).
+// SAFETY: all calls that take `&self` only read, and those may run at the same time (rule 4).
 unsafe impl Sync for Handle {}
 
 /// Returns what a call of the library gave. Panics if there was no symbol or no memory.

@@ -3,9 +3,9 @@ use std::sync::LazyLock;
 
 /// The hasher of an interner that names no other.
 ///
-/// An interner does not ask it, since the library hashes by itself: with the same codes in each run, and without protection
-/// from chosen texts. As the hasher of anything else, a `HashMap` say, it is SipHash as std's [`RandomState`] has it, with keys
-/// that each process draws anew and that no one foresees.
+/// An interner does not call it, because the library hashes by itself, with the same codes in each run and no protection
+/// against chosen texts. Anywhere else, in a `HashMap` for example, it is SipHash with random keys, as std's [`RandomState`];
+/// each process chooses the keys once.
 #[derive(Clone, Copy, Debug, Default)]
 pub struct DefaultHashBuilder;
 
@@ -19,7 +19,7 @@ impl BuildHasher for DefaultHashBuilder {
     }
 }
 
-/// A hasher that an interner may have. Callers of the crate can't name this trait.
+/// A hasher that an interner may have. Other crates can't name this trait.
 #[diagnostic::on_unimplemented(
     message = "an interner can't hash by `{Self}`",
     label = "is not `DefaultHashBuilder`",

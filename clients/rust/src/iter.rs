@@ -27,8 +27,8 @@ impl<'a> Entries<'a> {
         }
     }
 
-    /// Returns how far the number behind a text of this length is from its own. On a buffer that is the length of its entry:
-    /// its length, with seven bits in a byte, and its bytes.
+    /// Returns the distance from the number of a text of this length to the next number. On a buffer that is the size of the
+    /// text's entry: its length, with seven bits in a byte, and its bytes.
     #[inline]
     fn step_over(&self, len: usize) -> usize {
         if self.kind == sys::SI_BUFFER {
@@ -60,7 +60,7 @@ impl<'a> Iterator for Entries<'a> {
 
 /// Yields each text with its symbol, in the order of first interning.
 ///
-/// It reads a text when it is asked for one, so a walk over the first few takes no longer in a large interner.
+/// Each call of `next` reads one text, so the first few texts of a large interner cost no more than those of a small one.
 pub struct Iter<'a, B> {
     entries: Entries<'a>,
     backend: PhantomData<fn() -> B>,

@@ -34,7 +34,7 @@
 //! | a backend of the program's own, `impl Backend for ..` | the library keeps the texts |
 //! | an interner with another hasher than [`DefaultHashBuilder`], and a function that takes interners with any `H: BuildHasher` | the library hashes by itself |
 //! | serde's traits | see below |
-//! | targets other than Linux with 64 bits, and programs without std | the library is built for these |
+//! | programs without std, or for other targets than Linux on 64 bits | the library is built for these |
 //!
 //! What compiles and behaves differently:
 //!
@@ -53,8 +53,8 @@
 //! A crate may ask for the features `std`, `inline-more` and `backends`. They change nothing: the crate always uses std, its
 //! short calls can always be inlined, and the backends are always there.
 //!
-//! The feature `serde` does not compile, and its message says what to write. A dependency on serde, even an optional one, would
-//! keep cargo from building this crate where no registry is at hand.
+//! The feature `serde` does not compile, and its message says what to write instead. Cargo resolves an optional dependency even
+//! if nothing uses it, so with one this crate would not build without a registry.
 //!
 //! # Why it is safe
 //!

@@ -95,7 +95,7 @@
 //! });
 //! ```
 //!
-//! A handle of the library is private, also to a backend's generic user, and so is the state of an interner:
+//! A handle of the library is private, even to code that is generic over backends, and so is the state of an interner:
 //!
 //! ```compile_fail,E0603
 //! let handle = string_interner::handle::Handle::new(0);

@@ -88,7 +88,7 @@ impl<B: Backend> Beside<B> {
         } else {
             self.interner.get_or_intern(&text)
         };
-        assert!(known.is_none_or(|known| known == symbol));
+        assert!(known.map_or(true, |known| known == symbol));
         if known.is_none() {
             self.texts.push(text);
             self.symbols.push(symbol);
@@ -119,7 +119,7 @@ impl<B: Backend> Beside<B> {
 
     fn resolve_any_number(&mut self) {
         if let Some(symbol) = B::Symbol::try_from_usize(self.random.number()) {
-            assert!(self.interner.resolve(symbol).is_none_or(is_text));
+            assert!(self.interner.resolve(symbol).map_or(true, is_text));
         }
     }
 
@@ -248,7 +248,7 @@ fn lie<B: Backend<Symbol = Liar>>() {
         let _ = catch_unwind(|| interner.iter().all(|(_, text)| is_text(text)));
         let _ = catch_unwind(|| StringInterner::<B>::from_json("[\"a\",\"b\"]").is_ok());
         let any = symbols.get(random.below(symbols.len() + 1));
-        let _ = catch_unwind(|| any.map(|symbol| interner.resolve(*symbol).is_none_or(is_text)));
+        let _ = catch_unwind(|| any.map(|symbol| interner.resolve(*symbol).map_or(true, is_text)));
         LIE.set(0);
         for (symbol, text) in &interner {
             assert!(is_text(text) && interner.get(text) == Some(symbol));

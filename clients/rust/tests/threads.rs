@@ -1,4 +1,4 @@
-//! Threads that read one interner side by side, in the ways in which Rust shares a value.
+//! Threads that read one interner at the same time, in each way in which Rust shares a value.
 
 use std::panic::{catch_unwind, RefUnwindSafe, UnwindSafe};
 use std::sync::{Arc, LazyLock, OnceLock, RwLock};
