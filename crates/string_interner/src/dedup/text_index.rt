@@ -134,7 +134,7 @@ pub trait TextIndex<S: Symbol> {
 
 /// An index that can be copied.
 pub trait CopyIndex<S: Symbol>: TextIndex<S> {
-    /// Returns an equal index. Hashes and reads no text.
+    /// Returns an equal index. Takes the backend whose entries the index has, and hashes and reads no text.
     ///
     /// Returns `Err` only if an allocation fails.
     fn try_copy<B: Backend<Symbol = S>>(&self, backend: &B) -> Result<Self, AllocError>
