@@ -38,9 +38,9 @@ pub step-leaves : (starts fewer : List ℕ) (start : ℕ) (texts front : List Te
 step-leaves starts fewer start texts front e f = rw (e, f, reverse-append fewer (start ∷ [])) leaves
 
 -- the layers that are then left are those that were below
-pub left_below : (starts fewer : List ℕ) (start : ℕ) (texts front : List Text) → starts ≡ fewer ++ start ∷ [] → front ≡ take start texts
-    → layers_below (reverse starts) texts ≡ top_layer (reverse fewer) front ∷ layers_below (reverse fewer) front
-left_below starts fewer start texts front e f = rw (e, f, reverse-append fewer (start ∷ [])) refl
+pub left_below : (below : List Layer) (starts fewer : List ℕ) (start : ℕ) (texts front : List Text) → layers_below (reverse starts) texts ≡ below → starts ≡ fewer ++ start ∷ [] → front ≡ take start texts
+    → below ≡ top_layer (reverse fewer) front ∷ layers_below (reverse fewer) front
+left_below below starts fewer start texts front is e f = rw (← is, e, f, reverse-append fewer (start ∷ [])) refl
 
 -- a text that is put last goes to the end of the top layer
 declares-top : (starts : List ℕ) (texts : List Text) (text : Text) → AreStarts starts (length texts) → top_layer starts (texts ++ text ∷ []) ≡ top_layer starts texts ++ text ∷ []

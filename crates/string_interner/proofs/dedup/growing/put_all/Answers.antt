@@ -4,6 +4,7 @@ use Rattle.string_interner.proofs.Lemmas.Index.LookUp.{FillsSlot-length}
 use Rattle.string_interner.proofs.Lemmas.Index.Refills.{placed-start, placed-next, placed-end}
 use Rattle.string_interner.proofs.Lemmas.Interner.IsInterned.{IsFilled}
 use Rattle.string_interner.proofs.dedup.growing.put_all.Goals as goal
+use Rattle.string_interner.proofs.dedup.growing.put_all.Goals.{In-None}
 use Rattle.string_interner.proofs.dedup.growing.put_all.Given.{Over}
 
 pub loop-symbol-init : goal.loop-symbol-init
@@ -22,7 +23,7 @@ loop-symbol-preserved g c =
     }
 
 -- once the walk has ended, all entries are in the slots
-filled : (g : Over) (c : goal.In-None g) → IsFilled g.S.Symbol.symbol_of g.B.Backend.place g.S.Symbol.number (g.H.TextHasher.code c.args.hasher.now) (g.B.Backend.texts c.args.backend.now) c.loop-symbol.slots
+filled : (g : Over) (c : In-None g) → IsFilled g.S.Symbol.symbol_of g.B.Backend.place g.S.Symbol.number (g.H.TextHasher.code c.args.hasher.now) (g.B.Backend.texts c.args.backend.now) c.loop-symbol.slots
 filled g c = placed-end g.S.Symbol.symbol_of g.S.Symbol.number g.B.Backend.place g.met.S.Symbol.numbered g.met.S.Symbol.injective g.met.B.Backend.grows (g.H.TextHasher.code c.args.hasher.now) (g.B.Backend.texts c.args.backend.now) c.requires.kept c.requires.distinct _ _ c.loop-symbol.slots c.loop-symbol.invariant.placed c.in-None.ensures.steps.0
 
 pub returns-clause-whole : goal.returns-clause-whole

@@ -1,5 +1,7 @@
-use Rattle.std.proofs.Common.{◌≡◌, ◌+◌, ◌-◌, ◌≤◌, ◌++◌, ◌∷◌, [], map, vec_len, vec_capacity, arith, rules, refl, ap, ◌∙◌}
-use Rattle.string_interner.specs.BucketBackend.{BucketContents, Puts, buckets_of, interned_text, IsInBuckets}
+use Rattle.std.proofs.Common.{◌≡◌, List, Bool, false, ◌+◌, ◌-◌, ◌≤◌, ◌++◌, ◌∷◌, [], map, vec_len, vec_capacity, arith, rules, refl, ap, ◌∙◌}
+use Rattle.std.proofs.lemmas.List.{map_push}
+use Rattle.string_interner.specs.BucketBackend.{BucketContents, Puts, buckets_of, interned_text, is_static, IsLast, IsInBuckets}
+use Rattle.string_interner.specs.declared.backend.bucket.interned_str.InternedStr.{InternedStr}
 use Rattle.string_interner.proofs.Lemmas.BucketBackend.Buckets.{stored-puts, spent-puts, Stays-puts, Stays-same}
 use Rattle.string_interner.proofs.Lemmas.Results.{OnOk-passed, OnErr-failed, OnErr-always}
 use Rattle.string_interner.proofs.backend.bucket.BucketBackendBackend.intern.Goals as goal
@@ -14,9 +16,16 @@ puts g c = OnOk-passed c.store.result _ c.in_ok-interned.ensures.variant c.store
 same : (g : Over) (c : After-from_residual-in_err-interned g) → (c.store.new.full.items ≡ c.self.inside.full.items) × (c.store.new.head ≡ c.self.inside.head)
 same g c = OnErr-failed c.store.result _ c.in_err-interned.ensures.variant c.store.ensures.err
 
+-- the entry is the text at the end of the head, and comes last
+last : (g : Over) (c : After-push_reserved g) → IsLast c.args.text.now c.store.new.full.items c.store.new.head c.in_ok-interned.interned
+last g c = search rules
+
+more : (g : Over) (c : After-push_reserved g) → c.push_reserved.new.self.items ≡ c.self.inside.entries.items ++ c.in_ok-interned.interned ∷ []
+more g c = c.push_reserved.ensures.items ∙ ap (λ (entries : List InternedStr). entries ++ c.in_ok-interned.interned ∷ []) c.reserve.ensures.items
+
 -- the text is stored
 stored : (g : Over) (c : After-push_reserved g) → (map (interned_text (buckets_of c.store.new.full.items c.store.new.head)) c.push_reserved.new.self.items ≡ map (interned_text (buckets_of c.self.inside.full.items c.self.inside.head)) c.self.inside.entries.items ++ c.args.text.now ∷ []) × IsInBuckets g.S.Symbol.symbol_of c.store.new.full.items c.store.new.head c.push_reserved.new.self.items
-stored g c = stored-puts g.S.Symbol.symbol_of c.args.text.now _ _ _ _ c.in_ok-interned.interned _ _ c.self.invariant c.utf8.text (rw (ap (λ (b : BucketContents). b.texts) c.self.view_is) (search rules)) (omega (arith, c.push_reserved.new.self.small, c.push_reserved.new.self.ok.1, c.push_reserved.new.self.ok.0, c.push_reserved.ensures.len, c.self.inside.entries.ok.0)) (puts g c) (search rules) (search rules)
+stored g c = stored-puts g.S.Symbol.symbol_of c.args.text.now _ _ _ _ c.in_ok-interned.interned _ _ c.self.invariant c.utf8.text (rw (ap (λ (b : BucketContents). b.texts) c.self.view_is) (search rules)) (omega (arith, c.push_reserved.new.self.small, c.push_reserved.new.self.ok.1, c.push_reserved.new.self.ok.0, c.push_reserved.ensures.len, c.self.inside.entries.ok.0)) (puts g c) (last g c) (more g c)
 
 pub returns-in_err-interned-clause-appends : goal.returns-in_err-interned-clause-appends
 returns-in_err-interned-clause-appends g c =
@@ -54,3 +63,10 @@ returns-clause-stays g c = rw (← ap (λ (b : BucketContents). b.full) c.self.v
 
 pub returns-clause-puts : goal.returns-clause-puts
 returns-clause-puts g c = rw (← ap (λ (b : BucketContents). b.full) c.self.view_is, ← ap (λ (b : BucketContents). b.head) c.self.view_is) (puts g c)
+
+pub returns-clause-statics : goal.returns-clause-statics
+returns-clause-statics g c =
+    let before = c.self.inside.entries.items in
+    ap (map is_static) (more g c) ∙ map_push is_static before c.in_ok-interned.interned
+    ∙ ap (λ (entry : InternedStr). map is_static before ++ is_static entry ∷ []) (last g c).entry_is
+    ∙ ap (λ (b : BucketContents). b.statics ++ false ∷ []) c.self.view_is

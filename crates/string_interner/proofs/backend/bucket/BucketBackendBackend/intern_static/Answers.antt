@@ -1,15 +1,20 @@
-use Rattle.std.proofs.Common.{◌≡◌, ◌++◌, ◌∷◌, [], map, arith, rules, ap, ◌∙◌}
+use Rattle.std.proofs.Common.{◌≡◌, List, true, refl, ◌++◌, ◌∷◌, [], map, arith, rules, ap, ◌∙◌}
 use Rattle.std.proofs.lemmas.List.{map_push}
+use Rattle.string_interner.specs.declared.backend.bucket.interned_str.InternedStr.{InternedStr}
 use Rattle.string_interner.specs.declared.backend.bucket.interned_str.InternedStr.TheVariants.{Static}
-use Rattle.string_interner.specs.BucketBackend.{BucketContents, buckets_of, interned_text, IsInBuckets}
+use Rattle.string_interner.specs.BucketBackend.{BucketContents, buckets_of, interned_text, is_static, IsInBuckets}
 use Rattle.string_interner.proofs.Lemmas.BucketBackend.Buckets.{stored-static}
 use Rattle.string_interner.proofs.backend.bucket.BucketBackendBackend.intern_static.Goals as goal
 use Rattle.string_interner.proofs.backend.bucket.BucketBackendBackend.intern_static.Goals.{After-push_reserved}
 use Rattle.string_interner.proofs.backend.bucket.BucketBackendBackend.intern_static.Given.{Over}
 
+-- the entry comes last
+more : (g : Over) (c : After-push_reserved g) → c.push_reserved.new.self.items ≡ c.self.inside.entries.items ++ Static c.args.text ∷ []
+more g c = c.push_reserved.ensures.items ∙ ap (λ (entries : List InternedStr). entries ++ Static c.args.text ∷ []) c.reserve.ensures.items
+
 -- the text is stored
 stored : (g : Over) (c : After-push_reserved g) → IsInBuckets g.S.Symbol.symbol_of c.self.inside.full.items c.self.inside.head c.push_reserved.new.self.items
-stored g c = stored-static g.S.Symbol.symbol_of c.args.text _ _ _ _ c.self.invariant c.utf8.text (rw (ap (λ (b : BucketContents). b.texts) c.self.view_is) (search rules)) (omega (arith, c.push_reserved.new.self.small, c.push_reserved.new.self.ok.1, c.push_reserved.new.self.ok.0, c.push_reserved.ensures.len, c.self.inside.entries.ok.0)) (search rules)
+stored g c = stored-static g.S.Symbol.symbol_of c.args.text _ _ _ _ c.self.invariant c.utf8.text (rw (ap (λ (b : BucketContents). b.texts) c.self.view_is) (search rules)) (omega (arith, c.push_reserved.new.self.small, c.push_reserved.new.self.ok.1, c.push_reserved.new.self.ok.0, c.push_reserved.ensures.len, c.self.inside.entries.ok.0)) (more g c)
 
 pub invariant_of-self-2 : goal.invariant_of-self-2
 invariant_of-self-2 g c = stored g c
@@ -17,10 +22,12 @@ invariant_of-self-2 g c = stored g c
 pub returns-clause-appends : goal.returns-clause-appends
 returns-clause-appends g c =
     let text_of = interned_text (buckets_of c.self.inside.full.items c.self.inside.head) in
-    let more : c.push_reserved.new.self.items ≡ c.self.inside.entries.items ++ Static c.args.text ∷ [] = search rules in
     record {
-      appends = (search rules, ap (map text_of) more ∙ map_push text_of c.self.inside.entries.items (Static c.args.text) ∙ ap (λ (b : BucketContents). b.texts ++ c.args.text.now ∷ []) c.self.view_is);
+      appends = (search rules, ap (map text_of) (more g c) ∙ map_push text_of c.self.inside.entries.items (Static c.args.text) ∙ ap (λ (b : BucketContents). b.texts ++ c.args.text.now ∷ []) c.self.view_is);
       kept = (stored g c).kept;
-      buckets = search rules;
-      room = record { granted = search rules; spent = omega (arith, ap (λ (b : BucketContents). b.room) c.self.view_is); unspent = search rules };
+      buckets = tt;
+      room = record { granted = λ _ _. refl; spent = omega (arith, ap (λ (b : BucketContents). b.room) c.self.view_is); unspent = tt };
     }
+
+pub returns-clause-statics : goal.returns-clause-statics
+returns-clause-statics g c = ap (map is_static) (more g c) ∙ map_push is_static c.self.inside.entries.items (Static c.args.text) ∙ ap (λ (b : BucketContents). b.statics ++ true ∷ []) c.self.view_is
