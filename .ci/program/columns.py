@@ -16,7 +16,7 @@ from program.streams import holding, run_over
 CASES = Path(__file__).resolve().parent.parent.parent / "crates/column/cases"
 BACKENDS = (b"string", b"bucket", b"buffer")
 ENDS = ("args", "out", "err", "status")
-MEBIBYTE = 2**20
+MANY, MEBIBYTE = 200000, 2**20
 
 
 def failed(status, message):
@@ -230,6 +230,12 @@ def output_that_breaks_off(program):
                 yield name, ended, (1, whole[:count], UNWRITABLE[2])
 
 
+def output_in_one_write(program):
+    """What is written is handed on as a whole. One more write would fail."""
+    for words, data, whole in ANSWERED:
+        yield f"{words}, one write", run_over(program, words, holding(data), BROKEN_WRITE=2, ERROR=errno.EPIPE), (0, whole, b"")
+
+
 def output_in_pieces(program):
     for words, data, whole in ANSWERED:
         for size in 1, 3, 8192:
@@ -245,7 +251,8 @@ def help_asked_for(program):
     yield "--help over a folder", over_a_folder(program, [b"--help"]), ended[:3]
 
 
-STREAMS = (failing_streams, input_that_breaks_off, output_that_breaks_off, output_in_pieces, help_asked_for)
+STREAMS = (failing_streams, input_that_breaks_off, output_that_breaks_off, output_in_one_write, output_in_pieces,
+           help_asked_for)
 
 
 def try_streams(program, pool):
@@ -255,11 +262,34 @@ def try_streams(program, pool):
 
 
 def large_inputs():
-    yield "numbers", b"".join(b"%d\n" % number for number in range(200000))
-    yield "one line", b"Tiger\n" * 200000
-    yield "a hundred lines", b"".join(b"line %d\n" % (number * 7919 % 100) for number in range(200000))
+    yield "numbers", b"".join(b"%d\n" % number for number in range(MANY))
+    yield "one line", b"Tiger\n" * MANY
+    yield "a hundred lines", b"".join(b"line %d\n" % (number * 7919 % 100) for number in range(MANY))
     yield "a line of a mebibyte", b"a" * MEBIBYTE + b"\nb\n" + b"a" * MEBIBYTE
     yield "a million newlines", b"\n" * 1000000
+
+
+def file_of(dictionary, lines):
+    return b'{"dictionary":[%s],"final_newline":true,"lines":[%s]}' % (b",".join(dictionary), b",".join(lines))
+
+
+def distant_faults():
+    """Faults far behind the first line, text or number: words, an input, and what is told."""
+    lines, texts, numbers = b"a\n" * MANY, [b'"%d"' % number for number in range(MANY)], [b"0"] * MANY
+    yield [b"encode"], lines + b"\xff\n", b"line %d is not UTF-8" % (MANY + 1)
+    yield [b"count"], lines + b"\xff", b"line %d is not UTF-8" % (MANY + 1)
+    yield [b"decode"], file_of([*texts, b"0"], numbers), b"dictionary[%d] is not a text" % MANY
+    yield [b"decode"], file_of([*texts, b'"0"'], numbers), b"dictionary[%d] is repeated" % MANY
+    yield [b"decode"], file_of([*texts, b'"\\n"'], numbers), b"dictionary[%d] has a newline" % MANY
+    for number in b"%d" % MANY, b'"0"':
+        yield [b"decode"], file_of(texts, [*numbers, number]), b"lines[%d] is not the index of a text" % MANY
+    yield [b"decode"], b"\n" * MANY + b"x", b"not JSON at line %d, column 1" % (MANY + 1)
+    yield [b"decode"], b" " * MANY + b"x", b"not JSON at line 1, column %d" % (MANY + 1)
+
+
+def try_distant_fault(program, given):
+    words, data, message = given
+    return differs(f"{words}, {message!r}", program.run(words, data), failed(2, message))
 
 
 def try_large(program, given):
@@ -273,4 +303,8 @@ def try_scale(program, pool):
     for found, seconds in pool.map(partial(try_large, program), trials):
         faults += found
         slowest = max(slowest, seconds)
-    return faults, len(trials), f"{len(trials)} large inputs both ways, the slowest in {slowest:.1f} seconds"
+    distant = list(distant_faults())
+    for found in pool.map(partial(try_distant_fault, program), distant):
+        faults += found
+    told = f"{len(trials)} large inputs both ways, the slowest in {slowest:.1f} seconds, and {len(distant)} distant faults"
+    return faults, len(trials) + len(distant), told

@@ -137,6 +137,16 @@ def output_that_breaks_off(program):
                 yield f"{name}: {broken - 1} writes"
 
 
+def output_in_few_writes(program):
+    """Lines are written together: a write takes all those that the buffer has room for. One more write would fail."""
+    longest = b"text Tiger\n"
+    for data in COMMANDS, b"i Tiger\n" + b"r 0\n" * 3000:
+        wanted = answer([b"string"], data)
+        most = len(wanted[1]) // (OUTPUT_BUFFER - len(longest)) + 1
+        ended = run_over(program, [b"string"], holding(data), BROKEN_WRITE=most + 1, ERROR=errno.EPIPE)
+        yield from differs(f"output of {len(wanted[1])} bytes in at most {most} writes", ended, wanted)
+
+
 LISTS = (
     (b"string", COMMANDS, b"".join(LINES)),
     (b"buffer", b"i Tiger\nn 1\nn 6\nr 5\nr 1\nr 0\nlen\nshrink\n",
@@ -178,6 +188,7 @@ TRIALS = (
     input_in_pieces,
     input_that_breaks_off,
     output_that_breaks_off,
+    output_in_few_writes,
     output_in_pieces,
     closed_error,
 )
