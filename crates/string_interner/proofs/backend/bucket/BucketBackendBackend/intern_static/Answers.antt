@@ -1,8 +1,8 @@
-use Rattle.std.proofs.Common.{◌≡◌, List, true, refl, ◌++◌, ◌∷◌, [], map, arith, rules, ap, ◌∙◌}
+use Rattle.std.proofs.Common.{◌≡◌, List, refl, ◌++◌, ◌∷◌, [], map, arith, rules, ap, ◌∙◌}
 use Rattle.std.proofs.lemmas.List.{map_push}
 use Rattle.string_interner.specs.declared.backend.bucket.interned_str.InternedStr.{InternedStr}
 use Rattle.string_interner.specs.declared.backend.bucket.interned_str.InternedStr.TheVariants.{Static}
-use Rattle.string_interner.specs.BucketBackend.{BucketContents, buckets_of, interned_text, is_static, IsInBuckets}
+use Rattle.string_interner.specs.BucketBackend.{BucketContents, buckets_of, interned_text, IsInBuckets}
 use Rattle.string_interner.proofs.Lemmas.BucketBackend.Buckets.{stored-static}
 use Rattle.string_interner.proofs.backend.bucket.BucketBackendBackend.intern_static.Goals as goal
 use Rattle.string_interner.proofs.backend.bucket.BucketBackendBackend.intern_static.Goals.{After-push_reserved}
@@ -28,6 +28,3 @@ returns-clause-appends g c =
       buckets = tt;
       room = record { granted = λ _ _. refl; spent = omega (arith, ap (λ (b : BucketContents). b.room) c.self.view_is); unspent = tt };
     }
-
-pub returns-clause-statics : goal.returns-clause-statics
-returns-clause-statics g c = ap (map is_static) (more g c) ∙ map_push is_static c.self.inside.entries.items (Static c.args.text) ∙ ap (λ (b : BucketContents). b.statics ++ true ∷ []) c.self.view_is
