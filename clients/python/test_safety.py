@@ -1,0 +1,433 @@
+"""Tests that no Python program can make the module read or keep what nobody gave it: lying subclasses, threads that change
+what a call reads, forks, and calls between two steps of a call."""
+
+import gc
+import mmap
+import os
+import signal
+import subprocess
+import sys
+import textwrap
+import threading
+import time
+import unittest
+from array import array
+from contextlib import contextmanager
+
+from string_interner import Interner
+
+BACKENDS = ("string", "bucket", "buffer")
+
+
+class LyingStr(str):
+    """A text that says wrong things about itself."""
+
+    def encode(self, *_):
+        return b"\xff\xfe\xc0"
+
+    def __len__(self):
+        return 1
+
+    def __str__(self):
+        return "lie"
+
+    def __iter__(self):
+        return iter("lie")
+
+
+class LyingBytes(bytes):
+    def __len__(self):
+        return 1 << 12
+
+    def __bytes__(self):
+        return b"lie"
+
+
+class LyingList(list):
+    """A list that is another one each time it is read."""
+
+    def __iter__(self):
+        self.append("more")
+        return super().__iter__()
+
+    def __len__(self):
+        return 1
+
+
+class LyingArray(array):
+    def buffer_info(self):
+        return 8, 1 << 20
+
+    def __len__(self):
+        return 1 << 20
+
+    def __iter__(self):
+        return iter([1])
+
+
+def run_apart(code):
+    """Runs lines in a Python of their own, because they may crash it, and returns how that ended."""
+    paths = os.pathsep.join(path or os.getcwd() for path in sys.path)
+    ended = subprocess.run([sys.executable, "-c", textwrap.dedent(code)], env=os.environ | {"PYTHONPATH": paths},
+                           capture_output=True, text=True, timeout=300)
+    return ended.returncode, ended.stdout.strip(), ended.stderr.strip()
+
+
+@contextmanager
+def running(*steps):
+    """Has a thread for each of these functions call it again and again, and threads take turns often."""
+    ended, interval = threading.Event(), sys.getswitchinterval()
+    sys.setswitchinterval(1e-5)
+
+    def repeat(step):
+        while not ended.is_set():
+            step()
+
+    threads = [threading.Thread(target=repeat, args=(step,), daemon=True) for step in steps]
+    for thread in threads:
+        thread.start()
+    try:
+        yield
+    finally:
+        ended.set()
+        for thread in threads:
+            thread.join(60)
+        sys.setswitchinterval(interval)
+
+
+@contextmanager
+def collecting(step):
+    """Has a collection come whenever something is made, and calls a function as a finalizer is called."""
+    def call(phase, _):
+        if phase == "start":
+            step()
+
+    thresholds = gc.get_threshold()
+    gc.callbacks.append(call)
+    gc.set_threshold(1)
+    try:
+        yield
+    finally:
+        gc.set_threshold(*thresholds)
+        gc.callbacks.remove(call)
+
+
+class LyingArguments(unittest.TestCase):
+    def test_a_text_is_what_it_holds(self):
+        for text in ("Tiger", "Käfer"):
+            lying = LyingStr(text)
+            for backend in BACKENDS:
+                interner = Interner(backend=backend)
+                number = interner.intern(lying)
+                self.assertEqual(interner.resolve(number), text)
+                self.assertEqual(interner.get(lying), number)
+                self.assertIn(lying, interner)
+                self.assertEqual(interner.intern_all([lying, "Horse", lying])[::2].tolist(), [number, number])
+                self.assertEqual(list(interner), [text, "Horse"])
+            read = Interner.from_json(LyingStr(f'["{text}"]'))
+            self.assertEqual(list(read), [text])
+
+    def test_what_only_encodes_is_no_text(self):
+        class Encodes:
+            def encode(self):
+                return b"\xed\xa0\x80"
+
+        interner = Interner()
+        for call in (interner.intern, interner.get, Interner.from_json):
+            with self.assertRaises(TypeError):
+                call(Encodes())
+        self.assertNotIn(Encodes(), interner)
+        self.assertEqual(list(interner), [])
+
+    def test_an_encoded_text_with_a_lying_length(self):
+        self.assertEqual(run_apart("""
+            from string_interner import Interner
+            class Bytes(bytes):
+                def __len__(self):
+                    return 1 << 40
+            class Str(str):
+                def encode(self):
+                    return Bytes(b"x")
+            interner = Interner(["x"])
+            print(interner.get(Str("x")), Str("x") in interner, interner.intern(Str("x")))
+            """), (0, "0 True 0", ""))
+
+    def test_bytes_are_as_many_as_there_are(self):
+        for given in (LyingBytes(b"abc"), memoryview(LyingBytes(b"abc"))):
+            interner = Interner()
+            for end in (4, 100, 4000):
+                with self.assertRaises(ValueError):
+                    interner.intern_column(given, [3, end])
+            self.assertEqual(list(interner), ["abc"])
+
+    def test_ends_are_those_of_the_array(self):
+        self.assertEqual(run_apart("""
+            from array import array
+            from string_interner import Interner
+            class Lying(array):
+                def buffer_info(self):
+                    return 8, 1 << 20
+                def __len__(self):
+                    return 1 << 20
+                def __iter__(self):
+                    return iter([1])
+            interner = Interner()
+            print(interner.intern_column(b"abbc", Lying("Q", [1, 3, 4])).tolist(), list(interner))
+            """), (0, "[0, 1, 2] ['a', 'bb', 'c']", ""))
+
+    def test_anything_with_a_buffer_is_bytes(self):
+        with mmap.mmap(-1, 3) as mapped:
+            mapped[:] = b"aba"
+            for given in (b"aba", LyingBytes(b"aba"), bytearray(b"aba"), memoryview(b"aba"), array("B", b"aba"), mapped):
+                interner = Interner()
+                self.assertEqual(interner.intern_column(given, [1, 2, 3]).tolist(), [0, 1, 0])
+                self.assertEqual(list(interner), ["a", "b"])
+        for wrong in ("aba", None, 3, [97, 98, 97]):
+            with self.assertRaises(TypeError):
+                Interner().intern_column(wrong, [1, 2, 3])
+
+    def test_a_list_is_read_once(self):
+        interner = Interner()
+        self.assertEqual(interner.intern_all(LyingList(["a", "ß"])).tolist(), [0, 1, 2])
+        self.assertEqual(list(interner), ["a", "ß", "more"])
+
+    def test_an_end_that_changes_what_is_read(self):
+        joined, ends = bytearray(b"abc"), []
+
+        class End:
+            def __init__(self, place):
+                self.place = place
+
+            def __index__(self):
+                joined[:] = b"xxxxxx"
+                ends.clear()
+                return self.place
+
+        ends += map(End, (1, 2, 3))
+        interner = Interner()
+        try:
+            interner.intern_column(joined, ends)
+        except (IndexError, ValueError):
+            pass
+        self.assertLessEqual({*interner}, {"a", "b", "c"})
+
+
+class Threads(unittest.TestCase):
+    def test_ends_that_another_thread_moves(self):
+        # At each moment the ends are those of the texts, with some empty texts behind them or none.
+        self.assertEqual(run_apart("""
+            import threading
+            from array import array
+            from string_interner import Interner
+            ROWS = 1_000_000
+            joined, ends = b"ab" * ROWS, array("Q", range(2, 2 * ROWS + 1, 2))
+            more, ended = array("Q", [2 * ROWS]) * (2 * ROWS), threading.Event()
+            def move():
+                while not ended.is_set():
+                    ends.extend(more)
+                    del ends[ROWS:]
+                    for _ in range(3):
+                        array("Q", b"\\xff" * (8 * ROWS))
+            mover = threading.Thread(target=move, daemon=True)
+            mover.start()
+            interner, codes = Interner(), set()
+            for _ in range(30):
+                codes.update(interner.intern_column(joined, ends))
+            ended.set()
+            mover.join()
+            print(codes <= {0, 1}, {*interner} <= {"ab", ""})
+            """), (0, "True True", ""))
+
+    def test_numbers_that_another_thread_changes(self):
+        # The ends are good ones before and after each change.
+        rows = 200_000
+        joined, ends = b"ab" * rows, array("Q", range(2, 2 * rows + 1, 2))
+        good, empty = ends[:], array("Q", [2 * rows]) * rows
+
+        def change():
+            ends[:] = empty
+            ends[:] = good
+
+        interner = Interner()
+        with running(change):
+            for _ in range(30):
+                interner.intern_column(joined, ends)
+        self.assertLessEqual({*interner}, {"ab", "ab" * rows, ""})
+
+    def test_texts_that_another_thread_changes(self):
+        for short, long in (("ab", "abc"), ("aß", "aßc")):
+            texts = [short] * 5_000
+
+            def change():
+                for row in range(0, len(texts), 10):
+                    texts[row] = long
+                for row in range(0, len(texts), 10):
+                    texts[row] = short
+
+            interner = Interner()
+            with running(change):
+                for _ in range(300):
+                    interner.intern_all(texts)
+            self.assertLessEqual({*interner}, {short, long})
+
+    def test_bytes_that_another_thread_grows(self):
+        joined, failed = bytearray(b"ab" * 100_000), []
+        ends = array("Q", range(2, len(joined) + 1, 2))
+
+        def grow():
+            try:
+                joined.extend(bytes(1 << 20))
+                del joined[200_000:]
+            except BufferError as error:
+                failed.append(error)
+
+        interner = Interner()
+        with running(grow):
+            for _ in range(100):
+                interner.intern_column(joined, ends)
+        self.assertEqual(list(interner), ["ab"])
+        self.assertEqual(failed, [])
+
+    def test_two_are_compared_in_both_orders(self):
+        one, other, results = Interner(["a"]), Interner(["a"]), []
+        threads = [threading.Thread(target=lambda: results.append(all(one == other for _ in range(3000))), daemon=True),
+                   threading.Thread(target=lambda: results.append(all(other == one for _ in range(3000))), daemon=True)]
+        for thread in threads:
+            thread.start()
+        for thread in threads:
+            thread.join(60)
+        self.assertEqual(results, [True, True])
+
+
+class Forks(unittest.TestCase):
+    def fork(self, look, children=20):
+        """How many children of some fail or hang, each of which makes a call."""
+        bad = 0
+        for _ in range(children):
+            time.sleep(0.01)
+            child = os.fork()
+            if not child:
+                status = 1
+                try:
+                    signal.alarm(3)
+                    status = 0 if look() else 1
+                finally:
+                    os._exit(status)
+            bad += os.waitpid(child, 0)[1] != 0
+        return bad
+
+    def test_a_child_finds_the_interner_whole(self):
+        interner, texts = Interner(), [f"text {number}" for number in range(200_000)]
+
+        def look():
+            known = list(interner)
+            return (known == texts[: len(known)] and interner.intern_all(known).tolist() == list(range(len(known)))
+                    and interner.intern("new") == len(known) and len(interner) == len(known) + 1)
+
+        def fill():
+            interner.intern_all(texts)
+            interner.truncate(0)
+
+        with running(fill):
+            self.assertEqual(self.fork(look), 0)
+
+    def test_interners_that_threads_make_and_compare(self):
+        kept = [Interner(map(str, range(50_000))) for _ in range(3)]
+
+        def make():
+            kept.append(Interner(map(str, range(20_000))))
+            del kept[3:-1]
+
+        def compare():
+            one, other = kept[0], kept[-1]
+            one == other, other == one, one == kept[1], kept[2] == kept[1], kept[1].copy()
+
+        def look():
+            return (all(interner.get("7") == 7 for interner in kept) and kept[0] == kept[1] == kept[2]
+                    and Interner(["new"]).get("new") == 0)
+
+        with running(make, compare, compare):
+            self.assertEqual(self.fork(look), 0)
+
+    def test_threads_that_fork(self):
+        interner, texts, found = Interner(), list(map(str, range(50_000))), []
+
+        def fill():
+            interner.intern_all(texts)
+            interner.truncate(0)
+
+        with running(fill):
+            forkers = [threading.Thread(target=lambda: found.append(self.fork(lambda: len([*interner]) == len(interner))))
+                       for _ in range(2)]
+            for forker in forkers:
+                forker.start()
+            for forker in forkers:
+                forker.join(200)
+        self.assertEqual(found, [0, 0])
+
+    def test_a_child_forks_too(self):
+        interner = Interner(["a"])
+
+        def look():
+            return self.fork(lambda: interner.intern("b") == 1, 1) == 0 and list(interner) == ["a"]
+
+        with running(lambda: interner.get("a")):
+            self.assertEqual(self.fork(look), 0)
+
+
+class CallsBetweenSteps(unittest.TestCase):
+    """A finalizer or a signal handler runs between any two steps of the thread that it comes upon."""
+
+    def test_entries_belong_together(self):
+        # Each text with its place, on a buffer: as many bytes as go before it.
+        states = [["a", "bb", "ccc"], ["ccc", "a", "bb"], ["bb"]]
+        wanted = [[(0, "a"), (2, "bb"), (5, "ccc")], [(0, "ccc"), (4, "a"), (6, "bb")], [(0, "bb")]]
+        interner, turn = Interner(backend="buffer"), 0
+
+        def change():
+            nonlocal turn
+            turn += 1
+            interner.truncate(0)
+            interner.intern_all(states[turn % 3])
+
+        change()
+        with collecting(change):
+            for _ in range(300):
+                self.assertIn(list(interner.items()), wanted)
+                self.assertIn(list(interner), states)
+        self.assertGreater(turn, 300)
+
+    def test_a_list_that_changes_is_read_once(self):
+        for pair in (["a", "bbb"], ["ß", "ßßß"]):
+            texts, interner = pair[:], Interner()
+            with collecting(texts.reverse):
+                for _ in range(300):
+                    self.assertIn(interner.intern_all(texts).tolist(), ([0, 1], [1, 0]))
+            self.assertEqual({*interner}, {*pair})
+
+    def test_signal_handlers_call_too(self):
+        interner, handled, failed = Interner(["s"]), 0, []
+
+        def handle(*_):
+            nonlocal handled
+            handled += 1
+            interner.truncate(1)
+            interner.intern(f"handler {handled} with a long tail")
+
+        before = signal.signal(signal.SIGALRM, handle)
+        signal.setitimer(signal.ITIMER_REAL, 0.0002, 0.0002)
+        try:
+            end = time.monotonic() + 1
+            while time.monotonic() < end:
+                rows = [list(interner), [text for _, text in interner.items()], list(interner.copy())]
+                failed += [row for row in rows if row[0] != "s"]
+                interner.intern_all(["p", "q"])
+        finally:
+            signal.setitimer(signal.ITIMER_REAL, 0)
+            signal.signal(signal.SIGALRM, before)
+        self.assertGreater(handled, 100)
+        self.assertEqual(failed, [])
+
+
+if __name__ == "__main__":
+    unittest.main()
