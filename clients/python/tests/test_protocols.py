@@ -322,7 +322,7 @@ class Subclasses(unittest.TestCase):
 
     def test_no_leak(self):
         """Handles that were copied, pickled and refused are freed."""
-        from string_interner import _handles
+        from string_interner._handle import _handles
 
         gc.collect()
         before = len(_handles)

@@ -1,0 +1,306 @@
+"""A string interner, proved, for Python.
+
+An interner keeps each distinct text once and gives it a small number:
+
+>>> animals = Interner()
+>>> animals.intern("Tiger"), animals.intern("Horse"), animals.intern("Tiger")
+(0, 1, 0)
+>>> animals.resolve(1)
+'Horse'
+>>> animals.get("Elephant") is None
+True
+
+A column of texts is encoded in one call, which takes about as long as a dict does:
+
+>>> animals.intern_all(["Horse", "Elephant", "Horse"]).tolist()
+[1, 2, 1]
+>>> animals.resolve_all([1, 2, 1])
+['Horse', 'Elephant', 'Horse']
+>>> list(animals)
+['Tiger', 'Horse', 'Elephant']
+
+The library is `libstring_interner.so` in the folder that STRING_INTERNER_LIB names, or in the package, as a wheel has it, or
+in `clients/out`, where `clients/build` puts it. Without one that it can use, the import raises ImportError.
+"""
+
+from __future__ import annotations
+
+import copy
+import ctypes
+from array import array
+from collections.abc import Iterable, Iterator
+from itertools import accumulate
+from operator import attrgetter, index
+from typing import TYPE_CHECKING, Any, Literal, Self, SupportsIndex
+
+from ._copies import copy_bytes, copy_ends, copy_numbers, count_letters, encode, narrow
+from ._handle import Handle
+from ._library import BAD_TEXT, LIMIT, NO_ROOM, UNKNOWN, address_of, check, library
+
+if TYPE_CHECKING:
+    from _typeshed import ReadableBuffer
+
+__all__ = ["Backend", "Interner", "Typecode"]
+
+Backend = Literal["string", "bucket", "buffer"]
+"""How the texts lie in memory: joined in one string, in buckets that are never moved, or in one buffer of bytes.
+
+Numbers are 0, 1, 2, .. on `string` and `bucket`. On `buffer`, which takes the least memory, they count bytes.
+"""
+
+Typecode = Literal["I", "Q"]
+"""How many bytes a number takes in an array: 4 or 8."""
+
+
+class Interner:
+    """A list of distinct texts, each with a number.
+
+    As a set of texts does, it has a length, knows whether a text is `in` it, and iterates over its texts, in order of first
+    interning. As a dict does, it finds a text by its number: `interner[number]`.
+
+    Any thread may call it; one waits for another. What each call reads it copies, so an answer lasts. A process may fork
+    while other threads call it: the child finds it as it is between two calls.
+
+    Each call raises TypeError for an argument of a wrong type, and ValueError once the interner is closed. A text without a
+    UTF-8 form, such as one with a lone surrogate, is in no interner, and interning it raises `UnicodeEncodeError`.
+
+    Copies and pickles keep the class and the attributes of a subclass. They do not call its `__init__`.
+    """
+
+    __slots__ = ("_handle", "__weakref__")
+
+    def __init__(
+        self, texts: Iterable[str] = (), *, backend: Backend = "string", capacity: SupportsIndex = 0
+    ) -> None:
+        """Makes an interner of the texts, with room for about so many.
+
+        Raises ValueError for a backend that there is not and a negative capacity, MemoryError, and as `intern_all` does.
+        """
+        self._handle = Handle.make(backend, index(capacity))
+        self.intern_all(texts)
+
+    @classmethod
+    def from_json(cls, text: str, *, backend: Backend = "string", exact: bool = False) -> Self:
+        """Makes an interner of the texts of a JSON array of strings. Does not call the `__init__` of a subclass.
+
+        A repeated string adds no text, or raises ValueError if the array is to be `exact`. Raises ValueError for any other
+        value too, OverflowError and MemoryError.
+        """
+        interner = cls.__new__(cls)
+        interner._handle = Handle.read(text, backend, exact)
+        return interner
+
+    @property
+    def backend(self) -> Backend:
+        """How the texts lie in memory."""
+        return self._handle.backend
+
+    def intern(self, text: str) -> int:
+        """Returns the number of a text. A text that is not known is put last.
+
+        Raises OverflowError if no number is left for it, and MemoryError; the interner is then as it was.
+        """
+        raw, number, handle = encode(text), ctypes.c_size_t(), self._handle
+        with handle.lock:
+            check(library.si_get_or_intern_utf8(handle.at, raw, len(raw), ctypes.byref(number)))
+        return number.value
+
+    def intern_all(self, texts: Iterable[str], *, typecode: Typecode = "Q") -> array[int]:
+        """Returns the number of each text, in order, in an array: 8 bytes for each, or 4 if the typecode is "I".
+
+        One call of the library. At a text that raises OverflowError or MemoryError, the texts before it stay. Where one is
+        no text, or has no UTF-8 form, nothing changes.
+        """
+        # Read once, because another thread may change what it is read from.
+        texts = list(texts)
+        joined = "".join(texts)
+        if joined.isascii():
+            # So a letter is a byte, and no text need be encoded by itself.
+            return self._intern_parts(joined.encode(), array("Q", list(accumulate(count_letters(texts)))), typecode)
+        raws = list(map(encode, texts))
+        return self._intern_parts(b"".join(raws), array("Q", list(accumulate(map(len, raws)))), typecode)
+
+    def intern_column(
+        self, joined: ReadableBuffer, ends: Iterable[SupportsIndex], *, typecode: Typecode = "Q"
+    ) -> array[int]:
+        """The same for texts that lie end to end in `joined`, text `i` ending before byte `ends[i]`.
+
+        Takes anything with a buffer as `joined`, and copies it, except `bytes`. Copies `ends`, too, which takes the least time
+        for a buffer of numbers of 4 or 8 bytes, such as an array or what numpy and Arrow have. Raises ValueError at a text
+        that is not UTF-8 and at an end that falls or passes the bytes; texts before it stay.
+        """
+        raw = copy_bytes(joined)
+        return self._intern_parts(raw, copy_ends(ends, len(raw)), typecode)
+
+    def _intern_parts(self, joined: bytes, ends: array[int], typecode: Typecode) -> array[int]:
+        """Interns the parts of these bytes. The caller has both for itself, because other threads run during the call."""
+        if typecode not in ("I", "Q"):
+            raise ValueError(f"no typecode {typecode!r}")
+        rows, done, handle = len(ends), ctypes.c_size_t(), self._handle
+        numbers = array("Q", [0]) * rows
+        with handle.lock:
+            status = library.si_intern_all(handle.at, joined, len(joined), address_of(ends), rows, address_of(numbers), rows,
+                                        ctypes.byref(done))
+        if status == BAD_TEXT:
+            raise ValueError(f"text {done.value} is not UTF-8")
+        check(status)
+        return numbers if typecode == "Q" else narrow(numbers)
+
+    def get(self, text: str) -> int | None:
+        """Returns the number of a text, or None if it is not known."""
+        number, handle = ctypes.c_size_t(), self._handle
+        try:
+            raw = encode(text)
+        except UnicodeEncodeError:
+            handle.check_open()
+            return None
+        with handle.lock:
+            status = library.si_get_utf8(handle.at, raw, len(raw), ctypes.byref(number))
+        if status == UNKNOWN:
+            return None
+        check(status)
+        return number.value
+
+    def resolve(self, number: SupportsIndex) -> str | None:
+        """Returns the text with a number, or None if there is none.
+
+        On the backend `buffer`, numbers between those of texts may read something, too.
+        """
+        place = index(number)
+        if not 0 <= place < LIMIT:
+            # No text has this one either.
+            place = LIMIT - 1
+        size, length, handle = 128, ctypes.c_size_t(), self._handle
+        while True:
+            room = ctypes.create_string_buffer(size)
+            with handle.lock:
+                status = library.si_copy(handle.at, place, room, size, ctypes.byref(length))
+            if status == UNKNOWN:
+                return None
+            if status != NO_ROOM:
+                check(status)
+                return room.raw[: length.value].decode()
+            size = length.value
+
+    def resolve_all(self, numbers: Iterable[SupportsIndex]) -> list[str]:
+        """Returns the text with each number, in order. Raises KeyError at a number without one.
+
+        Undoes `intern_all`, in about as long.
+        """
+        wanted = copy_numbers(numbers)
+        distinct = {*wanted}
+        # To read all texts at once takes about as long as to resolve a tenth of them.
+        few = 10 * len(distinct) < len(self)
+        texts = {number: self[number] for number in distinct} if few else dict(self.entries())
+        return list(map(texts.__getitem__, wanted))
+
+    def entries(self) -> Iterator[tuple[int, str]]:
+        """Returns an iterator of each number with its text, in order of first interning, as they are now."""
+        return zip(*self._handle.read_entries())
+
+    def items(self) -> Iterator[tuple[int, str]]:
+        """The same as `entries`: what `interner[number]` finds, as the items of a dict."""
+        return self.entries()
+
+    def truncate(self, length: SupportsIndex) -> None:
+        """Keeps the first texts with their numbers, and drops the others."""
+        kept, handle = index(length), self._handle
+        if kept < 0:
+            raise ValueError(f"length {kept}")
+        with handle.lock:
+            check(library.si_truncate(handle.at, min(kept, LIMIT - 1)))
+
+    def shrink(self) -> None:
+        """Gives back memory that no text needs, if it can."""
+        handle = self._handle
+        with handle.lock:
+            check(library.si_shrink(handle.at))
+
+    def copy(self) -> Self:
+        """Returns an interner with the same texts under the same numbers."""
+        return copy.copy(self)
+
+    def to_json(self) -> str:
+        """Returns the JSON array of the texts."""
+        return self._handle.write_json().decode()
+
+    def close(self) -> None:
+        """Frees the texts. A second call does nothing, and any other one raises ValueError."""
+        handle = self._handle
+        with handle.lock:
+            library.si_free(handle.at)
+
+    def __enter__(self) -> Self:
+        self._handle.check_open()
+        return self
+
+    def __exit__(self, *_: object) -> None:
+        self.close()
+
+    def __len__(self) -> int:
+        handle = self._handle
+        with handle.lock:
+            length: int = library.si_len(handle.at)
+        if not length:
+            handle.check_open()
+        return length
+
+    def __getitem__(self, number: SupportsIndex) -> str:
+        """The text with a number, which is no position: a negative one has none. Raises KeyError if there is none."""
+        if (text := self.resolve(number)) is None:
+            raise KeyError(number)
+        return text
+
+    def __contains__(self, text: object) -> bool:
+        """Whether a text is known. Anything else is not, as in a set of texts."""
+        handle = self._handle
+        try:
+            raw = str.encode(text)  # type: ignore[arg-type]
+        except (TypeError, UnicodeEncodeError):
+            handle.check_open()
+            return False
+        with handle.lock:
+            known: bool = library.si_contains(handle.at, raw, len(raw))
+        if not known:
+            handle.check_open()
+        return known
+
+    def __iter__(self) -> Iterator[str]:
+        """The texts in order of first interning, as they are now."""
+        return iter(self._handle.read_texts())
+
+    def __reversed__(self) -> Iterator[str]:
+        """The texts in the opposite order, as they are now."""
+        return reversed(self._handle.read_texts())
+
+    def __eq__(self, other: object) -> bool:
+        """Whether both have one backend, and the same texts in the same order."""
+        if not isinstance(other, Interner):
+            return NotImplemented
+        if self is other:
+            return True
+        # In one order, whichever of the two is asked.
+        first, second = sorted((self._handle, other._handle), key=attrgetter("serial"))
+        with first.lock, second.lock:
+            equal: bool = library.si_equal(first.at, second.at)
+        if not equal:
+            first.check_open()
+            second.check_open()
+        return equal
+
+    __hash__ = None  # type: ignore[assignment]
+
+    def __getstate__(self) -> object:
+        # What a subclass has, and a copy of the texts, which whoever takes this state has for itself.
+        attributes, slots = super().__getstate__()  # type: ignore[misc]
+        return attributes, slots | {"_handle": self._handle.clone()}
+
+    def __reduce_ex__(self, protocol: SupportsIndex) -> str | tuple[Any, ...]:
+        # Protocols 0 and 1 by themselves know no slots, but can write what 2 has.
+        return super().__reduce_ex__(max(index(protocol), 2))
+
+    def __repr__(self) -> str:
+        handle = self._handle
+        with handle.lock:
+            what = f"of {len(self)} texts, backend {handle.backend!r}" if handle.opened.open else "that is closed"
+        return f"<{type(self).__name__} {what}>"

@@ -1,0 +1,81 @@
+"""Copies of what a caller hands over, which nothing changes while the library reads them, and what a number takes."""
+
+from __future__ import annotations
+
+import sys
+from array import array
+from collections.abc import Iterable, Iterator
+from operator import index
+from typing import TYPE_CHECKING, SupportsIndex
+
+from ._library import LIMIT
+
+if TYPE_CHECKING:
+    from _typeshed import ReadableBuffer
+
+_INTEGERS = frozenset("bBhHiIlLqQ")
+"""What `array` and `memoryview` call integers in the form that this machine has them."""
+_LOW = int(sys.byteorder == "big")
+"""Which of the two halves of a number of 8 bytes is the low one."""
+
+
+def encode(text: str) -> bytes:
+    """The UTF-8 of a text, whatever a subclass of `str` makes of it."""
+    try:
+        return str.encode(text)
+    except TypeError:
+        raise TypeError(f"a text is a str, not {type(text).__name__}") from None
+
+
+def count_letters(texts: list[str]) -> Iterator[int]:
+    """The length of each text, whatever a subclass of `str` says."""
+    return map(len if {*map(type, texts)} <= {str} else str.__len__, texts)
+
+
+def copy_bytes(joined: ReadableBuffer) -> bytes:
+    """The bytes of an object with a buffer. Those of one that is `bytes` itself are not copied, because nothing changes them."""
+    # A subclass of `bytes` may lie about its length; `join` reads its buffer. One step, so that no other thread finds the
+    # buffer in use.
+    return b"".join((joined,))
+
+
+def copy_numbers(numbers: Iterable[SupportsIndex]) -> array[int] | list[int]:
+    """A copy of some integers: an array if they lie in a buffer, else a list."""
+    if type(numbers) is array:
+        # One step, so that no other thread finds the buffer in use.
+        numbers = numbers[:]
+    try:
+        with memoryview(numbers) as view:  # type: ignore[arg-type]
+            if view.ndim == 1 and view.format in _INTEGERS:
+                return array(view.format, view.tobytes())
+    except TypeError:
+        pass
+    return list(map(index, numbers))
+
+
+def copy_ends(ends: Iterable[SupportsIndex], length: int) -> array[int]:
+    """A copy of ends in so many bytes, as the library takes them. One that it cannot take passes the bytes, and so does what
+    it finds instead."""
+    numbers = copy_numbers(ends)
+    if isinstance(numbers, array) and numbers.itemsize == 8:
+        # A negative one becomes 2^63 or more.
+        return array("Q", numbers.tobytes())
+    if isinstance(numbers, array) and numbers.itemsize == 4 and length < 1 << 31:
+        # And here 2^31 or more.
+        return _widen(array("I", numbers.tobytes()))
+    try:
+        return array("Q", numbers)
+    except OverflowError:
+        return array("Q", [number if 0 <= number < LIMIT else LIMIT - 1 for number in numbers])
+
+
+def _widen(numbers: array[int]) -> array[int]:
+    """The same numbers in 8 bytes each."""
+    halves = array("I", [0]) * (2 * len(numbers))
+    halves[_LOW::2] = numbers
+    return array("Q", halves.tobytes())
+
+
+def narrow(numbers: array[int]) -> array[int]:
+    """The same numbers in 4 bytes each, which is enough for each that the library gives."""
+    return array("I", numbers.tobytes())[_LOW::2]

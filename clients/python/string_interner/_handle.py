@@ -1,0 +1,142 @@
+"""Handles of the library: the lock of each, what keeps them whole in a process that forks, and all texts of one."""
+
+from __future__ import annotations
+
+import ctypes
+import json
+import os
+import threading
+from array import array
+from itertools import count
+from operator import attrgetter
+from typing import TYPE_CHECKING, Any
+from weakref import WeakSet
+
+from ._copies import encode
+from ._library import CLOSED, ENTRY, KINDS, LIMIT, NO_ROOM, Opened, address_of, check, library
+
+if TYPE_CHECKING:
+    from . import Backend
+
+
+class Handle:
+    """A handle of the library, and the lock that makes threads take turns on it."""
+
+    __slots__ = ("at", "backend", "lock", "opened", "serial", "__weakref__")
+
+    def __init__(self, backend: Backend) -> None:
+        """Makes one that is not open yet."""
+        self.opened = Opened()
+        self.at = ctypes.byref(self.opened)
+        if backend not in KINDS:
+            raise ValueError(f"no backend {backend!r}")
+        self.backend = backend
+        # Reentrant, because a finalizer or a signal handler may call between any two steps of a call. No call of the library
+        # is cut in two by that.
+        self.lock = threading.RLock()
+        with _registry:
+            self.serial = next(_serials)
+            _handles.add(self)
+
+    def __del__(self, free: Any = library.si_free) -> None:
+        free(self.at)
+
+    @classmethod
+    def make(cls, backend: Backend, capacity: int) -> Handle:
+        """Returns a handle on an empty interner, which has room for about so many texts."""
+        handle = cls(backend)
+        if not 0 <= capacity < LIMIT:
+            raise ValueError(f"capacity {capacity}")
+        check(library.si_with_capacity(handle.at, KINDS[backend], capacity))
+        return handle
+
+    @classmethod
+    def read(cls, text: str, backend: Backend, exact: bool = True) -> Handle:
+        """Returns a handle on an interner of the texts of a JSON array, in which a text may not repeat if it is exact."""
+        raw, handle = encode(text), cls(backend)
+        read = library.si_from_json_exact if exact else library.si_from_json
+        check(read(handle.at, KINDS[backend], raw, len(raw)))
+        return handle
+
+    def clone(self) -> Handle:
+        """Returns a handle on a copy of what this one holds."""
+        clone = Handle(self.backend)
+        with self.lock:
+            check(library.si_clone(self.at, clone.at))
+        return clone
+
+    def check_open(self) -> None:
+        """Raises ValueError if it was closed: for calls of the library that answer 0 or false then."""
+        if not self.opened.open:
+            check(CLOSED)
+
+    def write_json(self) -> bytes:
+        """The JSON array of all texts."""
+        length = ctypes.c_size_t()
+        with self.lock:
+            # The library makes all of it before it says that room is short. So a guess that holds most texts saves that time.
+            size = 1024 + 24 * library.si_len(self.at)
+        while True:
+            room = ctypes.create_string_buffer(size)
+            with self.lock:
+                status = library.si_to_json(self.at, room, size, ctypes.byref(length))
+            if status != NO_ROOM:
+                check(status)
+                return room.raw[: length.value]
+            size = length.value
+
+    def read_texts(self) -> list[str]:
+        """All texts. One call copies them all, which is faster than a call for each."""
+        texts: list[str] = json.loads(self.write_json())
+        return texts
+
+    def read_entries(self) -> tuple[array[int], list[str]]:
+        """The number of each text, and all texts."""
+        # From a copy, because a finalizer or a signal handler may change this one between two calls of the library.
+        handle, found = self.clone(), ctypes.c_size_t()
+        rows = ENTRY * library.si_len(handle.at)
+        check(library.si_entries(handle.at, address_of(rows), len(rows) // 3, ctypes.byref(found)))
+        return rows[::3], handle.read_texts()
+
+    def __deepcopy__(self, memo: dict[int, Any]) -> Handle:
+        return self.clone()
+
+    def __reduce__(self) -> tuple[Any, ...]:
+        return Handle.read, (self.write_json().decode(), self.backend)
+
+
+_registry = threading.RLock()
+"""Held while a handle is made, and by a thread that forks, from the last lock that it takes to the fork."""
+_handles: WeakSet[Handle] = WeakSet()
+_serials = count()
+_forks: list[list[Handle]] = []
+"""The handles that each fork under way holds."""
+
+
+def _hold_all() -> None:
+    """Waits until no thread is in a call, and keeps all from the next one, so that a child finds each interner whole.
+
+    A thread that holds two locks took them in the order of serials, and so does this. It keeps no thread from making a
+    handle as long as it waits for a lock, because that thread may have it.
+    """
+    held: list[Handle] = []
+    while True:
+        _registry.acquire()
+        newest = held[-1].serial if held else -1
+        later = sorted((handle for handle in _handles if handle.serial > newest), key=attrgetter("serial"))
+        if not later:
+            break
+        _registry.release()
+        for handle in later:
+            handle.lock.acquire()
+        held += later
+    _forks.append(held)
+
+
+def _release_all() -> None:
+    for handle in _forks.pop():
+        handle.lock.release()
+    _registry.release()
+
+
+os.register_at_fork(before=_hold_all, after_in_parent=_release_all, after_in_child=_release_all)

@@ -1,0 +1,105 @@
+"""The shared library: where it is found, its calls, and what they return."""
+
+from __future__ import annotations
+
+import ctypes
+import os
+import struct
+from array import array
+from pathlib import Path
+from typing import Any
+
+OK, BAD_TEXT, NO_SYMBOL, NO_MEMORY, UNKNOWN, CLOSED, NO_ROOM = range(7)
+KINDS = {"string": 0, "bucket": 1, "buffer": 2}
+LIMIT = 1 << 8 * ctypes.sizeof(ctypes.c_size_t)
+"""One more than the greatest number that a call takes."""
+_REASONS = {BAD_TEXT: "not JSON", CLOSED: "the interner is closed", 8: "an end falls, or passes the bytes", 9: "not an array",
+            10: "an element is not a string", 11: "a string occurs twice"}
+_NAME = "libstring_interner.so"
+
+
+class Opened(ctypes.Structure):
+    """What the header calls `si_interner`."""
+
+    _fields_ = [("at", ctypes.c_void_p), ("open", ctypes.c_bool)]
+
+
+def _declare(lib: ctypes.CDLL) -> None:
+    """States what each call takes and returns, as the header does."""
+    handle, size, code = ctypes.POINTER(Opened), ctypes.c_size_t, ctypes.c_uint32
+    to_size = ctypes.POINTER(size)
+    text, room, many = (ctypes.c_char_p, size), (ctypes.c_void_p, size), (ctypes.c_void_p, size)
+    calls: dict[str, tuple[Any, tuple[Any, ...]]] = {
+        "si_with_capacity": (code, (handle, code, size)),
+        "si_free": (None, (handle,)),
+        "si_len": (size, (handle,)),
+        "si_get_or_intern_utf8": (code, (handle, *text, to_size)),
+        "si_intern_all": (code, (handle, *text, *many, *many, to_size)),
+        "si_get_utf8": (code, (handle, *text, to_size)),
+        "si_contains": (ctypes.c_bool, (handle, *text)),
+        "si_copy": (code, (handle, size, *room, to_size)),
+        "si_entries": (code, (handle, *many, to_size)),
+        "si_truncate": (code, (handle, size)),
+        "si_shrink": (code, (handle,)),
+        "si_clone": (code, (handle, handle)),
+        "si_equal": (ctypes.c_bool, (handle, handle)),
+        "si_to_json": (code, (handle, *room, to_size)),
+        "si_from_json": (code, (handle, code, *text)),
+        "si_from_json_exact": (code, (handle, code, *text)),
+    }
+    for name, (result, arguments) in calls.items():
+        call = getattr(lib, name)
+        call.restype, call.argtypes = result, arguments
+
+
+def _check_length(path: Path) -> None:
+    """Raises OSError for a file that lacks its end: to load one crashes the process."""
+    with open(path, "rb") as file:
+        head = file.read(64)
+    if len(head) == 64 and head.startswith(b"\x7fELF\2"):
+        # The table of sections is the last part of the file.
+        place, width, rows = struct.unpack("=40xQ10xHH2x", head)
+        if place + width * rows > os.path.getsize(path):
+            raise OSError(f"{path}: the file lacks its end")
+
+
+def _load() -> ctypes.CDLL:
+    """Loads the library. Raises ImportError if there is none that has all calls."""
+    here = Path(__file__).resolve().parent
+    named = os.environ.get("STRING_INTERNER_LIB")
+    folders = [Path(named)] if named else [here, here.parent.parent / "out"]
+    path = next((folder / _NAME for folder in folders if os.path.exists(folder / _NAME)), None)
+    if path is None:
+        raise ImportError(f"no {_NAME} in {' or '.join(map(str, folders))}", name="string_interner")
+    try:
+        _check_length(path)
+        library = ctypes.CDLL(str(path))
+        _declare(library)
+    except OSError as error:
+        raise ImportError(f"cannot load the library: {error}", name="string_interner", path=str(path)) from error
+    except AttributeError as error:
+        raise ImportError(f"the library is of another version: {error}", name="string_interner", path=str(path)) from error
+    return library
+
+
+library = _load()
+_NOTHING = ctypes.c_size_t()
+"""Where what is empty lies, because no address is null."""
+ENTRY = array("Q", [0, ctypes.addressof(_NOTHING), 0])
+"""A number, and the address and the length of an empty text."""
+
+
+def check(status: int) -> None:
+    """Raises what a status stands for."""
+    if status == OK:
+        return
+    if status == NO_MEMORY:
+        raise MemoryError
+    if status == NO_SYMBOL:
+        raise OverflowError("no number is left")
+    raise ValueError(_REASONS.get(status, f"status {status}"))
+
+
+def address_of(items: array[int]) -> int:
+    """Where the items of an array lie."""
+    return items.buffer_info()[0] if items else ctypes.addressof(_NOTHING)

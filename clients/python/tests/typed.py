@@ -1,0 +1,38 @@
+"""What a type checker must find: `mypy --strict` reads it, and nothing runs it. An error that it does not find is one, too."""
+
+from array import array
+from collections.abc import Iterator
+from typing import assert_type
+
+from string_interner import Backend, Interner
+
+
+class Named(Interner):
+    name: str = ""
+
+
+backend: Backend = "buffer"
+names = Interner(["a"], backend=backend, capacity=3)
+assert_type(names.backend, Backend)
+assert_type(names.intern("a"), int)
+assert_type(names.get("a"), int | None)
+assert_type(names.resolve(0), str | None)
+assert_type(names[0], str)
+assert_type(names.resolve_all(names.intern_all(["a"], typecode="I")), list[str])
+assert_type(names.intern_all(names), "array[int]")
+assert_type(names.intern_column(bytearray(b"ab"), array("I", [1, 2])), "array[int]")
+assert_type(names.entries(), Iterator[tuple[int, str]])
+assert_type(Named.from_json("[]"), Named)
+assert_type(Named().copy(), Named)
+with Named() as named:
+    assert_type(named, Named)
+assert_type(list(names), list[str])
+
+names.intern(b"a")  # type: ignore[arg-type]
+names.intern_all([1])  # type: ignore[list-item]
+names.intern_all(["a"], typecode="d")  # type: ignore[arg-type]
+names.intern_column("a", [1])  # type: ignore[arg-type]
+names.resolve(1.5)  # type: ignore[arg-type]
+names["a"]  # type: ignore[index]
+Interner(backend="tree")  # type: ignore[arg-type]
+Interner.from_json(b"[]")  # type: ignore[arg-type]
