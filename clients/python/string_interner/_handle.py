@@ -109,8 +109,16 @@ _registry = threading.RLock()
 """Held while a handle is made, and by a thread that forks, from the last lock that it takes to the fork."""
 _handles: WeakSet[Handle] = WeakSet()
 _serials = count()
-_forks: list[list[Handle]] = []
-"""The handles that each fork under way holds."""
+
+
+class _Forks(threading.local):
+    """The handles that each fork under way in a thread holds."""
+
+    def __init__(self) -> None:
+        self.held: list[list[Handle]] = []
+
+
+_forks = _Forks()
 
 
 def _hold_all() -> None:
@@ -120,6 +128,8 @@ def _hold_all() -> None:
     handle as long as it waits for a lock, because that thread may have it.
     """
     held: list[Handle] = []
+    # First, because a signal handler may end the wait by an exception. The process forks all the same.
+    _forks.held.append(held)
     while True:
         _registry.acquire()
         newest = held[-1].serial if held else -1
@@ -129,12 +139,11 @@ def _hold_all() -> None:
         _registry.release()
         for handle in later:
             handle.lock.acquire()
-        held += later
-    _forks.append(held)
+            held.append(handle)
 
 
 def _release_all() -> None:
-    for handle in _forks.pop():
+    for handle in _forks.held.pop():
         handle.lock.release()
     _registry.release()
 

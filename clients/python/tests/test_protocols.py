@@ -10,6 +10,7 @@ from array import array
 from collections.abc import Collection
 
 from string_interner import Interner
+from string_interner._copies import copy_ends
 
 BACKENDS = ("string", "bucket", "buffer")
 WRONG_TEXTS = (b"a", bytearray(b"a"), 1, 1.5, None, ["a"], object())
@@ -131,6 +132,13 @@ class Ends(unittest.TestCase):
                 with self.assertRaisesRegex(ValueError, "an end"):
                     interner.intern_column(b"abcd", given)
                 self.assertEqual(list(interner), ["a"], (bad, given))
+
+    def test_a_negative_end_passes_even_long_bytes(self):
+        for length in (0, 2**31 - 1, 2**31, 2**32, 2**40):
+            for given in self.ends_of(1, -1, -(2**31), 2):
+                ends = copy_ends(given, length)
+                self.assertEqual((ends[0], ends[3]), (1, 2))
+                self.assertGreater(min(ends[1:3]), length)
 
     def test_what_is_no_row_of_integers(self):
         for wrong in (None, 1, 1.5, [1.5], ["1"], array("d", [1]), memoryview(array("f", [1])), memoryview(b"ab").cast("c"),

@@ -219,7 +219,7 @@ class Threads(unittest.TestCase):
             import threading
             from array import array
             from string_interner import Interner
-            ROWS = 1_000_000
+            ROWS = 400_000
             joined, ends = b"ab" * ROWS, array("Q", range(2, 2 * ROWS + 1, 2))
             more, ended = array("Q", [2 * ROWS]) * (2 * ROWS), threading.Event()
             def move():
@@ -231,7 +231,7 @@ class Threads(unittest.TestCase):
             mover = threading.Thread(target=move, daemon=True)
             mover.start()
             interner, codes = Interner(), set()
-            for _ in range(30):
+            for _ in range(20):
                 codes.update(interner.intern_column(joined, ends))
             ended.set()
             mover.join()
@@ -270,24 +270,6 @@ class Threads(unittest.TestCase):
                     interner.intern_all(texts)
             self.assertLessEqual({*interner}, {short, long})
 
-    def test_bytes_that_another_thread_grows(self):
-        joined, failed = bytearray(b"ab" * 100_000), []
-        ends = array("Q", range(2, len(joined) + 1, 2))
-
-        def grow():
-            try:
-                joined.extend(bytes(1 << 20))
-                del joined[200_000:]
-            except BufferError as error:
-                failed.append(error)
-
-        interner = Interner()
-        with running(grow):
-            for _ in range(100):
-                interner.intern_column(joined, ends)
-        self.assertEqual(list(interner), ["ab"])
-        self.assertEqual(failed, [])
-
     def test_two_are_compared_in_both_orders(self):
         one, other, results = Interner(["a"]), Interner(["a"]), []
         threads = [threading.Thread(target=lambda: results.append(all(one == other for _ in range(3000))), daemon=True),
@@ -317,7 +299,7 @@ class Forks(unittest.TestCase):
         return bad
 
     def test_a_child_finds_the_interner_whole(self):
-        interner, texts = Interner(), [f"text {number}" for number in range(200_000)]
+        interner, texts = Interner(), [f"text {number}" for number in range(100_000)]
 
         def look():
             known = list(interner)
@@ -375,6 +357,44 @@ class Forks(unittest.TestCase):
             self.assertEqual(self.fork(look), 0)
 
 
+    def test_an_exception_while_a_fork_waits(self):
+        first, busy, later, caught = Interner(["a"]), Interner(["a"]), Interner(["a"]), []
+        inside, ended = threading.Event(), threading.Event()
+
+        def call():
+            with busy._handle.lock:
+                inside.set()
+                ended.wait()
+
+        def interrupt(*_):
+            raise KeyboardInterrupt
+
+        caller = threading.Thread(target=call)
+        caller.start()
+        inside.wait()
+        before, hook = signal.signal(signal.SIGALRM, interrupt), sys.unraisablehook
+        sys.unraisablehook = lambda raised: caught.append(raised.exc_type)
+        signal.setitimer(signal.ITIMER_REAL, 0.3)
+        try:
+            child = os.fork()
+            if not child:
+                os._exit(0)
+            os.waitpid(child, 0)
+        finally:
+            signal.signal(signal.SIGALRM, before)
+            sys.unraisablehook = hook
+            ended.set()
+            caller.join()
+        self.assertIn(KeyboardInterrupt, caught)
+        # No lock was kept.
+        found = []
+        asker = threading.Thread(target=lambda: found.extend([it.get("a") for it in (first, busy, later, Interner(["a"]))]),
+                                 daemon=True)
+        asker.start()
+        asker.join(10)
+        self.assertEqual(found, [0, 0, 0, 0])
+
+
 class CallsBetweenSteps(unittest.TestCase):
     """A finalizer or a signal handler runs between any two steps of the thread that it comes upon."""
 
@@ -396,6 +416,23 @@ class CallsBetweenSteps(unittest.TestCase):
                 self.assertIn(list(interner.items()), wanted)
                 self.assertIn(list(interner), states)
         self.assertGreater(turn, 300)
+
+    def test_what_is_copied_may_grow_meanwhile(self):
+        joined, ends, interner, failed = bytearray(b"ab" * 1000), array("Q", range(2, 2001, 2)), Interner(), []
+
+        def grow():
+            try:
+                joined.extend(b"ab" * 1000)
+                del joined[2000:]
+                ends.extend([2000] * 1000)
+                del ends[1000:]
+            except BufferError as error:
+                failed.append(error)
+
+        with collecting(grow):
+            for _ in range(300):
+                self.assertEqual({*interner.intern_column(joined, ends)}, {0})
+        self.assertEqual((list(interner), failed), (["ab"], []))
 
     def test_a_list_that_changes_is_read_once(self):
         for pair in (["a", "bbb"], ["ß", "ßßß"]):
