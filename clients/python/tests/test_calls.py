@@ -1,10 +1,9 @@
-"""Tests of the module, beside what a dict and a list say."""
+"""Tests of each call, over each backend."""
 
 import copy
 import doctest
 import json
 import pickle
-import random
 import threading
 import unittest
 from array import array
@@ -161,19 +160,6 @@ class Calls:
         for wrong, why in (('["a"', "not JSON"), ("{}", "not an array"), ('["a",1]', "not a string")):
             with self.assertRaisesRegex(ValueError, why):
                 Interner.from_json(wrong)
-
-    def test_agrees_with_a_dict(self):
-        interner = self.make()
-        chooser, known = random.Random(7), []
-        for _ in range(300):
-            column = ["".join(chooser.choices("abß語", k=chooser.randrange(5))) for _ in range(chooser.randrange(40))]
-            known = list(dict.fromkeys(known + column))
-            numbers = dict(zip(known, places(known, self.backend)))
-            self.assertEqual(interner.intern_all(column).tolist(), [numbers[text] for text in column])
-            self.assertEqual(list(interner), known)
-            if chooser.random() < 0.1:
-                known = known[: chooser.randrange(len(known) + 1)]
-                interner.truncate(len(known))
 
 
 class OverString(Calls, unittest.TestCase):
