@@ -31,7 +31,7 @@ from array import array
 from collections.abc import Iterable, Iterator
 from itertools import accumulate
 from operator import attrgetter, index
-from typing import TYPE_CHECKING, Any, Literal, Self, SupportsIndex
+from typing import TYPE_CHECKING, Literal, Self, SupportsIndex
 
 from ._copies import copy_bytes, copy_ends, copy_numbers, count_letters, encode, narrow
 from ._handle import Handle
@@ -294,10 +294,6 @@ class Interner:
         # What a subclass has, and a copy of the texts, which whoever takes this state has for itself.
         attributes, slots = super().__getstate__()  # type: ignore[misc]
         return attributes, slots | {"_handle": self._handle.clone()}
-
-    def __reduce_ex__(self, protocol: SupportsIndex) -> str | tuple[Any, ...]:
-        # Protocols 0 and 1 by themselves know no slots, but can write what 2 has.
-        return super().__reduce_ex__(max(index(protocol), 2))
 
     def __repr__(self) -> str:
         handle = self._handle

@@ -318,6 +318,12 @@ class Subclasses(unittest.TestCase):
 
         self.assertEqual(pickle.loads(pickle.dumps(Quiet(["a"]))), ["a"])
 
+    def test_a_pickle_whose_texts_repeat_is_refused(self):
+        written = pickle.dumps(Interner(["a", "b"]))
+        self.assertEqual(written.count(b'["a","b"]'), 1)
+        with self.assertRaisesRegex(ValueError, "twice"):
+            pickle.loads(written.replace(b'["a","b"]', b'["a","a"]'))
+
     def test_from_json_keeps_the_class(self):
         for kind in (Named, Interner):
             interner = kind.from_json('["a"]', backend="bucket")

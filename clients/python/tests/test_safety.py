@@ -357,6 +357,34 @@ class Forks(unittest.TestCase):
             self.assertEqual(self.fork(look), 0)
 
 
+    def test_nothing_is_called_or_made_at_the_fork(self):
+        # What is registered first runs last before the fork: all locks are then taken.
+        self.assertEqual(run_apart("""
+            import os, threading
+            blocked = []
+            def look():
+                for call in (lambda: known.get("a"), lambda: made[0].get("b"), Interner):
+                    caller = threading.Thread(target=call, daemon=True)
+                    caller.start()
+                    caller.join(0.2)
+                    blocked.append(caller.is_alive())
+            os.register_at_fork(before=look)
+            from string_interner import Interner
+            known, made, inside = Interner(["a"]), [], threading.Event()
+            def make():
+                with known._handle.lock:
+                    inside.set()
+                    threading.Event().wait(0.2)
+                    made.append(Interner(["b"]))
+            threading.Thread(target=make).start()
+            inside.wait()
+            child = os.fork()
+            if child:
+                print(blocked, os.waitpid(child, 0)[1], known.get("a"), made[0].get("b"), len(Interner()))
+            else:
+                os._exit((known.get("a"), made[0].get("b"), len(Interner())) != (0, 0, 0))
+            """), (0, "[True, True, True] 0 0 0 0", ""))
+
     def test_an_exception_while_a_fork_waits(self):
         first, busy, later, caught = Interner(["a"]), Interner(["a"]), Interner(["a"]), []
         inside, ended = threading.Event(), threading.Event()
