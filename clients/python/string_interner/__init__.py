@@ -108,17 +108,17 @@ class Interner:
     def intern_all(self, texts: Iterable[str], *, typecode: Typecode = "Q") -> array[int]:
         """Returns the number of each text, in order, in an array: 8 bytes for each, or 4 if the typecode is "I".
 
-        One call of the library. At a text that raises OverflowError or MemoryError, the texts before it stay. Where one is
-        no text, or has no UTF-8 form, nothing changes.
+        One call of the library. At a text that raises OverflowError or MemoryError, the texts before it stay. If one is no
+        text, or has no UTF-8 form, nothing changes. numpy reads the array without a copy.
         """
         # Read once, because another thread may change what it is read from.
         texts = list(texts)
         joined = "".join(texts)
         if joined.isascii():
             # So a letter is a byte, and no text need be encoded by itself.
-            return self._intern_parts(joined.encode(), array("Q", list(accumulate(count_letters(texts)))), typecode)
-        raws = list(map(encode, texts))
-        return self._intern_parts(b"".join(raws), array("Q", list(accumulate(map(len, raws)))), typecode)
+            return self._intern_parts(joined.encode(), array("Q", accumulate(count_letters(texts))), typecode)
+        raws = list(map(str.encode, texts))
+        return self._intern_parts(b"".join(raws), array("Q", accumulate(map(len, raws))), typecode)
 
     def intern_column(
         self, joined: ReadableBuffer, ends: Iterable[SupportsIndex], *, typecode: Typecode = "Q"

@@ -41,9 +41,9 @@ def copy_bytes(joined: ReadableBuffer) -> bytes:
 
 def copy_numbers(numbers: Iterable[SupportsIndex]) -> array[int] | list[int]:
     """A copy of some integers: an array if they lie in a buffer, else a list."""
-    if type(numbers) is array:
+    if type(numbers) is array and numbers.typecode in _INTEGERS:
         # One step, so that no other thread finds the buffer in use.
-        numbers = numbers[:]
+        return numbers[:]
     try:
         with memoryview(numbers) as view:  # type: ignore[arg-type]
             if view.ndim == 1 and view.format in _INTEGERS:
@@ -59,7 +59,7 @@ def copy_ends(ends: Iterable[SupportsIndex], length: int) -> array[int]:
     numbers = copy_numbers(ends)
     if isinstance(numbers, array) and numbers.itemsize == 8:
         # A negative one becomes 2^63 or more.
-        return array("Q", numbers.tobytes())
+        return numbers if numbers.typecode == "Q" else array("Q", numbers.tobytes())
     if isinstance(numbers, array) and numbers.itemsize == 4 and length < 1 << 31:
         # And here 2^31 or more.
         return _widen(array("I", numbers.tobytes()))

@@ -4,6 +4,7 @@ import copy
 import ctypes
 import gc
 import pickle
+import threading
 import unittest
 import weakref
 from array import array
@@ -240,7 +241,7 @@ class Containers(unittest.TestCase):
 
 class Closing(unittest.TestCase):
     def test_a_closed_one_takes_no_call(self):
-        interner, other = Interner(["a"]), Interner(["a"])
+        other, interner, later = Interner(["a"]), Interner(["a"]), Interner(["a"])
         with interner as entered:
             self.assertIs(entered, interner)
             self.assertEqual(interner.get("a"), 0)
@@ -252,6 +253,7 @@ class Closing(unittest.TestCase):
             lambda: list(interner), lambda: list(reversed(interner)), lambda: interner.entries(), lambda: interner.items(),
             lambda: interner.truncate(0), lambda: interner.shrink(), lambda: interner.to_json(), lambda: len(interner),
             lambda: "a" in interner, lambda: 7 in interner, lambda: interner == other, lambda: other == interner,
+            lambda: interner == later, lambda: later == interner,
             lambda: interner.copy(), lambda: copy.deepcopy(interner), lambda: pickle.dumps(interner),
             lambda: interner.__enter__(),
         ]
@@ -261,6 +263,24 @@ class Closing(unittest.TestCase):
         self.assertIn("closed", repr(interner))
         self.assertEqual(interner.backend, "string")
         self.assertEqual(list(other), ["a"])
+
+    def test_a_thread_finds_it_closed(self):
+        interner, raised = Interner(), []
+
+        def fill():
+            try:
+                while True:
+                    interner.intern_all(["a", "b"])
+            except ValueError as error:
+                raised.append(str(error))
+
+        threads = [threading.Thread(target=fill, daemon=True) for _ in range(3)]
+        for thread in threads:
+            thread.start()
+        interner.close()
+        for thread in threads:
+            thread.join(20)
+        self.assertEqual(raised, ["the interner is closed"] * 3)
 
     def test_an_error_closes_too(self):
         interner = Interner()
