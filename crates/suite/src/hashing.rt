@@ -1,8 +1,9 @@
-//! A hasher of a caller that counts the texts that it hashes, and the calls under it: on two interners, `one`, on which calls
-//! are made, and `other`.
+//! A hasher of a caller that counts the texts that it hashes, and the calls under it: on two interners, `one`, on
+//! which calls are made, and `other`.
 //!
-//! The count is in a cell, which the hasher shares with its copies and clones. A call that was refused memory counts once,
-//! when it is made again. Nothing else is looked at, as the program does elsewhere before a call: that would hash, too.
+//! The count is in a cell, which the hasher shares with its copies and clones. A call that was refused memory counts
+//! once, when it is made again. Elsewhere the program looks at all texts before a call; here it does not, because that
+//! would hash them.
 
 mod scopes;
 
