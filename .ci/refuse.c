@@ -1,9 +1,10 @@
 /* Stands before the C library of a program (LD_PRELOAD), to refuse it memory and to see what it asks for and gives back.
 
    REFUSE=N refuses the Nth request, counted from 1, and with REFUSE_ON, set to anything, all after it. It says `request
-   refused` on standard error for each. TELL_ASKS, set to anything, says `asks BYTES` there for each request. Both lines are written at once, so that they stand before whatever
-   the program prints next. TELL_HELD, set to anything, says `holds BLOCKS` there as the program ends: how many blocks
-   it was granted and did not give back.
+   refused` on standard error for each. TELL_ASKS, set to anything, says `asks BYTES` there for each request. Both lines are
+   written at once, so that they stand before whatever the program prints next. TELL_HELD, set to anything, says `holds
+   BLOCKS` there as the program ends: how many blocks it was granted and did not give back. The built programs call malloc,
+   realloc and free, and no other call for memory.
 
    It includes nothing: the kit's compiler runs where no headers of the C library are installed. */
 typedef unsigned long size_type;

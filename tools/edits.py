@@ -70,6 +70,10 @@ def read_edit(path):
                 raise ValueError(f"{path}:{number}: not a line of a planted bug: {line}")
     if any(change.new is None for change in edit.changes) or not edit.changes:
         raise ValueError(f"{path}: an old text has no new one")
+    wanted = {REFUSED: ("function", edit.function), CAUGHT: ("scenario", edit.scenario)}
+    word, said = wanted[path.parent.name]
+    if not said:
+        raise ValueError(f"{path}: it has no line `{word}:`")
     return edit
 
 

@@ -43,17 +43,17 @@ def answer_by_tactics(goal, given, is_answered):
 
 
 def without_answers(answers, but):
-    """Takes out each answer but that to this goal.
+    """Takes out each answer but those to these goals.
 
-    What this one cites gets a hole, and so does each where the file also names states of its goals: some of these are there
-    for an answer's sake alone.
+    What these cite gets a hole, and so does each where the file also names states of its goals: some of these are there for
+    an answer's sake alone.
     """
-    tried = next((it[0].partition("\n")[2] for it in ANSWER.finditer(answers) if it[1] == but), "")
+    tried = "".join(it[0].partition("\n")[2] for it in ANSWER.finditer(answers) if it[1] in but)
     names_states = ".Goals.{" in answers
 
     def kept(answer):
         name = answer[1]
-        if name == but:
+        if name in but:
             return answer[0]
         is_named = names_states or re.search(rf"(?<!\S){re.escape(name)}(?!\S)", tried)
         return f"pub {name} : goal.{name}\n{name} = ?\n" if is_named else ""

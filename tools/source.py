@@ -65,7 +65,7 @@ def names_a_type(text, at):
 
 def without_comments(text):
     """The text without comments and imports, on which no verdict rests."""
-    lines = (line for line in text.splitlines() if not re.match(r"\s*(?://|--|(?:pub )?(?:ghost )?use )", line))
+    lines = (line for line in text.splitlines() if not re.match(r"\s*(?://|--|(?:pub )?(?:ghost )?use |(?:pub )?mod \w+;)", line))
     return "\n".join(line.rstrip() for line in lines if line.strip())
 
 
@@ -74,3 +74,8 @@ def outside_functions(text):
     for function in functions(text):
         text = text.replace(function.text, "")
     return without_comments(text)
+
+
+def items(text):
+    """The items of a source text without their functions: types, traits, impls, constants and macros."""
+    return [it for it in re.split(r"^(?=\S)(?!\})", outside_functions(text), flags=re.M) if not re.match(r"(?:pub )?mod \w+;|$", it)]

@@ -1,16 +1,18 @@
 #!/usr/bin/env python3
 """usage: touched.py    prints which planted bugs the changes since the last full run can touch, a line each: CRATE NAME
 
-The file tools/tried-in-full names the commit of the last full run: the last one on which all planted bugs of must-fail/ were
-tried and refused. A planted bug is touched if, since then,
+The file tools/tried-in-full names the last commit on which all planted bugs of must-fail/ were tried and refused, and the
+toolchain. A planted bug is touched if, since then,
 
   - its own file is new or has changed,
   - its function has changed, or a proof file of that function,
   - the file that it changes has changed outside functions (types, invariants, ghost members),
+  - a function that its function or its own text calls has another contract,
   - a trait's contract for a method of its function's name has changed,
-  - or a definition has changed that its function's contract cites, by itself or through other definitions.
+  - or a definition or a type has changed that its function cites, by itself or through other definitions.
 
-Where the text does not tell, the bug counts as touched. With no such commit, all are.
+All this is told by names, so more are touched than need be. With no such commit, or with another toolchain, all are. What
+tries the bugs (tools/*.py and tools/refuse-edits) is not considered: its own tests judge it.
 """
 
 import re
@@ -18,7 +20,7 @@ import subprocess
 from functools import cache
 
 from edits import TOP, below, crates, edits_of
-from source import functions, functions_of_traits, outside_functions, without_comments
+from source import functions, functions_of_traits, items, outside_functions, without_comments
 
 TRIED = TOP / "tools/tried-in-full"
 WORD = re.compile(r"[\w'-]+")
@@ -54,7 +56,9 @@ class Changes:
 
     def __init__(self, commit):
         self.commit = commit
-        listed = git("diff", "--name-only", commit, "--", "crates"), git("ls-files", "--others", "--exclude-standard", "crates")
+        # A file that has moved counts as one that is gone and one that is new.
+        changed = git("diff", "--name-only", "--no-renames", commit, "--", "crates")
+        listed = changed, git("ls-files", "--others", "--exclude-standard", "crates")
         self.files = {name for names in listed for name in names.split()}
 
     @cache
@@ -71,19 +75,27 @@ class Changes:
     @cache
     def methods(self, crate):
         """The names of methods whose declaration in a trait has changed."""
+        return self.changed_names(crate, lambda text: [(it.name, without_comments(it.text)) for it in functions_of_traits(text)])
+
+    @cache
+    def callees(self, crate):
+        """The names of functions whose contracts have changed."""
+        return self.changed_names(crate, lambda text: [(it.name, without_comments(it.contract)) for it in functions(text)])
+
+    def changed_names(self, crate, named_texts, suffix=".rt"):
+        """The names that have other texts than before, where a function gives the names and texts of a file."""
         names = set()
-        for versions in self.changed_below(crate, ".rt"):
-            old, new = ({(it.name, without_comments(it.text)) for it in functions_of_traits(text)} for text in versions)
+        for versions in self.changed_below(crate, suffix):
+            old, new = map(set, map(named_texts, versions))
             names |= {name for name, _ in old ^ new}
         return names
 
     @cache
     def definitions(self, crate):
-        """The names of the definitions that have changed, and of those that cite them, one through another."""
-        names = set()
-        for versions in self.changed_below(crate, ".antt"):
-            old, new = ({(frozenset(it), text) for it, text in definitions(version)} for version in versions)
-            names |= {name for defined, _ in old ^ new for name in defined}
+        """The names of the definitions and types that have changed, and of the definitions that cite them, one through
+        another."""
+        names = self.changed_names(crate, lambda text: [(name, it) for it in items(text) for name in names_of(it)])
+        names |= self.changed_names(crate, lambda text: [(name, it) for defined, it in definitions(text) for name in defined], ".antt")
         cited = [(defined, set(WORD.findall(text))) for defined, text in all_definitions(crate)] if names else []
         while more := {name for defined, words in cited if words & names for name in defined} - names:
             names |= more
@@ -96,15 +108,21 @@ class Changes:
         own = (f"{crate}/must-fail/{edit.name}.edit", f"{crate}/proofs/{edit.function.replace('::', '/')}/")
         if name in self.methods(edit.crate) or any(file.startswith(own) for file in self.files):
             return True
-        cited = words_of_methods(edit.crate, name)
+        cited = set(words_of_methods(edit.crate, name)).union(*(WORD.findall(change.new) for change in edit.changes))
         for file in (f"{crate}/{it}" for it in edit.files):
             old, new = self.versions(file)
             if functions_by_name(old).get(name) != functions_by_name(new).get(name) or outside_functions(old) != outside_functions(new):
                 return True
             # What a type's invariant or a ghost member cites is part of each contract in its file.
-            cited = cited.union(WORD.findall(outside_functions(new)))
-            cited |= {word for it in functions(new) if it.name == name for word in WORD.findall(it.contract)}
-        return bool(cited & self.definitions(edit.crate))
+            cited.update(WORD.findall(outside_functions(new)))
+            cited.update(word for it in functions(new) if it.name == name for word in WORD.findall(it.text))
+        return bool(cited & (self.definitions(edit.crate) | self.callees(edit.crate)))
+
+
+def names_of(item):
+    """What an item of a source file declares or is about: its own name, its types, and its ghost members."""
+    head = item.partition("{")[0]
+    return {*re.findall(r"\b[A-Z]\w+", head), *re.findall(r"\bghost (\w+)", item), *re.findall(r"\b(?:const|macro_rules!) (\w+)", head)}
 
 
 def all_definitions(crate):
@@ -122,19 +140,27 @@ def words_of_methods(crate, name):
     return frozenset(word for it in declared for word in WORD.findall(it.contract))
 
 
+def toolchain():
+    """The toolchain's one-line identity."""
+    return subprocess.run(["rt", "version"], capture_output=True, encoding="utf-8", check=False).stdout.strip()
+
+
 def last_full_run():
-    """The commit of the last full run, or None where the file or the commit is not there."""
-    commit = TRIED.read_text(encoding="utf-8").strip() if TRIED.exists() else ""
-    return commit if commit and git("cat-file", "-e", f"{commit}^{{commit}}") is not None else None
+    """The commit of the last full run, or None if there is none to compare with."""
+    commit, _, kit = TRIED.read_text(encoding="utf-8").partition("\n") if TRIED.exists() else ("", "", "")
+    is_there = commit and git("cat-file", "-e", f"{commit}^{{commit}}") is not None
+    return commit if is_there and kit.strip() == toolchain() else None
 
 
-def note_full_run():
-    """Writes the commit that is checked out to the file, unless the checkout differs from it, and says so."""
-    if git("status", "--porcelain"):
-        return "not noted as a full run: the checkout differs from its commit"
-    commit = git("rev-parse", "HEAD")
-    TRIED.write_text(commit, encoding="utf-8")
-    return f"noted as a full run in {TRIED.relative_to(TOP)}: {commit.strip()}"
+def commit_as_it_stands():
+    """The commit that is checked out, or None if the checkout differs from it."""
+    commit, status = git("rev-parse", "HEAD"), git("status", "--porcelain")
+    return commit.strip() if commit and status == "" else None
+
+
+def note_full_run(commit):
+    """Writes that all planted bugs were tried on this commit."""
+    TRIED.write_text(f"{commit}\n{toolchain()}\n", encoding="utf-8")
 
 
 def touched():
@@ -143,8 +169,7 @@ def touched():
     changes = Changes(commit) if commit else None
     found = {}
     for crate in crates():
-        edits = edits_of(crate)
-        names = [it.name for it in edits if not changes or changes.touch(it)]
+        names = [it.name for it in edits_of(crate) if not changes or changes.touch(it)]
         if names:
             found[crate] = names
     return found

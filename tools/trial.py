@@ -29,8 +29,6 @@ class Trial:
     """
 
     def __init__(self, edit: Edit, is_thorough: bool):
-        if not edit.function:
-            raise Unfit(f"{edit.name}: it names no function")
         self.name, self.function, self.goal = edit.name, edit.function, edit.goal
         # The function that it is tried in: this one, or a copy of it.
         self.tried_in = edit.function
@@ -97,7 +95,7 @@ class Trial:
         """The proof file that tries the goal alone, or all goals where none is named."""
         if not self.goal:
             return self.answers
-        return proof_file.with_tactics(proof_file.without_answers(self.answers, self.goal), self.tactics)
+        return proof_file.with_tactics(proof_file.without_answers(self.answers, {self.goal}), self.tactics)
 
     def put(self, folder):
         """Puts the proof file that tries it into this copy of its crate, and returns what it changes."""

@@ -56,8 +56,6 @@ class Verdicts:
         return list(dict.fromkeys([*self.open[trial.tried_in], *failed]))
 
     def is_out_of_reach(self, trial):
-        """Reports whether the goal stands where nothing is changed, has no answer, and is not proved there by the tactics."""
-        if trial.is_answered:
-            return False
+        """Reports whether the goal stands where nothing is changed, and is not proved there by its answer or the tactics."""
         said = [message for name, message in self.errors.get(trial.function, []) if name == trial.goal]
         return bool(said) and not any(map(MISSING.search, said)) or trial.goal in self.open.get(trial.function, [])

@@ -1,4 +1,4 @@
-//! `serve` over readers and writers in memory. When a reader or writer fails, no clause says.
+//! `serve` over readers and writers in memory. No clause says when a reader or a writer fails.
 //!
 //! `memory.py` puts this into a copy of the crate `intern`, and runs it there.
 

@@ -2,7 +2,7 @@
 
 import unittest
 
-from small import SOURCE, SmallRepository
+from small import SHAPE, SOURCE, SmallRepository
 import proof_file
 from source import functions, names_a_type, outside_functions
 from trial import Trial, Unfit, apply
@@ -10,9 +10,10 @@ from trial import Trial, Unfit, apply
 
 class SourceTest(unittest.TestCase):
     def test_functions(self):
-        self.assertEqual([it.name for it in functions(SOURCE)], ["area", "area", "double", "half"])
-        declared, method, double, _ = functions(SOURCE)
+        self.assertEqual([it.name for it in functions(SOURCE)], ["area", "double", "half", "quarter"])
+        [declared] = functions(SHAPE)
         self.assertTrue(declared.text.endswith("ensures { AreaOf self.now result };"))
+        method, double, *_ = functions(SOURCE)
         self.assertTrue(method.text.endswith("side * side\n    }"))
         self.assertEqual(double.contract, "pub fn double(number: u32) -> u32\n    ensures { IsTwice number result }\n")
 
@@ -23,7 +24,8 @@ class SourceTest(unittest.TestCase):
         self.assertNotIn("Doubles", outside)
 
     def test_names_a_type(self):
-        for text, does in (("<'a>(", False), ("<'a, T>(", True), ("<T: Into<u8>>(", True), ("(", False), ("<F: Fn(u8) -> u8>", True)):
+        types = (("<'a>(", False), ("<'a, T>(", True), ("<T: Into<u8>>(", True), ("(", False), ("<'a: 'b>(x: Vec<T>)", False))
+        for text, does in (*types, ("<'a, F: Fn() -> u8, T>", True), ("<'a>(f: Fn() -> Box<T>)", False)):
             with self.subTest(text):
                 self.assertEqual(names_a_type(text, 0), does)
 
@@ -32,7 +34,7 @@ class TrialTest(SmallRepository):
     def test_it_replaces_its_text(self):
         trial = Trial(self.edit("halves_twice"), False)
         apply(trial.put(self.top / "crates/low"), self.top / "crates/low")
-        self.assertEqual((self.top / "crates/low/src/lib.rt").read_text(), SOURCE.replace("number / 2", "number / 4"))
+        self.assertEqual((self.top / "crates/low/src/lib.rt").read_text(), SOURCE.replace("number / 2", "number / 8"))
 
     def test_a_copy_stands_behind_its_function(self):
         folder = self.top / "crates/low"
@@ -40,7 +42,7 @@ class TrialTest(SmallRepository):
         self.assertTrue(trial.has_copies)
         apply(trial.put_beside(folder), folder)
         names = [it.name for it in functions((folder / "src/lib.rt").read_text())]
-        self.assertEqual(names, ["area", "area", "double", "double_in_doubles_once", "half"])
+        self.assertEqual(names, ["area", "double", "double_in_doubles_once", "half", "quarter"])
         copied = (folder / "proofs/double_in_doubles_once/Answers.antt").read_text()
         self.assertIn("use Rattle.low.proofs.double_in_doubles_once.Goals as goal", copied)
         self.assertIn("pub fn double_in_doubles_once(number: u32)", (folder / "src/lib.rt").read_text())
@@ -50,7 +52,7 @@ class TrialTest(SmallRepository):
 
     def test_a_function_that_calls_itself_has_no_copy(self):
         self.write("crates/low/src/lib.rt", SOURCE.replace("number / 2", "half(number) / 2"))
-        self.write_edit("halves_twice", "half(number) / 2", "half(number) / 4", "half", "returns")
+        self.write_edit("halves_twice", "half(number) / 2", "half(number) / 8", "half", "returns")
         self.assertFalse(Trial(self.edit("halves_twice"), False).has_copies)
 
     def test_a_control_changes_nothing_but_the_name(self):
@@ -69,6 +71,12 @@ class TrialTest(SmallRepository):
         self.assertEqual(Trial(self.edit("doubles_once"), False).tactics, [])
         self.assertIn("by-tactics : goal.returns\nby-tactics g c = ", Trial(self.edit("doubles_once"), True).tries())
 
+    def test_without_a_goal_the_prover_tries_all_by_itself(self):
+        edit = self.edit("halves_twice")
+        edit.goal = None
+        apply(Trial(edit, False).put(self.top / "crates/low"), self.top / "crates/low")
+        self.assertIn("#[tactic(auto)]\nfn half(", (self.top / "crates/low/src/lib.rt").read_text())
+
     def test_unfit(self):
         for old, function in (("number", "double"), ("number / 3", "half"), ("number / 2", "third")):
             self.write_edit("halves_twice", old, "0", function, "returns")
@@ -82,13 +90,17 @@ class ProofFileTest(SmallRepository):
         self.answers = (self.top / "crates/low/proofs/double/Answers.antt").read_text()
 
     def test_only_the_named_answer_stays(self):
-        left = proof_file.without_answers(self.answers, "returns")
+        left = proof_file.without_answers(self.answers, {"returns"})
         self.assertIn("returns g c = lemma", left)
         self.assertNotIn("returns-then-ne", left)
 
     def test_what_the_named_answer_cites_gets_a_hole(self):
-        left = proof_file.without_answers(self.answers, "returns-then-ne")
+        left = proof_file.without_answers(self.answers, {"returns-then-ne"})
         self.assertIn("pub returns : goal.returns\nreturns = ?\n", left)
+
+    def test_states_that_the_file_names_keep_all_goals(self):
+        answers = self.answers.replace("Goals as goal\n", "Goals as goal\nuse Rattle.low.proofs.double.Goals.{In-Some}\n")
+        self.assertIn("pub returns-then-ne : goal.returns-then-ne\nreturns-then-ne = ?\n", proof_file.without_answers(answers, {"returns"}))
 
     def test_without_any_answer_no_goal_is_named(self):
         left = proof_file.without_any_answer(self.answers)

@@ -81,9 +81,16 @@ class VerdictsTest(unittest.TestCase):
         self.assertEqual(self.outcome("fn low::double: proved\nonly=1 proved=1\n", goal=None), LET_THROUGH)
 
     def test_a_goal_out_of_reach(self):
-        self.assertTrue(Verdicts(REFUSAL, "low").is_out_of_reach(Tried(is_answered=False)))
-        self.assertFalse(Verdicts(REFUSAL, "low").is_out_of_reach(Tried(is_answered=True)))
-        self.assertFalse(Verdicts(MISSING_GOAL, "low").is_out_of_reach(Tried(is_answered=False)))
+        self.assertTrue(Verdicts(REFUSAL, "low").is_out_of_reach(Tried()))
+        self.assertTrue(Verdicts(PROVED, "low").is_out_of_reach(Tried(goal="returns-then-ne")))
+        self.assertFalse(Verdicts(PROVED, "low").is_out_of_reach(Tried()))
+
+    def test_a_goal_that_the_bug_brings_in_is_in_reach(self):
+        self.assertFalse(Verdicts(MISSING_GOAL, "low").is_out_of_reach(Tried()))
+
+    def test_an_error_of_another_goal_does_not_matter(self):
+        other = REFUSAL.replace("`returns`: `search`: no proof", "`returns-then-ne`: `goal.returns`: module has no `x`")
+        self.assertEqual(self.outcome(other), LET_THROUGH)
 
     def test_a_check_that_was_cut_off_says_nothing(self):
         self.assertTrue(is_complete(REFUSAL, 1))

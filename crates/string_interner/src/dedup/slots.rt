@@ -107,7 +107,7 @@ impl<S: Symbol> Slots<S> {
     /// Returns as many slots with the same symbols, copied at once. Reads no text. Returns `Err` only if an allocation
     /// fails.
     ///
-    /// Takes the backend of the symbols' entries, which a look-up has in its `Looks` alone. So no look-up can copy the
+    /// Takes the backend of the symbols' entries, which `Index::find` has in its `Looks` alone. So it cannot copy the
     /// slots, and read them without a look.
     pub fn try_copy<B: Backend<Symbol = S>>(&self, backend: &B) -> Result<Self, AllocError>
         requires { (s : S) → Contains self.now (Some s)

@@ -134,9 +134,10 @@ pub trait TextIndex<S: Symbol> {
 
 /// An index that can be copied.
 pub trait CopyIndex<S: Symbol>: TextIndex<S> {
-    /// Returns an equal index. Takes the backend whose entries the index has, and hashes and reads no text.
+    /// Returns an equal index. Hashes and reads no text.
     ///
-    /// Returns `Err` only if an allocation fails.
+    /// Returns `Err` only if an allocation fails. Takes the backend whose entries the index has, so that a look-up that
+    /// is to count its looks, as `Index::find`, cannot copy the index and look at the copy.
     fn try_copy<B: Backend<Symbol = S>>(&self, backend: &B) -> Result<Self, AllocError>
         requires { (code : Text → ℕ)
             × Self.indexes self.now (entry_text S.number B.place (B.texts backend.now)) code }

@@ -1,0 +1,50 @@
+"""Which planted bugs are tried together, and what is tried where nothing is changed."""
+
+import proof_file
+from verdicts import LET_THROUGH
+
+# A check takes some thirty seconds beside its bugs, so few get so many each, in the mean.
+TOGETHER = 80
+
+
+def batches(trials, workers):
+    """Deals out trials so that no batch has two of a function that has no copies, and all workers end at about the same
+    time."""
+    dealt, further = [[] for _ in range(workers * -(-len(trials) // (workers * TOGETHER)))], []
+    for trial in sorted(trials, key=lambda it: it.has_copies):
+        able = [it for it in dealt if trial.has_copies or all(other.function != trial.function for other in it)]
+        if able:
+            min(able, key=len).append(trial)
+        else:
+            further.append([trial])
+    return [it for it in [*further, *dealt] if it]
+
+
+def proof_files_without_bugs(trials):
+    """For each proof file the text that tries the goals of all its trials where nothing is changed, by their answers, or by
+    the tactics where they have none."""
+    files = {}
+    for trial in trials:
+        files.setdefault(trial.proof, []).append(trial)
+    return {proof: proof_file_without_bugs(of_one) for proof, of_one in files.items() if any(it.goal for it in of_one)}
+
+
+def proof_file_without_bugs(trials):
+    """The same for the trials of one function."""
+    answers = proof_file.without_answers(trials[0].answers, {it.goal for it in trials})
+    return proof_file.with_tactics(answers, dict.fromkeys(it.by_tactics() for it in trials if it.goal and not it.is_answered))
+
+
+def control_of(trials):
+    """A trial of a function as it is, by an answer of its proof file, if there is one."""
+    able = (it for it in trials if it.is_answered and it.has_copies and it.goal in it.goals)
+    return next((it.control() for it in able), None)
+
+
+def settle(outcomes, control, is_out_of_reach):
+    """How the trials fared, by what the control tells and what was seen where nothing is changed."""
+    told = outcomes.pop(control, LET_THROUGH)
+    if told != LET_THROUGH:
+        return dict.fromkeys(outcomes, f"the control {control.name} is not let through: {told}")
+    reason = "its goal is not proved where nothing is changed"
+    return {trial: reason if is_out_of_reach(trial) else outcome for trial, outcome in outcomes.items()}

@@ -1,0 +1,67 @@
+"""Which planted bugs are tried together, and how controls and first checks are settled."""
+
+import unittest
+
+from small import SmallRepository
+import plan
+import proof_file
+from trial import Trial
+from verdicts import LET_THROUGH, REFUSED
+
+
+class PlanTest(SmallRepository):
+    def trial(self, name):
+        return Trial(self.edit(name), False)
+
+    def several(self, function, old, count):
+        """So many trials of a function."""
+        for number in range(count):
+            self.write_edit(f"bug_{number}", old, str(number), function, "returns")
+        return [self.trial(f"bug_{number}") for number in range(count)]
+
+    def test_bugs_of_a_function_that_has_copies_go_together(self):
+        trials = self.several("half", "number / 2", 5)
+        self.assertEqual(plan.batches(trials, 1), [trials])
+
+    def test_bugs_of_a_function_that_has_none_go_one_by_one(self):
+        trials = self.several("SquareShape::area", "side * side", 3)
+        self.assertEqual([len(it) for it in plan.batches(trials, 1)], [1, 1, 1])
+        self.assertEqual({trial for batch in plan.batches(trials, 2) for trial in batch}, set(trials))
+
+    def test_workers_get_about_as_many_each(self):
+        trials = self.several("half", "number / 2", 7)
+        self.assertEqual(sorted(len(it) for it in plan.batches(trials, 3)), [2, 2, 3])
+
+    def test_goals_are_tried_where_nothing_is_changed(self):
+        files = plan.proof_files_without_bugs([self.trial("doubles_once"), self.trial("halves_twice")])
+        answered, by_tactics = files["proofs/double/Answers.antt"], files["proofs/half/Answers.antt"]
+        self.assertIn("returns g c = lemma", answered)
+        self.assertNotIn("returns-then-ne", answered)
+        self.assertIn(f"returns c = {proof_file.TACTICS}", by_tactics)
+
+    def test_all_goals_of_a_function_are_tried_at_once(self):
+        self.write_edit("doubles_never", "    number + number", "    0", "double", "returns-then-ne")
+        files = plan.proof_files_without_bugs([self.trial("doubles_once"), self.trial("doubles_never")])
+        self.assertIn("returns g c = lemma", files["proofs/double/Answers.antt"])
+        self.assertIn("returns-then-ne g c = returns g c", files["proofs/double/Answers.antt"])
+
+    def test_a_control_is_of_an_answered_goal(self):
+        self.assertIsNone(plan.control_of([self.trial("halves_twice")]))
+        control = plan.control_of([self.trial("halves_twice"), self.trial("doubles_once")])
+        self.assertEqual((control.function, [it[3] for it in control.changes]), ("double", [""]))
+
+    def test_a_control_that_is_not_let_through_fails_all(self):
+        trial, control = self.trial("halves_twice"), self.trial("doubles_once").control()
+        good = plan.settle({trial: REFUSED, control: LET_THROUGH}, control, lambda _: False)
+        self.assertEqual(good, {trial: REFUSED})
+        bad = plan.settle({trial: REFUSED, control: REFUSED}, control, lambda _: False)
+        self.assertNotEqual(bad[trial], REFUSED)
+
+    def test_a_goal_out_of_reach_shows_nothing(self):
+        trial = self.trial("halves_twice")
+        self.assertEqual(plan.settle({trial: REFUSED}, None, lambda _: False), {trial: REFUSED})
+        self.assertNotEqual(plan.settle({trial: REFUSED}, None, lambda _: True)[trial], REFUSED)
+
+
+if __name__ == "__main__":
+    unittest.main()
