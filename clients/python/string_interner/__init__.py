@@ -133,14 +133,15 @@ class Interner:
         return self._intern_parts(raw, copy_ends(ends, len(raw)), typecode)
 
     def _intern_parts(self, joined: bytes, ends: array[int], typecode: Typecode) -> array[int]:
-        """Interns the parts of these bytes. The caller has both for itself, because other threads run during the call."""
+        """Interns the parts of these bytes. No other thread may have the ends, because they run during the call."""
         if typecode not in ("I", "Q"):
             raise ValueError(f"no typecode {typecode!r}")
         rows, done, handle = len(ends), ctypes.c_size_t(), self._handle
         numbers = array("Q", [0]) * rows
         with handle.lock:
-            status = library.si_intern_all(handle.at, joined, len(joined), address_of(ends), rows, address_of(numbers), rows,
-                                        ctypes.byref(done))
+            status = library.si_intern_all(
+                handle.at, joined, len(joined), address_of(ends), rows, address_of(numbers), rows, ctypes.byref(done)
+            )
         if status == BAD_TEXT:
             raise ValueError(f"text {done.value} is not UTF-8")
         check(status)
@@ -277,7 +278,7 @@ class Interner:
         """Whether both have one backend, and the same texts in the same order."""
         if not isinstance(other, Interner):
             return NotImplemented
-        if self is other:
+        if self._handle is other._handle:
             return True
         # In one order, whichever of the two is asked.
         first, second = sorted((self._handle, other._handle), key=attrgetter("serial"))

@@ -54,14 +54,16 @@ def copy_numbers(numbers: Iterable[SupportsIndex]) -> array[int] | list[int]:
 
 
 def copy_ends(ends: Iterable[SupportsIndex], length: int) -> array[int]:
-    """A copy of ends in so many bytes, as the library takes them. One that it cannot take passes the bytes, and so does what
-    it finds instead."""
+    """A copy of ends in so many bytes, as the library takes them.
+
+    A negative end, and one that 8 bytes do not hold, becomes one that passes the bytes. So the library refuses it in its turn.
+    """
     numbers = copy_numbers(ends)
     if isinstance(numbers, array) and numbers.itemsize == 8:
-        # A negative one becomes 2^63 or more.
+        # A negative end becomes 2^63 or more.
         return numbers if numbers.typecode == "Q" else array("Q", numbers.tobytes())
     if isinstance(numbers, array) and numbers.itemsize == 4 and length < 1 << 31:
-        # And here 2^31 or more.
+        # A negative end becomes 2^31 or more.
         return _widen(array("I", numbers.tobytes()))
     try:
         return array("Q", numbers)
