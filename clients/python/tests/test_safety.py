@@ -360,7 +360,8 @@ class Forks(unittest.TestCase):
     def test_nothing_is_called_or_made_at_the_fork(self):
         # What is registered first runs last before the fork: all locks are then taken.
         self.assertEqual(run_apart("""
-            import os, threading
+            import os, signal, threading
+            signal.alarm(30)
             blocked = []
             def look():
                 for call in (lambda: known.get("a"), lambda: made[0].get("b"), Interner):
@@ -382,6 +383,7 @@ class Forks(unittest.TestCase):
             if child:
                 print(blocked, os.waitpid(child, 0)[1], known.get("a"), made[0].get("b"), len(Interner()))
             else:
+                signal.alarm(10)
                 os._exit((known.get("a"), made[0].get("b"), len(Interner())) != (0, 0, 0))
             """), (0, "[True, True, True] 0 0 0 0", ""))
 
@@ -399,7 +401,7 @@ class Forks(unittest.TestCase):
 
         caller = threading.Thread(target=call)
         caller.start()
-        inside.wait()
+        self.assertTrue(inside.wait(10))
         before, hook = signal.signal(signal.SIGALRM, interrupt), sys.unraisablehook
         sys.unraisablehook = lambda raised: caught.append(raised.exc_type)
         signal.setitimer(signal.ITIMER_REAL, 0.3)
