@@ -1,0 +1,70 @@
+-- Joining lines, and what the lines of a text are.
+use Rattle.std.proofs.Common.{◌≡◌, ◌≢◌, ℕ, Bool, true, false, cond, List, [], ◌∷◌, ◌++◌, map, Option, Some, None, Bor, refl, sym, ap, subst, ◌∙◌}
+use Rattle.std.specs.List.{list_any, slice_split, onto_first, join_with_byte, join_by}
+use Rattle.std.specs.Option.{option_map_or}
+use Rattle.std.proofs.lemmas.Bool.{or_parts}
+use Rattle.std.proofs.lemmas.List.{append-nil, append_assoc}
+use Rattle.std.proofs.lemmas.List.Splits.{join_with_byte-slice_split}
+use Rattle.string_interner.specs.Text.{Text, first}
+use Rattle.string_interner.specs.Collect.{fresh, texts_of}
+use Rattle.dictcol.specs.Lines.{is_newline, newline_if, has_newline, joined, lines_of, AreLines}
+
+-- the standard library's way of joining
+pub join_by-texts : (items : List (Bor Text)) → join_by (λ x. x.now) (10 ∷ []) items ≡ join_with_byte 10 (texts_of items)
+join_by-texts [] = refl
+join_by-texts (x ∷ []) = append-nil x.now
+join_by-texts (x ∷ y ∷ ys) = ap (λ rest. x.now ++ 10 ∷ rest) (join_by-texts (y ∷ ys))
+
+pub texts_of-append : (xs ys : List (Bor Text)) → texts_of (xs ++ ys) ≡ texts_of xs ++ texts_of ys
+texts_of-append [] ys = refl
+texts_of-append (x ∷ xs) ys = ap (λ zs. x.now ∷ zs) (texts_of-append xs ys)
+
+no_end : (body : Text) (is_ended : Bool) → [] ≡ body ++ newline_if is_ended → newline_if is_ended ≡ []
+no_end [] is_ended e = sym e
+no_end (x ∷ xs) is_ended e = absurd (cc)
+
+-- the text of the lines of a text is the text
+pub joined-lines : (text : Text) (lines : List Text) (is_ended : Bool) → AreLines text lines is_ended → joined lines is_ended ≡ text
+joined-lines [] lines is_ended are = rw are.cut (no_end are.body is_ended are.whole)
+joined-lines (x ∷ xs) lines is_ended are = rw are.cut (ap (λ body. body ++ newline_if is_ended) (join_with_byte-slice_split 10 are.body) ∙ sym are.whole)
+
+module _ (test : ℕ → Bool) where
+  onto-first : (x : ℕ) (parts : List Text) → test x ≡ false → list_any (list_any test) parts ≡ false → list_any (list_any test) (onto_first x parts) ≡ false
+  onto-first x [] not_x h = rw not_x refl
+  onto-first x (part ∷ parts) not_x h = rw not_x h
+
+  one-part : (b : Bool) (x : ℕ) (parts : List Text) → test x ≡ b → list_any (list_any test) parts ≡ false → list_any (list_any test) (cond b ([] ∷ parts) (onto_first x parts)) ≡ false
+  one-part true x parts is h = h
+  one-part false x parts is h = onto-first x parts is h
+
+  -- no part has what it is cut at
+  pub parts-none : (xs : List ℕ) → list_any (list_any test) (slice_split test xs) ≡ false
+  parts-none [] = refl
+  parts-none (x ∷ xs) = one-part (test x) x (slice_split test xs) refl (parts-none xs)
+
+-- no line of a text has a newline
+pub lines-plain : (text : Text) (lines : List Text) (is_ended : Bool) → AreLines text lines is_ended → list_any has_newline lines ≡ false
+lines-plain [] lines is_ended are = rw are.cut refl
+lines-plain (x ∷ xs) lines is_ended are = rw are.cut (parts-none is_newline are.body)
+
+-- nor has one of the distinct lines
+pub fresh-plain : (test : Text → Bool) (old texts : List Text) → list_any test texts ≡ false → list_any test (fresh old texts) ≡ false
+fresh-plain test old [] h = refl
+fresh-plain test old (text ∷ texts) h =
+    let parts = or_parts (test text) (list_any test texts) h in
+    of (first old text) parts.0 (fresh-plain test old texts parts.1) (fresh-plain test (old ++ text ∷ []) texts parts.1)
+  where
+    of : (o : Option ℕ) → test text ≡ false → list_any test (fresh old texts) ≡ false → list_any test (fresh (old ++ text ∷ []) texts) ≡ false
+        → list_any test (option_map_or (λ _. fresh old texts) o (text ∷ fresh (old ++ text ∷ []) texts)) ≡ false
+    of (Some i) plain known new = known
+    of None plain known new = rw plain new
+
+-- a text more was walked over
+pub walked-on : (items new : List (Bor Text)) (item : Bor Text) (ahead rest all : List Text) → texts_of items ++ ahead ≡ all → ahead ≡ item.now ∷ rest → new ≡ items ++ item ∷ [] → texts_of new ++ rest ≡ all
+walked-on items new item ahead rest all so_far first pushed =
+    ap (λ xs. texts_of xs ++ rest) pushed ∙ ap (λ ys. ys ++ rest) (texts_of-append items (item ∷ [])) ∙ append_assoc (texts_of items) (item.now ∷ []) rest ∙ ap (λ zs. texts_of items ++ zs) (sym first) ∙ so_far
+
+-- the lines of a text that is not empty
+pub lines_of-some : (text body : Text) → text ≢ [] → lines_of text body ≡ slice_split is_newline body
+lines_of-some [] body some = absurd (some refl)
+lines_of-some (x ∷ xs) body some = refl

@@ -1,0 +1,214 @@
+-- What a file says: at most one list of lines, and the file of some lines says these.
+use Rattle.std.proofs.Common.{◌≡◌, ◌≢◌, ℕ, zero, suc, ◌+◌, ◌≤◌, lit≤, Bool, true, false, List, [], ◌∷◌, ◌++◌, map, codes, Option, Some, None, Result, Ok, Err, MatchResult, IfErr, Bor, option_map, option_and_then, refl, sym, ap, subst, ◌∙◌}
+use Rattle.std.specs.Prelude.{slice_get, ⊤}
+use Rattle.std.specs.List.{list_any}
+use Rattle.std.proofs.lemmas.List.{append_assoc}
+use Rattle.std.proofs.lemmas.Option.{same_Some}
+use Rattle.serde_json.specs.Read.{max_depth, read}
+use Rattle.serde_json.specs.Data.{depth, items_depth, Data, null, boolean, number, string, array, object, unsigned, Items, no_items, item, member, no_members}
+use Rattle.serde_json.specs.Find.{get, as_number, as_u64}
+use Rattle.serde_json.specs.View.{items_of}
+use Rattle.serde_json.proofs.OnLiterals.{serde_json_on_literals}
+use Rattle.string_interner.specs.Text.{Text, IsDistinct}
+use Rattle.string_interner.specs.Collect.{fresh, texts_of}
+use Rattle.string_interner.specs.Backend.{Appends}
+use Rattle.string_interner.specs.Interner.{InternerContents}
+use Rattle.string_interner.specs.Json.{json_of_texts, json_of_number, refused, ReadsElementsExactly, ReadsArrayExactly}
+use Rattle.string_interner.specs.declared.backend.InternError.{InternError}
+use Rattle.string_interner.specs.declared.backend.InternError.TheVariants.{NoSymbol as InternNoSymbol, Memory as InternMemory}
+use Rattle.string_interner.specs.declared.json.JsonError.{JsonError}
+use Rattle.string_interner.specs.declared.json.JsonError.TheVariants.{NoSymbol, Memory}
+use Rattle.string_interner.proofs.Lemmas.Json.Reads.{new_text}
+use Rattle.uses.specs.Column.{AreNumbersOf}
+use Rattle.dictcol.specs.File.{file_of, IsFileOf, text_at, texts_at, Says, SaysText, Encodes, Decodes}
+use Rattle.dictcol.specs.Lines.{has_newline, joined, AreLines}
+use Rattle.dictcol.proofs.Lines.{joined-lines, lines-plain, fresh-plain, texts_of-append}
+
+abbrev strings_in : Items → List Text
+strings_in no_items = []
+strings_in (item (string s) rest) = s ∷ strings_in rest
+strings_in (item _ rest) = strings_in rest
+
+abbrev texts_in : Data → List Text
+texts_in (array items) = strings_in items
+texts_in _ = []
+
+strings_in-texts : (texts : List Text) → strings_in (items_of (map string texts)) ≡ texts
+strings_in-texts [] = refl
+strings_in-texts (t ∷ ts) = ap (λ rest. t ∷ rest) (strings_in-texts ts)
+
+-- one JSON form, one list of texts
+pub same-texts : (a b : List Text) → Some (json_of_texts a) ≡ Some (json_of_texts b) → a ≡ b
+same-texts a b e = sym (strings_in-texts a) ∙ ap texts_in (same_Some _ _ e) ∙ strings_in-texts b
+
+abbrev items_in : Data → Items
+items_in (array items) = items
+items_in _ = no_items
+
+pub same-items : (a b : Items) → Some (array a) ≡ Some (array b) → a ≡ b
+same-items a b e = ap items_in (same_Some _ _ e)
+
+abbrev truth_in : Data → Bool
+truth_in (boolean b) = b
+truth_in _ = false
+
+pub same-truth : (a b : Bool) → Some (boolean a) ≡ Some (boolean b) → a ≡ b
+same-truth a b e = ap truth_in (same_Some _ _ e)
+
+-- A file says one text.
+pub says-once : (value : Data) (lines lines' : List Text) (is_ended is_ended' : Bool) → Says value lines is_ended → Says value lines' is_ended' → joined lines is_ended ≡ joined lines' is_ended'
+says-once value lines lines' is_ended is_ended' says says' =
+    let texts = same-texts says.dictionary says'.dictionary (sym says.texts ∙ says'.texts) in
+    let items = same-items says.numbers says'.numbers (sym says.indexes ∙ says'.indexes) in
+    let truth = same-truth is_ended is_ended' (sym says.end ∙ says'.end) in
+    let same = same_Some lines lines' (sym says.picked ∙ ap (λ d. texts_at d says.numbers) texts ∙ ap (texts_at says'.dictionary) items ∙ says'.picked) in
+    ap (λ ls. joined ls is_ended) same ∙ ap (joined lines') truth
+
+texts_at-numbers : (dictionary : List Text) (numbers : List ℕ) (lines : List Text) → AreNumbersOf dictionary numbers lines → texts_at dictionary (items_of (map json_of_number numbers)) ≡ Some lines
+texts_at-numbers dictionary [] [] are = refl
+texts_at-numbers dictionary [] (l ∷ ls) are = absurd are
+texts_at-numbers dictionary (n ∷ ns) [] are = absurd are
+texts_at-numbers dictionary (n ∷ ns) (l ∷ ls) are = rw (are.0, texts_at-numbers dictionary ns ls are.1) refl
+
+-- The file of lines says them.
+pub says-file : (lines : List Text) (is_ended : Bool) (value : Data) → IsDistinct (fresh [] lines) → list_any has_newline lines ≡ false → IsFileOf lines is_ended value → Says value lines is_ended
+unfolding serde_json_on_literals
+says-file lines is_ended value distinct plain is =
+    let dictionary = fresh [] lines in record {
+      dictionary = dictionary;
+      texts = ap (get (codes "dictionary")) is.1;
+      distinct = distinct;
+      each_a_line = fresh-plain has_newline [] lines plain;
+      numbers = items_of (map json_of_number is.0);
+      indexes = ap (get (codes "lines")) is.1;
+      picked = texts_at-numbers dictionary is.0 lines is.2;
+      end = ap (get (codes "final_newline")) is.1;
+    }
+
+strings-depth : (texts : List Text) → items_depth (items_of (map string texts)) ≡ 0
+strings-depth [] = refl
+strings-depth (t ∷ ts) = rw (strings-depth ts) refl
+
+numbers-depth : (numbers : List ℕ) → items_depth (items_of (map json_of_number numbers)) ≡ 0
+numbers-depth [] = refl
+numbers-depth (n ∷ ns) = rw (numbers-depth ns) refl
+
+-- the file is shallow enough to be read
+pub file-depth : (lines : List Text) (is_ended : Bool) (value : Data) → IsFileOf lines is_ended value → depth value ≤ max_depth
+file-depth lines is_ended value is = rw (is.1, strings-depth (fresh [] lines), numbers-depth is.0) (lit≤ tt)
+
+-- reading texts ended well, or they were refused
+abbrev pub IsRead : Result InternerContents JsonError → Type 0
+IsRead (Ok _) = ⊤
+IsRead (Err NoSymbol) = ⊤
+IsRead (Err (Memory _)) = ⊤
+IsRead (Err _) = ⊥
+
+refused-read : (error : InternError) → IsRead (Err (refused error))
+refused-read InternNoSymbol = tt
+refused-read (InternMemory _) = tt
+
+module _ {S : Type 0} (symbol_of : ℕ → Option S) (place : List Text → ℕ) where
+  reads-rest : (front texts : List Text) (i : ℕ) (outcome : Result InternerContents JsonError) → IsDistinct (front ++ texts)
+      → ReadsElementsExactly symbol_of place front i (items_of (map string texts)) outcome → IsRead outcome
+  reads-rest front [] i (Ok _) distinct read = tt
+  reads-rest front [] i (Err _) distinct read = absurd read
+  reads-rest front (text ∷ texts) i outcome distinct read =
+      let now = rw (new_text front text texts distinct) at read in
+      let behind : (front ++ text ∷ []) ++ texts ≡ front ++ text ∷ texts = append_assoc front (text ∷ []) texts in
+      of now.0 now.1 now.2 now.3 (λ more. reads-rest (front ++ text ∷ []) texts (i + 1) outcome (subst IsDistinct (sym behind) distinct) more)
+    where
+      of : (interned : Result S InternError) (mid : List Text) → Appends symbol_of place front text interned mid
+          → MatchResult interned (λ _. ReadsElementsExactly symbol_of place mid (i + 1) (items_of (map string texts)) outcome) (λ error. outcome ≡ Err (refused error))
+          → (ReadsElementsExactly symbol_of place (front ++ text ∷ []) (i + 1) (items_of (map string texts)) outcome → IsRead outcome)
+          → IsRead outcome
+      of (Err error) mid put e on = subst IsRead (sym e) (refused-read error)
+      of (Ok symbol) mid put more on = on (rw put.1 at more)
+
+  -- what comes of reading the JSON form of distinct texts
+  pub distinct-read : (texts : List Text) (value : Data) (outcome : Result InternerContents JsonError) → IsDistinct texts → value ≡ json_of_texts texts → ReadsArrayExactly symbol_of place value outcome → IsRead outcome
+  distinct-read texts value outcome distinct is read = reads-rest [] texts 0 outcome distinct (rw is at read)
+
+-- Decoding what was encoded gives the same text: all that the file of a text's lines can say is the text.
+pub gives-back : (text : Text) (lines said : List Text) (is_ended said_ended : Bool) (value : Data) → AreLines text lines is_ended → IsDistinct (fresh [] lines) → IsFileOf lines is_ended value → Says value said said_ended
+    → joined said said_ended ≡ text
+gives-back text lines said is_ended said_ended value are distinct is says =
+    says-once value said lines said_ended is_ended says (says-file lines is_ended value distinct (lines-plain text lines is_ended are) is) ∙ joined-lines text lines is_ended are
+
+-- The file that was encoded says the text.
+pub is-decoded : (text file : Text) → Encodes text file → Decodes file text
+is-decoded text file e =
+    let says = says-file e.0 e.1 e.2 e.4 (lines-plain text e.0 e.1 e.3) e.5 in
+    (e.2, (e.0, e.1, says, sym (joined-lines text e.0 e.1 e.3)), e.6)
+
+-- What was encoded comes back: no other text is decoded.
+pub comes-back : (text file said : Text) → Encodes text file → Decodes file said → said ≡ text
+comes-back text file said e d =
+    let says = subst (λ v. SaysText v said) (same_Some d.0 e.2 (sym d.2 ∙ e.6)) d.1 in
+    says.3 ∙ gives-back text e.0 says.0 e.1 says.1 e.2 e.3 e.4 e.5 says.2
+
+-- ---- files that say nothing
+
+module _ (value : Data) where
+  pub no-dictionary : ((texts : List Text) → IsDistinct texts → get (codes "dictionary") value ≢ Some (json_of_texts texts)) → (text : Text) → ¬ (SaysText value text)
+  no-dictionary none text says = let s = says.2 in none s.dictionary s.distinct s.texts
+
+  pub no-numbers : ((numbers : Items) → get (codes "lines") value ≢ Some (array numbers)) → (text : Text) → ¬ (SaysText value text)
+  no-numbers none text says = let s = says.2 in none s.numbers s.indexes
+
+  pub no-end : ((is_ended : Bool) → get (codes "final_newline") value ≢ Some (boolean is_ended)) → (text : Text) → ¬ (SaysText value text)
+  no-end none text says = let s = says.2 in none says.1 s.end
+
+  module _ (dictionary : List Text) (texts : get (codes "dictionary") value ≡ Some (json_of_texts dictionary)) where
+    pub more-than-a-line : list_any has_newline dictionary ≡ true → (text : Text) → ¬ (SaysText value text)
+    more-than-a-line has text says =
+        let s = says.2 in
+        let same = same-texts dictionary s.dictionary (sym texts ∙ s.texts) in
+        let both : true ≡ false = sym has ∙ ap (list_any has_newline) same ∙ s.each_a_line in absurd (cc)
+
+    pub no-index : (numbers : Items) → get (codes "lines") value ≡ Some (array numbers) → texts_at dictionary numbers ≡ None → (text : Text) → ¬ (SaysText value text)
+    no-index numbers indexes none text says =
+        let s = says.2 in
+        let same = same-texts dictionary s.dictionary (sym texts ∙ s.texts) in
+        let items = same-items numbers s.numbers (sym indexes ∙ s.indexes) in
+        let both : None ≡ Some says.0 = sym none ∙ ap (λ d. texts_at d numbers) same ∙ ap (texts_at s.dictionary) items ∙ s.picked in absurd (cc)
+
+-- text that is no JSON is no file
+pub no-json : (file : Text) → read file ≡ None → (text : Text) → ¬ (Decodes file text)
+no-json file none text says = let both : None ≡ Some says.0 = sym none ∙ says.2 in absurd (cc)
+
+-- text that reads as a value is a file of what this says
+pub reads-as : (file text : Text) (value : Data) → read file ≡ Some value → ¬ (SaysText value text) → ¬ (Decodes file text)
+reads-as file text value is not says = not (subst (λ v. SaysText v text) (same_Some _ _ (sym says.2 ∙ is)) says.1)
+
+-- ---- the steps of reading
+
+pub IfErr-all : {T E : Type 0} (P : E → Type 0) (r : Result T E) → ((e : E) → P e) → IfErr r P
+IfErr-all P (Ok _) h = tt
+IfErr-all P (Err e) h = h e
+
+text-none : (dictionary : List (Bor Text)) (i : ℕ) → slice_get dictionary i ≡ None → slice_get (texts_of dictionary) i ≡ None
+text-none [] i e = refl
+text-none (t ∷ ts) zero e = absurd (cc)
+text-none (t ∷ ts) (suc i) e = text-none ts i e
+
+text-some : (dictionary : List (Bor Text)) (i : ℕ) (text : Bor Text) → slice_get dictionary i ≡ Some text → slice_get (texts_of dictionary) i ≡ Some text.now
+text-some [] i text e = absurd (cc)
+text-some (t ∷ ts) zero text e = ap (λ x. Some x.now) (same_Some _ _ e)
+text-some (t ∷ ts) (suc i) text e = text-some ts i text e
+
+module _ (dictionary : List (Bor Text)) (all ahead rest : Items) (value : Data) (lines : List (Bor Text))
+    (so_far : texts_at (texts_of dictionary) all ≡ option_map (λ more. texts_of lines ++ more) (texts_at (texts_of dictionary) ahead)) (next : ahead ≡ item value rest)
+    (index : ℕ) (is : option_and_then as_u64 (as_number value) ≡ Some index) where
+  -- a number that is no index
+  pub no-text : slice_get dictionary index ≡ None → texts_at (texts_of dictionary) all ≡ None
+  no-text none = so_far ∙ rw (next, is, text-none dictionary index none) refl
+
+  onto : (text : Text) (o : Option (List Text)) → option_map (λ more. texts_of lines ++ more) (option_map (λ texts. text ∷ texts) o) ≡ option_map (λ more. (texts_of lines ++ text ∷ []) ++ more) o
+  onto text None = refl
+  onto text (Some more) = ap (λ x. Some x) (sym (append_assoc (texts_of lines) (text ∷ []) more))
+
+  -- one that is
+  pub one-text : (text : Bor Text) (new : List (Bor Text)) → slice_get dictionary index ≡ Some text → new ≡ lines ++ text ∷ []
+      → texts_at (texts_of dictionary) all ≡ option_map (λ more. texts_of new ++ more) (texts_at (texts_of dictionary) rest)
+  one-text text new at pushed = so_far ∙ rw (next, is, text-some dictionary index text at, pushed, texts_of-append lines (text ∷ [])) (onto text.now (texts_at (texts_of dictionary) rest))

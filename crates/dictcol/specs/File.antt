@@ -1,0 +1,58 @@
+-- The file that `encode` writes and `decode` reads: which value it is, and which lines it says.
+-- Cited by `file` and `answer`.
+use Rattle.std.specs.Prelude.{◌≡◌, ℕ, List, [], ◌∷◌, map, Bool, false, codes, Option, Some, None, option_map, option_and_then, slice_get}
+use Rattle.std.specs.List.{list_any}
+use Rattle.serde_json.specs.Data.{Data, boolean, array, object, Items, no_items, item, member, no_members}
+use Rattle.serde_json.specs.Find.{get, as_number, as_u64}
+use Rattle.serde_json.specs.Read.{read}
+use Rattle.serde_json.specs.View.{items_of}
+use Rattle.string_interner.specs.Text.{Text, IsDistinct}
+use Rattle.string_interner.specs.Collect.{fresh}
+use Rattle.string_interner.specs.Json.{json_of_texts, json_of_number}
+use Rattle.uses.specs.Column.{AreNumbersOf}
+use Rattle.dictcol.specs.Lines.{has_newline, joined, AreLines}
+
+-- the object with these texts, numbers and truth value
+abbrev pub file_of : List Text → List ℕ → Bool → Data
+file_of dictionary numbers is_ended = object (member (codes "dictionary") (json_of_texts dictionary)
+    (member (codes "final_newline") (boolean is_ended) (member (codes "lines") (array (items_of (map json_of_number numbers))) no_members)))
+
+-- the value is the file of these lines: the distinct ones in the order of first appearance, for each line the index of
+-- its text among them, and whether the last one ends in a newline
+abbrev pub IsFileOf : List Text → Bool → Data → Type 0
+IsFileOf lines is_ended value = (numbers : List ℕ) × (value ≡ file_of (fresh [] lines) numbers is_ended) × AreNumbersOf (fresh [] lines) numbers lines
+
+-- the text whose index this value is
+abbrev pub text_at : List Text → Data → Option Text
+text_at dictionary value = option_and_then (λ n. slice_get dictionary n) (option_and_then as_u64 (as_number value))
+
+-- the texts whose indexes these are, if all are
+abbrev pub texts_at : List Text → Items → Option (List Text)
+texts_at dictionary no_items = Some []
+texts_at dictionary (item value rest) = option_and_then (λ text. option_map (λ texts. text ∷ texts) (texts_at dictionary rest)) (text_at dictionary value)
+
+-- A value says these lines, and whether the last one ends in a newline.
+pub record Says (value : Data) (lines : List Text) (is_ended : Bool) : Type 0 where
+  -- distinct texts, of one line each
+  pub dictionary : List Text
+  pub texts : get (codes "dictionary") value ≡ Some (json_of_texts dictionary)
+  pub distinct : IsDistinct dictionary
+  pub each_a_line : list_any has_newline dictionary ≡ false
+  -- the lines are those at these indexes
+  pub numbers : Items
+  pub indexes : get (codes "lines") value ≡ Some (array numbers)
+  pub picked : texts_at dictionary numbers ≡ Some lines
+  pub end : get (codes "final_newline") value ≡ Some (boolean is_ended)
+
+-- the text is the file of the lines of the bytes
+abbrev pub Encodes : Text → Text → Type 0
+Encodes bytes text = (lines : List Text) × (is_ended : Bool) × (value : Data) × AreLines bytes lines is_ended
+    × IsDistinct (fresh [] lines) × IsFileOf lines is_ended value × (read text ≡ Some value)
+
+-- a value says the text of some lines
+abbrev pub SaysText : Data → Text → Type 0
+SaysText value text = (lines : List Text) × (is_ended : Bool) × Says value lines is_ended × (text ≡ joined lines is_ended)
+
+-- the bytes are a file, and the text is what it says
+abbrev pub Decodes : Text → Text → Type 0
+Decodes bytes text = (value : Data) × SaysText value text × (read bytes ≡ Some value)

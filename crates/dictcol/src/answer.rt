@@ -1,0 +1,156 @@
+//! From the input to the output.
+
+ghost use Rattle.std.specs.Prelude.{◌≡◌, ◌⊎◌, ℕ, List, [], ◌∷◌, ◌++◌, true, IfOk, IfErr, IfSome, IsErrOf, IsOk, IsOkUnless, OnOk, IsUtf8, string_bytes};
+ghost use Rattle.std.specs.Io.KnownBytes.{Appends, IsAtEnd};
+ghost use Rattle.dictcol.specs.Fault.{IsReadFault};
+ghost use Rattle.dictcol.specs.Lines.{AreLines, is_newline, newline_if};
+ghost use Rattle.std.specs.List.{slice_split};
+ghost use Rattle.dictcol.specs.File.{Encodes};
+ghost use Rattle.dictcol.specs.Answer.{Tells, Does, Answers};
+ghost use Rattle.dictcol.specs.declared.fault.Fault.{Fault};
+
+use crate::arguments::{Choice, Form, Task};
+use crate::fault::Fault;
+use crate::{count, file};
+use std::alloc::Global;
+use std::io::{ErrorKind, Read, Write};
+use string_interner::backend::{Backend, BucketBackend, BufferBackend, InternError, StringBackend};
+use uses::column::Column;
+
+/// Reads the whole input. A failed allocation is a kind of read error, and reported as `Memory`.
+pub fn read<R: Read>(alloc: Global, input: &mut R) -> Result<Vec<u8>, Fault>
+    ensures whole { IfOk result (λ bytes. IfSome (R.remaining input.old) (λ all. bytes.items ≡ all)) }
+    ensures end { OnOk result (IsAtEnd (R.remaining input.new)) }
+    ensures fault { IfErr result IsReadFault }
+{
+    let mut bytes = Vec::new(alloc);
+    match input.read_to_end(&mut bytes) {
+        Ok(_) => Ok(bytes),
+        Err(error) if error.kind() == ErrorKind::OutOfMemory => Err(Fault::Memory),
+        Err(_) => Err(Fault::Input),
+    }
+}
+
+/// Checks that the bytes are UTF-8.
+fn text_of(bytes: &[u8]) -> Result<&str, Fault>
+    ensures ok { IfOk result (λ text. text.now ≡ bytes.now) }
+    ensures err { IfErr result (λ fault. ¬ (IsUtf8 bytes.now)) }
+{
+    match str::from_utf8(bytes) {
+        Ok(text) => Ok(text),
+        Err(error) => {
+            let newlines = bytes
+                .iter()
+                .take(error.valid_up_to())
+                .filter(|byte| **byte == b'\n')
+                .count();
+            Err(Fault::NotUtf8(newlines.saturating_add(1)))
+        }
+    }
+}
+
+/// Cuts the newline at the very end off, and returns whether there was one.
+fn without_end(bytes: &[u8]) -> (&[u8], bool)
+    ensures whole { bytes.now ≡ result.0.now ++ newline_if result.1 }
+    ensures end { (front : List ℕ) → bytes.now ≡ front ++ 10 ∷ [] → result.1 ≡ true }
+{
+    match bytes.split_last() {
+        Some((last, body)) if *last == b'\n' => (body, true),
+        _ => (bytes, false),
+    }
+}
+
+/// Makes a column of the lines of a text without its newline at the very end.
+fn column_of<B: Backend + Drop>(alloc: Global, body: &str) -> Result<Column<B>, Fault>
+    ensures { IfOk result (λ column. column ≡ slice_split is_newline body.now) }
+{
+    let mut lines = Column::new(alloc);
+    match lines.encode(body.split('\n')) {
+        Ok(()) => Ok(lines),
+        Err(InternError::NoSymbol) => Err(Fault::TooMany),
+        Err(InternError::Memory(_)) => Err(Fault::Memory),
+    }
+}
+
+/// Returns a column of the lines, and whether the last one ends in a newline.
+fn lines_of<B: Backend + Drop>(alloc: Global, bytes: &[u8]) -> Result<(Column<B>, bool), Fault>
+    ensures { IfOk result (λ lines. AreLines bytes.now lines.0 lines.1) }
+{
+    let (body, is_ended) = without_end(bytes);
+    let text = text_of(body)?;
+    if bytes.is_empty() {
+        return Ok((Column::new(alloc), is_ended));
+    }
+    Ok((column_of(alloc, text)?, is_ended))
+}
+
+/// Returns the file of the lines of the input, which are kept in the backend `B`.
+fn encoded<B: Backend + Drop>(alloc: Global, bytes: &[u8]) -> Result<String, Fault>
+    ensures { IfOk result (λ text. Encodes bytes.now (string_bytes text)) }
+{
+    let (lines, is_ended) = lines_of::<B>(alloc, bytes)?;
+    match file::encoded(alloc, &lines, is_ended) {
+        Ok(text) => Ok(text),
+        Err(_) => Err(Fault::Memory),
+    }
+}
+
+/// Returns how often each line of the input comes, where lines are kept in the backend `B`.
+fn counted<B: Backend + Drop>(
+    alloc: Global,
+    bytes: &[u8],
+    is_sorted: bool,
+) -> Result<String, Fault> {
+    let (lines, _) = lines_of::<B>(alloc, bytes)?;
+    count::text_of(alloc, &lines, is_sorted).map_err(|_| Fault::Memory)
+}
+
+/// Returns what is written for the lines of the input, which are kept in the backend `B`.
+fn written<B: Backend + Drop>(alloc: Global, form: Form, bytes: &[u8]) -> Result<String, Fault>
+    ensures { IfOk result (λ text. Tells form bytes.now (string_bytes text)) }
+{
+    match form {
+        Form::File => encoded::<B>(alloc, bytes),
+        Form::Counts => counted::<B>(alloc, bytes, false),
+        Form::SortedCounts => counted::<B>(alloc, bytes, true),
+    }
+}
+
+/// Returns what the task asks for.
+fn done(alloc: Global, task: Task, bytes: &[u8]) -> Result<String, Fault>
+    ensures { IfOk result (λ text. Does task bytes.now (string_bytes text)) }
+{
+    match task {
+        Task::Decode => file::decoded(alloc, text_of(bytes)?),
+        Task::Write(form, Choice::String) => written::<StringBackend>(alloc, form, bytes),
+        Task::Write(form, Choice::Bucket) => written::<BucketBackend>(alloc, form, bytes),
+        Task::Write(form, Choice::Buffer) => written::<BufferBackend>(alloc, form, bytes),
+    }
+}
+
+/// Writes a text.
+fn write_text<W: Write>(output: &mut W, text: String) -> Result<(), Fault>
+    ensures written { OnOk result (Appends (W.contents output.old) (W.contents output.new) (string_bytes text)) }
+    ensures fault { IsOkUnless result Fault.Output }
+{
+    output
+        .write_all(text.as_bytes())
+        .map_err(|_| Fault::Output)?;
+    output.flush().map_err(|_| Fault::Output)
+}
+
+/// Writes what the task asks for. Nothing is written before all of it is known.
+pub fn answer<W: Write>(
+    alloc: Global,
+    task: Task,
+    bytes: &[u8],
+    output: &mut W,
+) -> Result<(), Fault>
+    ensures answered { OnOk result (Answers task bytes.now (W.contents output.old) (W.contents output.new)) }
+
+    // Unless all went well or a write failed, the output was not touched.
+    ensures silent { IsOk result ⊎ (IsErrOf result Fault.Output ⊎ (output.new ≡ output.old)) }
+{
+    let text = done(alloc, task, bytes)?;
+    write_text(output, text)
+}

@@ -1,0 +1,182 @@
+//! The file: a JSON object with the dictionary, a number for each line, and whether the last line ends in a newline.
+
+ghost use Rattle.std.specs.Prelude.{◌≡◌, ◌≢◌, [], List, map, Bool, true, false, codes, Some, None, IfOk, IfErr, OnOk, string_bytes};
+ghost use Rattle.std.specs.List.{list_any};
+ghost use Rattle.serde_json.specs.Data.{Data, boolean, array, Items};
+ghost use Rattle.serde_json.specs.Find.{get};
+ghost use Rattle.serde_json.specs.Read.{read};
+ghost use Rattle.serde_json.specs.View.{view, items_of, items_view};
+ghost use Rattle.string_interner.specs.Text.{Text, IsDistinct};
+ghost use Rattle.string_interner.specs.Collect.{fresh, texts_of};
+ghost use Rattle.string_interner.specs.Json.{json_of_texts, json_of_number};
+ghost use Rattle.dictcol.specs.Fault.{IsDamage};
+ghost use Rattle.dictcol.specs.File.{IsFileOf, texts_at, SaysText, Decodes};
+ghost use Rattle.dictcol.specs.Lines.{has_newline, joined};
+
+use crate::fault::Fault;
+use serde_json::{Value, json};
+use std::alloc::{AllocError, Global};
+use string_interner::FastStringInterner;
+use string_interner::backend::Backend;
+use string_interner::json::JsonError;
+use uses::column::Column;
+
+/// Returns the array of the numbers.
+fn array_of(alloc: Global, numbers: &[usize]) -> Result<Value, AllocError>
+    ensures { IfOk result (λ value. view value ≡ array (items_of (map json_of_number numbers.now))) }
+{
+    let mut elements = Vec::with_capacity(alloc, numbers.len())?;
+    for number in numbers {
+        elements.push_reserved(Value::from(*number));
+    }
+    Ok(Value::from(elements))
+}
+
+/// Returns the file of the lines.
+fn file_of<B: Backend>(
+    alloc: Global,
+    lines: &Column<B>,
+    is_ended: bool,
+) -> Result<Value, AllocError>
+    ensures file { IfOk result (λ value. IsFileOf lines.now is_ended (view value)) }
+    ensures distinct { IsDistinct (fresh [] lines.now) }
+{
+    // For the proof: states that the texts are distinct.
+    let _ = lines.dictionary().len();
+    let dictionary = lines.dictionary().to_json(alloc)?;
+    let numbers = array_of(alloc, &lines.numbers(alloc)?)?;
+    json!(in alloc; {"dictionary": dictionary, "lines": numbers, "final_newline": is_ended})
+}
+
+/// Returns the text of the file of the lines.
+pub fn encoded<B: Backend>(
+    alloc: Global,
+    lines: &Column<B>,
+    is_ended: bool,
+) -> Result<String, AllocError>
+    ensures file { IfOk result (λ text. (value : Data) × IsFileOf lines.now is_ended value × (read (string_bytes text) ≡ Some value)) }
+    ensures distinct { OnOk result (IsDistinct (fresh [] lines.now)) }
+{
+    let file = file_of(alloc, lines, is_ended)?;
+    file.to_string(alloc)
+}
+
+/// Reads the dictionary.
+fn dictionary_of(alloc: Global, file: &Value) -> Result<FastStringInterner, Fault>
+    ensures ok { IfOk result (λ dictionary. get (codes "dictionary") (view file.now) ≡ Some (json_of_texts dictionary.texts)) }
+    ensures err { IfErr result (λ fault. IsDamage fault → (texts : List Text) → IsDistinct texts
+        → get (codes "dictionary") (view file.now) ≢ Some (json_of_texts texts)) }
+{
+    let value = file.get("dictionary").ok_or(Fault::NoDictionary)?;
+    match FastStringInterner::from_json_exact(alloc, value) {
+        Ok(dictionary) => Ok(dictionary),
+        Err(JsonError::NotAText { index }) => Err(Fault::NotAText(index)),
+        Err(JsonError::Repeated { index }) => Err(Fault::Repeated(index)),
+        Err(JsonError::NoSymbol) => Err(Fault::TooMany),
+        Err(JsonError::Memory(_)) => Err(Fault::Memory),
+        Err(JsonError::NotAList) => Err(Fault::NoDictionary),
+        Err(JsonError::NotANumber) => Err(Fault::NoDictionary),
+    }
+}
+
+/// Returns the texts of the dictionary, each of which must be one line.
+fn texts_of(alloc: Global, dictionary: &FastStringInterner) -> Result<Vec<&str>, Fault>
+    ensures ok { IfOk result (λ texts. texts_of texts.items ≡ dictionary.now.texts) }
+    ensures distinct { IsDistinct dictionary.now.texts }
+    ensures each_a_line { IfOk result (λ texts. list_any has_newline dictionary.now.texts ≡ false) }
+    ensures err { IfErr result (λ fault. IsDamage fault → list_any has_newline dictionary.now.texts ≡ true) }
+{
+    let mut texts = Vec::with_capacity(alloc, dictionary.len()).map_err(|_| Fault::Memory)?;
+    for (_, text) in dictionary {
+        if text.as_bytes().contains(&b'\n') {
+            return Err(Fault::HasNewline(texts.len()));
+        }
+        texts.push_reserved(text);
+    }
+    Ok(texts)
+}
+
+/// Returns the text of each number.
+fn lines_of<'t>(alloc: Global, texts: &[&'t str], numbers: &[Value]) -> Result<Vec<&'t str>, Fault>
+    ensures ok { IfOk result (λ lines. texts_at (texts_of texts.now) (items_view numbers.now) ≡ Some (texts_of lines.items)) }
+    ensures err { IfErr result (λ fault. IsDamage fault → texts_at (texts_of texts.now) (items_view numbers.now) ≡ None) }
+{
+    let mut lines = Vec::with_capacity(alloc, numbers.len()).map_err(|_| Fault::Memory)?;
+    for number in numbers {
+        let index = number.as_u64().ok_or(Fault::NotAnIndex(lines.len()))?;
+        let text = texts
+            .get(index as usize)
+            .ok_or(Fault::NotAnIndex(lines.len()))?;
+        lines.push_reserved(*text);
+    }
+    Ok(lines)
+}
+
+/// Returns the text of the lines.
+fn text_of(alloc: Global, lines: &[&str], is_ended: bool) -> Result<String, AllocError>
+    ensures { IfOk result (λ text. string_bytes text ≡ joined (texts_of lines.now) is_ended) }
+{
+    let mut text = lines.join(alloc, "\n")?;
+    if is_ended {
+        text.push('\n')?;
+    }
+    Ok(text)
+}
+
+/// Finds the numbers of the lines.
+fn numbers_of(file: &Value) -> Result<&Vec<Value>, Fault>
+    ensures ok { IfOk result (λ numbers. get (codes "lines") (view file.now) ≡ Some (array (items_view numbers.now.items))) }
+    ensures err { IfErr result (λ fault. (numbers : Items) → get (codes "lines") (view file.now) ≢ Some (array numbers)) }
+{
+    file.get("lines")
+        .and_then(Value::as_array)
+        .ok_or(Fault::NoLines)
+}
+
+/// Finds whether the last line ends in a newline.
+fn end_of(file: &Value) -> Result<bool, Fault>
+    ensures ok { IfOk result (λ is_ended. get (codes "final_newline") (view file.now) ≡ Some (boolean is_ended)) }
+    ensures err { IfErr result (λ fault. (is_ended : Bool) → get (codes "final_newline") (view file.now) ≢ Some (boolean is_ended)) }
+{
+    file.get("final_newline")
+        .and_then(Value::as_bool)
+        .ok_or(Fault::NoFinalNewline)
+}
+
+/// Returns the text that the file says. Faults are looked for in the order of its members.
+fn said(alloc: Global, file: &Value) -> Result<String, Fault>
+    ensures ok { IfOk result (λ text. SaysText (view file.now) (string_bytes text)) }
+    ensures err { IfErr result (λ fault. IsDamage fault → (text : Text) → ¬ (SaysText (view file.now) text)) }
+{
+    let dictionary = dictionary_of(alloc, file)?;
+    let texts = texts_of(alloc, &dictionary)?;
+    let lines = lines_of(alloc, &texts, numbers_of(file)?)?;
+    let is_ended = end_of(file)?;
+    text_of(alloc, &lines, is_ended).map_err(|_| Fault::Memory)
+}
+
+/// Reads the JSON of a file.
+fn parsed(alloc: Global, file: &str) -> Result<Value, Fault>
+    ensures ok { IfOk result (λ value. read file.now ≡ Some (view value)) }
+    ensures err { IfErr result (λ fault. IsDamage fault → read file.now ≡ None) }
+{
+    match Value::from_str(alloc, file) {
+        Ok(value) => Ok(value),
+        Err(error) if error.is_memory() => Err(Fault::Memory),
+        Err(error) => Err(Fault::NotJson {
+            line: error.line(),
+            column: error.column(),
+        }),
+    }
+}
+
+/// Returns the text that a file was made of, or where the file is damaged.
+pub fn decoded(alloc: Global, file: &str) -> Result<String, Fault>
+    ensures ok { IfOk result (λ text. Decodes file.now (string_bytes text)) }
+
+    // A file that says a text is never called damaged.
+    ensures err { IfErr result (λ fault. IsDamage fault → (text : Text) → ¬ (Decodes file.now text)) }
+{
+    let value = parsed(alloc, file)?;
+    said(alloc, &value)
+}
