@@ -4,6 +4,7 @@ import errno
 import json
 import os
 import random
+import subprocess
 import time
 from collections import Counter
 from functools import partial
@@ -11,7 +12,9 @@ from pathlib import Path
 
 from program.cases import FIRST_INPUT
 from program.ends import differs
+from program.list_of_texts import CLOSED
 from program.streams import holding, run_over
+from refused_memory import SECONDS
 
 CASES = Path(__file__).resolve().parent.parent.parent / "crates/dictcol/cases"
 BACKENDS = (b"string", b"bucket", b"buffer")
@@ -227,7 +230,19 @@ def output_that_breaks_off(program):
             for count in range(0, len(whole), 3):
                 ended = run_over(program, words, holding(data), WRITE_BYTES=3, BROKEN_WRITE=count // 3 + 1, ERROR=error)
                 name = f"{words}, output that breaks off by {error} after {count} bytes"
-                yield name, ended, (1, whole[:count], UNWRITABLE[2])
+                status, _, told = CLOSED if error == errno.EPIPE else UNWRITABLE
+                yield name, ended, (status, whole[:count], told)
+
+
+def reader_that_leaves(program):
+    """A reader that closes the output after its first line."""
+    with holding(b"".join(b"%d\n" % number for number in range(MANY))) as given:
+        started = subprocess.Popen([program.path, "count"], stdin=given, stdout=subprocess.PIPE, stderr=subprocess.PIPE)
+        line = started.stdout.readline()
+        started.stdout.close()
+        told = started.stderr.read()
+        started.stderr.close()
+        yield "a reader that leaves", (started.wait(SECONDS), line, told), (CLOSED[0], b"1 0\n", CLOSED[2])
 
 
 def output_in_one_write(program):
@@ -251,8 +266,8 @@ def help_asked_for(program):
     yield "--help over a folder", over_a_folder(program, [b"--help"]), ended[:3]
 
 
-STREAMS = (failing_streams, input_that_breaks_off, output_that_breaks_off, output_in_one_write, output_in_pieces,
-           help_asked_for)
+STREAMS = (failing_streams, input_that_breaks_off, output_that_breaks_off, reader_that_leaves, output_in_one_write,
+           output_in_pieces, help_asked_for)
 
 
 def try_streams(program, pool):

@@ -7,6 +7,8 @@ USAGE = (2, b"", b"usage: intern string|bucket|buffer\n")
 UNREADABLE = (1, b"", b"cannot read input\n")
 OUT_OF_MEMORY = (1, b"", b"out of memory\n")
 UNWRITABLE = b"cannot write output\n"
+# How a run ends whose output is closed: as a shell tells of a program that SIGPIPE ended.
+CLOSED = (128 + 13, b"", b"")
 
 
 def bad_line(number):

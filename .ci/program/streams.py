@@ -11,7 +11,7 @@ from itertools import product
 
 from program.cases import OUTPUT_BUFFER
 from program.ends import differs
-from program.list_of_texts import UNREADABLE, UNWRITABLE, answer, bad_line
+from program.list_of_texts import CLOSED, UNREADABLE, UNWRITABLE, answer, bad_line
 from refused_memory import SECONDS
 
 
@@ -88,7 +88,7 @@ def reader_that_leaves(program):
         error = started.stderr.read()
         started.stderr.close()
         ended = started.wait(SECONDS), b"", error
-    yield from differs("a reader that leaves", ended, (1, b"", UNWRITABLE))
+    yield from differs("a reader that leaves", ended, CLOSED)
     if line != b"symbol 0\n":
         yield f"a reader that leaves: it read {line!r}"
 
@@ -125,13 +125,14 @@ def output_that_breaks_off(program):
     for settings, least in ({}, 1), (refusing_the_buffer(program), len(LINES)):
         for error in (errno.EPIPE, errno.ENOMEM, 0):  # A writer that takes nothing is an error too.
             name = f"output that breaks off by {error} under {settings}"
+            wanted = CLOSED if error == errno.EPIPE else (1, b"", UNWRITABLE)
             for broken in range(1, 100):
                 ended = run_over(program, [b"string"], holding(COMMANDS), BROKEN_WRITE=broken, ERROR=error, **settings)
                 if ended[1] == b"".join(LINES):
                     break
                 if not b"".join(LINES).startswith(ended[1]):
                     yield f"{name}: what was written is no front of the answer"
-                yield from differs(name, (ended[0], b"", without_refusal(ended[2])), (1, b"", UNWRITABLE))
+                yield from differs(name, (ended[0], b"", without_refusal(ended[2])), wanted)
             yield from differs(name, (ended[0], ended[1], without_refusal(ended[2])), (0, b"".join(LINES), b""))
             if broken <= least:
                 yield f"{name}: {broken - 1} writes"

@@ -5,7 +5,7 @@ use Rattle.std.specs.List.{list_any}
 use Rattle.std.proofs.lemmas.List.{append_assoc}
 use Rattle.std.proofs.lemmas.Option.{same_Some}
 use Rattle.serde_json.specs.Read.{max_depth, read}
-use Rattle.serde_json.specs.Data.{depth, items_depth, Data, null, boolean, number, string, array, object, unsigned, Items, no_items, item, member, no_members}
+use Rattle.serde_json.specs.Data.{depth, items_depth, Data, boolean, string, array, Items, no_items, item}
 use Rattle.serde_json.specs.Find.{get, as_number, as_u64}
 use Rattle.serde_json.specs.View.{items_of}
 use Rattle.serde_json.proofs.OnLiterals.{serde_json_on_literals}
@@ -20,7 +20,7 @@ use Rattle.string_interner.specs.declared.json.JsonError.{JsonError}
 use Rattle.string_interner.specs.declared.json.JsonError.TheVariants.{NoSymbol, Memory}
 use Rattle.string_interner.proofs.Lemmas.Json.Reads.{new_text}
 use Rattle.uses.specs.Column.{AreNumbersOf}
-use Rattle.dictcol.specs.File.{file_of, IsFileOf, text_at, texts_at, Says, SaysText, Encodes, Decodes}
+use Rattle.dictcol.specs.File.{IsFileOf, texts_at, Says, SaysText, Encodes, Decodes}
 use Rattle.dictcol.specs.Lines.{has_newline, joined, AreLines}
 use Rattle.dictcol.proofs.Lines.{joined-lines, lines-plain, fresh-plain, texts_of-append}
 

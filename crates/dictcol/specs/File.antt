@@ -1,6 +1,6 @@
 -- The file that `encode` writes and `decode` reads: which value it is, and which lines it says.
 -- Cited by `file` and `answer`.
-use Rattle.std.specs.Prelude.{◌≡◌, ℕ, List, [], ◌∷◌, map, Bool, false, codes, Option, Some, None, option_map, option_and_then, slice_get}
+use Rattle.std.specs.Prelude.{◌≡◌, ℕ, List, [], ◌∷◌, map, Bool, false, codes, Option, Some, option_map, option_and_then, slice_get}
 use Rattle.std.specs.List.{list_any}
 use Rattle.serde_json.specs.Data.{Data, boolean, array, object, Items, no_items, item, member, no_members}
 use Rattle.serde_json.specs.Find.{get, as_number, as_u64}

@@ -1,13 +1,12 @@
 //! From the input to the output.
 
-ghost use Rattle.std.specs.Prelude.{◌≡◌, ◌⊎◌, ℕ, List, [], ◌∷◌, ◌++◌, true, IfOk, IfErr, IfSome, IsErrOf, IsOk, IsOkUnless, OnOk, IsUtf8, string_bytes};
+ghost use Rattle.std.specs.Prelude.{◌≡◌, ◌⊎◌, ℕ, List, [], ◌∷◌, ◌++◌, true, IfOk, IfErr, IfSome, IsErrAnd, IsOk, OnOk, IsUtf8, string_bytes};
 ghost use Rattle.std.specs.Io.KnownBytes.{Appends, IsAtEnd};
-ghost use Rattle.dictcol.specs.Fault.{IsReadFault};
+ghost use Rattle.dictcol.specs.Fault.{IsReadFault, IsWriteFault};
 ghost use Rattle.dictcol.specs.Lines.{AreLines, is_newline, newline_if};
 ghost use Rattle.std.specs.List.{slice_split};
 ghost use Rattle.dictcol.specs.File.{Encodes};
 ghost use Rattle.dictcol.specs.Answer.{Tells, Does, Answers};
-ghost use Rattle.dictcol.specs.declared.fault.Fault.{Fault};
 
 use crate::arguments::{Choice, Form, Task};
 use crate::fault::Fault;
@@ -131,12 +130,10 @@ fn done(alloc: Global, task: Task, bytes: &[u8]) -> Result<String, Fault>
 /// Writes a text.
 fn write_text<W: Write>(output: &mut W, text: String) -> Result<(), Fault>
     ensures written { OnOk result (Appends (W.contents output.old) (W.contents output.new) (string_bytes text)) }
-    ensures fault { IsOkUnless result Fault.Output }
+    ensures fault { IfErr result IsWriteFault }
 {
-    output
-        .write_all(text.as_bytes())
-        .map_err(|_| Fault::Output)?;
-    output.flush().map_err(|_| Fault::Output)
+    output.write_all(text.as_bytes()).map_err(Fault::of_write)?;
+    output.flush().map_err(Fault::of_write)
 }
 
 /// Writes what the task asks for. Nothing is written before all of it is known.
@@ -149,7 +146,7 @@ pub fn answer<W: Write>(
     ensures answered { OnOk result (Answers task bytes.now (W.contents output.old) (W.contents output.new)) }
 
     // Unless all went well or a write failed, the output was not touched.
-    ensures silent { IsOk result ⊎ (IsErrOf result Fault.Output ⊎ (output.new ≡ output.old)) }
+    ensures silent { IsOk result ⊎ (IsErrAnd result IsWriteFault ⊎ (output.new ≡ output.old)) }
 {
     let text = done(alloc, task, bytes)?;
     write_text(output, text)

@@ -1,9 +1,11 @@
 //! Errors that end the program.
 
 ghost use Rattle.std.specs.Prelude.{◌≡◌};
-ghost use Rattle.dictcol.specs.Fault.{status_of};
+ghost use Rattle.std.specs.IoError.{error_kind};
+ghost use Rattle.dictcol.specs.Fault.{status_of, write_fault};
 
-use string_interner::backend::InternError;
+use std::io;
+use std::io::ErrorKind;
 use thiserror::Error;
 
 /// Why the program failed. It is displayed as the message for standard error.
@@ -51,14 +53,29 @@ pub enum Fault {
     /// Writing failed.
     #[error("cannot write output")]
     Output,
+    /// Nobody reads the output any more.
+    #[error("output is closed")]
+    ClosedOutput,
 }
 
 impl Fault {
-    /// Returns the exit status: 2 if the arguments or the input are wrong, 1 if the system failed or there is too much.
+    /// Returns the fault of a write that failed with this error.
+    pub fn of_write(error: io::Error) -> Fault
+        ensures { result ≡ write_fault (error_kind error) }
+    {
+        match error.kind() {
+            ErrorKind::BrokenPipe => Fault::ClosedOutput,
+            _ => Fault::Output,
+        }
+    }
+
+    /// Returns the exit status: 2 if the arguments or the input are wrong, 1 if the system failed or there is too much. Where
+    /// the output is closed it is 141, which a shell tells of `cat` or `sort` there: 128 and the number of SIGPIPE.
     pub fn status(&self) -> u8
         ensures { result ≡ status_of self.now }
     {
         match self {
+            Fault::ClosedOutput => 141,
             Fault::Input | Fault::TooMany | Fault::Memory | Fault::Output => 1,
             _ => 2,
         }

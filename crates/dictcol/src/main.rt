@@ -29,7 +29,8 @@ count    writes each distinct line behind how often it comes, in the order of fi
 --backend   where texts are kept while it runs, string where none is named; what is written is the same
 --help      prints this
 
-The status is 2 for wrong arguments, lines that are not UTF-8 and a damaged file, and 1 for what the system refused.
+The status is 2 for wrong arguments, lines that are not UTF-8 and a damaged file, 1 for what the system refused, and 141,
+with no message, where nobody reads the output any more.
 ";
 
 /// Input of so many bytes is long: a terminal is told how far the work is.
@@ -53,7 +54,7 @@ fn run(rt: &HostRuntime) -> Result<(), Fault> {
         .map_err(|_| Fault::Usage)?;
     let mut output = rt.stdout();
     let task = match arguments::request_of(&arguments).ok_or(Fault::Usage)? {
-        Request::Help => return output.write_all(HELP.as_bytes()).map_err(|_| Fault::Output),
+        Request::Help => return output.write_all(HELP.as_bytes()).map_err(Fault::of_write),
         Request::Do(task) => task,
     };
     let bytes = answer::read(alloc, &mut rt.stdin())?;
@@ -66,6 +67,8 @@ fn run(rt: &HostRuntime) -> Result<(), Fault> {
 fn main(rt: HostRuntime) -> ExitCode {
     match run(&rt) {
         Ok(()) => ExitCode::SUCCESS,
+        // Who closed the output, as `head` does, wants no more, and no words about it.
+        Err(Fault::ClosedOutput) => ExitCode::from(Fault::ClosedOutput.status()),
         Err(fault) => {
             // Nothing is left to do if standard error is closed.
             let _ = eprintln!(rt; "dictcol: {fault}");
