@@ -1,0 +1,131 @@
+#!/usr/bin/env python3
+"""Prints what is wrong with the documents, and fails if anything is:
+
+- a link that leads to no file, or to no heading of its page;
+- a file in a code span or a command that is not there;
+- an identifier in a code span that no file of the repository has. docs/DIFFERENCES.md may name what the original has;
+- a block of Rattle that stands in no crate to the word, so that nothing proves it.
+"""
+
+import re
+import subprocess
+import sys
+from functools import cached_property
+from pathlib import PurePosixPath
+
+from edits import TOP
+
+# Pages whose examples in Rattle are parts of crates.
+SHOWS_RATTLE = ("README.md", "docs/CALLING.md", "docs/USING.md")
+NAMES_THE_ORIGINAL = "docs/DIFFERENCES.md"
+LINK = re.compile(r"\]\(([^)\s]+)\)")
+SPAN = re.compile(r"(?<!`)`([^`\n]+)`(?!`)")
+BLOCK = re.compile(r"^```(\w*)\n(.*?)^```$", re.M | re.S)
+HEADING = re.compile(r"^#+ +(.*)$", re.M)
+# A path, or a file by its name alone. One that ends in two dots is the beginning of several.
+FILE = re.compile(r"(?=.*\w)(?!.*\.\.$)(?:[\w./-]*/[\w./-]*|[\w-]+\.(?:antt|c|edit|h|md|py|rs|rt|txt))")
+COMMAND = re.compile(r"(?<![\w./$-])(?:\.ci|bench|bin|clients|crates|docs|tools)/[\w./-]*\w")
+IDENTIFIER = re.compile(r"[A-Za-z_]\w*(?:::[A-Za-z_]\w*)*")
+
+
+def anchor_of(heading):
+    """The name under which a link finds a heading, as GitHub and others make it."""
+    return re.sub(r"[^\w\- ]", "", heading.strip().lower()).replace(" ", "-")
+
+
+class Repository:
+    """The files of the repository, without what is built."""
+
+    @cached_property
+    def files(self):
+        words = ["git", "ls-files", "--cached", "--others", "--exclude-standard"]
+        listed = subprocess.run(words, cwd=TOP, check=True, capture_output=True, encoding="utf-8").stdout.splitlines()
+        return [it for it in listed if (TOP / it).is_file()]
+
+    @cached_property
+    def pages(self):
+        return [it for it in self.files if it.endswith(".md")]
+
+    @cached_property
+    def words(self):
+        """The words of all files but the pages, and of their names."""
+        words = set(re.findall(r"\w+", "\n".join(self.files)))
+        for name in self.files:
+            if not name.endswith((".md", ".svg")):
+                words |= set(re.findall(r"\w+", (TOP / name).read_text(encoding="utf-8", errors="replace")))
+        return words
+
+    @cached_property
+    def ends(self):
+        """The ends of the paths of all files, modules and folders."""
+        paths = {PurePosixPath(name) for name in self.files}
+        modules = {path.with_suffix("") for path in paths if path.suffix == ".rt"}
+        folders = {folder for path in paths for folder in path.parents}
+        return {"/".join(path.parts[i:]) for path in paths | modules | folders for i in range(len(path.parts))}
+
+    def has_file(self, name):
+        """Whether the path of a file, a module or a folder ends with these words, or whether they name what is built."""
+        parts = PurePosixPath(name.removeprefix("./")).parts
+        return "out" in parts or "/".join(parts) in self.ends
+
+    def has_name(self, name):
+        """Whether these words are those of some file, or the beginning of one's name."""
+        return all(word in self.words or any(f"/{word}_" in file for file in self.files) for word in name.split("::"))
+
+    @cached_property
+    def sources(self):
+        return [path.read_text(encoding="utf-8") for path in TOP.glob("crates/*/src/**/*.rt")]
+
+
+def broken_links(page, text):
+    for target in LINK.findall(text):
+        if "://" in target:
+            continue
+        name, _, anchor = target.partition("#")
+        path = (TOP / page).parent / name if name else TOP / page
+        if not path.exists():
+            yield f"the link {target} leads to no file"
+        elif anchor and anchor not in map(anchor_of, HEADING.findall(path.read_text(encoding="utf-8"))):
+            yield f"the link {target} leads to no heading"
+
+
+def missing_names(page, text, repository):
+    for span in SPAN.findall(BLOCK.sub("", text)):
+        if FILE.fullmatch(span):
+            if not repository.has_file(span):
+                yield f"no file `{span}`"
+        elif page != NAMES_THE_ORIGINAL and IDENTIFIER.fullmatch(span) and not repository.has_name(span):
+            yield f"no `{span}` in any file"
+    for command in COMMAND.findall(LINK.sub("", text)):
+        if not repository.has_file(command):
+            yield f"no file {command}"
+
+
+def unproved_blocks(page, text, repository):
+    if page not in SHOWS_RATTLE:
+        return
+    blocks = [block for language, block in BLOCK.findall(text) if language == "rattle"]
+    if not blocks:
+        yield "no block of Rattle"
+    for block in blocks:
+        if not any(block in source for source in repository.sources):
+            yield f"in no crate: {block.splitlines()[0]}"
+
+
+def faults():
+    """What is wrong with the documents."""
+    repository = Repository()
+    for page in repository.pages:
+        text = (TOP / page).read_text(encoding="utf-8")
+        found = [*broken_links(page, text), *missing_names(page, text, repository), *unproved_blocks(page, text, repository)]
+        yield from (f"{page}: {it}" for it in dict.fromkeys(found))
+
+
+def main():
+    found = list(faults())
+    print(*found, sep="\n", end="\n" if found else "")
+    return 1 if found else 0
+
+
+if __name__ == "__main__":
+    sys.exit(main())

@@ -1,0 +1,66 @@
+"""What is wrong with a document, as tools/documents.py finds it."""
+
+from unittest import mock
+
+from small import SmallRepository
+import documents
+
+README = """\
+# Small things
+
+See [the words](docs/WORDS.md#what-they-mean) and [below](#use-it). `double` is in `src/lib.rt` and in `crates/low`, module
+`low/src/shape`; `IsTwice` is in `Words.antt`. Built: `crates/low/out/rlib`, and no name: `a/..`, `x + y`.
+
+## Use it
+
+    tools/count
+
+```rattle
+fn half(number: u32) -> u32
+    ensures { IsHalf number result }
+```
+"""
+
+
+class DocumentsTest(SmallRepository):
+    def setUp(self):
+        super().setUp()
+        patch = mock.patch.object(documents, "TOP", self.top)
+        patch.start()
+        self.addCleanup(patch.stop)
+        self.write("tools/count", "")
+        self.write("docs/WORDS.md", "# Words\n\n## What *they* mean\n")
+        self.write("README.md", README)
+
+    def faults_after(self, old, new):
+        self.assertIn(old, README)
+        self.write("README.md", README.replace(old, new))
+        return list(documents.faults())
+
+    def test_nothing_is_wrong(self):
+        self.assertEqual(list(documents.faults()), [])
+
+    def test_links(self):
+        self.assertEqual(self.faults_after("WORDS.md#", "WORD.md#"), ["README.md: the link docs/WORD.md#what-they-mean leads to no file"])
+        self.assertEqual(self.faults_after("#use-it", "#use"), ["README.md: the link #use leads to no heading"])
+        self.assertEqual(self.faults_after("they-mean", "they"), ["README.md: the link docs/WORDS.md#what-they leads to no heading"])
+
+    def test_files(self):
+        self.assertEqual(self.faults_after("src/lib.rt", "src/main.rt"), ["README.md: no file `src/main.rt`"])
+        self.assertEqual(self.faults_after("Words.antt", "Word.antt"), ["README.md: no file `Word.antt`"])
+        self.assertEqual(self.faults_after("src/shape", "src/size"), ["README.md: no file `low/src/size`"])
+        self.assertEqual(self.faults_after("tools/count", "tools/counts"), ["README.md: no file tools/counts"])
+
+    def test_identifiers(self):
+        self.assertEqual(self.faults_after("`double`", "`treble`"), ["README.md: no `treble` in any file"])
+        self.assertEqual(self.faults_after("`IsTwice`", "`low::IsTwice`"), [])
+        self.assertEqual(self.faults_after("`IsTwice`", "`low::IsThrice`"), ["README.md: no `low::IsThrice` in any file"])
+        self.assertEqual(self.faults_after("`double`", "`doubles`"), [])
+
+    def test_the_original(self):
+        self.write("docs/DIFFERENCES.md", "The original has `Treble`, and `src/treble.rs`.\n")
+        self.assertEqual(list(documents.faults()), ["docs/DIFFERENCES.md: no file `src/treble.rs`"])
+
+    def test_blocks(self):
+        self.assertEqual(self.faults_after("fn half(", "fn third("), ["README.md: in no crate: fn third(number: u32) -> u32"])
+        self.assertEqual(self.faults_after("```rattle", "```rust"), ["README.md: no block of Rattle"])
