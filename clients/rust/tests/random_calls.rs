@@ -1,7 +1,8 @@
 //! Random calls by safe code alone, beside a list of texts: symbols of other interners, symbols that lie or panic, texts that
 //! call back, walks that are left, interners that are swapped, leaked or left in the middle of a call.
 //!
-//! RANDOM_CALLS says how many calls each run makes; more than the default are for a run under a checker of memory.
+//! RANDOM_CALLS says how many calls each run makes, and RANDOM_SEED which; more than the default are for a run under a checker
+//! of memory.
 
 use std::cell::Cell;
 use std::env;
@@ -178,15 +179,21 @@ impl<B: Backend> Beside<B> {
     }
 }
 
-fn calls() -> usize {
-    env::var("RANDOM_CALLS").map_or(3_000, |calls| {
-        calls.parse().expect("RANDOM_CALLS is a number")
+/// Returns the number that this variable has, or another if it is not set.
+fn number_of(variable: &str, otherwise: usize) -> usize {
+    env::var(variable).map_or(otherwise, |number| {
+        number.parse().expect("the variable is a number")
     })
 }
 
+fn calls() -> usize {
+    number_of("RANDOM_CALLS", 3_000)
+}
+
 fn run<B: Backend>() {
-    for seed in 1..=3 {
-        let mut beside = Beside::<B>::new(seed);
+    let first = number_of("RANDOM_SEED", 1) as u64;
+    for seed in first..first + 3 {
+        let mut beside = Beside::<B>::new(seed.max(1));
         (0..calls()).for_each(|_| beside.call());
     }
 }
