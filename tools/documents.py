@@ -64,9 +64,10 @@ class Repository:
         return {"/".join(path.parts[i:]) for path in paths | modules | folders for i in range(len(path.parts))}
 
     def has_file(self, name):
-        """Whether the path of a file, a module or a folder ends with these words, or whether they name what is built."""
+        """Whether the path of a file, a module or a folder ends with these words, or whether they name what is built, or a
+        place that a reader chooses, as PREFIX/bin."""
         parts = PurePosixPath(name.removeprefix("./")).parts
-        return "out" in parts or "/".join(parts) in self.ends
+        return "out" in parts or parts[0].isupper() or "/".join(parts) in self.ends
 
     def has_name(self, name):
         """Whether these words are those of some file, or the beginning of one's name."""

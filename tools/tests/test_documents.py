@@ -9,7 +9,7 @@ README = """\
 # Small things
 
 See [the words](docs/WORDS.md#what-they-mean) and [below](#use-it). `double` is in `src/lib.rt` and in `crates/low`, module
-`low/src/shape`; `IsTwice` is in `Words.antt`. Built: `crates/low/out/rlib`, and no name: `a/..`, `x + y`.
+`low/src/shape`; `IsTwice` is in `Words.antt`. Built: `crates/low/out/rlib`, and no name: `a/..`, `PREFIX/bin`, `x + y`.
 
 ## Use it
 
