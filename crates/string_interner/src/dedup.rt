@@ -21,7 +21,9 @@ ghost use Rattle.string_interner.specs.TextIndex.{IfVacant, found_by};
 use crate::backend::Backend;
 use crate::symbol::Symbol;
 use growing::{least_slot_count, next_slot_count, put_all, rehash};
-pub use hasher::{DefaultHashBuilder, FixedState, FoldState, StdHasher, TextHasher};
+pub use hasher::{
+    DefaultHashBuilder, FixedState, FoldState, KeyedHasher, KeyedState, StdHasher, TextHasher,
+};
 use probe::{Vacancy, occupy, probe};
 pub use slots::Looks;
 use slots::Slots;

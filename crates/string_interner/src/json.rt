@@ -116,10 +116,7 @@ impl<
         // What `to_json` wrote is read back.
         ensures gives_back { ReadsBack B.Symbol.symbol_of B.place (view value.now) result }
     {
-        let elements = value.as_array().ok_or(JsonError::NotAList)?;
-        let mut interner = StringInterner::new(alloc);
-        interner.read_elements(elements)?;
-        Ok(interner)
+        StringInterner::from_json_with_hasher(alloc, value, H::default())
     }
 
     /// Makes an interner from a JSON array of distinct strings, under the hasher's default. The array is then what
@@ -135,10 +132,46 @@ impl<
         // What `to_json` wrote is read back.
         ensures gives_back { ReadsBack B.Symbol.symbol_of B.place (view value.now) result }
     {
+        StringInterner::from_json_exact_with_hasher(alloc, value, H::default())
+    }
+}
+
+impl<B: Backend + Drop, H: TextHasher + Drop, I: TextIndex<B::Symbol> + Drop> StringInterner<
+    B,
+    H,
+    I,
+> {
+    /// Makes an interner from a JSON array of strings as `from_json` does, under this hasher.
+    pub fn from_json_with_hasher(alloc: Global, value: &Value, hasher: H) -> Result<Self, JsonError>
+        ensures reads { ReadsArray B.Symbol.symbol_of B.place (view value.now) result }
+        ensures slots { IfOk result (λ interner. IsLeastSlotCount I.rule (length interner.texts) interner.slot_count) }
+
+        // What `to_json` wrote is read back.
+        ensures gives_back { ReadsBack B.Symbol.symbol_of B.place (view value.now) result }
+    {
+        let elements = value.as_array().ok_or(JsonError::NotAList)?;
+        let mut interner = StringInterner::with_hasher(alloc, hasher);
+        interner.read_elements(elements)?;
+        Ok(interner)
+    }
+
+    /// Makes an interner from a JSON array of distinct strings as `from_json_exact` does, under this hasher.
+    pub fn from_json_exact_with_hasher(
+        alloc: Global,
+        value: &Value,
+        hasher: H,
+    ) -> Result<Self, JsonError>
+        ensures reads { ReadsArrayExactly B.Symbol.symbol_of B.place (view value.now) result }
+        ensures form { IfOk result (λ interner. view value.now ≡ json_of_texts interner.texts) }
+        ensures slots { IfOk result (λ interner. IsLeastSlotCount I.rule (length interner.texts) interner.slot_count) }
+
+        // What `to_json` wrote is read back.
+        ensures gives_back { ReadsBack B.Symbol.symbol_of B.place (view value.now) result }
+    {
         let Some(elements) = value.as_array() else {
             return Err(JsonError::NotAList);
         };
-        let mut different = StringInterner::new(alloc);
+        let mut different = StringInterner::with_hasher(alloc, hasher);
         different.read_elements_exactly(elements)?;
         Ok(different)
     }

@@ -26,8 +26,8 @@ pub type DefaultStringInterner<B = DefaultBackend, H = DefaultHashBuilder> = Str
 /// An interner for speed: the default backend, with an index that compares tags before it compares texts, under a hasher
 /// that reads 16 bytes at a time.
 ///
-/// Its codes are the same in each run. Where texts come from someone who may choose them, take
-/// `StringInterner<B, StdHasher<RandomState>, WindowIndex<S>>`, where `S` is the symbol type.
+/// Its codes are the same in each run, and it is easy to choose texts that have one code. Where they come from someone who
+/// may do so, take `StringInterner<B, KeyedHasher, WindowIndex<S>>` under random keys, where `S` is the symbol type.
 pub type FastStringInterner<B = DefaultBackend> = StringInterner<
     B,
     FoldState,

@@ -9,7 +9,7 @@ use Rattle.string_interner.specs.Hasher.{one_write}
 
 -- so much computes a code
 unfoldable computing : Unit {0}
-unfolding sip.initial sip.round sip.write_word sip.write_byte sip.write sip.finish folding.initial folding.folded_multiply folding.read_u32 folding.read_u64 folding.read_short folding.mix_blocks folding.write
+unfolding sip.initial sip.with_keys sip.round sip.write_word sip.write_byte sip.write sip.finish folding.initial folding.folded_multiply folding.read_u32 folding.read_u64 folding.read_short folding.mix_blocks folding.write
 computing = tt
 
 abbrev sip_code : Text → ℕ
@@ -133,3 +133,64 @@ sip-of-a_sentence = refl
 pub fold-of-a_sentence : fold_code a_sentence ≡ 0x74E1_66CD_AAF4_B131
 unfolding computing
 fold-of-a_sentence = refl
+
+-- SipHash-1-3 under two keys: those that Python makes of `PYTHONHASHSEED=1`, and what its own `hash` then answers, but for
+-- the empty text, which the few lines of Python give that agree with it on the others.
+abbrev keyed_code : Text → ℕ
+keyed_code text = one_write sip.write sip.finish (sip.with_keys 0xAED6_6CE1_84BE_2329 0xEBE9_BBF1_F149_9052) text
+
+pub keyed-of-empty : keyed_code [] ≡ 0x96A9_733E_F308_A1D7
+unfolding computing
+keyed-of-empty = refl
+
+-- `a`
+pub keyed-of-a : keyed_code (0x61 ∷ []) ≡ 0xD630_0BC9_F7CC_0E73
+unfolding computing
+keyed-of-a = refl
+
+-- `Tiger`
+pub keyed-of-Tiger : keyed_code (0x54 ∷ 0x69 ∷ 0x67 ∷ 0x65 ∷ 0x72 ∷ []) ≡ 0x65D6_AF55_C789_83C5
+unfolding computing
+keyed-of-Tiger = refl
+
+-- `12345678`
+pub keyed-of-eight_digits : keyed_code (0x31 ∷ 0x32 ∷ 0x33 ∷ 0x34 ∷ 0x35 ∷ 0x36 ∷ 0x37 ∷ 0x38 ∷ []) ≡ 0x06F0_7C60_EFE2_BAD9
+unfolding computing
+keyed-of-eight_digits = refl
+
+pub keyed-of-seventeen_bytes : keyed_code seventeen_bytes ≡ 0xD8C9_8BE3_9A95_702F
+unfolding computing
+keyed-of-seventeen_bytes = refl
+
+pub keyed-of-a_sentence : keyed_code a_sentence ≡ 0x4D4D_3AC5_18FA_33D0
+unfolding computing
+keyed-of-a_sentence = refl
+
+-- Texts that are chosen against `FoldHasher`: `pelhxgajlndawnwxG5WzMie1`, whose last eight letters are what the sixteen before them
+-- make of the state, so that a product is 0, and eight letters more, of which no code depends. Under keys it does.
+abbrev chosen : Text → Text
+chosen rest = 0x70 ∷ 0x65 ∷ 0x6C ∷ 0x68 ∷ 0x78 ∷ 0x67 ∷ 0x61 ∷ 0x6A ∷ 0x6C ∷ 0x6E ∷ 0x64 ∷ 0x61 ∷ 0x77 ∷ 0x6E ∷ 0x77 ∷ 0x78 ∷ 0x47 ∷ 0x35 ∷ 0x57 ∷ 0x7A ∷ 0x4D ∷ 0x69 ∷ 0x65 ∷ 0x31 ∷ rest
+
+-- `Elephant`
+abbrev chosen_Elephant : Text
+chosen_Elephant = chosen (0x45 ∷ 0x6C ∷ 0x65 ∷ 0x70 ∷ 0x68 ∷ 0x61 ∷ 0x6E ∷ 0x74 ∷ [])
+
+-- `Aardvark`
+abbrev chosen_Aardvark : Text
+chosen_Aardvark = chosen (0x41 ∷ 0x61 ∷ 0x72 ∷ 0x64 ∷ 0x76 ∷ 0x61 ∷ 0x72 ∷ 0x6B ∷ [])
+
+pub fold-of-chosen_Elephant : fold_code chosen_Elephant ≡ 0
+unfolding computing
+fold-of-chosen_Elephant = refl
+
+pub keyed-of-chosen_Elephant : keyed_code chosen_Elephant ≡ 0xF416_C007_96FB_A172
+unfolding computing
+keyed-of-chosen_Elephant = refl
+
+pub fold-of-chosen_Aardvark : fold_code chosen_Aardvark ≡ 0
+unfolding computing
+fold-of-chosen_Aardvark = refl
+
+pub keyed-of-chosen_Aardvark : keyed_code chosen_Aardvark ≡ 0x3D4E_481E_D5C6_5052
+unfolding computing
+keyed-of-chosen_Aardvark = refl

@@ -1,10 +1,14 @@
 //! Hashers of texts.
 
 ghost use Rattle.std.specs.Prelude.{◌≡◌, ℕ};
+ghost use Rattle.std.specs.Hash.DefaultHasher.{with_keys};
 ghost use Rattle.string_interner.specs.Text.{Text};
 ghost use Rattle.string_interner.specs.Hasher.{fnv_1a, one_write};
 
-use std::hash::{BuildHasher, BuildHasherDefault, FoldHasher, Hasher};
+use core::hash::keyed_hasher;
+use std::fmt;
+use std::fmt::{Debug, Formatter};
+use std::hash::{BuildHasher, BuildHasherDefault, DefaultHasher, FoldHasher, Hasher};
 
 /// The default hasher of an interner.
 pub type DefaultHashBuilder = FixedState;
@@ -12,6 +16,13 @@ pub type DefaultHashBuilder = FixedState;
 /// Hashes texts: gives each text a 64-bit code.
 ///
 /// An index is correct under every hasher, even a constant one, and fast under one that spreads its codes.
+///
+/// | Hasher | Codes | Take it when |
+/// |---|---|---|
+/// | [`FoldState`] | the same in each run | you trust where the texts come from: it is the fastest |
+/// | [`FixedState`] | the same in each run | the same, and texts are short, or you want the codes of 64-bit FNV-1a |
+/// | [`KeyedHasher`] | those of two keys | an attacker may choose the texts, and you have 128 random bits |
+/// | [`StdHasher`] over `RandomState` | other ones in each run | the same, and you have a `HostRuntime`, which draws the keys |
 pub trait TextHasher {
     /// The code of a text. It depends on the hasher's value and the text alone.
     ghost code: { Self → Text → ℕ };
@@ -24,7 +35,7 @@ pub trait TextHasher {
 /// 64-bit FNV-1a over the bytes of the text: fast on short texts, with the same codes in each run.
 ///
 /// Not resistant to collisions: texts can be chosen to have one code. Where they come from someone who may do so, take
-/// [`StdHasher`] over `RandomState`.
+/// [`KeyedHasher`] under random keys.
 #[derive(Clone, Copy, Debug, Default, PartialEq, Eq)]
 pub struct FixedState;
 
@@ -54,12 +65,12 @@ impl TextHasher for FixedState {
 /// - `BuildHasherDefault<FoldHasher>`, which is [`FoldState`], reads 16 bytes at a time, where the default reads one: it
 ///   is fast on long texts too. Its seed is fixed, so codes are the same in each run, and texts can be chosen to have
 ///   one code.
-/// - `RandomState` is SipHash-1-3 under random keys: slower, with other codes in each run. It alone protects where texts
-///   come from someone who may choose them, as long as the keys stay secret.
-/// - `BuildHasherDefault<DefaultHasher>` is SipHash-1-3 under keys that are 0: the same codes in each run, and no
-///   protection.
+/// - [`KeyedState`], which makes [`KeyedHasher`], is SipHash-1-3 under two keys that you hand in. It is slower, and
+///   protects where texts come from someone who may choose them, as long as the keys are random and stay secret.
+/// - `RandomState` is the same under keys that the system draws.
+/// - `BuildHasherDefault<DefaultHasher>` is the same under keys that are 0: it protects from nothing.
 ///
-/// An index takes the low bits of a code. These three spread them; a builder of your own should, too.
+/// An index takes the low bits of a code. These four spread them; a builder of your own should, too.
 ///
 /// ```
 /// let keyed = StdHasher::new(RandomState::new(&rt)?);
@@ -70,9 +81,60 @@ pub struct StdHasher<S> {
     builder: S,
 }
 
-/// The hasher of the standard library's maps: fast, with the same codes in each run and no protection against chosen
-/// texts.
+/// The hasher of the standard library's maps: fast, with the same codes in each run.
+///
+/// It protects less than any other against chosen texts. It mixes a block of 16 bytes by one multiplication, by the first
+/// half of the block and what came before it. Where what came before happens to be eight ASCII bytes, a block that begins
+/// with these makes a product of 0, whatever its other eight bytes are. A prefix for which this is so is found in a few
+/// thousand tries, and then any number of texts have one code. Where someone may choose texts, take [`KeyedHasher`].
 pub type FoldState = StdHasher<BuildHasherDefault<FoldHasher>>;
+
+/// SipHash-1-3 under the two keys of a [`KeyedState`]: its codes cannot be foreseen without them.
+pub type KeyedHasher = StdHasher<KeyedState>;
+
+/// Builds hashers of SipHash-1-3 under two keys of 64 bits.
+///
+/// Texts cannot be chosen to have one code by someone who does not know the keys, if they are random: so draw them once a
+/// process, or once an interner, from the system. Where a [`HostRuntime`](std::HostRuntime) is at hand, std's
+/// `RandomState` does so.
+///
+/// The same keys give the same codes in each run. `Debug` shows no key.
+///
+/// ```
+/// let keyed = KeyedHasher::new(KeyedState::new(key0, key1));
+/// let names = StringInterner::<DefaultBackend, KeyedHasher>::with_hasher(alloc, keyed);
+/// ```
+#[derive(Clone, Copy)]
+pub struct KeyedState {
+    key0: u64,
+    key1: u64,
+}
+
+impl KeyedState {
+    /// Makes a builder of hashers under these keys.
+    pub fn new(key0: u64, key1: u64) -> Self
+        ensures { result ≡ record { key0 = key0; key1 = key1 } }
+    {
+        KeyedState { key0, key1 }
+    }
+}
+
+impl BuildHasher for KeyedState {
+    type Hasher = DefaultHasher;
+
+    ghost build_hasher = { λ state. with_keys state.key0 state.key1 };
+
+    #[inline]
+    fn build_hasher(&self) -> DefaultHasher {
+        keyed_hasher(self.key0, self.key1)
+    }
+}
+
+impl Debug for KeyedState {
+    fn fmt<W: fmt::Write>(&self, f: &mut Formatter<W>) -> fmt::Result {
+        f.debug_struct("KeyedState").finish_non_exhaustive()
+    }
+}
 
 impl<S: BuildHasher> StdHasher<S> {
     /// Makes a hasher that hashes each text by a hasher of this builder.

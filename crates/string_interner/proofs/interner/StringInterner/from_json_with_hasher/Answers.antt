@@ -1,6 +1,6 @@
 use Rattle.std.proofs.Common.{rules, Ok}
 use Rattle.string_interner.proofs.Lemmas.Json.Reads.{reads_back}
-use Rattle.string_interner.proofs.interner.StringInterner.from_json.Goals as goal
+use Rattle.string_interner.proofs.interner.StringInterner.from_json_with_hasher.Goals as goal
 
 pub returns-in_err-read_elements-clause-gives_back : goal.returns-in_err-read_elements-clause-gives_back
 returns-in_err-read_elements-clause-gives_back g c = reads_back g.B.Symbol.Symbol.symbol_of g.B.Backend.place _ _ (search rules)

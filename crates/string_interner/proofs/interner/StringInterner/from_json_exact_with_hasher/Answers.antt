@@ -1,6 +1,6 @@
 use Rattle.std.proofs.Common.{rules, Ok}
 use Rattle.string_interner.proofs.Lemmas.Json.ReadsExactly.{exact_form, exact_reads_back}
-use Rattle.string_interner.proofs.interner.StringInterner.from_json_exact.Goals as goal
+use Rattle.string_interner.proofs.interner.StringInterner.from_json_exact_with_hasher.Goals as goal
 
 pub returns-in_err-read_elements_exactly-clause-gives_back : goal.returns-in_err-read_elements_exactly-clause-gives_back
 returns-in_err-read_elements_exactly-clause-gives_back g c = exact_reads_back g.B.Symbol.Symbol.symbol_of g.B.Backend.place _ _ (search rules)
