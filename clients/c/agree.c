@@ -10,13 +10,13 @@
 enum { MOST_TEXTS = 400, MOST_BYTES = 320, MOST_ROOM = MOST_TEXTS * (6 * MOST_BYTES + 3) };
 
 typedef struct text {
-  uint8_t bytes[MOST_BYTES];
+  char bytes[MOST_BYTES];
   size_t len;
 } text;
 
 /* The list, and where each text's number stands on a kind: its index, or the bytes of the entries before it. */
 typedef struct list {
-  uint32_t kind;
+  si_kind kind;
   size_t count;
   text texts[MOST_TEXTS];
   size_t numbers[MOST_TEXTS];
@@ -65,6 +65,11 @@ static text no_text(void) {
   return made;
 }
 
+/* Whether the place is within a character. */
+static bool is_cut(const text *given, size_t at) {
+  return at < given->len && ((unsigned char)given->bytes[at] & 0xc0) == 0x80;
+}
+
 /* The index of a text in the list, or the count. */
 static size_t find(const list *known, const text *sought) {
   size_t i;
@@ -101,7 +106,7 @@ static bool same(const si_text *lent, const text *wanted) {
 /* All entries are those of the list, in order. */
 static void compare_all(si_interner *h, const list *known) {
   static si_entry entries[MOST_TEXTS];
-  size_t count = 0, i;
+  size_t count, i;
   MUST(si_entries(h, entries, MOST_TEXTS, &count) == SI_OK && count == known->count);
   for (i = 0; i < count; i++) {
     MUST(entries[i].number == known->numbers[i]);
@@ -113,7 +118,7 @@ static void intern_one(si_interner *h, list *known) {
   static const char *const lasting[] = {"", "static", "a", "\u00df", "another text that stays"};
   text given = some_text();
   size_t number = 7777;
-  uint32_t told;
+  si_status told;
   switch (below(3)) {
   case 0:
     told = si_get_or_intern(h, given.bytes, given.len, &number);
@@ -125,7 +130,7 @@ static void intern_one(si_interner *h, list *known) {
     const char *chosen = lasting[below(5)];
     given.len = strlen(chosen);
     memcpy(given.bytes, chosen, given.len);
-    told = si_get_or_intern_static(h, (const uint8_t *)chosen, given.len, &number);
+    told = si_get_or_intern_static(h, chosen, given.len, &number);
   }
   }
   MUST(told == SI_OK && number == put(known, &given));
@@ -142,7 +147,7 @@ static void refuse_no_text(si_interner *h) {
 static void look_up(si_interner *h, const list *known) {
   text sought = some_text();
   size_t at = find(known, &sought), number = 7777;
-  uint32_t (*get)(const si_interner *, const uint8_t *, size_t, size_t *) = below(2) ? si_get : si_get_utf8;
+  si_status (*get)(const si_interner *, const char *, size_t, size_t *) = below(2) ? si_get : si_get_utf8;
   MUST(si_contains(h, sought.bytes, sought.len) == (at < known->count));
   if (at < known->count) {
     MUST(get(h, sought.bytes, sought.len, &number) == SI_OK && number == known->numbers[at]);
@@ -152,7 +157,7 @@ static void look_up(si_interner *h, const list *known) {
 }
 
 static void resolve_one(si_interner *h, const list *known) {
-  si_text lent = SI_TEXT;
+  si_text lent;
   size_t next = next_number(known), beyond = next + below(3) * below(1000);
   if (known->count > 0) {
     size_t at = below(known->count);
@@ -166,21 +171,21 @@ static void resolve_one(si_interner *h, const list *known) {
 
 /* On a buffer, a number between those of texts reads nothing, or UTF-8, which another interner takes. */
 static void resolve_between(si_interner *h, const list *known) {
-  si_interner judge = SI_INIT;
-  si_text lent = SI_TEXT;
+  si_interner *judge;
+  si_text lent;
   size_t number;
   if (known->count == 0) return;
   if (si_resolve(h, below(next_number(known)), &lent) == SI_OK) {
     MUST(si_new(&judge, SI_STRING) == SI_OK);
-    MUST(si_get_or_intern(&judge, lent.bytes, lent.len, &number) == SI_OK);
-    si_free(&judge);
+    MUST(si_get_or_intern(judge, lent.bytes, lent.len, &number) == SI_OK);
+    si_free(judge);
   } else {
     MUST(known->kind == SI_BUFFER);
   }
 }
 
 static void copy_one(si_interner *h, const list *known) {
-  uint8_t room[MOST_BYTES];
+  char room[MOST_BYTES];
   size_t room_len = below(below(4) ? 12 : MOST_BYTES), len = 7777, at, i;
   memset(room, 0xee, sizeof room);
   MUST(si_copy(h, next_number(known), room, room_len, &len) == SI_NOTHING && len == 7777);
@@ -189,16 +194,16 @@ static void copy_one(si_interner *h, const list *known) {
     bool fits = wanted->len <= room_len;
     MUST(si_copy(h, known->numbers[at], room, room_len, &len) == (fits ? SI_OK : SI_NO_ROOM) && len == wanted->len);
     if (fits) MUST(!memcmp(room, wanted->bytes, len));
-    for (i = fits ? len : 0; i < sizeof room; i++) MUST(room[i] == 0xee);
+    for (i = fits ? len : 0; i < sizeof room; i++) MUST(room[i] == (char)0xee);
   }
 }
 
 /* Interns up to eight texts at once. One of the things that can be wrong is so at a random place. */
 static void intern_many(si_interner *h, list *known) {
-  uint8_t bytes[8 * MOST_BYTES];
+  char bytes[8 * MOST_BYTES];
   size_t ends[8], numbers[9], len = 0, done = 7777, count = below(9), wrong_at = below(12), i;
   size_t room = below(20) ? count : below(count + 1), wanted[8], good = 0;
-  uint32_t told = SI_OK;
+  si_status told = SI_OK;
   for (i = 0; i < 9; i++) numbers[i] = 7777;
   for (i = 0; i < count; i++) {
     bool is_wrong = i == wrong_at;
@@ -221,7 +226,7 @@ static void intern_many(si_interner *h, list *known) {
 static void walk(si_interner *h, const list *known) {
   si_entry entries[4];
   size_t room = below(5), count = 7777, i;
-  for (i = 0; i < 4; i++) entries[i].number = 7777, entries[i].text = (si_text)SI_TEXT;
+  for (i = 0; i < 4; i++) entries[i].number = 7777;
   if (room < known->count) {
     MUST(si_entries(h, entries, room, &count) == SI_NO_ROOM && count == known->count);
     for (i = 0; i < 4; i++) MUST(entries[i].number == 7777);
@@ -249,36 +254,35 @@ static void change_last(si_interner *h, const list *known, si_interner *other) {
 }
 
 /* A copy is equal until one of the two changes, and each goes on without the other. */
-static void copy_all(si_interner *h, list *known, si_interner *other) {
+static void copy_all(si_interner **handle, list *known, si_interner **copy) {
+  si_interner *h = *handle, *other;
   text extra = {"a text that no random one is", 28};
   size_t number;
-  MUST(si_clone(h, other) == SI_OK && si_equal(h, other) && si_equal(other, h));
+  si_free(*copy);
+  MUST(si_clone(h, copy) == SI_OK);
+  other = *copy;
+  MUST(si_equal(h, other) && si_equal(other, h) && si_equal(h, h));
   compare_all(other, known);
   MUST(si_get_or_intern(other, extra.bytes, extra.len, &number) == SI_OK && number == next_number(known));
   MUST(!si_equal(h, other) && si_len(h) == known->count && si_len(other) == known->count + 1);
   MUST(si_truncate(other, known->count) == SI_OK && si_equal(h, other));
   change_last(h, known, other);
-  if (below(2)) {
-    si_interner moved = *h;
-    *h = *other;
-    *other = moved;
-  }
-  if (below(2)) si_free(other);
+  if (below(2)) *handle = other, *copy = h;
 }
 
 /* Writes the JSON array of the list: short escapes where JSON has them, and four digits for other control characters. */
-static size_t spell_json(const list *known, uint8_t *out) {
-  uint8_t *at = out;
+static size_t spell_json(const list *known, char *out) {
+  char *at = out;
   size_t i, j;
   *at++ = '[';
   for (i = 0; i < known->count; i++) {
     if (i > 0) *at++ = ',';
     *at++ = '"';
     for (j = 0; j < known->texts[i].len; j++) {
-      uint8_t byte = known->texts[i].bytes[j];
+      char byte = known->texts[i].bytes[j];
       if (byte == '"' || byte == '\\') *at++ = '\\', *at++ = byte;
       else if (byte == '\n') *at++ = '\\', *at++ = 'n';
-      else if (byte < ' ') at += sprintf((char *)at, "\\u%04x", byte);
+      else if (byte >= 0 && byte < ' ') at += sprintf(at, "\\u%04x", (unsigned)byte);
       else *at++ = byte;
     }
     *at++ = '"';
@@ -287,22 +291,24 @@ static size_t spell_json(const list *known, uint8_t *out) {
   return (size_t)(at - out);
 }
 
-static void write_and_read_json(si_interner *h, const list *known, si_interner *other) {
-  static uint8_t wanted[MOST_ROOM], room[MOST_ROOM];
+static void write_and_read_json(si_interner *h, const list *known, si_interner **other) {
+  static char wanted[MOST_ROOM], room[MOST_ROOM];
+  si_interner *kept;
   size_t len = spell_json(known, wanted), told = 7777, short_room = below(len);
   memset(room, 0xee, len);
-  MUST(si_to_json(h, room, short_room, &told) == SI_NO_ROOM && told == len && room[0] == 0xee);
+  MUST(si_to_json(h, room, short_room, &told) == SI_NO_ROOM && told == len && room[0] == (char)0xee);
   MUST(si_to_json(h, room, sizeof room, &told) == SI_OK && told == len && !memcmp(room, wanted, len));
+  si_free(*other);
   MUST((below(2) ? si_from_json : si_from_json_exact)(other, known->kind, room, len) == SI_OK);
-  MUST(si_equal(h, other));
-  MUST(si_from_json(other, known->kind, room, len - 1) == SI_BAD_TEXT && si_equal(h, other));
-  if (below(2)) si_free(other);
+  kept = *other;
+  MUST(si_equal(h, kept));
+  MUST(si_from_json(other, known->kind, room, len - 1) == SI_BAD_TEXT && *other == kept);
 }
 
-static void read_odd_json(si_interner *other, uint32_t kind) {
+static void read_odd_json(si_kind kind) {
   static const struct row {
     const char *json;
-    uint32_t loose, exact;
+    si_status loose, exact;
     size_t len;
   } rows[] = {
       {" [ \"\\u00df\" , \"b\" ] ", SI_OK, SI_OK, 2},
@@ -317,49 +323,64 @@ static void read_odd_json(si_interner *other, uint32_t kind) {
       {"[\"\xff\"]", SI_BAD_TEXT, SI_BAD_TEXT, 0},
   };
   const struct row *row = &rows[below(sizeof rows / sizeof *rows)];
-  const uint8_t *json = (const uint8_t *)row->json;
-  size_t was = si_len(other);
-  bool exactly = below(2) == 1;
-  uint32_t wanted = exactly ? row->exact : row->loose;
-  MUST((exactly ? si_from_json_exact : si_from_json)(other, kind, json, strlen(row->json)) == wanted);
-  MUST(si_len(other) == (wanted == SI_OK ? row->len : was));
-  was = si_len(other);
-  MUST(si_from_json(other, 3 + (uint32_t)below(1000), (const uint8_t *)"[]", 2) == SI_BAD_KIND && si_len(other) == was);
+  si_interner *made = NULL;
+  si_status wanted = below(2) ? row->loose : row->exact;
+  si_status (*read)(si_interner **, si_kind, const char *, size_t) = wanted == row->exact ? si_from_json_exact : si_from_json;
+  MUST(read(&made, kind, row->json, strlen(row->json)) == wanted && (made != NULL) == (wanted == SI_OK));
+  if (made) MUST(si_len(made) == row->len);
+  si_free(made);
 }
 
-/* What each call says of a closed handle, which stays closed. */
-static void call_closed(void) {
-  si_interner closed = SI_INIT, other = SI_INIT;
-  uint8_t room[4] = "abc";
-  si_text lent = SI_TEXT;
-  si_entry entry = {7, SI_TEXT};
-  size_t number = 7777, ends[1] = {1};
-  MUST(si_new(&closed, 3 + (uint32_t)below(1000)) == SI_BAD_KIND);
-  MUST(si_with_capacity(&closed, SI_BUFFER + 1, 10) == SI_BAD_KIND);
-  MUST(si_get_or_intern(&closed, room, 3, &number) == SI_CLOSED && si_get_or_intern_utf8(&closed, room, 3, &number) == SI_CLOSED);
-  MUST(si_get_or_intern_static(&closed, (const uint8_t *)"abc", 3, &number) == SI_CLOSED);
-  MUST(si_get(&closed, room, 3, &number) == SI_CLOSED && si_get_utf8(&closed, room, 3, &number) == SI_CLOSED);
-  MUST(!si_contains(&closed, room, 3));
-  MUST(si_resolve(&closed, 0, &lent) == SI_CLOSED && lent.len == 0);
-  MUST(si_copy(&closed, 0, room, sizeof room, &number) == SI_CLOSED && !memcmp(room, "abc", 4));
-  MUST(si_entries(&closed, &entry, 1, &number) == SI_CLOSED && entry.number == 7);
-  MUST(si_truncate(&closed, 0) == SI_CLOSED && si_shrink(&closed) == SI_CLOSED);
-  MUST(si_clone(&closed, &other) == SI_CLOSED && !si_equal(&closed, &other));
-  MUST(si_to_json(&closed, room, sizeof room, &number) == SI_CLOSED && number == 7777);
-  MUST(si_intern_all(&closed, room, 3, ends, 1, &number, 1, &ends[0]) == SI_CLOSED && ends[0] == 0 && number == 7777);
-  si_free(&closed);
-  MUST(si_len(&closed) == 0 && !closed.open && !other.open);
+/* Interns a part of a text that is there, often while its bytes move. */
+static void intern_part(si_interner *h, list *known) {
+  size_t at, from, to, number = 7777;
+  text part = {{0}, 0};
+  si_status told;
+  MUST(si_get_or_intern_part(h, next_number(known), 0, 0, &number) == SI_NOTHING && number == 7777);
+  if (known->count == 0) return;
+  at = below(known->count);
+  from = below(known->texts[at].len + 1);
+  to = below(known->texts[at].len + 2);
+  told = si_get_or_intern_part(h, known->numbers[at], from, to, &number);
+  if (from > to || to > known->texts[at].len) {
+    MUST(told == SI_BAD_ENDS && number == 7777);
+  } else if (from < to && (is_cut(&known->texts[at], from) || is_cut(&known->texts[at], to))) {
+    MUST(told == SI_BAD_TEXT && number == 7777);
+  } else {
+    part.len = to - from;
+    memcpy(part.bytes, known->texts[at].bytes + from, part.len);
+    MUST(told == SI_OK && number == put(known, &part));
+  }
 }
 
-static void open_anew(si_interner *h, list *known, uint32_t kind) {
+/* Kinds that there are not, and what is said of null where nothing is to be read, written or freed. */
+static void call_with_nothing(si_interner *h, list *known) {
+  si_interner *made = NULL;
+  text empty = {{0}, 0};
+  size_t number = 7777, done = 7777, len = 7777;
+  MUST(si_new(&made, (si_kind)(3 + below(1000))) == SI_BAD_KIND && !made);
+  MUST(si_with_capacity(&made, (si_kind)(SI_BUFFER + 1), 10) == SI_BAD_KIND && !made);
+  MUST(si_from_json(&made, (si_kind)(3 + below(1000)), "[]", 2) == SI_BAD_KIND && !made);
+  MUST(si_from_json(&made, known->kind, NULL, 0) == SI_BAD_TEXT && !made);
+  MUST(si_intern_all(h, NULL, 0, NULL, 0, NULL, 0, &done) == SI_OK && done == 0);
+  MUST(si_to_json(h, NULL, 0, &len) == SI_NO_ROOM && len >= 2);
+  MUST(si_contains(h, NULL, 0) == (find(known, &empty) < known->count));
+  if (known->count > 0) MUST(si_entries(h, NULL, 0, &len) == SI_NO_ROOM && len == known->count);
+  MUST(si_get_or_intern(h, NULL, 0, &number) == SI_OK && number == put(known, &empty));
+  MUST(si_get(h, NULL, 0, &number) == SI_OK && number == put(known, &empty));
+  MUST(si_copy(h, number, NULL, 0, &len) == SI_OK && len == 0);
+  si_free(NULL);
+}
+
+static void make_anew(si_interner **h, list *known, si_kind kind) {
   known->kind = kind;
   known->count = 0;
-  if (below(2)) si_free(h);
-  if (below(2)) si_free(h);
+  si_free(*h);
   MUST((below(2) ? si_new(h, kind) : si_with_capacity(h, kind, below(50))) == SI_OK);
 }
 
-static void command(si_interner *h, list *known, si_interner *other) {
+static void command(si_interner **handle, list *known, si_interner **other) {
+  si_interner *h = *handle;
   switch (below(32)) {
   case 0: look_up(h, known); break;
   case 1: refuse_no_text(h); break;
@@ -370,31 +391,33 @@ static void command(si_interner *h, list *known, si_interner *other) {
   case 6: walk(h, known); break;
   case 7: truncate_some(h, known); break;
   case 8: MUST(si_shrink(h) == SI_OK); break;
-  case 9: copy_all(h, known, other); break;
+  case 9: copy_all(handle, known, other); break;
   case 10: if (below(8) == 0) write_and_read_json(h, known, other); break;
-  case 11: read_odd_json(other, known->kind); break;
-  case 12: call_closed(); break;
+  case 11: read_odd_json(known->kind); break;
+  case 12: call_with_nothing(h, known); break;
+  case 13: intern_part(h, known); break;
   default: intern_one(h, known);
   }
-  MUST(si_len(h) == known->count);
+  MUST(si_len(*handle) == known->count);
   agreed++;
 }
 
 int main(int count, char **words) {
+  static const si_kind kinds[] = {SI_STRING, SI_BUCKET, SI_BUFFER};
   unsigned long wanted = count > 1 ? strtoul(words[1], 0, 10) : 600000;
   static list known;
-  si_interner h = SI_INIT, other = SI_INIT;
-  uint32_t kind = SI_STRING;
+  si_interner *h = NULL, *other = NULL;
+  size_t round = 0;
   state = (count > 2 ? strtoull(words[2], 0, 10) : 7) * 0x9e3779b97f4a7c15u + 1;
+  MUST(si_version() == SI_VERSION);
   while (agreed < wanted) {
-    open_anew(&h, &known, kind);
+    make_anew(&h, &known, kinds[round++ % 3]);
     do command(&h, &known, &other);
     while (known.count < MOST_TEXTS - 8 && below(3000));
-    compare_all(&h, &known);
-    kind = kind == SI_BUFFER ? SI_STRING : kind + 1;
+    compare_all(h, &known);
   }
-  si_free(&h);
-  si_free(&other);
+  si_free(h);
+  si_free(other);
   printf("%lu commands agree with a list\n", agreed);
   return 0;
 }

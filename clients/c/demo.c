@@ -5,16 +5,20 @@
 
 int main(void) {
   const char *words[] = {"Elephant", "Tiger", "Horse", "Tiger"};
-  si_interner animals = SI_INIT;
-  si_text text = SI_TEXT;
+  si_interner *animals;
+  si_text text;
   size_t number, i;
-  if (si_new(&animals, SI_STRING) != SI_OK) return 1;
-  for (i = 0; i < sizeof words / sizeof *words; i++) {
-    if (si_get_or_intern(&animals, (const uint8_t *)words[i], strlen(words[i]), &number) != SI_OK) return 1;
-    printf("%s is %zu\n", words[i], number);
+  si_status status = si_new(&animals, SI_STRING);
+  for (i = 0; status == SI_OK && i < sizeof words / sizeof *words; i++) {
+    status = si_get_or_intern(animals, words[i], strlen(words[i]), &number);
+    if (status == SI_OK) printf("%s is %zu\n", words[i], number);
   }
-  if (si_resolve(&animals, 2, &text) == SI_OK) printf("2 is %.*s\n", (int)text.len, (const char *)text.bytes);
-  printf("%zu texts\n", si_len(&animals));
-  si_free(&animals);
+  if (status != SI_OK) {
+    fprintf(stderr, "demo: %s\n", si_status_text(status));
+    return 1;
+  }
+  if (si_resolve(animals, 2, &text) == SI_OK) printf("2 is %.*s\n", (int)text.len, text.bytes);
+  printf("%zu texts\n", si_len(animals));
+  si_free(animals);
   return 0;
 }

@@ -15,11 +15,10 @@ static size_t spell(size_t i, char *text) {
 }
 
 static bool reads_text(const si_interner *h, size_t i) {
-  char spelled[LONGEST];
-  const uint8_t *text = (const uint8_t *)spelled;
-  uint8_t room[LONGEST] = {0};
-  size_t len = spell(i, spelled), number = 0, again = 0, copied = 0;
-  si_text lent = SI_TEXT;
+  char text[LONGEST];
+  char room[LONGEST];
+  size_t len = spell(i, text), number, again, copied;
+  si_text lent;
   return si_get(h, text, len, &number) == SI_OK && number == numbers[i] &&
          si_get_utf8(h, text, len, &again) == SI_OK && again == number && si_contains(h, text, len) &&
          si_resolve(h, number, &lent) == SI_OK && lent.len == len && !memcmp(lent.bytes, text, len) &&
@@ -28,17 +27,15 @@ static bool reads_text(const si_interner *h, size_t i) {
 }
 
 static bool reads_all(const si_interner *h) {
-  static const si_entry empty = {0, SI_TEXT};
   si_entry *entries = malloc(TEXTS * sizeof *entries);
-  uint8_t *json = calloc(JSON, 1);
-  si_interner copy = SI_INIT;
-  size_t count = 0, len = 0, i;
+  char *json = malloc(JSON);
+  si_interner *copy = NULL;
+  size_t count, len;
   bool good = entries && json;
-  for (i = 0; good && i < TEXTS; i++) entries[i] = empty;
   good = good && si_len(h) == TEXTS && si_entries(h, entries, TEXTS, &count) == SI_OK && count == TEXTS;
   good = good && entries[TEXTS - 1].number == numbers[TEXTS - 1] && si_to_json(h, json, JSON, &len) == SI_OK;
-  good = good && si_clone(h, &copy) == SI_OK && si_equal(h, &copy);
-  si_free(&copy);
+  good = good && si_clone(h, &copy) == SI_OK && si_equal(h, copy);
+  si_free(copy);
   free(entries);
   free(json);
   return good;
@@ -55,37 +52,37 @@ static void *read_handle(void *handle) {
 
 /* Interns a text for which there is room, so that no memory is given back. */
 static void *intern_text(void *handle) {
-  size_t number = 0;
-  return si_get_or_intern(handle, (const uint8_t *)"new", 3, &number) == SI_OK ? handle : 0;
+  size_t number;
+  return si_get_or_intern(handle, "new", 3, &number) == SI_OK ? handle : 0;
 }
 
 /* Fills the handle, and reads it from all threads, of which the last one interns if that is asked for. */
-static bool run(uint32_t kind, bool interns) {
-  si_interner h = SI_INIT;
+static bool run(si_kind kind, bool interns) {
+  si_interner *h;
   pthread_t threads[THREADS];
   char text[LONGEST];
   size_t i;
   bool good = si_with_capacity(&h, kind, 8 * TEXTS) == SI_OK;
-  for (i = 0; good && i < TEXTS; i++) good = si_get_or_intern(&h, (uint8_t *)text, spell(i, text), &numbers[i]) == SI_OK;
+  for (i = 0; good && i < TEXTS; i++) good = si_get_or_intern(h, text, spell(i, text), &numbers[i]) == SI_OK;
   if (!good) return false;
   for (i = 0; i < THREADS; i++) {
-    if (pthread_create(&threads[i], 0, interns && i == THREADS - 1 ? intern_text : read_handle, &h) != 0) return false;
+    if (pthread_create(&threads[i], 0, interns && i == THREADS - 1 ? intern_text : read_handle, h) != 0) return false;
   }
   for (i = 0; i < THREADS; i++) {
     void *told = 0;
     pthread_join(threads[i], &told);
-    good = good && told == &h;
+    good = good && told == h;
   }
-  si_free(&h);
+  si_free(h);
   return good;
 }
 
 int main(int count, char **arguments) {
   bool interns = count > 1 && !strcmp(arguments[1], "intern");
-  uint32_t kind;
+  unsigned kind;
   for (kind = SI_STRING; kind <= SI_BUFFER; kind++) {
-    if (!run(kind, interns) && !interns) {
-      printf("readers.c: a thread read something wrong, kind %u\n", (unsigned)kind);
+    if (!run((si_kind)kind, interns) && !interns) {
+      printf("readers.c: a thread read something wrong, kind %u\n", kind);
       return 1;
     }
   }

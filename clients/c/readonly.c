@@ -21,7 +21,7 @@ void __real_free(void *block);
 static uint8_t *region;
 static size_t used;
 static bool filling; /* Whether memory comes from the region. */
-static uint32_t kind;
+static si_kind kind;
 static const char *volatile reading; /* The call that is being made, if it only reads. */
 static sigjmp_buf faulted;
 
@@ -67,16 +67,15 @@ static size_t spell(size_t i, char *text) {
 #define READS(call, told) (reading = #call " writes nothing", MUST((call) == (told)), reading = 0)
 
 static void read_text(const si_interner *h, size_t i, size_t number) {
-  char spelled[LONGEST];
-  const uint8_t *text = (const uint8_t *)spelled;
-  uint8_t room[LONGEST];
-  size_t len = spell(i, spelled), found = 0;
-  si_text lent = SI_TEXT;
+  char text[LONGEST];
+  char room[LONGEST];
+  size_t len = spell(i, text), found;
+  si_text lent;
   READS(si_get(h, text, len, &found), SI_OK);
   READS(si_get_utf8(h, text, len, &found), SI_OK);
   MUST(found == number);
-  READS(si_get(h, (const uint8_t *)"no text", 7, &found), SI_NOTHING);
-  READS(si_get(h, (const uint8_t *)"\xff", 1, &found), SI_BAD_TEXT);
+  READS(si_get(h, "no text", 7, &found), SI_NOTHING);
+  READS(si_get(h, "\xff", 1, &found), SI_BAD_TEXT);
   READS(si_contains(h, text, len), true);
   READS(si_resolve(h, number, &lent), SI_OK);
   MUST(lent.len == len && !memcmp(lent.bytes, text, len));
@@ -87,11 +86,10 @@ static void read_text(const si_interner *h, size_t i, size_t number) {
 
 static void read_all(const si_interner *h, const si_interner *other) {
   static si_entry entries[TEXTS];
-  static uint8_t json[JSON];
-  si_interner copy = SI_INIT;
-  si_text lent = SI_TEXT;
-  size_t count = 0, len = 0, i;
-  for (i = 0; i < TEXTS; i++) entries[i].text = lent;
+  static char json[JSON];
+  si_interner *copy;
+  si_text lent;
+  size_t count, len, i;
   READS(si_len(h), TEXTS);
   READS(si_entries(h, entries, TEXTS, &count), SI_OK);
   READS(si_resolve(h, (size_t)-1, &lent), SI_NOTHING);
@@ -100,49 +98,47 @@ static void read_all(const si_interner *h, const si_interner *other) {
   READS(si_equal(h, h), true);
   READS(si_to_json(h, json, JSON, &len), SI_OK);
   READS(si_clone(h, &copy), SI_OK);
-  MUST(si_equal(h, &copy));
-  si_free(&copy);
+  MUST(si_equal(h, copy));
+  si_free(copy);
 }
 
 #define CHANGES(call) do if (!sigsetjmp(faulted, 1)) (void)(call), fail(#call " faults", __LINE__); while (0)
 
-static void change_all(si_interner *h, si_interner *other) {
+static void change_all(si_interner *h) {
   const size_t ends[] = {3};
-  size_t number = 0, done = 0;
-  CHANGES(si_get_or_intern(h, (const uint8_t *)"new", 3, &number));
-  CHANGES(si_intern_all(h, (const uint8_t *)"new", 3, ends, 1, &number, 1, &done));
+  size_t number, done;
+  CHANGES(si_get_or_intern(h, "new", 3, &number));
+  CHANGES(si_get_or_intern_part(h, 0, 0, 3, &number));
+  CHANGES(si_intern_all(h, "new", 3, ends, 1, &number, 1, &done));
   CHANGES(si_truncate(h, 1));
-  CHANGES(si_clone(h, other));
-  CHANGES(si_new(h, kind));
-  CHANGES(si_free(h));
 }
 
 /* Makes two equal handles in the region, which is read-only then. */
-static si_interner *fill(void) {
-  si_interner *handles;
+static void fill(si_interner *handles[2]) {
   char text[LONGEST];
-  size_t number = 0, i;
+  size_t number, i;
   MUST(!mprotect(region, REGION, PROT_READ | PROT_WRITE));
   used = 0;
   filling = true;
-  handles = malloc(2 * sizeof *handles);
-  memset(handles, 0, 2 * sizeof *handles);
-  MUST(si_new(handles, kind) == SI_OK);
-  for (i = 0; i < TEXTS; i++) MUST(si_get_or_intern(handles, (uint8_t *)text, spell(i, text), &number) == SI_OK);
-  MUST(si_clone(handles, handles + 1) == SI_OK);
+  MUST(si_new(&handles[0], kind) == SI_OK);
+  for (i = 0; i < TEXTS; i++) MUST(si_get_or_intern(handles[0], text, spell(i, text), &number) == SI_OK);
+  MUST(si_clone(handles[0], &handles[1]) == SI_OK);
   filling = false;
   MUST(!mprotect(region, REGION, PROT_READ));
-  return handles;
 }
 
 int main(void) {
+  static const si_kind kinds[] = {SI_STRING, SI_BUCKET, SI_BUFFER};
+  size_t i;
   signal(SIGSEGV, handle_fault);
   region = mmap(0, REGION, PROT_READ | PROT_WRITE, MAP_PRIVATE | MAP_ANONYMOUS, -1, 0);
   MUST(region != MAP_FAILED);
-  for (kind = SI_STRING; kind <= SI_BUFFER; kind++) {
-    si_interner *handles = fill();
-    read_all(handles, handles + 1);
-    change_all(handles, handles + 1);
+  for (i = 0; i < 3; i++) {
+    si_interner *handles[2];
+    kind = kinds[i];
+    fill(handles);
+    read_all(handles[0], handles[1]);
+    change_all(handles[0]);
   }
   printf("calls that only read write nothing, and calls that change a handle fault\n");
   return 0;

@@ -14,7 +14,7 @@ void *__real_realloc(void *block, size_t size);
 
 static const char *const kinds[] = {"SI_STRING", "SI_BUCKET", "SI_BUFFER"};
 static unsigned long requests, refused_request, refusals;
-static uint32_t kind;
+static si_kind kind;
 
 static void fail(const char *claim, int line) {
   printf("refuse.c:%d: %s, request %lu refused, not so: %s\n", line, kinds[kind], refused_request, claim);
@@ -34,7 +34,7 @@ void *__wrap_realloc(void *block, size_t size) {
 }
 
 /* Whether the call before was refused, so that it is to be made again. Its request was this run's. */
-static bool again(uint32_t told) {
+static bool again(si_status told) {
   if (told == SI_OK) return false;
   MUST(told == SI_NO_MEMORY && requests >= refused_request);
   refusals++;
@@ -48,13 +48,13 @@ static size_t spell(size_t i, char *text) {
 /* The handle has this many texts, text number 0 and so on, and says so by number and by text. */
 static void has_texts(si_interner *h, size_t count) {
   static si_entry entries[MANY];
-  size_t found = 0, number, i;
+  size_t found, number, i;
   char text[40];
   MUST(si_len(h) == count && si_entries(h, entries, MANY, &found) == SI_OK && found == count);
   for (i = 0; i < count; i++) {
     size_t len = spell(i, text);
     MUST(entries[i].text.len == len && !memcmp(entries[i].text.bytes, text, len));
-    MUST(si_get(h, (const uint8_t *)text, len, &number) == SI_OK && number == entries[i].number);
+    MUST(si_get(h, text, len, &number) == SI_OK && number == entries[i].number);
   }
 }
 
@@ -64,8 +64,8 @@ static void intern_texts(si_interner *h) {
   for (i = 0; i < MANY; i++) {
     size_t len = spell(i, text);
     number = 7777777;
-    while (again(si_get_or_intern(h, (const uint8_t *)text, len, &number))) {
-      MUST(number == 7777777 && !si_contains(h, (const uint8_t *)text, len));
+    while (again(si_get_or_intern(h, text, len, &number))) {
+      MUST(number == 7777777 && !si_contains(h, text, len));
       has_texts(h, i);
     }
   }
@@ -73,10 +73,10 @@ static void intern_texts(si_interner *h) {
 
 /* Interns the same texts end to end, after a truncation: what went in before the refusal stays. */
 static void intern_all_texts(si_interner *h) {
-  static uint8_t bytes[40 * MANY];
+  static char bytes[40 * MANY];
   static size_t ends[MANY], numbers[MANY];
-  size_t len = 0, from, done = 7777777, i;
-  for (i = 0; i < MANY; i++) ends[i] = len += spell(i, (char *)bytes + len);
+  size_t len = 0, from, done, i;
+  for (i = 0; i < MANY; i++) ends[i] = len += spell(i, bytes + len);
   MUST(si_truncate(h, 1) == SI_OK);
   while (again(si_intern_all(h, bytes, len, ends, MANY, numbers, MANY, &done))) has_texts(h, done > 1 ? done : 1);
   MUST(done == MANY);
@@ -87,25 +87,41 @@ static void intern_all_texts(si_interner *h) {
   }
 }
 
+/* Interns the front of each text, while the texts move as their memory grows: what it spells is the text that it stands for. */
+static void intern_parts(si_interner *h) {
+  static si_entry entries[MANY];
+  static size_t numbers[MANY];
+  size_t found, number, i;
+  char text[40];
+  MUST(si_entries(h, entries, MANY, &found) == SI_OK && found == MANY);
+  for (i = 0; i < MANY; i++) numbers[i] = entries[i].number;
+  for (i = 0; i < MANY; i++) {
+    size_t len = spell(i, text) - 1;
+    while (again(si_get_or_intern_part(h, numbers[i], 1, len + 1, &number))) MUST(!si_contains(h, text + 1, len));
+    MUST(si_get(h, text + 1, len, &found) == SI_OK && found == number);
+  }
+}
+
 /* Calls that ask for nothing, as the header says. */
 static void ask_nothing(si_interner *h) {
   unsigned long before = requests;
   size_t number;
-  MUST(si_get(h, (const uint8_t *)"text number 0", 13, &number) == SI_OK);
-  MUST(si_get(h, (const uint8_t *)"no text", 7, &number) == SI_NOTHING);
-  MUST(si_get_or_intern(h, (const uint8_t *)"text number 1", 13, &number) == SI_OK);
+  MUST(si_get(h, "text number 0", 13, &number) == SI_OK);
+  MUST(si_get(h, "no text", 7, &number) == SI_NOTHING);
+  MUST(si_get_or_intern(h, "text number 1", 13, &number) == SI_OK);
   MUST(si_truncate(h, MANY) == SI_OK);
   MUST(requests == before);
 }
 
 /* As many texts as an interner was made for ask for nothing, if they have the bytes that the header grants each. */
-static void fill_room(si_interner *h) {
+static void fill_room(void) {
   static const size_t granted[] = {5, 1, 12}; /* On SI_BUFFER one byte more for the length. */
+  si_interner *h = NULL;
   unsigned long before;
   size_t number;
-  uint8_t text[12], first;
+  char text[12], first;
   memset(text, 'x', sizeof text);
-  while (again(si_with_capacity(h, kind, 100))) MUST(!h->open);
+  while (again(si_with_capacity(&h, kind, 100))) MUST(!h);
   before = requests;
   for (first = 0; first < 100; first++) {
     text[0] = first;
@@ -116,11 +132,12 @@ static void fill_room(si_interner *h) {
 }
 
 /* SI_BUCKET lends the caller's own bytes of a static text, which it did not copy. The other kinds copy it. */
-static void lend_static_text(si_interner *h) {
-  static const uint8_t stays[] = {'s', 't', 'a', 'y', 's'};
+static void lend_static_text(void) {
+  static const char stays[] = {'s', 't', 'a', 'y', 's'};
+  si_interner *h = NULL;
   si_text lent;
   size_t number;
-  while (again(si_new(h, kind))) MUST(!h->open);
+  while (again(si_new(&h, kind))) MUST(!h);
   while (again(si_get_or_intern_static(h, stays, sizeof stays, &number))) MUST(si_len(h) == 0);
   MUST(si_resolve(h, number, &lent) == SI_OK && lent.len == sizeof stays && !memcmp(lent.bytes, stays, sizeof stays));
   MUST((lent.bytes == stays) == (kind == SI_BUCKET));
@@ -128,42 +145,44 @@ static void lend_static_text(si_interner *h) {
 }
 
 static void copy_and_spell(si_interner *h) {
-  static uint8_t json[ROOM];
-  si_interner copy = SI_INIT;
+  static char json[ROOM];
+  si_interner *copy = NULL, *made = NULL;
   size_t len = 7777777;
-  while (again(si_clone(h, &copy))) MUST(!copy.open && si_len(h) == MANY);
-  MUST(si_equal(h, &copy));
+  while (again(si_clone(h, &copy))) MUST(!copy && si_len(h) == MANY);
+  MUST(si_equal(h, copy));
   while (again(si_to_json(h, json, sizeof json, &len))) MUST(len == 7777777);
-  MUST(si_truncate(&copy, 3) == SI_OK);
-  while (again(si_from_json(&copy, kind, json, len))) has_texts(&copy, 3);
-  MUST(si_equal(h, &copy) && si_truncate(&copy, 3) == SI_OK);
-  while (again(si_from_json_exact(&copy, kind, json, len))) has_texts(&copy, 3);
-  MUST(si_equal(h, &copy));
-  while (again(si_clone(&copy, h))) has_texts(h, MANY);
-  while (again(si_new(&copy, kind))) has_texts(&copy, MANY);
-  MUST(si_len(&copy) == 0);
-  si_free(&copy);
+  while (again(si_from_json(&made, kind, json, len))) MUST(!made);
+  MUST(si_equal(h, made));
+  si_free(made);
+  made = NULL;
+  while (again(si_from_json_exact(&made, kind, json, len))) MUST(!made);
+  MUST(si_equal(h, made));
+  si_free(made);
+  si_free(copy);
 }
 
 /* A refused request of si_shrink leaves the larger block. */
 static void run(void) {
-  si_interner h = SI_INIT;
-  fill_room(&h);
-  lend_static_text(&h);
-  while (again(si_new(&h, kind))) MUST(!h.open);
-  intern_texts(&h);
-  ask_nothing(&h);
-  MUST(si_shrink(&h) == SI_OK);
-  has_texts(&h, MANY);
-  intern_all_texts(&h);
-  copy_and_spell(&h);
-  has_texts(&h, MANY);
-  si_free(&h);
+  si_interner *h = NULL;
+  fill_room();
+  lend_static_text();
+  while (again(si_new(&h, kind))) MUST(!h);
+  intern_texts(h);
+  ask_nothing(h);
+  MUST(si_shrink(h) == SI_OK);
+  has_texts(h, MANY);
+  intern_all_texts(h);
+  copy_and_spell(h);
+  intern_parts(h);
+  si_free(h);
 }
 
 int main(void) {
+  static const si_kind all[] = {SI_STRING, SI_BUCKET, SI_BUFFER};
   unsigned long runs = 0;
-  for (kind = SI_STRING; kind <= SI_BUFFER; kind++) {
+  size_t i;
+  for (i = 0; i < 3; i++) {
+    kind = all[i];
     refused_request = 0;
     do {
       refused_request++;

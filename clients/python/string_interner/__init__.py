@@ -229,7 +229,7 @@ class Interner:
         """Frees the texts. A second call does nothing, and any other one raises ValueError."""
         handle = self._handle
         with handle.lock:
-            library.si_free(handle.at)
+            handle.close()
 
     def __enter__(self) -> Self:
         self._handle.check_open()
@@ -242,8 +242,6 @@ class Interner:
         handle = self._handle
         with handle.lock:
             length: int = library.si_len(handle.at)
-        if not length:
-            handle.check_open()
         return length
 
     def __getitem__(self, number: SupportsIndex) -> str:
@@ -262,8 +260,6 @@ class Interner:
             return False
         with handle.lock:
             known: bool = library.si_contains(handle.at, raw, len(raw))
-        if not known:
-            handle.check_open()
         return known
 
     def __iter__(self) -> Iterator[str]:
@@ -284,9 +280,6 @@ class Interner:
         first, second = sorted((self._handle, other._handle), key=attrgetter("serial"))
         with first.lock, second.lock:
             equal: bool = library.si_equal(first.at, second.at)
-        if not equal:
-            first.check_open()
-            second.check_open()
         return equal
 
     __hash__ = None  # type: ignore[assignment]
@@ -299,5 +292,5 @@ class Interner:
     def __repr__(self) -> str:
         handle = self._handle
         with handle.lock:
-            what = f"of {len(self)} texts, backend {handle.backend!r}" if handle.opened.open else "that is closed"
+            what = f"of {len(self)} texts, backend {handle.backend!r}" if handle.is_open else "that is closed"
         return f"<{type(self).__name__} {what}>"

@@ -13,7 +13,7 @@ from typing import TYPE_CHECKING, Any
 from weakref import WeakSet
 
 from ._copies import encode
-from ._library import CLOSED, ENTRY, KINDS, LIMIT, NO_ROOM, Opened, address_of, check, library
+from ._library import KINDS, LIMIT, NO_ROOM, address_of, check, library
 
 if TYPE_CHECKING:
     from . import Backend
@@ -22,12 +22,11 @@ if TYPE_CHECKING:
 class Handle:
     """A handle of the library, and the lock that makes threads take turns on it."""
 
-    __slots__ = ("at", "backend", "lock", "opened", "serial", "__weakref__")
+    __slots__ = ("_address", "backend", "lock", "serial", "__weakref__")
 
     def __init__(self, backend: Backend) -> None:
-        """Makes one that is not open yet."""
-        self.opened = Opened()
-        self.at = ctypes.byref(self.opened)
+        """Makes one that is closed."""
+        self._address = ctypes.c_void_p()
         if backend not in KINDS:
             raise ValueError(f"no backend {backend!r}")
         self.backend = backend
@@ -39,7 +38,7 @@ class Handle:
             _handles.add(self)
 
     def __del__(self, free: Any = library.si_free) -> None:
-        free(self.at)
+        free(self._address)
 
     @classmethod
     def make(cls, backend: Backend, capacity: int) -> Handle:
@@ -47,7 +46,7 @@ class Handle:
         handle = cls(backend)
         if not 0 <= capacity < LIMIT:
             raise ValueError(f"capacity {capacity}")
-        check(library.si_with_capacity(handle.at, KINDS[backend], capacity))
+        check(library.si_with_capacity(ctypes.byref(handle._address), KINDS[backend], capacity))
         return handle
 
     @classmethod
@@ -55,20 +54,36 @@ class Handle:
         """Returns a handle on an interner of the texts of a JSON array, in which a text may not repeat if it is exact."""
         raw, handle = encode(text), cls(backend)
         read = library.si_from_json_exact if exact else library.si_from_json
-        check(read(handle.at, KINDS[backend], raw, len(raw)))
+        check(read(ctypes.byref(handle._address), KINDS[backend], raw, len(raw)))
         return handle
 
     def clone(self) -> Handle:
         """Returns a handle on a copy of what this one holds."""
         clone = Handle(self.backend)
         with self.lock:
-            check(library.si_clone(self.at, clone.at))
+            check(library.si_clone(self.at, ctypes.byref(clone._address)))
         return clone
 
+    @property
+    def is_open(self) -> bool:
+        """Whether there is a handle of the library."""
+        return self._address.value is not None
+
+    @property
+    def at(self) -> ctypes.c_void_p:
+        """The handle of the library, which takes no call with null for one. Raises ValueError if there is none."""
+        self.check_open()
+        return self._address
+
     def check_open(self) -> None:
-        """Raises ValueError if it was closed: for calls of the library that answer 0 or false then."""
-        if not self.opened.open:
-            check(CLOSED)
+        """Raises ValueError if it is closed."""
+        if not self.is_open:
+            raise ValueError("the interner is closed")
+
+    def close(self) -> None:
+        """Frees the handle of the library, if there is one."""
+        address, self._address = self._address, ctypes.c_void_p()
+        library.si_free(address)
 
     def write_json(self) -> bytes:
         """The JSON array of all texts."""
@@ -94,7 +109,7 @@ class Handle:
         """The number of each text, and all texts."""
         # From a copy, because a finalizer or a signal handler may change this one between two calls of the library.
         handle, found = self.clone(), ctypes.c_size_t()
-        rows = ENTRY * library.si_len(handle.at)
+        rows = array("Q", [0, 0, 0]) * library.si_len(handle.at)
         check(library.si_entries(handle.at, address_of(rows), len(rows) // 3, ctypes.byref(found)))
         return rows[::3], handle.read_texts()
 

@@ -9,28 +9,24 @@ from array import array
 from pathlib import Path
 from typing import Any
 
-OK, BAD_TEXT, NO_SYMBOL, NO_MEMORY, UNKNOWN, CLOSED, NO_ROOM = range(7)
+VERSION = 0
+"""The SI_VERSION of the header that this module is written by."""
+OK, BAD_TEXT, NO_SYMBOL, NO_MEMORY, UNKNOWN, NO_ROOM = range(6)
 KINDS = {"string": 0, "bucket": 1, "buffer": 2}
 LIMIT = 1 << 8 * ctypes.sizeof(ctypes.c_size_t)
 """One more than the greatest number that a call takes."""
-_REASONS = {BAD_TEXT: "not JSON", CLOSED: "the interner is closed", 8: "an end falls, or passes the bytes", 9: "not an array",
-            10: "an element is not a string", 11: "a string occurs twice"}
+_REASONS = {BAD_TEXT: "not JSON", 7: "an end falls, or passes the bytes", 8: "not an array", 9: "an element is not a string",
+            10: "a string occurs twice"}
 _NAME = "libstring_interner.so"
-
-
-class Opened(ctypes.Structure):
-    """What the header calls `si_interner`."""
-
-    _fields_ = [("at", ctypes.c_void_p), ("open", ctypes.c_bool)]
 
 
 def _declare(lib: ctypes.CDLL) -> None:
     """States what each call takes and returns, as the header does."""
-    handle, size, code = ctypes.POINTER(Opened), ctypes.c_size_t, ctypes.c_uint32
-    to_size = ctypes.POINTER(size)
+    handle, size, code = ctypes.c_void_p, ctypes.c_size_t, ctypes.c_uint32
+    to_handle, to_size = ctypes.POINTER(handle), ctypes.POINTER(size)
     text, room, many = (ctypes.c_char_p, size), (ctypes.c_void_p, size), (ctypes.c_void_p, size)
     calls: dict[str, tuple[Any, tuple[Any, ...]]] = {
-        "si_with_capacity": (code, (handle, code, size)),
+        "si_with_capacity": (code, (to_handle, code, size)),
         "si_free": (None, (handle,)),
         "si_len": (size, (handle,)),
         "si_get_or_intern_utf8": (code, (handle, *text, to_size)),
@@ -41,15 +37,22 @@ def _declare(lib: ctypes.CDLL) -> None:
         "si_entries": (code, (handle, *many, to_size)),
         "si_truncate": (code, (handle, size)),
         "si_shrink": (code, (handle,)),
-        "si_clone": (code, (handle, handle)),
+        "si_clone": (code, (handle, to_handle)),
         "si_equal": (ctypes.c_bool, (handle, handle)),
         "si_to_json": (code, (handle, *room, to_size)),
-        "si_from_json": (code, (handle, code, *text)),
-        "si_from_json_exact": (code, (handle, code, *text)),
+        "si_from_json": (code, (to_handle, code, *text)),
+        "si_from_json_exact": (code, (to_handle, code, *text)),
     }
     for name, (result, arguments) in calls.items():
         call = getattr(lib, name)
         call.restype, call.argtypes = result, arguments
+
+
+def _check_version(lib: ctypes.CDLL) -> None:
+    """Raises AttributeError for a library of another version, since its calls may be others."""
+    lib.si_version.restype = ctypes.c_uint32
+    if (version := lib.si_version()) != VERSION:
+        raise AttributeError(f"it is of version {version}, and this module is for {VERSION}")
 
 
 def _check_length(path: Path) -> None:
@@ -64,7 +67,7 @@ def _check_length(path: Path) -> None:
 
 
 def _load() -> ctypes.CDLL:
-    """Loads the library. Raises ImportError if there is none that has all calls."""
+    """Loads the library. Raises ImportError if there is none of this version that has all calls."""
     here = Path(__file__).resolve().parent
     named = os.environ.get("STRING_INTERNER_LIB")
     folders = [Path(named)] if named else [here, here.parent.parent / "out"]
@@ -74,6 +77,7 @@ def _load() -> ctypes.CDLL:
     try:
         _check_length(path)
         library = ctypes.CDLL(str(path))
+        _check_version(library)
         _declare(library)
     except OSError as error:
         raise ImportError(f"cannot load the library: {error}", name="string_interner", path=str(path)) from error
@@ -83,10 +87,6 @@ def _load() -> ctypes.CDLL:
 
 
 library = _load()
-_NOTHING = ctypes.c_size_t()
-"""Where what is empty lies, because no address is null."""
-ENTRY = array("Q", [0, ctypes.addressof(_NOTHING), 0])
-"""A number, and the address and the length of an empty text."""
 
 
 def check(status: int) -> None:
@@ -102,4 +102,4 @@ def check(status: int) -> None:
 
 def address_of(items: array[int]) -> int:
     """Where the items of an array lie."""
-    return items.buffer_info()[0] if items else ctypes.addressof(_NOTHING)
+    return items.buffer_info()[0]

@@ -70,5 +70,15 @@ class Imports(unittest.TestCase):
         self.assertRegex(self.run_lines(self.folder), "^ImportError string_interner the library is of another version: .*si_")
 
 
+    @unittest.skipUnless(shutil.which("cc"), "no C compiler")
+    def test_a_library_of_another_version(self):
+        source = self.folder / "version.c"
+        source.write_text(f"unsigned si_version(void) {{ return {_library.VERSION + 7}; }}\n")
+        subprocess.run(["cc", "-shared", "-fPIC", "-o", self.library, source], check=True)
+        said = f"it is of version {_library.VERSION + 7}, and this module is for {_library.VERSION}"
+        self.assertEqual(self.run_lines(self.folder),
+                         f"ImportError string_interner the library is of another version: {said}")
+
+
 if __name__ == "__main__":
     unittest.main()

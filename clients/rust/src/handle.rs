@@ -1,11 +1,12 @@
 //! A handle of the library, whose owner can't break the rules that `string_interner.h` states.
 //!
-//! Each comment at an `unsafe` block names the rules that it rests on. Of all blocks: the handle was open since it was
-//! made (rule 1), pointers come from references, slices and local variables (2, 3), and calls that may change the handle
-//! have it alone, since they take `&mut self` (4).
+//! Each comment at an `unsafe` block names the rules that it rests on. Of all blocks: the handle is freed by `drop` alone
+//! (rule 1), pointers come from references, slices and local variables (2, 3), and calls that may change the handle have it
+//! alone, since they take `&mut self` (4).
 
 use crate::sys;
-use std::ptr;
+use std::mem::MaybeUninit;
+use std::ptr::{self, NonNull};
 use std::slice;
 use std::str;
 
@@ -13,9 +14,9 @@ use std::str;
 #[derive(Clone, Copy, Debug, PartialEq, Eq)]
 pub struct Status(pub u32);
 
-/// An open handle.
+/// A handle of the library.
 pub struct Handle {
-    raw: sys::si_interner,
+    raw: NonNull<sys::si_interner>,
 }
 
 // SAFETY: a handle may be used by another thread later (rule 4). Sending it orders the two.
@@ -54,46 +55,67 @@ fn told<T>(status: u32, value: T) -> Result<T, Status> {
 }
 
 impl Handle {
-    /// Opens a handle by a call, which is handed a closed one.
-    fn open(call: impl FnOnce(*mut sys::si_interner) -> u32) -> Result<Self, Status> {
-        let mut handle = Handle { raw: sys::SI_INIT };
-        let status = call(&mut handle.raw);
-        told(status, handle)
+    /// Makes a handle by a call, which writes its address. Panics if the library that was linked is of another version.
+    fn make(call: impl FnOnce(*mut *mut sys::si_interner) -> u32) -> Result<Self, Status> {
+        // SAFETY: no rule speaks of this call.
+        let version = unsafe { sys::si_version() };
+        assert!(
+            version == sys::SI_VERSION,
+            "libstring_interner is of version {version}, and this crate is for {}",
+            sys::SI_VERSION
+        );
+        let mut raw = ptr::null_mut();
+        told(call(&mut raw), ())?;
+        Ok(Handle {
+            raw: NonNull::new(raw).expect("a handle was made"),
+        })
+    }
+
+    /// Returns the handle for a call that only reads.
+    #[inline]
+    fn as_ptr(&self) -> *const sys::si_interner {
+        self.raw.as_ptr()
+    }
+
+    /// Returns the handle for a call that may change it.
+    #[inline]
+    fn as_mut_ptr(&mut self) -> *mut sys::si_interner {
+        self.raw.as_ptr()
     }
 
     pub(crate) fn new(kind: u32) -> Result<Self, Status> {
         // SAFETY: rules 1 to 4.
-        Self::open(|h| unsafe { sys::si_new(h, kind) })
+        Self::make(|out| unsafe { sys::si_new(out, kind) })
     }
 
     pub(crate) fn with_capacity(kind: u32, capacity: usize) -> Result<Self, Status> {
         // SAFETY: rules 1 to 4.
-        Self::open(|h| unsafe { sys::si_with_capacity(h, kind, capacity) })
+        Self::make(|out| unsafe { sys::si_with_capacity(out, kind, capacity) })
     }
 
     pub(crate) fn from_json(kind: u32, json: &str) -> Result<Self, Status> {
         // SAFETY: rules 1 to 4.
-        Self::open(|h| unsafe { sys::si_from_json(h, kind, json.as_ptr(), json.len()) })
+        Self::make(|out| unsafe { sys::si_from_json(out, kind, json.as_ptr(), json.len()) })
     }
 
     pub(crate) fn try_clone(&self) -> Result<Self, Status> {
-        // SAFETY: rules 1 to 4. The copy's handle is a new one (3), and the call leaves what this one lent (5).
-        Self::open(|copy| unsafe { sys::si_clone(&self.raw, copy) })
+        // SAFETY: rules 1 to 4. The call leaves what this handle lent (5).
+        Self::make(|copy| unsafe { sys::si_clone(self.as_ptr(), copy) })
     }
 
     #[inline]
     pub(crate) fn len(&self) -> usize {
         // SAFETY: rules 1 to 4. The call leaves what was lent (5).
-        unsafe { sys::si_len(&self.raw) }
+        unsafe { sys::si_len(self.as_ptr()) }
     }
 
     #[inline]
     pub(crate) fn get_or_intern(&mut self, text: &str) -> Result<usize, Status> {
         let mut number = 0;
-        // SAFETY: rules 1 to 5. What this handle lent is dead, since it borrowed `self`, so the text is none of that (3, 5),
-        // and it is UTF-8 (7).
+        // SAFETY: rules 1 to 5. What this handle lent is dead, since it borrowed `self`, so the text is none of that (5). It
+        // is UTF-8, which this call asks for.
         let status = unsafe {
-            sys::si_get_or_intern_utf8(&mut self.raw, text.as_ptr(), text.len(), &mut number)
+            sys::si_get_or_intern_utf8(self.as_mut_ptr(), text.as_ptr(), text.len(), &mut number)
         };
         told(status, number)
     }
@@ -101,10 +123,10 @@ impl Handle {
     #[inline]
     pub(crate) fn get_or_intern_static(&mut self, text: &'static str) -> Result<usize, Status> {
         let mut number = 0;
-        // SAFETY: rules 1 to 5. What this handle lent is dead, since it borrowed `self`, so the text is none of that (3, 5),
-        // and it stays (8).
+        // SAFETY: rules 1 to 5. What this handle lent is dead, since it borrowed `self`, so the text is none of that (5). It
+        // stays, which this call asks for.
         let status = unsafe {
-            sys::si_get_or_intern_static(&mut self.raw, text.as_ptr(), text.len(), &mut number)
+            sys::si_get_or_intern_static(self.as_mut_ptr(), text.as_ptr(), text.len(), &mut number)
         };
         told(status, number)
     }
@@ -112,31 +134,35 @@ impl Handle {
     #[inline]
     pub(crate) fn get(&self, text: &str) -> Option<usize> {
         let mut number = 0;
-        // SAFETY: rules 1 to 4. The call only reads, so this handle may have lent the text (3), and what it lent stays (5).
-        // The text is UTF-8 (7).
-        let status = unsafe { sys::si_get_utf8(&self.raw, text.as_ptr(), text.len(), &mut number) };
+        // SAFETY: rules 1 to 4. The call only reads, so this handle may have lent the text, and what it lent stays (5). The
+        // text is UTF-8, which this call asks for.
+        let status =
+            unsafe { sys::si_get_utf8(self.as_ptr(), text.as_ptr(), text.len(), &mut number) };
         told(status, number).ok()
     }
 
     #[inline]
     pub(crate) fn resolve(&self, number: usize) -> Option<&str> {
-        let mut lent = sys::SI_TEXT;
+        let mut lent = MaybeUninit::<sys::si_text>::uninit();
         // SAFETY: rules 1 to 4. The call leaves what was lent (5).
-        let status = unsafe { sys::si_resolve(&self.raw, number, &mut lent) };
+        let status = unsafe { sys::si_resolve(self.as_ptr(), number, lent.as_mut_ptr()) };
         told(status, ()).ok()?;
-        // SAFETY: the call lent the text: it is UTF-8, and lives until a call that may change the handle (5). Such a call takes
-        // `&mut self`.
-        Some(unsafe { str::from_utf8_unchecked(slice::from_raw_parts(lent.bytes, lent.len)) })
+        // SAFETY: the call wrote the text and lent it: it is UTF-8, and lives until a call that may change the handle (5).
+        // Such a call takes `&mut self`.
+        Some(unsafe {
+            let lent = lent.assume_init();
+            str::from_utf8_unchecked(slice::from_raw_parts(lent.bytes, lent.len))
+        })
     }
 
     pub(crate) fn truncate(&mut self, len: usize) {
         // SAFETY: rules 1 to 5.
-        unsafe { sys::si_truncate(&mut self.raw, len) };
+        unsafe { sys::si_truncate(self.as_mut_ptr(), len) };
     }
 
     pub(crate) fn shrink(&mut self) {
         // SAFETY: rules 1 to 5.
-        unsafe { sys::si_shrink(&mut self.raw) };
+        unsafe { sys::si_shrink(self.as_mut_ptr()) };
     }
 
     pub(crate) fn to_json(&self) -> Result<String, Status> {
@@ -145,7 +171,7 @@ impl Handle {
             let mut len = 0;
             // SAFETY: rules 1 to 4. The call leaves what was lent (5).
             let status =
-                unsafe { sys::si_to_json(&self.raw, room.as_mut_ptr(), room.len(), &mut len) };
+                unsafe { sys::si_to_json(self.as_ptr(), room.as_mut_ptr(), room.len(), &mut len) };
             match status {
                 sys::SI_NO_ROOM => room = vec![0; len],
                 status => {
@@ -160,13 +186,13 @@ impl Handle {
 impl PartialEq for Handle {
     fn eq(&self, other: &Self) -> bool {
         // SAFETY: rules 1 to 4. The call leaves what both lent (5).
-        ptr::eq(self, other) || unsafe { sys::si_equal(&self.raw, &other.raw) }
+        ptr::eq(self, other) || unsafe { sys::si_equal(self.as_ptr(), other.as_ptr()) }
     }
 }
 
 impl Drop for Handle {
     fn drop(&mut self) {
         // SAFETY: rules 1 to 5.
-        unsafe { sys::si_free(&mut self.raw) };
+        unsafe { sys::si_free(self.as_mut_ptr()) };
     }
 }

@@ -1,32 +1,29 @@
 //! What this crate calls, as `string_interner.h` declares it.
 
-use std::ffi::c_void;
-use std::ptr;
+use std::marker::{PhantomData, PhantomPinned};
+
+/// The version of the interface that this crate is written by.
+pub const SI_VERSION: u32 = 0;
 
 pub const SI_OK: u32 = 0;
 pub const SI_BAD_TEXT: u32 = 1;
 pub const SI_NO_SYMBOL: u32 = 2;
 pub const SI_NO_MEMORY: u32 = 3;
-pub const SI_NO_ROOM: u32 = 6;
-pub const SI_NOT_A_LIST: u32 = 9;
-pub const SI_NOT_A_TEXT: u32 = 10;
+pub const SI_NO_ROOM: u32 = 5;
+pub const SI_NOT_A_LIST: u32 = 8;
+pub const SI_NOT_A_TEXT: u32 = 9;
 
 pub const SI_STRING: u32 = 0;
 pub const SI_BUCKET: u32 = 1;
 pub const SI_BUFFER: u32 = 2;
 
+/// What a handle points to, of which nothing is known.
 #[repr(C)]
 #[allow(non_camel_case_types)]
 pub struct si_interner {
-    at: *mut c_void,
-    open: bool,
+    _nothing: [u8; 0],
+    _marker: PhantomData<(*mut u8, PhantomPinned)>,
 }
-
-/// A closed handle.
-pub const SI_INIT: si_interner = si_interner {
-    at: ptr::null_mut(),
-    open: false,
-};
 
 #[repr(C)]
 #[allow(non_camel_case_types)]
@@ -35,15 +32,10 @@ pub struct si_text {
     pub len: usize,
 }
 
-/// An empty text.
-pub const SI_TEXT: si_text = si_text {
-    bytes: b"".as_ptr(),
-    len: 0,
-};
-
 extern "C" {
-    pub fn si_new(h: *mut si_interner, kind: u32) -> u32;
-    pub fn si_with_capacity(h: *mut si_interner, kind: u32, capacity: usize) -> u32;
+    pub fn si_version() -> u32;
+    pub fn si_new(out: *mut *mut si_interner, kind: u32) -> u32;
+    pub fn si_with_capacity(out: *mut *mut si_interner, kind: u32, capacity: usize) -> u32;
     pub fn si_free(h: *mut si_interner);
     pub fn si_len(h: *const si_interner) -> usize;
     pub fn si_get_or_intern_utf8(
@@ -67,7 +59,7 @@ extern "C" {
     pub fn si_resolve(h: *const si_interner, number: usize, text: *mut si_text) -> u32;
     pub fn si_truncate(h: *mut si_interner, len: usize) -> u32;
     pub fn si_shrink(h: *mut si_interner) -> u32;
-    pub fn si_clone(h: *const si_interner, copy: *mut si_interner) -> u32;
+    pub fn si_clone(h: *const si_interner, copy: *mut *mut si_interner) -> u32;
     pub fn si_equal(h: *const si_interner, other: *const si_interner) -> bool;
     pub fn si_to_json(
         h: *const si_interner,
@@ -75,5 +67,10 @@ extern "C" {
         room_len: usize,
         len: *mut usize,
     ) -> u32;
-    pub fn si_from_json(h: *mut si_interner, kind: u32, json: *const u8, json_len: usize) -> u32;
+    pub fn si_from_json(
+        out: *mut *mut si_interner,
+        kind: u32,
+        json: *const u8,
+        json_len: usize,
+    ) -> u32;
 }

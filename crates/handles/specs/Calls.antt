@@ -1,6 +1,6 @@
 -- What the calls on a handle do, and how they end.
 -- Cited by `text`, by `calls`, and by every export.
-use Rattle.std.specs.Prelude.{◌≡◌, ℕ, ◌<◌, ◌≤◌, ◌↔◌, List, ◌++◌, length, drop, Option, Some, None, MatchOption, IsSome, IsTrue, IsFalse, Result, Ok, Err, alloc_error, ◌⊎◌, ⊤, Vec}
+use Rattle.std.specs.Prelude.{◌≡◌, ℕ, ◌<◌, ◌≤◌, List, ◌++◌, length, drop, Some, None, MatchOption, Result, Ok, Err, alloc_error, ◌⊎◌, ⊤, Vec}
 use Rattle.std.specs.Borrow.{Bor}
 use Rattle.std.specs.Str.{IsUtf8}
 use Rattle.std.specs.Result.{IsOk}
@@ -10,35 +10,22 @@ use Rattle.serde_json.specs.View.{view}
 use Rattle.serde_json.specs.declared.value.Value.{Value}
 use Rattle.serde_json.specs.Read.{read as json_read}
 use Rattle.serde_json.specs.Written.{compact_text}
-use Rattle.string_interner.specs.Text.{Text, first}
+use Rattle.string_interner.specs.Text.{Text}
 use Rattle.string_interner.specs.Json.{json_of_texts}
 use Rattle.string_interner.specs.declared.backend.InternError.TheVariants.{NoSymbol as InternNoSymbol, Memory}
 use Rattle.string_interner.specs.declared.json.JsonError.{JsonError}
-use Rattle.handles.specs.Any.{FindsNumber, Interned, IsCopy, IsEmpty, IsMade, IsShrunk, KeepsFirst, ReadsAs, ReadsAsExactly, kind_of, text_at, texts_in}
+use Rattle.handles.specs.Any.{FindsNumber, Interned, IsCopy, IsEmpty, IsMade, IsShrunk, KeepsFirst, kind_of, text_at, texts_in}
 use Rattle.handles.specs.Kind.{code_of_kind}
 use Rattle.handles.specs.Status.{Tells, code_of_done, status_of_json}
 use Rattle.handles.specs.declared.kind.Kind.{Kind}
 use Rattle.handles.specs.declared.any.AnyInterner.{AnyInterner}
 use Rattle.handles.specs.declared.handle.Handle.{Handle}
+use Rattle.handles.specs.declared.address.Slot.{Slot}
 use Rattle.handles.specs.declared.text.Text.{Text as LentText}
 use Rattle.handles.specs.declared.status.Status.{Status}
-use Rattle.handles.specs.declared.status.Status.TheVariants.{BadText, NoSymbol, NoMemory, Nothing, Closed, NoRoom, BadKind}
+use Rattle.handles.specs.declared.status.Status.TheVariants.{BadText, NoSymbol, NoMemory, Nothing, NoRoom, BadKind}
 
--- ---- how a call goes through a handle
-
--- A handle stays as it is: open or closed, and with what it holds.
-abbrev pub Kept : Handle → Handle → Type 0
-Kept old new = (new.opened ≡ old.opened) × (new.value ≡ old.value)
-
--- A call through a handle takes this step. A closed handle is told, and stays as it is.
-pub record Through {T : Type 0} (step : AnyInterner → Result T Status → AnyInterner → Type 0) (old : Handle) (outcome : Result T Status) (new : Handle) : Type 0 where
-  pub closed : IsFalse old.opened → (outcome ≡ Err Closed) × (new ≡ old)
-  pub opened : IsTrue old.opened → IsTrue new.opened × step old.value outcome new.value
-
--- A call through a handle reads this, and a closed handle is told.
-pub record Reads {T : Type 0} (answer : AnyInterner → Result T Status → Type 0) (handle : Handle) (outcome : Result T Status) : Type 0 where
-  pub closed : IsFalse handle.opened → outcome ≡ Err Closed
-  pub opened : IsTrue handle.opened → answer handle.value outcome
+-- ---- how a call ends
 
 -- A call has an outcome, which its code tells, and what it writes.
 pub record Answers {T : Type 0} (holds : Result T Status → Type 0) (code : ℕ) (before after : T) : Type 0 where
@@ -52,15 +39,15 @@ pub record TellsDone (holds : Result (Unit {0}) Status → Type 0) (code : ℕ) 
   pub told : code ≡ code_of_done outcome
   pub outcome_holds : holds outcome
 
--- A handle is opened on what was made, and what it held is gone. It stays as it is where nothing was made, which is told,
--- or where there is no memory to hold what was made.
-abbrev pub Opens : Result AnyInterner Status → Handle → Result (Unit {0}) Status → Handle → Type 0
-Opens made old (Ok _) new = IsTrue new.opened × (made ≡ Ok new.value)
-Opens made old (Err status) new = ((made ≡ Err status) ⊎ (IsOk made × (status ≡ NoMemory))) × (new ≡ old)
+-- A slot holds the address of a handle on what was made. It stays as it is where nothing was made, which is told, or where
+-- there is no memory to hold what was made.
+abbrev pub Fills : Result AnyInterner Status → Slot → Result (Unit {0}) Status → Slot → Type 0
+Fills made old (Ok _) new = (handle : Handle) × (new.held ≡ Some handle) × (made ≡ Ok handle.value)
+Fills made old (Err status) new = ((made ≡ Err status) ⊎ (IsOk made × (status ≡ NoMemory))) × (new ≡ old)
 
--- A handle is opened on what may be made so.
-abbrev pub OpensMade : (Result AnyInterner Status → Type 0) → Handle → Result (Unit {0}) Status → Handle → Type 0
-OpensMade making old outcome new = (made : Result AnyInterner Status) × making made × Opens made old outcome new
+-- A slot is filled with what may be made so.
+abbrev pub FillsMade : (Result AnyInterner Status → Type 0) → Slot → Result (Unit {0}) Status → Slot → Type 0
+FillsMade making old outcome new = (made : Result AnyInterner Status) × making made × Fills made old outcome new
 
 -- ---- making an interner
 

@@ -10,7 +10,7 @@ use Rattle.handles.specs.contracts.handle.Handle.{the_row as handle-row}
 
 -- a handle after its interner was written
 abbrev pub with_value : Handle → AnyInterner → Handle
-with_value h value = record { at = h.at; opened = h.opened; alloc = h.alloc; value = value }
+with_value h value = record { at = h.at; alloc = h.alloc; value = value }
 
 -- once the borrow of the interner ends, the handle holds the last value that was written through it
 abbrev pub handle_follows : MutBor Handle → MutBor AnyInterner → Fml

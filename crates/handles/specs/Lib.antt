@@ -2,6 +2,8 @@ pub mod Kind
 pub mod Status
 pub mod Any
 pub mod Holds
+pub mod Address
 pub mod Follows
 pub mod Calls
 pub mod Encode
+pub mod Part

@@ -6,20 +6,19 @@ use Rattle.string_interner.specs.declared.backend.InternError.TheVariants.{NoSym
 use Rattle.string_interner.specs.declared.json.JsonError.{JsonError}
 use Rattle.string_interner.specs.declared.json.JsonError.TheVariants as json
 use Rattle.handles.specs.declared.status.Status.{Status}
-use Rattle.handles.specs.declared.status.Status.TheVariants.{BadText, NoSymbol, NoMemory, Nothing, Closed, NoRoom, BadKind, BadEnds, NotAList, NotAText, Repeated}
+use Rattle.handles.specs.declared.status.Status.TheVariants.{BadText, NoSymbol, NoMemory, Nothing, NoRoom, BadKind, BadEnds, NotAList, NotAText, Repeated}
 
 abbrev pub code_of : Status → ℕ
 code_of BadText = 1
 code_of NoSymbol = 2
 code_of NoMemory = 3
 code_of Nothing = 4
-code_of Closed = 5
-code_of NoRoom = 6
-code_of BadKind = 7
-code_of BadEnds = 8
-code_of NotAList = 9
-code_of NotAText = 10
-code_of Repeated = 11
+code_of NoRoom = 5
+code_of BadKind = 6
+code_of BadEnds = 7
+code_of NotAList = 8
+code_of NotAText = 9
+code_of Repeated = 10
 
 -- why a text was not interned
 abbrev pub status_of : InternError → Status

@@ -13,6 +13,7 @@ ghost use Rattle.handles.specs.Status.{TellsInterned, outcome_of};
 
 mod encode;
 mod entries;
+mod part;
 
 use crate::kind::Kind;
 use crate::status::{Status, tell};

@@ -1,23 +1,16 @@
 //! The calls on a handle, each with its outcome.
 
-ghost use Rattle.std.specs.Prelude.{◌≡◌, ◌↔◌, ◌&&◌, IsFalse, IsTrue, IsSome, length, Result};
+ghost use Rattle.std.specs.Prelude.{◌≡◌, ◌↔◌, IsSome, IsTrue, length, Result};
 ghost use Rattle.std.specs.Str.{IsUtf8};
 ghost use Rattle.string_interner.specs.Text.{first};
 ghost use Rattle.handles.specs.Any.{any_eq, texts_in};
-ghost use Rattle.handles.specs.Calls.{Answers, Copies, CopiesOut, CopiesText, FindsBytes, FindsText, InternsBytes, InternsText, Kept, MakesNew, MakesRoom, OpensMade, Opens, Reads, ResolvesNumber, Shrinks, Through, Truncates};
+ghost use Rattle.handles.specs.Calls.{Answers, Copies, CopiesOut, CopiesText, Fills, FillsMade, FindsBytes, FindsText, InternsBytes, InternsText, MakesNew, MakesRoom, ResolvesNumber, Shrinks, Truncates};
 ghost use Rattle.handles.specs.Encode.{InternsParts, ListsEntries};
-
-/// Ends the call that this stands in where the handle is closed, and tells that.
-macro_rules! must_be_open {
-    ($handle:expr) => {
-        if !$handle.is_open() {
-            return Err(Status::Closed);
-        }
-    };
-}
+ghost use Rattle.handles.specs.Part.{InternsPart};
 
 pub mod json;
 
+use crate::address::Slot;
 use crate::any::AnyInterner;
 use crate::handle::Handle;
 use crate::kind::Kind;
@@ -25,32 +18,25 @@ use crate::status::{Status, tell};
 use crate::text::{Entry, Text, text_of};
 use std::alloc::Global;
 
-/// Returns the number of texts: none of a closed handle.
+/// Returns the number of texts.
 pub fn len(h: &mut Handle) -> usize
-    ensures opened { IsTrue h.old.opened → result ≡ length (texts_in h.old.value) }
-    ensures closed { IsFalse h.old.opened → result ≡ 0 }
-    ensures same { Kept h.old h.new }
+    ensures len { result ≡ length (texts_in h.old.value) }
+    ensures same { h.new.value ≡ h.old.value }
 {
-    if h.is_open() { h.interner().len() } else { 0 }
+    h.interner().len()
 }
 
 /// Writes the number of a text, and appends the text if it is new. Returns the code of the outcome.
 pub fn get_or_intern(h: &mut Handle, text: &str, number: &mut usize) -> u32
-    ensures { Answers (λ outcome. Through (InternsText text.now) h.old outcome h.new) result number.old number.new }
+    ensures { Answers (λ outcome. InternsText text.now h.old.value outcome h.new.value) result number.old number.new }
 {
-    if !h.is_open() {
-        return tell(Err(Status::Closed), number);
-    }
     h.interner().write_number(text, number)
 }
 
 /// Writes the number of the bytes, and appends them if they are a new text. Returns the code of the outcome.
 pub fn get_or_intern_bytes(h: &mut Handle, bytes: &[u8], number: &mut usize) -> u32
-    ensures { Answers (λ outcome. Through (InternsBytes bytes.now) h.old outcome h.new) result number.old number.new }
+    ensures { Answers (λ outcome. InternsBytes bytes.now h.old.value outcome h.new.value) result number.old number.new }
 {
-    if !h.is_open() {
-        return tell(Err(Status::Closed), number);
-    }
     match text_of(bytes) {
         Ok(text) => h.interner().write_number(text, number),
         Err(status) => tell(Err(status), number),
@@ -59,10 +45,9 @@ pub fn get_or_intern_bytes(h: &mut Handle, bytes: &[u8], number: &mut usize) -> 
 
 /// Returns the number of a text, if it is known.
 pub fn get(h: &mut Handle, text: &str) -> Result<usize, Status>
-    ensures found { Reads (FindsText text.now) h.old result }
-    ensures same { Kept h.old h.new }
+    ensures found { FindsText text.now h.old.value result }
+    ensures same { h.new.value ≡ h.old.value }
 {
-    must_be_open!(h);
     match h.interner().get(text) {
         Some(number) => Ok(number),
         None => Err(Status::Nothing),
@@ -71,10 +56,9 @@ pub fn get(h: &mut Handle, text: &str) -> Result<usize, Status>
 
 /// Returns the number of the bytes, if they are a known text.
 pub fn get_bytes(h: &mut Handle, bytes: &[u8]) -> Result<usize, Status>
-    ensures found { Reads (FindsBytes bytes.now) h.old result }
-    ensures same { Kept h.old h.new }
+    ensures found { FindsBytes bytes.now h.old.value result }
+    ensures same { h.new.value ≡ h.old.value }
 {
-    must_be_open!(h);
     let text = text_of(bytes)?;
     match h.interner().get(text) {
         Some(number) => Ok(number),
@@ -84,23 +68,31 @@ pub fn get_bytes(h: &mut Handle, bytes: &[u8]) -> Result<usize, Status>
 
 /// Returns the number of a static text, as `get_or_intern_bytes` does. A new one may stay where it is, uncopied.
 pub fn get_or_intern_static(h: &mut Handle, bytes: &'static [u8]) -> Result<usize, Status>
-    ensures { Through (InternsBytes bytes.now) h.old result h.new }
+    ensures { InternsBytes bytes.now h.old.value result h.new.value }
 {
-    must_be_open!(h);
     let text = text_of(bytes)?;
     let number = h.interner().get_or_intern_static(text)?;
     Ok(number)
 }
 
-/// Reports whether a handle is open and the bytes are a known text.
-pub fn contains(h: &mut Handle, bytes: &[u8]) -> bool
-    ensures opened { IsTrue h.old.opened → IsTrue result ↔ (IsUtf8 bytes.now × IsSome (first (texts_in h.old.value) bytes.now)) }
-    ensures closed { IsFalse h.old.opened → IsFalse result }
-    ensures same { Kept h.old h.new }
+/// Returns the number of a part of the text at a number. A new part is appended.
+pub fn get_or_intern_part(
+    alloc: Global,
+    h: &mut Handle,
+    number: usize,
+    from: usize,
+    to: usize,
+) -> Result<usize, Status>
+    ensures { InternsPart number from to h.old.value result h.new.value }
 {
-    if !h.is_open() {
-        return false;
-    }
+    h.interner().get_or_intern_part(alloc, number, from, to)
+}
+
+/// Reports whether the bytes are a known text.
+pub fn contains(h: &mut Handle, bytes: &[u8]) -> bool
+    ensures known { IsTrue result ↔ (IsUtf8 bytes.now × IsSome (first (texts_in h.old.value) bytes.now)) }
+    ensures same { h.new.value ≡ h.old.value }
+{
     match text_of(bytes) {
         Ok(text) => h.interner().contains(text),
         Err(_) => false,
@@ -109,27 +101,24 @@ pub fn contains(h: &mut Handle, bytes: &[u8]) -> bool
 
 /// Keeps the first `len` texts.
 pub fn truncate(h: &mut Handle, len: usize) -> Result<(), Status>
-    ensures { Through (Truncates len) h.old result h.new }
+    ensures { Truncates len h.old.value result h.new.value }
 {
-    must_be_open!(h);
     h.interner().truncate(len);
     Ok(())
 }
 
 /// Releases memory that no text needs, if it can.
 pub fn shrink_to_fit(h: &mut Handle) -> Result<(), Status>
-    ensures { Through Shrinks h.old result h.new }
+    ensures { Shrinks h.old.value result h.new.value }
 {
-    must_be_open!(h);
     h.interner().shrink_to_fit();
     Ok(())
 }
 
 /// Returns the text at a number. It lives until the next call on the handle.
 pub fn resolve<'a>(h: &'a mut Handle, number: usize) -> Result<Text<'a>, Status>
-    ensures { Reads (ResolvesNumber number) h.old result }
+    ensures { ResolvesNumber number h.old.value result }
 {
-    must_be_open!(h);
     match h.interner().resolve(number) {
         Some(text) => Ok(Text {
             bytes: text.as_bytes(),
@@ -152,31 +141,27 @@ fn copy_out(bytes: &[u8], room: &mut [u8], len: &mut usize) -> Result<(), Status
 
 /// Copies the text at a number to a room.
 pub fn copy(h: &mut Handle, number: usize, room: &mut [u8], len: &mut usize) -> Result<(), Status>
-    ensures copies { Reads (λ any outcome. CopiesText number any outcome room.old room.new len.old len.new) h.old result }
-    ensures closed { IsFalse h.old.opened → (room.new ≡ room.old) × (len.new ≡ len.old) }
-    ensures same { Kept h.old h.new }
+    ensures copies { CopiesText number h.old.value result room.old room.new len.old len.new }
+    ensures same { h.new.value ≡ h.old.value }
 {
-    must_be_open!(h);
     match h.interner().resolve(number) {
         Some(text) => copy_out(text.as_bytes(), room, len),
         None => Err(Status::Nothing),
     }
 }
 
-/// Opens a handle on an interner that was made. What an open handle held is freed.
-fn open_on(alloc: Global, h: &mut Handle, made: Result<AnyInterner, Status>) -> Result<(), Status>
-    ensures { Opens made h.old result h.new }
+/// Makes a handle on an interner that was made, and puts its address into a slot.
+fn fill(alloc: Global, slot: &mut Slot, made: Result<AnyInterner, Status>) -> Result<(), Status>
+    ensures { Fills made slot.old result slot.new }
 {
-    match made {
-        Ok(interner) => match Box::new(alloc, interner) {
-            Ok(interner) => {
-                *h = Handle::of(interner);
-                Ok(())
-            }
-            Err(_) => Err(Status::NoMemory),
-        },
-        Err(status) => Err(status),
-    }
+    let Ok(interner) = Box::new(alloc, made?) else {
+        return Err(Status::NoMemory);
+    };
+    let Ok(handle) = Box::new(alloc, Handle::of(interner)) else {
+        return Err(Status::NoMemory);
+    };
+    *slot = Slot::of(handle);
+    Ok(())
 }
 
 /// Makes an empty interner of the kind with this code.
@@ -189,11 +174,11 @@ fn made(alloc: Global, kind: u32) -> Result<AnyInterner, Status>
     }
 }
 
-/// Opens a handle on an empty interner of the kind with this code.
-pub fn open_new(alloc: Global, h: &mut Handle, kind: u32) -> Result<(), Status>
-    ensures { OpensMade (MakesNew kind) h.old result h.new }
+/// Makes a handle on an empty interner of the kind with this code.
+pub fn make(alloc: Global, slot: &mut Slot, kind: u32) -> Result<(), Status>
+    ensures { FillsMade (MakesNew kind) slot.old result slot.new }
 {
-    open_on(alloc, h, made(alloc, kind))
+    fill(alloc, slot, made(alloc, kind))
 }
 
 /// Makes an empty interner of the kind with this code, with room for `capacity` texts.
@@ -209,51 +194,43 @@ fn made_with_capacity(alloc: Global, kind: u32, capacity: usize) -> Result<AnyIn
     }
 }
 
-/// Opens a handle on an empty interner of the kind with this code, with room for `capacity` texts.
-pub fn open_with_capacity(
+/// Makes a handle on an empty interner of the kind with this code, with room for `capacity` texts.
+pub fn make_with_capacity(
     alloc: Global,
-    h: &mut Handle,
+    slot: &mut Slot,
     kind: u32,
     capacity: usize,
 ) -> Result<(), Status>
-    ensures { OpensMade (MakesRoom kind capacity) h.old result h.new }
+    ensures { FillsMade (MakesRoom kind capacity) slot.old result slot.new }
 {
-    open_on(alloc, h, made_with_capacity(alloc, kind, capacity))
+    fill(alloc, slot, made_with_capacity(alloc, kind, capacity))
 }
 
 /// Makes a copy of what a handle holds.
 fn cloned(h: &mut Handle) -> Result<AnyInterner, Status>
-    ensures copies { Reads Copies h.old result }
-    ensures same { Kept h.old h.new }
+    ensures copies { Copies h.old.value result }
+    ensures same { h.new.value ≡ h.old.value }
 {
-    must_be_open!(h);
     match h.interner().try_clone() {
         Ok(copy) => Ok(copy),
         Err(_) => Err(Status::NoMemory),
     }
 }
 
-/// Opens a second handle on a copy.
-pub fn clone(alloc: Global, h: &mut Handle, copy: &mut Handle) -> Result<(), Status>
-    ensures copies { OpensMade (Reads Copies h.old) copy.old result copy.new }
-    ensures same { Kept h.old h.new }
+/// Makes a second handle, on a copy.
+pub fn clone(alloc: Global, h: &mut Handle, slot: &mut Slot) -> Result<(), Status>
+    ensures copies { FillsMade (Copies h.old.value) slot.old result slot.new }
+    ensures same { h.new.value ≡ h.old.value }
 {
-    open_on(alloc, copy, cloned(h))
+    fill(alloc, slot, cloned(h))
 }
 
-/// Reports whether both handles are open, on interners of one kind with the same texts in the same order.
+/// Reports whether both handles hold interners of one kind with the same texts in the same order.
 pub fn equal(h: &mut Handle, other: &mut Handle) -> bool
-    ensures opened { IsTrue h.old.opened → IsTrue other.old.opened → result ≡ any_eq h.old.value other.old.value }
-    ensures closed { IsFalse (h.old.opened && other.old.opened) → IsFalse result }
-    ensures same { Kept h.old h.new }
-    ensures other_same { Kept other.old other.new }
+    ensures equal { result ≡ any_eq h.old.value other.old.value }
+    ensures same { h.new.value ≡ h.old.value }
+    ensures other_same { other.new.value ≡ other.old.value }
 {
-    if !h.is_open() {
-        return false;
-    }
-    if !other.is_open() {
-        return false;
-    }
     h.interner().equals(other.interner())
 }
 
@@ -265,11 +242,8 @@ pub fn intern_all(
     numbers: &mut [usize],
     done: &mut usize,
 ) -> Result<(), Status>
-    ensures step { Through (λ old status new. InternsParts bytes.now ends.now numbers.old old status new numbers.new done.new) h.old result h.new }
-    ensures closed { IsFalse h.old.opened → (numbers.new ≡ numbers.old) × (done.new ≡ 0) }
+    ensures { InternsParts bytes.now ends.now numbers.old h.old.value result h.new.value numbers.new done.new }
 {
-    *done = 0;
-    must_be_open!(h);
     h.interner().intern_all(bytes, ends, numbers, done)
 }
 
@@ -279,9 +253,7 @@ pub fn entries<'a>(
     room: &mut [Entry<'a>],
     count: &mut usize,
 ) -> Result<(), Status>
-    ensures lists { Reads (λ any outcome. ListsEntries any outcome room.old room.new count.new) h.old result }
-    ensures closed { IsFalse h.old.opened → (room.new ≡ room.old) × (count.new ≡ count.old) }
+    ensures { ListsEntries h.old.value result room.old room.new count.new }
 {
-    must_be_open!(h);
     h.interner().entries(room, count)
 }

@@ -1,9 +1,10 @@
 //! Interners behind a handle, as the library for C exports them.
 //!
 //! A [`Handle`](handle::Handle) holds an interner of a [`kind`](kind::Kind): how its texts lie in memory, and so how they are
-//! numbered. One set of [`calls`] serves all kinds.
+//! numbered. C knows it by its [`address`] alone. One set of [`calls`] serves all kinds.
 #![tactic(auto)]
 
+pub mod address;
 pub mod any;
 pub mod calls;
 pub mod handle;

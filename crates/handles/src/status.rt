@@ -17,8 +17,6 @@ pub enum Status {
     NoMemory,
     /// There is no such text.
     Nothing,
-    /// The handle is not open.
-    Closed,
     /// The room that was handed over is too short.
     NoRoom,
     /// No kind has this code.
@@ -46,13 +44,12 @@ impl Status {
             Status::NoSymbol => 2,
             Status::NoMemory => 3,
             Status::Nothing => 4,
-            Status::Closed => 5,
-            Status::NoRoom => 6,
-            Status::BadKind => 7,
-            Status::BadEnds => 8,
-            Status::NotAList => 9,
-            Status::NotAText => 10,
-            Status::Repeated => 11,
+            Status::NoRoom => 5,
+            Status::BadKind => 6,
+            Status::BadEnds => 7,
+            Status::NotAList => 8,
+            Status::NotAText => 9,
+            Status::Repeated => 10,
         }
     }
 }

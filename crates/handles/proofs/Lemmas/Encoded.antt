@@ -16,7 +16,7 @@ use Rattle.handles.specs.Any.{Interned, contents, kind_of, place, texts_in}
 use Rattle.handles.specs.Encode.{Encoded, InternsParts, IsEnd, IsTextBetween, part, parts, told}
 use Rattle.handles.specs.Status.{status_of}
 use Rattle.handles.specs.declared.status.Status.{Status}
-use Rattle.handles.specs.declared.status.Status.TheVariants.{BadText, NoSymbol, NoMemory, Nothing, Closed, NoRoom, BadKind, BadEnds, NotAList, NotAText, Repeated}
+use Rattle.handles.specs.declared.status.Status.TheVariants.{BadText, NoSymbol, NoMemory, Nothing, NoRoom, BadKind, BadEnds, NotAList, NotAText, Repeated}
 use Rattle.handles.specs.declared.text.Entry.{Entry}
 use Rattle.string_interner.specs.StringBackend.{start_at}
 use Rattle.string_interner.specs.declared.backend.InternError.{InternError}
@@ -85,7 +85,6 @@ module _ (bytes ends before : List ℕ) (old mid : AnyInterner) (done : ℕ) (so
   part_refused NoMemory outcome is h = absurd h
   part_refused NoSymbol outcome is h = absurd h
   part_refused Nothing outcome is h = absurd h
-  part_refused Closed outcome is h = absurd h
   part_refused NoRoom outcome is h = absurd h
   part_refused BadKind outcome is h = absurd h
   part_refused NotAList outcome is h = absurd h

@@ -15,7 +15,7 @@ use Rattle.handles.specs.Status.{status_of_json}
 use Rattle.handles.specs.declared.any.AnyInterner.{AnyInterner}
 use Rattle.handles.specs.declared.kind.Kind.{Kind}
 use Rattle.handles.specs.declared.status.Status.{Status}
-use Rattle.handles.specs.declared.status.Status.TheVariants.{BadText, NoSymbol, NoMemory, Nothing, Closed, NoRoom, BadKind, BadEnds, NotAList, NotAText, Repeated}
+use Rattle.handles.specs.declared.status.Status.TheVariants.{BadText, NoSymbol, NoMemory, Nothing, NoRoom, BadKind, BadEnds, NotAList, NotAText, Repeated}
 
 strings_have_none : (texts : List Text) → items_have_float (items_of (map string texts)) ≡ false
 strings_have_none [] = refl
@@ -36,7 +36,6 @@ module _ (reads : Kind → Data → Result AnyInterner JsonError → Type 0) (co
   refuses_bytes kind NoMemory is none = no_memory kind is
   refuses_bytes kind NoSymbol is none = absurd none
   refuses_bytes kind Nothing is none = absurd none
-  refuses_bytes kind Closed is none = absurd none
   refuses_bytes kind NoRoom is none = absurd none
   refuses_bytes kind BadKind is none = absurd none
   refuses_bytes kind BadEnds is none = absurd none

@@ -1,10 +1,11 @@
 //! JSON: the array of the texts, and an interner of such an array.
 
-ghost use Rattle.std.specs.Prelude.{◌≡◌, IsFalse, Result};
+ghost use Rattle.std.specs.Prelude.{◌≡◌, Result};
 ghost use Rattle.handles.specs.Any.{ReadsAs, ReadsAsExactly};
-ghost use Rattle.handles.specs.Calls.{IsJsonOf, IsValueOf, Kept, OpensMade, Reads, ReadsJson, WritesJson};
+ghost use Rattle.handles.specs.Calls.{FillsMade, IsJsonOf, IsValueOf, ReadsJson, WritesJson};
 
-use super::{copy_out, open_on};
+use super::{copy_out, fill};
+use crate::address::Slot;
 use crate::any::AnyInterner;
 use crate::handle::Handle;
 use crate::kind::Kind;
@@ -14,10 +15,9 @@ use std::alloc::Global;
 
 /// Returns the JSON array of the texts of a handle.
 fn json_of(alloc: Global, h: &mut Handle) -> Result<Vec<u8>, Status>
-    ensures json { Reads IsJsonOf h.old result }
-    ensures same { Kept h.old h.new }
+    ensures json { IsJsonOf h.old.value result }
+    ensures same { h.new.value ≡ h.old.value }
 {
-    must_be_open!(h);
     let Ok(value) = h.interner().to_json(alloc) else {
         return Err(Status::NoMemory);
     };
@@ -34,9 +34,8 @@ pub fn to_json(
     room: &mut [u8],
     len: &mut usize,
 ) -> Result<(), Status>
-    ensures writes { Reads (λ any outcome. WritesJson any outcome room.old room.new len.old len.new) h.old result }
-    ensures closed { IsFalse h.old.opened → (room.new ≡ room.old) × (len.new ≡ len.old) }
-    ensures same { Kept h.old h.new }
+    ensures writes { WritesJson h.old.value result room.old room.new len.old len.new }
+    ensures same { h.new.value ≡ h.old.value }
 {
     match json_of(alloc, h) {
         Ok(bytes) => copy_out(&bytes, room, len),
@@ -75,11 +74,11 @@ fn read(alloc: Global, kind: u32, bytes: &[u8]) -> Result<AnyInterner, Status>
     }
 }
 
-/// Opens a handle on an interner of the texts of a JSON array. Repeats add no text.
-pub fn from_json(alloc: Global, h: &mut Handle, kind: u32, bytes: &[u8]) -> Result<(), Status>
-    ensures { OpensMade (ReadsJson ReadsAs kind bytes.now) h.old result h.new }
+/// Makes a handle on an interner of the texts of a JSON array. Repeats add no text.
+pub fn from_json(alloc: Global, slot: &mut Slot, kind: u32, bytes: &[u8]) -> Result<(), Status>
+    ensures { FillsMade (ReadsJson ReadsAs kind bytes.now) slot.old result slot.new }
 {
-    open_on(alloc, h, read(alloc, kind, bytes))
+    fill(alloc, slot, read(alloc, kind, bytes))
 }
 
 /// Makes an interner of the kind with this code from a JSON array of strings that all differ.
@@ -98,8 +97,13 @@ fn read_exact(alloc: Global, kind: u32, bytes: &[u8]) -> Result<AnyInterner, Sta
 }
 
 /// The same of an array in which all texts differ.
-pub fn from_json_exact(alloc: Global, h: &mut Handle, kind: u32, bytes: &[u8]) -> Result<(), Status>
-    ensures { OpensMade (ReadsJson ReadsAsExactly kind bytes.now) h.old result h.new }
+pub fn from_json_exact(
+    alloc: Global,
+    slot: &mut Slot,
+    kind: u32,
+    bytes: &[u8],
+) -> Result<(), Status>
+    ensures { FillsMade (ReadsJson ReadsAsExactly kind bytes.now) slot.old result slot.new }
 {
-    open_on(alloc, h, read_exact(alloc, kind, bytes))
+    fill(alloc, slot, read_exact(alloc, kind, bytes))
 }

@@ -1,6 +1,6 @@
-//! The interner of an open handle.
+//! The interner of a handle.
 
-ghost use Rattle.std.specs.Prelude.{◌≡◌, IsTrue};
+ghost use Rattle.std.specs.Prelude.{◌≡◌};
 ghost use types.Logic.{sem};
 ghost use Rattle.handles.specs.Follows.{handle_follows};
 
@@ -8,9 +8,8 @@ use super::Handle;
 use crate::any::AnyInterner;
 
 impl Handle {
-    /// Lends the interner of an open handle.
+    /// Lends the interner of a handle.
     pub fn interner(&mut self) -> &mut AnyInterner
-        requires { IsTrue self.old.opened }
         ensures* writes_back { sem 𝓛 (handle_follows self.entry result) }
         ensures value { result.now ≡ self.old.value }
     {

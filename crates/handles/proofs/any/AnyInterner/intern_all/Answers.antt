@@ -1,4 +1,4 @@
-use Rattle.std.proofs.Common.{refl, rules, arith, ap, sym, ◌≡◌, ◌<◌, ℕ, length, slice_index}
+use Rattle.std.proofs.Common.{refl, rules, arith, ap, sym, ◌<◌, ℕ, length, slice_index}
 use Rattle.std.proofs.lemmas.List.{length-set}
 use Rattle.handles.specs.Status.{status_of}
 use Rattle.handles.proofs.Lemmas.Encoded.{encoded-none, encoded-more, start-more, is_end, part_is, part_refused, text_refused}

@@ -1,4 +1,4 @@
-use Rattle.std.proofs.Common.{refl, rules, arith, ap, sym, ◌≡◌, ◌∙◌, ◌∷◌, ◌++◌, ℕ, List, Option, Some, length, map, take}
+use Rattle.std.proofs.Common.{refl, arith, ap, sym, ◌≡◌, ◌∙◌, ◌∷◌, ◌++◌, ℕ, List, Option, Some, length, map, take}
 use Rattle.std.proofs.lemmas.List.{append-nil, length-set}
 use Rattle.string_interner.specs.Text.{Text}
 use Rattle.string_interner.proofs.Lemmas.Backend.Walk.{first_entry, no_entry}

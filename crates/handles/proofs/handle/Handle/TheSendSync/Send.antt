@@ -1,21 +1,20 @@
 -- A handle may go to another thread, as the interner that it holds may.
-use Rattle.std.specs.Prelude.{Bool, true, false}
 use mir.Raw.{raw}
 use base.Shift.{Keyless}
 use denote.Memory.{lone}
-use denote.RattleType.{RattleType}
 use denote.RawPtr.{Ptr}
 use denote.Param.Send.{IsSend, enum_send, owning_send, recorded_send, struct_send, sendable}
 use denote.Enum.Enum.{Enum}
 use denote.Enum.Declared.{shape as shape_of}
-use denote.Builtin.{RawPtr, bool}
+use denote.Builtin.{RawPtr}
 use denote.Struct.Struct.{exits_of}
 use denote.Struct.Owning.{shape, fields, to}
 use Rattle.std_alloc.proofs.SendSync.{quiet, lies}
 use Rattle.std.proofs.Crossing as crossing
 use Rattle.std.proofs.Crossing.{crosses}
 use Rattle.std.specs.contracts.alloc.Global as heap
-use Rattle.handles.specs.Holds.{Inner, freed, holds}
+use Rattle.std.specs.Box.Ownership.{box_owns}
+use Rattle.handles.specs.Holds.{Inner, freed}
 use Rattle.handles.specs.contracts.any.AnyInterner as any
 use Rattle.handles.specs.contracts.handle.Handle.{the_row, the_type}
 
@@ -23,11 +22,10 @@ inner : IsSend Inner
 inner = recorded_send (Enum (shape_of any.the_type)) _ _ any.the_type.to_one (enum_send (shape_of any.the_type)
     ((search (sendable, crosses) depth 60 fits 5000, tt), ((search (sendable, crosses) depth 60 fits 5000, tt), ((search (sendable, crosses) depth 60 fits 5000, tt), tt))))
 
-keyless : (l : Bool) (a : heap.the_row.Denot) (p : Ptr) (x : Inner.Denot) → Keyless (holds (freed a) Inner l p x)
-keyless true a p x = (lies Inner inner p x, crossing.frees.frees a (raw (lone Inner.mir)) p)
-keyless false a p x = tt
+keyless : (a : heap.the_row.Denot) (p : Ptr) (x : Inner.Denot) → Keyless (box_owns (freed a) Inner p x)
+keyless a p x = (lies Inner inner p x, crossing.frees.frees a (raw (lone Inner.mir)) p)
 
 pub send : IsSend the_row
-send = let O = the_type in let ps : IsSend RawPtr = search sendable in let bs : IsSend bool = search sendable in let gs : IsSend (heap.the_field).row = search sendable depth 20 in
-    owning_send O (ps, (bs, (gs, tt))) (λ d. keyless d.opened d.alloc d.at d.value)
-    (λ k. quiet (to O) (exits_of k (fields O)) ((struct_send (shape O) (ps, (bs, (gs, tt)))).leaving k))
+send = let O = the_type in let ps : IsSend RawPtr = search sendable in let gs : IsSend (heap.the_field).row = search sendable depth 20 in
+    owning_send O (ps, (gs, tt)) (λ d. keyless d.alloc d.at d.value)
+    (λ k. quiet (to O) (exits_of k (fields O)) ((struct_send (shape O) (ps, (gs, tt))).leaving k))

@@ -1,17 +1,15 @@
 -- `inner` lends the interner of an open handle, and the handle follows it.
-use Rattle.std.proofs.Common.{◌≡◌, ℕ, List, [], ◌∷◌, ◌++◌, refl, sym, ap, ◌∙◌, subst}
-use Rattle.std.specs.Prelude.{Bool, true, false, IsTrue}
+use Rattle.std.proofs.Common.{◌≡◌, ℕ, List, [], ◌∷◌, refl, sym, ap, ◌∙◌}
 use seplogic.Ra.Ura.{Ura}
 use base.Fraction.{full_share}
 use mir.Syntax.{named}
 use mir.Raw.{raw as bare}
 use mir.Val.{Val, vptr}
-use base.Logic.{SProp, ent, sep, fst∗, never, id⊢}
-use base.Fml.{Lft, GName, Share, Fml, ftrue, flft, fsep}
+use base.Logic.{ent, sep, fst∗, never, id⊢}
+use base.Fml.{GName, Fml, ftrue, flft, fsep}
 use types.Logic.{Logic, sem}
-use contract.Monad.{fact}
 use contract.Running.{tables}
-use types.Kit.{‵, raw, ◌⊛◌, some, later, at_ret, ◌$◌, ◌∵◌, !, qed, by, move, keep, drop, use1, split, split3, join, pick, fsplit, fsplit3, fjoin, fpack, rewrite, suffices, frame, await, group, done}
+use types.Kit.{‵, raw, ◌⊛◌, some, later, at_ret, ◌$◌, ◌∵◌, !, qed, move, keep, use1, split, split3, join, pick, fsplit, fsplit3, fjoin, fpack, rewrite, suffices, frame, await, group, done}
 use types.Run.{enter, of_opd, addr, load, stop, fld, first, blocks, exec, returns}
 use types.ByLocal.{alloc_all, pass_all, free_all, look_at, get, through, sets, sets_last, env}
 use types.Part.{whole, sub, look_in}
@@ -20,9 +18,9 @@ use denote.RattleType.{RattleType}
 use denote.Laws.{shows}
 use denote.Memory.{cell_at, part_at, part_of, mem, lone}
 use denote.RawPtr.{Ptr, block_ptr, null_ptr, in_a_block}
-use denote.Ref.{MutRef, MutBor, mut_vals, mut_Tells}
+use denote.Ref.{MutRef, mut_vals, mut_Tells}
 use denote.Signature.{plain, mut_ref_to}
-use denote.Steps.{nothing, opens, peeks, heard}
+use denote.Steps.{nothing, opens, peeks}
 use denote.Follow.{follows, Part, lends_Part}
 use denote.Struct.Struct.{Struct}
 use denote.Struct.Owning.{shape, to}
@@ -30,7 +28,7 @@ use denote.Triple.Walked.{Stays, walk_of, says, stay_dropped, Goes-spent_ref, en
 use Rattle.std.proofs.VecSteps.Shapes.{after}
 use Rattle.std.proofs.raw_atomic.Walks.{proved}
 use Rattle.std.specs.Box.Ownership.{box_owns}
-use Rattle.handles.specs.Holds.{Inner, freed, holds}
+use Rattle.handles.specs.Holds.{Inner, freed}
 use Rattle.handles.specs.Follows.{with_value}
 use Rattle.handles.specs.declared.handle.Handle.{Handle}
 use Rattle.handles.specs.contracts.handle.Handle.{the_row as R, the_type}
@@ -49,7 +47,7 @@ Fields = Struct (shape the_type)
 abbrev Rest : Handle → List Val → ℕ → ℕ → ℕ → ℕ → Fml
 Rest h us rb ro b o = fsep (fsep (freed h.alloc (bare (lone Inner.mir)) (block_ptr b o)) (Fields.own_val (to the_type h) us)) (cell_at full_share R.mir us rb ro)
 
-module _ {M : Type 1} {𝓤 : Ura M} (𝓛 : Logic 𝓤) (h : Handle) (us : List Val) (rb ro b o : ℕ) (e : h.at ≡ block_ptr b o) (opened : h.opened ≡ true) where
+module _ {M : Type 1} {𝓤 : Ura M} (𝓛 : Logic 𝓤) (h : Handle) (us : List Val) (rb ro b o : ℕ) (e : h.at ≡ block_ptr b o) where
   back : (w : Inner.Denot) → ent 𝓤 (sep 𝓤 (sem 𝓛 ((mem Inner).own_at w b o)) (sem 𝓛 (Rest h us rb ro b o))) (sem 𝓛 ((mem R).own_at (with_value h w) rb ro))
   unfolding part_of
   back w =
@@ -57,7 +55,6 @@ module _ {M : Type 1} {𝓤 : Ura M} (𝓛 : Logic 𝓤) (h : Handle) (us : List
       -- [the right to free; the fields; the cell; the interner]
       move ! (3 ∷ 0 ∷ []) $ fjoin ! $
       rewrite ! 0 (λ (p : Ptr). ‵ (box_owns (freed h.alloc) Inner p w)) (sym e) refl $
-      rewrite ! 0 (λ (l : Bool). ‵ (holds (freed h.alloc) Inner l h.at w)) (sym opened) refl $
       move ! (1 ∷ []) $ fjoin ! $ move ! (1 ∷ 0 ∷ []) $ fjoin ! $
       fpack ! (List Val) (λ vs. fsep (cell_at full_share R.mir vs rb ro) (R.own_val (with_value h w) vs)) us $ done !
 
@@ -70,13 +67,11 @@ interner_spec 𝓤 𝓛 𝓜 𝓡 wired =
     let κ = κs.0 in let q = qs.0 in let γ = a.0.ghost_name in
     let rb = a.0.ref_ptr.0 in let ro = a.0.ref_ptr.1 in let h = a.0.now in let vs = mut_vals a.0 in
     let y : W.Ghost = ((κs, qs, bounds, a, (vs, tt)), tt) in
-    qed 𝓛 (((‵ (flft κ q) ⊛ ‵ ftrue) ⊛ ‵ ((MutRef (named 0) κ R).own_val a.0 vs) ⊛ ‵ ftrue) ∷ raw (fact 𝓤 (IsTrue h.opened)) ∷ []) ∵
-    move ! (1 ∷ []) $ heard ! (IsTrue h.opened) (λ opened.
+    qed 𝓛 (((‵ (flft κ q) ⊛ ‵ ftrue) ⊛ ‵ ((MutRef (named 0) κ R).own_val a.0 vs) ⊛ ‵ ftrue) ∷ ‵ ftrue ∷ []) ∵
     split ! $ split ! $ move ! (2 ∷ []) $ split ! $ keep ! (0 ∷ 2 ∷ []) $
     enter ! _ _ _ _ _ $ alloc_all ! (λ l. pass_all ! refl ((tt, tt), tt) $
     fsplit3 ! $ move ! (1 ∷ 2 ∷ 3 ∷ []) $ opens ! tt R rb ro (λ us.
     move ! (1 ∷ []) $ peeks ! R _ (shows 𝓛 R) h us (λ is. fsplit ! $ move ! (1 ∷ []) $
-    rewrite ! 0 (λ (v : Bool). ‵ (holds (freed h.alloc) Inner v h.at h.value)) opened refl $
     in_a_block ! h.at (λ (p : Ptr). box_owns (freed h.alloc) Inner p h.value) (fst∗ 𝓤 (never 𝓤) (sem 𝓛 (freed h.alloc (bare (lone Inner.mir)) null_ptr))) (λ b o e. fsplit ! $
     let word = lowers.val_is h us is ∙ ap (λ (p : Ptr). lowers.lowered (record h { at = p }) ∷ []) e in
     let Cell = λ (ws : List Val). ‵ (cell_at full_share R.mir ws rb ro) in
@@ -90,9 +85,9 @@ interner_spec 𝓤 𝓛 𝓜 𝓡 wired =
     sets ! (of_opd ! (get ! refl)) refl (tt, tt) $
     rewrite ! 3 Cell (sym word) refl $
     move ! (1 ∷ 2 ∷ []) $ fjoin ! $ move ! (0 ∷ 2 ∷ []) $ fjoin ! $ move ! (2 ∷ 3 ∷ 4 ∷ 1 ∷ 0 ∷ []) $ group ! 5 $
-    use1 𝓛 (later (some (λ (γ' : GName). raw (Part 𝓛 R Inner (with_value h) (named 0) κ q rb ro b o γ (sem 𝓛 (Rest h us rb ro b o)) (back 𝓛 h us rb ro b o e opened) h.value γ'))))
-    (lends_Part 𝓛 R Inner (with_value h) (named 0) κ q rb ro b o γ (sem 𝓛 (Rest h us rb ro b o)) (back 𝓛 h us rb ro b o e opened) (R.coded.code h) (R.coded.code h) h.value) $ await ! tt $ pick ! (λ γ'.
+    use1 𝓛 (later (some (λ (γ' : GName). raw (Part 𝓛 R Inner (with_value h) (named 0) κ q rb ro b o γ (sem 𝓛 (Rest h us rb ro b o)) (back 𝓛 h us rb ro b o e) h.value γ'))))
+    (lends_Part 𝓛 R Inner (with_value h) (named 0) κ q rb ro b o γ (sem 𝓛 (Rest h us rb ro b o)) (back 𝓛 h us rb ro b o e) (R.coded.code h) (R.coded.code h) h.value) $ await ! tt $ pick ! (λ γ'.
     returns ! (look_at ! 0 refl) $ free_all ! refl $ keep ! (0 ∷ []) $
     use1 𝓛 (‵ ((MutRef (named 0) κ Inner).own_val (record { ref_ptr = (b, o); ghost_name = γ'; now = h.value }) (vptr b o ∷ [])) ⊛ (‵ (flft κ q) ⊛ ‵ (follows R Inner γ γ' (with_value h)))) (id⊢ 𝓤 _) $ split3 ! $
     suffices ! _ (ends_at 𝓛 f.ended stayed c y (vptr b o) (record { ref_ptr = (b, o); ghost_name = γ'; now = h.value }) (tt, tt) (tt, tt)) $
-    nothing ! $ nothing ! $ fjoin ! $ join ! $ nothing ! $ move ! (2 ∷ 0 ∷ []) $ join ! $ join ! $ frame ! $ says ! refl $ done !)))))))
+    nothing ! $ nothing ! $ fjoin ! $ join ! $ nothing ! $ move ! (2 ∷ 0 ∷ []) $ join ! $ join ! $ frame ! $ says ! refl $ done !))))))

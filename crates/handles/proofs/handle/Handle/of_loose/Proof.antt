@@ -1,36 +1,29 @@
 -- `of_loose` hands what the pointer owns to an open handle.
-use Rattle.std.proofs.Common.{◌≡◌, ℕ, List, [], ◌∷◌, ◌++◌, refl, sym, ap, ◌∙◌, subst}
-use Rattle.std.specs.Prelude.{Bool, true, false, IsTrue}
-use mir.Raw.{raw as bare}
-use mir.Val.{Val, vptr, vbool}
-use base.Logic.{SProp, ent, emp, id⊢, fst∗, never}
-use base.Fml.{ftrue, fsep, flft}
+use Rattle.std.proofs.Common.{◌≡◌, List, [], ◌∷◌, ◌++◌, refl, sym, subst}
+use mir.Val.{Val, vptr}
+use base.Logic.{SProp, ent, emp, id⊢}
+use base.Fml.{ftrue}
 use prog.Wp.{WpFn}
-use types.Logic.{sem}
-use types.Kit.{Item, ‵, raw, ◌⊛◌, ◌$◌, ◌∵◌, !, qed, by, move, keep, drop, split, join, fsplit, fjoin, rewrite, suffices, use0, done}
-use types.Run.{stop, fld, of_opd, and_then, no_more, returns, enter, true_lit}
+use types.Kit.{‵, raw, ◌⊛◌, ◌$◌, ◌∵◌, !, qed, by, move, keep, split, fsplit, fjoin, suffices, use0}
+use types.Run.{stop, fld, of_opd, and_then, no_more, returns, enter}
 use types.ByLocal.{alloc_all, pass_all, free_all, look_at, get, get_in, sets}
 use types.Part.{agg, sub, whole}
 use contract.Monad.{fact, fact_i}
 use contract.Running.{tables}
-use denote.Exit.{yes}
 use denote.RattleType.{RattleType, owns}
-use denote.Memory.{lone}
-use denote.RawPtr.{Ptr, block_ptr, null_ptr, ptr_val, in_a_block}
+use denote.RawPtr.{block_ptr}
 use denote.Signature.{types_at, plain}
-use denote.Steps.{nothing, heard}
+use denote.Steps.{nothing}
 use denote.Triple.Walked.{Stays, stay_dropped, walk_of}
 use Rattle.core.proofs.alloc.Calls.{Goes-blank}
-use Rattle.std.specs.Box.Ownership.{box_owns}
 use Rattle.std.proofs.raw_atomic.Walks.{proved_at, leaves}
 use Rattle.std.specs.contracts.alloc.Global as heap
 use Rattle.std.proofs.alloc.Global.TheLaws as heap_laws
 use Rattle.std.specs.contracts.impls.GlobalAllocator.TheImpl.{ghosts}
-use Rattle.handles.proofs.Lemmas.Loose.{both, Loose, loose_good, loose_in, loose_out}
-use Rattle.handles.proofs.Lemmas.Handle.{word, word_good, handle_in, handle_out}
-use Rattle.handles.specs.Holds.{Inner, freed, holds}
+use Rattle.handles.proofs.Lemmas.Loose.{both, Loose, loose_good, loose_out}
+use Rattle.handles.proofs.Lemmas.Handle.{handle_in}
+use Rattle.handles.specs.Holds.{Inner}
 use Rattle.handles.specs.declared.handle.Handle.{Handle}
-use Rattle.handles.specs.contracts.handle.Handle.{the_row as R}
 use Rattle.handles.specs.contracts.handle.Handle.of_loose as f
 use Rattle.handles.proofs.handle.Handle.of_loose.Statement.{statement}
 use Rattle.handles.proofs.handle.Handle.of_loose.Code as code
@@ -53,9 +46,9 @@ of_loose_spec 𝓤 𝓛 𝓜 𝓡 wired =
     sets ! (of_opd ! (get_in ! (fld ! refl (stop !)) (sub ! 0 refl (whole !)))) refl (tt, tt) $
     sets ! (of_opd ! (get_in ! (fld ! refl (stop !)) (sub ! 1 refl (whole !)))) refl fits $
     sets ! (of_opd ! (get ! refl)) refl (tt, tt) $
-    sets ! (agg ! (and_then ! (get ! refl) (and_then ! (true_lit !) (and_then ! (get ! refl) (no_more !))))) refl (word_good (vptr b o) true hv (tt, tt) fits) $
+    sets ! (agg ! (and_then ! (get ! refl) (and_then ! (get ! refl) (no_more !)))) refl (loose_good Inner heap.the_row heap_laws.the_row_laws ghosts b o hv fits) $
     returns ! (look_at ! 0 refl) $ free_all ! refl $
-    let d : Handle = record { at = block_ptr b o; opened = true; alloc = v.alloc; value = v.value } in
+    let d : Handle = record { at = block_ptr b o; alloc = v.alloc; value = v.value } in
     handle_in ! d hv $
-    use0 𝓛 (raw (fact 𝓤 ((IsTrue true) × (v.value ≡ v.value)))) (fact_i 𝓤 ((IsTrue true) × (v.value ≡ v.value)) (emp 𝓤) (refl, refl)) $ nothing ! $ nothing ! $ fjoin ! $
-    keep ! (4 ∷ 0 ∷ 2 ∷ 1 ∷ []) $ by ! (leaves 𝓛 f.ended stayed c z (word (vptr b o) true hv) d (tt, tt) (tt, tt)))))
+    use0 𝓛 (raw (fact 𝓤 (v.value ≡ v.value))) (fact_i 𝓤 (v.value ≡ v.value) (emp 𝓤) refl) $ nothing ! $ nothing ! $ fjoin ! $
+    keep ! (4 ∷ 0 ∷ 2 ∷ 1 ∷ []) $ by ! (leaves 𝓛 f.ended stayed c z (both (vptr b o) hv) d (tt, tt) (tt, tt)))))

@@ -1,0 +1,36 @@
+//! A part of a text that is interned.
+
+ghost use Rattle.handles.specs.Part.{InternsPart};
+
+use super::AnyInterner;
+use crate::status::Status;
+use crate::text::text_of;
+use std::alloc::Global;
+
+impl AnyInterner {
+    /// Returns the number of a part of the text at a number: the bytes between two places. A new part is appended.
+    ///
+    /// The part is copied first, since its bytes may move where the interner grows.
+    pub fn get_or_intern_part(
+        &mut self,
+        alloc: Global,
+        number: usize,
+        from: usize,
+        to: usize,
+    ) -> Result<usize, Status>
+        ensures { InternsPart number from to self.old result self.new }
+    {
+        let Some(text) = self.resolve(number) else {
+            return Err(Status::Nothing);
+        };
+        let Some(part) = text.as_bytes().get(from..to) else {
+            return Err(Status::BadEnds);
+        };
+        let Ok(copy) = part.to_vec(alloc) else {
+            return Err(Status::NoMemory);
+        };
+        let part = text_of(&copy)?;
+        let number = self.get_or_intern(part)?;
+        Ok(number)
+    }
+}
