@@ -1,5 +1,6 @@
 pub mod Kind
 pub mod Status
+pub mod Hasher
 pub mod Any
 pub mod Holds
 pub mod Address

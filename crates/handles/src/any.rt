@@ -15,21 +15,26 @@ mod encode;
 mod entries;
 mod part;
 
+use crate::hasher::ChosenHasher;
 use crate::kind::Kind;
 use crate::status::{Status, tell};
 use serde_json::Value;
 use std::alloc::{AllocError, Global};
+use string_interner::StringInterner;
 use string_interner::backend::{Backend, BucketBackend, BufferBackend, InternError, StringBackend};
+use string_interner::dedup::WindowIndex;
 use string_interner::json::JsonError;
 use string_interner::symbol::{Symbol, SymbolU32};
-use string_interner::{FastStringInterner, StringInterner};
+
+/// An interner over a backend as a `FastStringInterner` is, but for its hasher, which is chosen.
+type HashedInterner<B> = StringInterner<B, ChosenHasher, WindowIndex<<B as Backend>::Symbol>>;
 
 /// An interner of one of the kinds.
 #[derive(Drop)]
 pub enum AnyInterner {
-    String(FastStringInterner<StringBackend<SymbolU32>>),
-    Bucket(FastStringInterner<BucketBackend<SymbolU32>>),
-    Buffer(FastStringInterner<BufferBackend<SymbolU32>>),
+    String(HashedInterner<StringBackend<SymbolU32>>),
+    Bucket(HashedInterner<BucketBackend<SymbolU32>>),
+    Buffer(HashedInterner<BufferBackend<SymbolU32>>),
 }
 
 /// What the expression says of the interner, of whatever kind that is.
@@ -90,7 +95,7 @@ fn status_given(outcome: Result<SymbolU32, InternError>) -> Result<usize, Status
 /// known text.
 #[inline(never)]
 fn write_number<B: Backend<Symbol = SymbolU32>>(
-    interner: &mut FastStringInterner<B>,
+    interner: &mut HashedInterner<B>,
     text: &str,
     number: &mut usize,
 ) -> u32
@@ -100,22 +105,26 @@ fn write_number<B: Backend<Symbol = SymbolU32>>(
 }
 
 impl AnyInterner {
-    /// Makes an empty interner of this kind, without spare capacity. Takes no memory.
-    pub fn new(alloc: Global, kind: Kind) -> AnyInterner
+    /// Makes an empty interner of this kind under this hasher, without spare capacity. Takes no memory.
+    pub fn new(alloc: Global, kind: Kind, hasher: ChosenHasher) -> AnyInterner
         ensures { IsEmpty kind result }
     {
-        made!(kind, StringInterner::new(alloc))
+        made!(kind, StringInterner::with_hasher(alloc, hasher))
     }
 
-    /// Makes an empty interner of this kind with room for `capacity` texts.
+    /// Makes an empty interner of this kind under this hasher, with room for `capacity` texts.
     pub fn with_capacity(
         alloc: Global,
         kind: Kind,
         capacity: usize,
+        hasher: ChosenHasher,
     ) -> Result<AnyInterner, AllocError>
         ensures { IfOk result (IsMade kind capacity) }
     {
-        Ok(made!(kind, StringInterner::with_capacity(alloc, capacity)?))
+        Ok(made!(
+            kind,
+            StringInterner::with_capacity_and_hasher(alloc, capacity, hasher)?
+        ))
     }
 
     /// Returns the number of texts.
@@ -188,7 +197,8 @@ impl AnyInterner {
         each!(self, interner => interner.shrink_to_fit())
     }
 
-    /// Makes a copy: an interner of the same kind with the same texts under the same numbers, and as many slots.
+    /// Makes a copy: an interner of the same kind under the same hasher, with the same texts under the same numbers, and as
+    /// many slots.
     pub fn try_clone(&self) -> Result<AnyInterner, AllocError>
         ensures { IfOk result (IsCopy self.now) }
     {
@@ -218,21 +228,33 @@ impl AnyInterner {
         each!(self, interner => interner.to_json(alloc))
     }
 
-    /// Makes an interner of this kind from a JSON array of strings. Repeats add no text.
-    pub fn from_json(alloc: Global, kind: Kind, value: &Value) -> Result<AnyInterner, JsonError>
+    /// Makes an interner of this kind under this hasher from a JSON array of strings. Repeats add no text.
+    pub fn from_json(
+        alloc: Global,
+        kind: Kind,
+        value: &Value,
+        hasher: ChosenHasher,
+    ) -> Result<AnyInterner, JsonError>
         ensures { ReadsAs kind (view value.now) result }
     {
-        Ok(made!(kind, StringInterner::from_json(alloc, value)?))
+        Ok(made!(
+            kind,
+            StringInterner::from_json_with_hasher(alloc, value, hasher)?
+        ))
     }
 
-    /// Makes an interner of this kind from a JSON array of strings that all differ.
+    /// Makes an interner of this kind under this hasher from a JSON array of strings that all differ.
     pub fn from_json_exact(
         alloc: Global,
         kind: Kind,
         value: &Value,
+        hasher: ChosenHasher,
     ) -> Result<AnyInterner, JsonError>
         ensures { ReadsAsExactly kind (view value.now) result }
     {
-        Ok(made!(kind, StringInterner::from_json_exact(alloc, value)?))
+        Ok(made!(
+            kind,
+            StringInterner::from_json_exact_with_hasher(alloc, value, hasher)?
+        ))
     }
 }

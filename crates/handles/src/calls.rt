@@ -13,6 +13,7 @@ pub mod json;
 use crate::address::Slot;
 use crate::any::AnyInterner;
 use crate::handle::Handle;
+use crate::hasher::ChosenHasher;
 use crate::kind::Kind;
 use crate::status::{Status, tell};
 use crate::text::{Entry, Text, text_of};
@@ -164,46 +165,57 @@ fn fill(alloc: Global, slot: &mut Slot, made: Result<AnyInterner, Status>) -> Re
     Ok(())
 }
 
-/// Makes an empty interner of the kind with this code.
-fn made(alloc: Global, kind: u32) -> Result<AnyInterner, Status>
+/// Makes an empty interner of the kind with this code, under this hasher.
+fn made(alloc: Global, kind: u32, hasher: ChosenHasher) -> Result<AnyInterner, Status>
     ensures { MakesNew kind result }
 {
     match Kind::from_code(kind) {
-        Some(kind) => Ok(AnyInterner::new(alloc, kind)),
+        Some(kind) => Ok(AnyInterner::new(alloc, kind, hasher)),
         None => Err(Status::BadKind),
     }
 }
 
-/// Makes a handle on an empty interner of the kind with this code.
-pub fn make(alloc: Global, slot: &mut Slot, kind: u32) -> Result<(), Status>
+/// Makes a handle on an empty interner of the kind with this code, under this hasher.
+pub fn make(
+    alloc: Global,
+    slot: &mut Slot,
+    kind: u32,
+    hasher: ChosenHasher,
+) -> Result<(), Status>
     ensures { FillsMade (MakesNew kind) slot.old result slot.new }
 {
-    fill(alloc, slot, made(alloc, kind))
+    fill(alloc, slot, made(alloc, kind, hasher))
 }
 
-/// Makes an empty interner of the kind with this code, with room for `capacity` texts.
-fn made_with_capacity(alloc: Global, kind: u32, capacity: usize) -> Result<AnyInterner, Status>
+/// Makes an empty interner of the kind with this code, under this hasher, with room for `capacity` texts.
+fn made_with_capacity(
+    alloc: Global,
+    kind: u32,
+    capacity: usize,
+    hasher: ChosenHasher,
+) -> Result<AnyInterner, Status>
     ensures { MakesRoom kind capacity result }
 {
     let Some(kind) = Kind::from_code(kind) else {
         return Err(Status::BadKind);
     };
-    match AnyInterner::with_capacity(alloc, kind, capacity) {
+    match AnyInterner::with_capacity(alloc, kind, capacity, hasher) {
         Ok(interner) => Ok(interner),
         Err(_) => Err(Status::NoMemory),
     }
 }
 
-/// Makes a handle on an empty interner of the kind with this code, with room for `capacity` texts.
+/// Makes a handle on an empty interner of the kind with this code, under this hasher, with room for `capacity` texts.
 pub fn make_with_capacity(
     alloc: Global,
     slot: &mut Slot,
     kind: u32,
     capacity: usize,
+    hasher: ChosenHasher,
 ) -> Result<(), Status>
     ensures { FillsMade (MakesRoom kind capacity) slot.old result slot.new }
 {
-    fill(alloc, slot, made_with_capacity(alloc, kind, capacity))
+    fill(alloc, slot, made_with_capacity(alloc, kind, capacity, hasher))
 }
 
 /// Makes a copy of what a handle holds.

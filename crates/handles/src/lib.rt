@@ -8,6 +8,7 @@ pub mod address;
 pub mod any;
 pub mod calls;
 pub mod handle;
+pub mod hasher;
 pub mod kind;
 mod loose;
 pub mod status;

@@ -8,6 +8,7 @@ use super::{copy_out, fill};
 use crate::address::Slot;
 use crate::any::AnyInterner;
 use crate::handle::Handle;
+use crate::hasher::ChosenHasher;
 use crate::kind::Kind;
 use crate::status::Status;
 use serde_json::Value;
@@ -59,38 +60,49 @@ fn value_of(alloc: Global, bytes: &[u8]) -> Result<Value, Status>
     }
 }
 
-/// Makes an interner of the kind with this code from a JSON array of strings.
+/// Makes an interner of the kind with this code, under this hasher, from a JSON array of strings.
 #[tactic(auto, using(crate::proofs::Lemmas::Json::refuses_kind, crate::proofs::Lemmas::Json::refuses_value))]
-fn read(alloc: Global, kind: u32, bytes: &[u8]) -> Result<AnyInterner, Status>
+fn read(alloc: Global, kind: u32, bytes: &[u8], hasher: ChosenHasher) -> Result<AnyInterner, Status>
     ensures { ReadsJson ReadsAs kind bytes.now result }
 {
     let Some(kind) = Kind::from_code(kind) else {
         return Err(Status::BadKind);
     };
     let value = value_of(alloc, bytes)?;
-    match AnyInterner::from_json(alloc, kind, &value) {
+    match AnyInterner::from_json(alloc, kind, &value, hasher) {
         Ok(interner) => Ok(interner),
         Err(error) => Err(Status::from(error)),
     }
 }
 
-/// Makes a handle on an interner of the texts of a JSON array. Repeats add no text.
-pub fn from_json(alloc: Global, slot: &mut Slot, kind: u32, bytes: &[u8]) -> Result<(), Status>
+/// Makes a handle on an interner, under this hasher, of the texts of a JSON array. Repeats add no text.
+pub fn from_json(
+    alloc: Global,
+    slot: &mut Slot,
+    kind: u32,
+    bytes: &[u8],
+    hasher: ChosenHasher,
+) -> Result<(), Status>
     ensures { FillsMade (ReadsJson ReadsAs kind bytes.now) slot.old result slot.new }
 {
-    fill(alloc, slot, read(alloc, kind, bytes))
+    fill(alloc, slot, read(alloc, kind, bytes, hasher))
 }
 
-/// Makes an interner of the kind with this code from a JSON array of strings that all differ.
+/// Makes an interner of the kind with this code, under this hasher, from a JSON array of strings that all differ.
 #[tactic(auto, using(crate::proofs::Lemmas::Json::refuses_kind, crate::proofs::Lemmas::Json::refuses_value))]
-fn read_exact(alloc: Global, kind: u32, bytes: &[u8]) -> Result<AnyInterner, Status>
+fn read_exact(
+    alloc: Global,
+    kind: u32,
+    bytes: &[u8],
+    hasher: ChosenHasher,
+) -> Result<AnyInterner, Status>
     ensures { ReadsJson ReadsAsExactly kind bytes.now result }
 {
     let Some(kind) = Kind::from_code(kind) else {
         return Err(Status::BadKind);
     };
     let value = value_of(alloc, bytes)?;
-    match AnyInterner::from_json_exact(alloc, kind, &value) {
+    match AnyInterner::from_json_exact(alloc, kind, &value, hasher) {
         Ok(interner) => Ok(interner),
         Err(error) => Err(Status::from(error)),
     }
@@ -102,8 +114,9 @@ pub fn from_json_exact(
     slot: &mut Slot,
     kind: u32,
     bytes: &[u8],
+    hasher: ChosenHasher,
 ) -> Result<(), Status>
     ensures { FillsMade (ReadsJson ReadsAsExactly kind bytes.now) slot.old result slot.new }
 {
-    fill(alloc, slot, read_exact(alloc, kind, bytes))
+    fill(alloc, slot, read_exact(alloc, kind, bytes, hasher))
 }
