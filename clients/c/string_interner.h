@@ -13,8 +13,8 @@
  *
  * What each call does is proved of the library, as long as its caller keeps to these rules, which nothing can look at:
  *
- *   1. A handle is what si_new, si_with_capacity, si_clone, si_from_json or si_from_json_exact wrote, until it is freed. No
- *      call but si_free takes null for one.
+ *   1. A handle is what si_new, si_with_capacity, si_from_json, si_from_json_exact, a form of them with keys or si_clone wrote,
+ *      until it is freed. No call but si_free takes null for one.
  *   2. Each pointer is aligned and leads to as much as the length behind it says. It may be null where that is 0. What a call
  *      writes to need not be initialised.
  *   3. What a call writes to overlaps nothing else that it is handed.
@@ -35,8 +35,9 @@
  * What is looked at, and needs no care: bytes that are not UTF-8, ends that fall or pass the bytes, a number without a text,
  * room that is too short, a kind that there is not, numbers that run out, and memory that is refused.
  *
- * What nothing guards against: someone who chooses texts so that all go to one place of the index, since its hasher has no
- * key. Interning n such texts takes time that grows with the square of n.
+ * What calls without keys do not guard against: someone who chooses texts that have one hash. Any number of them are found in
+ * less than a second, and interning n of them takes time that grows with the square of n. If others choose the texts, make the
+ * handle with random keys: by si_new_keyed, or another call whose name ends in _keyed.
  */
 #ifndef STRING_INTERNER_H
 #define STRING_INTERNER_H
@@ -127,6 +128,14 @@ si_status si_new(si_interner **out, si_kind kind);
  * for each on SI_BUFFER, where a text counts with its length, which takes 1 byte up to 127, 2 up to 16,383, and so on. */
 si_status si_with_capacity(si_interner **out, si_kind kind, size_t capacity);
 
+/** The same as si_new, under a hasher with two keys, SipHash-1-3. If the keys are random (from getrandom, say) and secret, nobody
+ * can choose texts that have one hash. It takes longer than the hasher without keys, above all for long texts. What calls write
+ * and return does not depend on the hasher. A copy by si_clone has the same keys. */
+si_status si_new_keyed(si_interner **out, si_kind kind, uint64_t key0, uint64_t key1);
+
+/** The same as si_with_capacity, under the hasher with these keys. */
+si_status si_with_capacity_keyed(si_interner **out, si_kind kind, size_t capacity, uint64_t key0, uint64_t key1);
+
 /** Frees the handle and what it holds. Does nothing if it is null. */
 void si_free(si_interner *h);
 
@@ -208,8 +217,16 @@ si_status si_to_json(const si_interner *h, char *SI_RESTRICT room, size_t room_l
  * too great for a double), SI_NOT_A_LIST, SI_NOT_A_TEXT (an element is no string), SI_NO_SYMBOL, SI_NO_MEMORY. */
 si_status si_from_json(si_interner **out, si_kind kind, const char *json, size_t json_len);
 
-/** The same, but repeats are refused: SI_REPEATED. */
+/** The same as si_from_json, but repeats are refused: SI_REPEATED. */
 si_status si_from_json_exact(si_interner **out, si_kind kind, const char *json, size_t json_len);
+
+/** The same as si_from_json, under the hasher with these keys: see si_new_keyed. */
+si_status si_from_json_keyed(si_interner **out, si_kind kind, const char *json, size_t json_len, uint64_t key0,
+                             uint64_t key1);
+
+/** The same as si_from_json_exact, under the hasher with these keys. */
+si_status si_from_json_exact_keyed(si_interner **out, si_kind kind, const char *json, size_t json_len, uint64_t key0,
+                                   uint64_t key1);
 
 #ifdef __cplusplus
 }

@@ -176,12 +176,7 @@ fn made(alloc: Global, kind: u32, hasher: ChosenHasher) -> Result<AnyInterner, S
 }
 
 /// Makes a handle on an empty interner of the kind with this code, under this hasher.
-pub fn make(
-    alloc: Global,
-    slot: &mut Slot,
-    kind: u32,
-    hasher: ChosenHasher,
-) -> Result<(), Status>
+pub fn make(alloc: Global, slot: &mut Slot, kind: u32, hasher: ChosenHasher) -> Result<(), Status>
     ensures { FillsMade (MakesNew kind) slot.old result slot.new }
 {
     fill(alloc, slot, made(alloc, kind, hasher))
@@ -215,7 +210,11 @@ pub fn make_with_capacity(
 ) -> Result<(), Status>
     ensures { FillsMade (MakesRoom kind capacity) slot.old result slot.new }
 {
-    fill(alloc, slot, made_with_capacity(alloc, kind, capacity, hasher))
+    fill(
+        alloc,
+        slot,
+        made_with_capacity(alloc, kind, capacity, hasher),
+    )
 }
 
 /// Makes a copy of what a handle holds.

@@ -12,6 +12,7 @@ ghost use Rattle.handles.specs.Part.{InternsPart};
 use handles::address::{Returned, Slot};
 use handles::calls;
 use handles::handle::Handle;
+use handles::hasher::ChosenHasher;
 use handles::status::{finish, tell};
 use handles::text::{Entry, Text};
 use std::alloc::Global;
@@ -32,15 +33,44 @@ pub extern "C" fn si_version() -> u32
 pub extern "C" fn si_new(alloc: Global, out: &mut Slot, kind: u32) -> u32
     ensures { TellsDone (λ outcome. FillsMade (MakesNew kind) out.old outcome out.new) result }
 {
-    finish(calls::make(alloc, out, kind))
+    finish(calls::make(alloc, out, kind, ChosenHasher::fixed()))
 }
 
-/// The same, with room for `capacity` texts.
+/// The same as `si_new`, under the hasher with these keys.
+#[unsafe(no_mangle)]
+pub extern "C" fn si_new_keyed(
+    alloc: Global,
+    out: &mut Slot,
+    kind: u32,
+    key0: u64,
+    key1: u64,
+) -> u32
+    ensures { TellsDone (λ outcome. FillsMade (MakesNew kind) out.old outcome out.new) result }
+{
+    finish(calls::make(alloc, out, kind, ChosenHasher::keyed(key0, key1)))
+}
+
+/// The same as `si_new`, with room for `capacity` texts.
 #[unsafe(no_mangle)]
 pub extern "C" fn si_with_capacity(alloc: Global, out: &mut Slot, kind: u32, capacity: usize) -> u32
     ensures { TellsDone (λ outcome. FillsMade (MakesRoom kind capacity) out.old outcome out.new) result }
 {
-    finish(calls::make_with_capacity(alloc, out, kind, capacity))
+    finish(calls::make_with_capacity(alloc, out, kind, capacity, ChosenHasher::fixed()))
+}
+
+/// The same as `si_with_capacity`, under the hasher with these keys.
+#[unsafe(no_mangle)]
+pub extern "C" fn si_with_capacity_keyed(
+    alloc: Global,
+    out: &mut Slot,
+    kind: u32,
+    capacity: usize,
+    key0: u64,
+    key1: u64,
+) -> u32
+    ensures { TellsDone (λ outcome. FillsMade (MakesRoom kind capacity) out.old outcome out.new) result }
+{
+    finish(calls::make_with_capacity(alloc, out, kind, capacity, ChosenHasher::keyed(key0, key1)))
 }
 
 /// Frees a handle and what it holds. Null is no handle, and nothing happens.
@@ -202,15 +232,45 @@ pub extern "C" fn si_to_json(alloc: Global, h: &mut Handle, room: &mut [u8], len
 pub extern "C" fn si_from_json(alloc: Global, out: &mut Slot, kind: u32, json: &[u8]) -> u32
     ensures { TellsDone (λ outcome. FillsMade (ReadsJson ReadsAs kind json.now) out.old outcome out.new) result }
 {
-    finish(calls::json::from_json(alloc, out, kind, json))
+    finish(calls::json::from_json(alloc, out, kind, json, ChosenHasher::fixed()))
 }
 
-/// The same of an array in which all texts differ.
+/// The same as `si_from_json`, under the hasher with these keys.
+#[unsafe(no_mangle)]
+pub extern "C" fn si_from_json_keyed(
+    alloc: Global,
+    out: &mut Slot,
+    kind: u32,
+    json: &[u8],
+    key0: u64,
+    key1: u64,
+) -> u32
+    ensures { TellsDone (λ outcome. FillsMade (ReadsJson ReadsAs kind json.now) out.old outcome out.new) result }
+{
+    finish(calls::json::from_json(alloc, out, kind, json, ChosenHasher::keyed(key0, key1)))
+}
+
+/// The same as `si_from_json`, of an array in which all texts differ.
 #[unsafe(no_mangle)]
 pub extern "C" fn si_from_json_exact(alloc: Global, out: &mut Slot, kind: u32, json: &[u8]) -> u32
     ensures { TellsDone (λ outcome. FillsMade (ReadsJson ReadsAsExactly kind json.now) out.old outcome out.new) result }
 {
-    finish(calls::json::from_json_exact(alloc, out, kind, json))
+    finish(calls::json::from_json_exact(alloc, out, kind, json, ChosenHasher::fixed()))
+}
+
+/// The same as `si_from_json_exact`, under the hasher with these keys.
+#[unsafe(no_mangle)]
+pub extern "C" fn si_from_json_exact_keyed(
+    alloc: Global,
+    out: &mut Slot,
+    kind: u32,
+    json: &[u8],
+    key0: u64,
+    key1: u64,
+) -> u32
+    ensures { TellsDone (λ outcome. FillsMade (ReadsJson ReadsAsExactly kind json.now) out.old outcome out.new) result }
+{
+    finish(calls::json::from_json_exact(alloc, out, kind, json, ChosenHasher::keyed(key0, key1)))
 }
 
 /// Interns many texts, which lie end to end, and writes their numbers.
