@@ -3,7 +3,7 @@
 
 - a link that leads to no file, or to no heading of its page;
 - a file in a code span or a command that is not there;
-- an identifier in a code span that no file of the repository has. docs/DIFFERENCES.md may name what the original has;
+- an identifier in a code span that no file of the repository has, if it has a capital or two words. docs/DIFFERENCES.md may name what the original has;
 - a block of Rattle that stands in no crate to the word, so that nothing proves it.
 """
 
@@ -25,7 +25,8 @@ HEADING = re.compile(r"^#+ +(.*)$", re.M)
 # A path, or a file by its name alone. One that ends in two dots is the beginning of several.
 FILE = re.compile(r"(?=.*\w)(?!.*\.\.$)(?:[\w./-]*/[\w./-]*|[\w-]+\.(?:antt|c|edit|h|md|py|rs|rt|txt))")
 COMMAND = re.compile(r"(?<![\w./$-])(?:\.ci|bench|bin|clients|crates|docs|tools)/[\w./-]*\w")
-IDENTIFIER = re.compile(r"[A-Za-z_]\w*(?:::[A-Za-z_]\w*)*")
+# A word in small letters alone may be a command, or a word of a format.
+IDENTIFIER = re.compile(r"(?=.*[A-Z_:])[A-Za-z_]\w*(?:::[A-Za-z_]\w*)*")
 
 
 def anchor_of(heading):
@@ -57,14 +58,14 @@ class Repository:
 
     @cached_property
     def ends(self):
-        """The ends of the paths of all files, modules and folders."""
+        """The ends of the paths of all files, with and without suffixes, and of all folders."""
         paths = {PurePosixPath(name) for name in self.files}
-        modules = {path.with_suffix("") for path in paths if path.suffix == ".rt"}
+        without_suffix = {path.with_suffix("") for path in paths}
         folders = {folder for path in paths for folder in path.parents}
-        return {"/".join(path.parts[i:]) for path in paths | modules | folders for i in range(len(path.parts))}
+        return {"/".join(path.parts[i:]) for path in paths | without_suffix | folders for i in range(len(path.parts))}
 
     def has_file(self, name):
-        """Whether the path of a file, a module or a folder ends with these words, or whether they name what is built, or a
+        """Whether the path of a file or folder ends with these words, or whether they name what is built, or a
         place that a reader chooses, as PREFIX/bin."""
         parts = PurePosixPath(name.removeprefix("./")).parts
         return "out" in parts or parts[0].isupper() or "/".join(parts) in self.ends

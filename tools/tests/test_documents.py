@@ -52,7 +52,7 @@ class DocumentsTest(SmallRepository):
         self.assertEqual(self.faults_after("tools/count", "tools/counts"), ["README.md: no file tools/counts"])
 
     def test_identifiers(self):
-        self.assertEqual(self.faults_after("`double`", "`treble`"), ["README.md: no `treble` in any file"])
+        self.assertEqual(self.faults_after("`double`", "`Treble`"), ["README.md: no `Treble` in any file"])
         self.assertEqual(self.faults_after("`IsTwice`", "`low::IsTwice`"), [])
         self.assertEqual(self.faults_after("`IsTwice`", "`low::IsThrice`"), ["README.md: no `low::IsThrice` in any file"])
         self.assertEqual(self.faults_after("`double`", "`doubles`"), [])

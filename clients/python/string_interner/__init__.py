@@ -40,12 +40,20 @@ from ._library import BAD_TEXT, LIMIT, NO_ROOM, UNKNOWN, address_of, check, libr
 if TYPE_CHECKING:
     from _typeshed import ReadableBuffer
 
-__all__ = ["Backend", "Interner", "Typecode"]
+__all__ = ["Backend", "Hasher", "Interner", "Typecode"]
 
 Backend = Literal["string", "bucket", "buffer"]
 """How the texts lie in memory: joined in one string, in buckets that are never moved, or in one buffer of bytes.
 
 Numbers are 0, 1, 2, .. on `string` and `bucket`. On `buffer`, which takes the least memory, they count bytes.
+"""
+
+Hasher = Literal["keyed", "fixed"] | tuple[SupportsIndex, SupportsIndex]
+"""How texts are hashed, which changes no answer, and only how long a call takes.
+
+`keyed` is SipHash-1-3 under two random keys of this process; so nobody can choose texts that all hash alike, which would make
+each call slow. Two numbers below 2 ** 64 are keys of your own, random and secret. `fixed` has no keys. It is faster, above all
+for long texts, and fit for texts that nobody chooses to do harm: whoever does finds as many with one hash as he likes.
 """
 
 Typecode = Literal["I", "Q"]
@@ -64,36 +72,50 @@ class Interner:
     Each call raises TypeError for an argument of a wrong type, and ValueError once the interner is closed. A text without a
     UTF-8 form, such as one with a lone surrogate, is in no interner, and interning it raises `UnicodeEncodeError`.
 
-    Copies and pickles keep the class and the attributes of a subclass. They do not call its `__init__`.
+    Copies and pickles keep the class and the attributes of a subclass. They do not call its `__init__`. A copy hashes by the
+    same keys; a pickle holds no keys, and hashes by those of the process that reads it, unless its hasher is `fixed`.
     """
 
     __slots__ = ("_handle", "__weakref__")
 
     def __init__(
-        self, texts: Iterable[str] = (), *, backend: Backend = "string", capacity: SupportsIndex = 0
+        self,
+        texts: Iterable[str] = (),
+        *,
+        backend: Backend = "string",
+        capacity: SupportsIndex = 0,
+        hasher: Hasher = "keyed",
     ) -> None:
         """Makes an interner of the texts, with room for about so many.
 
-        Raises ValueError for a backend that there is not and a negative capacity, MemoryError, and as `intern_all` does.
+        Raises ValueError for a backend or a hasher that there is not and a negative capacity, MemoryError, and as `intern_all`
+        does.
         """
-        self._handle = Handle.make(backend, index(capacity))
+        self._handle = Handle.make(backend, index(capacity), hasher)
         self.intern_all(texts)
 
     @classmethod
-    def from_json(cls, text: str, *, backend: Backend = "string", exact: bool = False) -> Self:
+    def from_json(
+        cls, text: str, *, backend: Backend = "string", exact: bool = False, hasher: Hasher = "keyed"
+    ) -> Self:
         """Makes an interner of the texts of a JSON array of strings. Does not call the `__init__` of a subclass.
 
         A repeated string adds no text, or raises ValueError if the array is to be `exact`. Raises ValueError for any other
         value too, OverflowError and MemoryError.
         """
         interner = cls.__new__(cls)
-        interner._handle = Handle.read(text, backend, exact)
+        interner._handle = Handle.read(text, backend, exact, hasher)
         return interner
 
     @property
     def backend(self) -> Backend:
         """How the texts lie in memory."""
         return self._handle.backend
+
+    @property
+    def hasher(self) -> Literal["keyed", "fixed"]:
+        """How the texts are hashed: `keyed` under any keys."""
+        return self._handle.hasher
 
     def intern(self, text: str) -> int:
         """Returns the number of a text. A text that is not known is put last.

@@ -5,31 +5,51 @@ from __future__ import annotations
 import ctypes
 import json
 import os
+import struct
 import threading
 from array import array
 from itertools import count
-from operator import attrgetter
-from typing import TYPE_CHECKING, Any
+from operator import attrgetter, index
+from typing import TYPE_CHECKING, Any, Literal, SupportsIndex
 from weakref import WeakSet
 
 from ._copies import encode
 from ._library import KINDS, LIMIT, NO_ROOM, address_of, check, library
 
 if TYPE_CHECKING:
-    from . import Backend
+    from . import Backend, Hasher
+
+_KEYS: tuple[int, ...] = struct.unpack("QQ", os.urandom(16))
+"""Two random keys of this process. Those that it forks have the same."""
+
+
+def _keys_of(hasher: Hasher) -> tuple[int, ...]:
+    """The two keys of a hasher, or none of the fixed one."""
+    if hasher == "keyed":
+        return _KEYS
+    if hasher == "fixed":
+        return ()
+    if isinstance(hasher, str):
+        raise ValueError(f"no hasher {hasher!r}")
+    key0, key1 = map(index, hasher)
+    if not 0 <= min(key0, key1) <= max(key0, key1) < 1 << 64:
+        # Without the keys, which are secret.
+        raise ValueError("a key of the hasher is no number of 64 bits")
+    return key0, key1
 
 
 class Handle:
     """A handle of the library, and the lock that makes threads take turns on it."""
 
-    __slots__ = ("_address", "backend", "lock", "serial", "__weakref__")
+    __slots__ = ("_address", "backend", "hasher", "lock", "serial", "__weakref__")
 
-    def __init__(self, backend: Backend) -> None:
+    def __init__(self, backend: Backend, hasher: Literal["keyed", "fixed"]) -> None:
         """Makes one that is closed."""
         self._address = ctypes.c_void_p()
         if backend not in KINDS:
             raise ValueError(f"no backend {backend!r}")
         self.backend = backend
+        self.hasher = hasher
         # Reentrant, because a finalizer or a signal handler may call between any two steps of a call. No call of the library
         # is cut in two by that.
         self.lock = threading.RLock()
@@ -41,25 +61,31 @@ class Handle:
         free(self._address)
 
     @classmethod
-    def make(cls, backend: Backend, capacity: int) -> Handle:
+    def make(cls, backend: Backend, capacity: int, hasher: Hasher) -> Handle:
         """Returns a handle on an empty interner, which has room for about so many texts."""
-        handle = cls(backend)
+        keys = _keys_of(hasher)
+        handle = cls(backend, "keyed" if keys else "fixed")
         if not 0 <= capacity < LIMIT:
             raise ValueError(f"capacity {capacity}")
-        check(library.si_with_capacity(ctypes.byref(handle._address), KINDS[backend], capacity))
+        make = library.si_with_capacity_keyed if keys else library.si_with_capacity
+        check(make(ctypes.byref(handle._address), KINDS[backend], capacity, *keys))
         return handle
 
     @classmethod
-    def read(cls, text: str, backend: Backend, exact: bool = True) -> Handle:
+    def read(cls, text: str, backend: Backend, exact: bool = True, hasher: Hasher = "keyed") -> Handle:
         """Returns a handle on an interner of the texts of a JSON array, in which a text may not repeat if it is exact."""
-        raw, handle = encode(text), cls(backend)
-        read = library.si_from_json_exact if exact else library.si_from_json
-        check(read(ctypes.byref(handle._address), KINDS[backend], raw, len(raw)))
+        keys, raw = _keys_of(hasher), encode(text)
+        handle = cls(backend, "keyed" if keys else "fixed")
+        if keys:
+            read = library.si_from_json_exact_keyed if exact else library.si_from_json_keyed
+        else:
+            read = library.si_from_json_exact if exact else library.si_from_json
+        check(read(ctypes.byref(handle._address), KINDS[backend], raw, len(raw), *keys))
         return handle
 
     def clone(self) -> Handle:
-        """Returns a handle on a copy of what this one holds."""
-        clone = Handle(self.backend)
+        """Returns a handle on a copy of what this one holds, which hashes by the same keys."""
+        clone = Handle(self.backend, self.hasher)
         with self.lock:
             check(library.si_clone(self.at, ctypes.byref(clone._address)))
         return clone
@@ -117,7 +143,8 @@ class Handle:
         return self.clone()
 
     def __reduce__(self) -> tuple[Any, ...]:
-        return Handle.read, (self.write_json().decode(), self.backend)
+        # Without keys, which are secret: what reads this hashes by the keys of its own process.
+        return Handle.read, (self.write_json().decode(), self.backend, True, self.hasher)
 
 
 _registry = threading.RLock()

@@ -25,8 +25,10 @@ def _declare(lib: ctypes.CDLL) -> None:
     handle, size, code = ctypes.c_void_p, ctypes.c_size_t, ctypes.c_uint32
     to_handle, to_size = ctypes.POINTER(handle), ctypes.POINTER(size)
     text, room, many = (ctypes.c_char_p, size), (ctypes.c_void_p, size), (ctypes.c_void_p, size)
+    keys = (ctypes.c_uint64, ctypes.c_uint64)
     calls: dict[str, tuple[Any, tuple[Any, ...]]] = {
         "si_with_capacity": (code, (to_handle, code, size)),
+        "si_with_capacity_keyed": (code, (to_handle, code, size, *keys)),
         "si_free": (None, (handle,)),
         "si_len": (size, (handle,)),
         "si_get_or_intern_utf8": (code, (handle, *text, to_size)),
@@ -42,6 +44,8 @@ def _declare(lib: ctypes.CDLL) -> None:
         "si_to_json": (code, (handle, *room, to_size)),
         "si_from_json": (code, (to_handle, code, *text)),
         "si_from_json_exact": (code, (to_handle, code, *text)),
+        "si_from_json_keyed": (code, (to_handle, code, *text, *keys)),
+        "si_from_json_exact_keyed": (code, (to_handle, code, *text, *keys)),
     }
     for name, (result, arguments) in calls.items():
         call = getattr(lib, name)

@@ -2,9 +2,9 @@
 
 from array import array
 from collections.abc import Iterator
-from typing import assert_type
+from typing import Literal, assert_type
 
-from string_interner import Backend, Interner
+from string_interner import Backend, Hasher, Interner
 
 
 class Named(Interner):
@@ -12,8 +12,10 @@ class Named(Interner):
 
 
 backend: Backend = "buffer"
-names = Interner(["a"], backend=backend, capacity=3)
+hasher: Hasher = (1, 2)
+names = Interner(["a"], backend=backend, capacity=3, hasher=hasher)
 assert_type(names.backend, Backend)
+assert_type(names.hasher, Literal["keyed", "fixed"])
 assert_type(names.intern("a"), int)
 assert_type(names.get("a"), int | None)
 assert_type(names.resolve(0), str | None)
@@ -22,7 +24,7 @@ assert_type(names.resolve_all(names.intern_all(["a"], typecode="I")), list[str])
 assert_type(names.intern_all(names), "array[int]")
 assert_type(names.intern_column(bytearray(b"ab"), array("I", [1, 2])), "array[int]")
 assert_type(names.entries(), Iterator[tuple[int, str]])
-assert_type(Named.from_json("[]"), Named)
+assert_type(Named.from_json("[]", hasher="fixed"), Named)
 assert_type(Named().copy(), Named)
 with Named() as named:
     assert_type(named, Named)
@@ -35,4 +37,5 @@ names.intern_column("a", [1])  # type: ignore[arg-type]
 names.resolve(1.5)  # type: ignore[arg-type]
 names["a"]  # type: ignore[index]
 Interner(backend="tree")  # type: ignore[arg-type]
+Interner(hasher="sip")  # type: ignore[arg-type]
 Interner.from_json(b"[]")  # type: ignore[arg-type]

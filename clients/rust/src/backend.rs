@@ -7,6 +7,7 @@
 //! | [`BufferBackend`] | in one buffer, each behind its length | memory counts most; symbols have gaps, and run out by bytes |
 
 use crate::handle::{expect, panic_for, Handle, Status};
+use crate::hasher::{DefaultHashBuilder, InternerHasher};
 use crate::iter::{Entries, Iter};
 use crate::symbol::{DefaultSymbol, Symbol};
 use crate::sys;
@@ -142,7 +143,8 @@ macro_rules! backend {
                 Self: 'a;
 
             fn with_capacity(cap: usize) -> Self {
-                sealed::Kind::of(expect(Handle::with_capacity($kind, cap)))
+                let keys = DefaultHashBuilder.keys();
+                sealed::Kind::of(expect(Handle::with_capacity($kind, cap, keys)))
             }
 
             #[inline]
@@ -177,7 +179,7 @@ macro_rules! backend {
 
         impl<S> Default for $name<S> {
             fn default() -> Self {
-                sealed::Kind::of(expect(Handle::new($kind)))
+                sealed::Kind::of(expect(Handle::new($kind, DefaultHashBuilder.keys())))
             }
         }
 

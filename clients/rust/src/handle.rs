@@ -4,6 +4,7 @@
 //! (rule 1), pointers come from references, slices and local variables (2, 3), and calls that may change the handle have it
 //! alone, since they take `&mut self` (4).
 
+use crate::hasher::Keys;
 use crate::sys;
 use std::mem::MaybeUninit;
 use std::ptr::{self, NonNull};
@@ -83,19 +84,39 @@ impl Handle {
         self.raw.as_ptr()
     }
 
-    pub(crate) fn new(kind: u32) -> Result<Self, Status> {
+    pub(crate) fn new(kind: u32, keys: Option<Keys>) -> Result<Self, Status> {
         // SAFETY: rules 1 to 4.
-        Self::make(|out| unsafe { sys::si_new(out, kind) })
+        Self::make(|out| unsafe {
+            match keys {
+                Some([key0, key1]) => sys::si_new_keyed(out, kind, key0, key1),
+                None => sys::si_new(out, kind),
+            }
+        })
     }
 
-    pub(crate) fn with_capacity(kind: u32, capacity: usize) -> Result<Self, Status> {
+    pub(crate) fn with_capacity(
+        kind: u32,
+        capacity: usize,
+        keys: Option<Keys>,
+    ) -> Result<Self, Status> {
         // SAFETY: rules 1 to 4.
-        Self::make(|out| unsafe { sys::si_with_capacity(out, kind, capacity) })
+        Self::make(|out| unsafe {
+            match keys {
+                Some([key0, key1]) => sys::si_with_capacity_keyed(out, kind, capacity, key0, key1),
+                None => sys::si_with_capacity(out, kind, capacity),
+            }
+        })
     }
 
-    pub(crate) fn from_json(kind: u32, json: &str) -> Result<Self, Status> {
+    pub(crate) fn from_json(kind: u32, json: &str, keys: Option<Keys>) -> Result<Self, Status> {
+        let (bytes, len) = (json.as_ptr(), json.len());
         // SAFETY: rules 1 to 4.
-        Self::make(|out| unsafe { sys::si_from_json(out, kind, json.as_ptr(), json.len()) })
+        Self::make(|out| unsafe {
+            match keys {
+                Some([key0, key1]) => sys::si_from_json_keyed(out, kind, bytes, len, key0, key1),
+                None => sys::si_from_json(out, kind, bytes, len),
+            }
+        })
     }
 
     pub(crate) fn try_clone(&self) -> Result<Self, Status> {

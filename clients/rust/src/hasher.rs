@@ -1,11 +1,32 @@
+//! Hashers: how an interner finds its texts.
+//!
+//! | Hasher | Its codes | Use it when |
+//! |---|---|---|
+//! | [`DefaultHashBuilder`] | those of random keys of the process | in most cases |
+//! | [`KeyedHashBuilder`] | those of keys that you hand in | the keys are to be an interner's own, or come from elsewhere |
+//! | [`FixedHashBuilder`] | the same in each process | speed counts, and nobody who may wish you harm chooses the texts |
+//!
+//! ```
+//! use string_interner::{hasher::FixedHashBuilder, DefaultBackend, StringInterner};
+//!
+//! let mut names = StringInterner::<DefaultBackend, FixedHashBuilder>::new();
+//! let tiger = names.get_or_intern("Tiger");
+//! assert_eq!(names.get("Tiger"), Some(tiger));
+//! ```
+//!
+//! What an interner answers does not depend on its hasher. The library hashes by itself: SipHash-1-3 under two keys of 64 bits,
+//! or a faster hash without keys.
+
+use std::fmt;
 use std::hash::{BuildHasher, DefaultHasher, RandomState};
 use std::sync::LazyLock;
 
-/// The hasher of an interner that names no other.
+/// Two keys of SipHash-1-3.
+pub(crate) type Keys = [u64; 2];
+
+/// The hasher of an interner that names no other: SipHash-1-3 under random keys, which each process chooses once.
 ///
-/// An interner does not call it, because the library hashes by itself, with the same codes in each run and no protection
-/// against chosen texts. Anywhere else, in a `HashMap` for example, it is SipHash with random keys, as std's [`RandomState`];
-/// each process chooses the keys once.
+/// Anywhere else, in a `HashMap` for example, it is SipHash with other random keys of the process, as std's [`RandomState`].
 #[derive(Clone, Copy, Debug, Default)]
 pub struct DefaultHashBuilder;
 
@@ -14,17 +35,71 @@ impl BuildHasher for DefaultHashBuilder {
 
     #[inline]
     fn build_hasher(&self) -> DefaultHasher {
-        static KEYS: LazyLock<RandomState> = LazyLock::new(RandomState::new);
-        KEYS.build_hasher()
+        static RANDOM: LazyLock<RandomState> = LazyLock::new(RandomState::new);
+        RANDOM.build_hasher()
+    }
+}
+
+/// The fast hasher of an interner, with the same codes in each process.
+///
+/// Any number of texts with one code are found in less than a second, and interning them takes time that grows with the square
+/// of their count. So nobody who may wish you harm may choose the texts.
+#[derive(Clone, Copy, Debug, Default)]
+pub struct FixedHashBuilder;
+
+/// SipHash-1-3 under two keys, as the hasher of an interner.
+///
+/// Nobody can foresee its codes without the keys, if these are random. `Debug` does not show them.
+#[derive(Clone, Copy)]
+pub struct KeyedHashBuilder {
+    keys: Keys,
+}
+
+impl KeyedHashBuilder {
+    /// Returns the hasher under these keys.
+    #[must_use]
+    pub fn new(key0: u64, key1: u64) -> Self {
+        KeyedHashBuilder { keys: [key0, key1] }
+    }
+}
+
+impl fmt::Debug for KeyedHashBuilder {
+    fn fmt(&self, f: &mut fmt::Formatter<'_>) -> fmt::Result {
+        f.debug_struct("KeyedHashBuilder").finish_non_exhaustive()
     }
 }
 
 /// A hasher that an interner may have. Other crates can't name this trait.
 #[diagnostic::on_unimplemented(
     message = "an interner can't hash by `{Self}`",
-    label = "is not `DefaultHashBuilder`",
-    note = "the library hashes by itself, so the hasher of an interner is `DefaultHashBuilder`"
+    label = "is no hasher of the module `hasher`",
+    note = "the library hashes by itself, so the hasher of an interner is `DefaultHashBuilder`, `KeyedHashBuilder` or \
+            `FixedHashBuilder`"
 )]
-pub trait InternerHasher: BuildHasher {}
+pub trait InternerHasher {
+    /// Returns the keys, or `None` if it is the fast hasher.
+    fn keys(&self) -> Option<Keys>;
+}
 
-impl InternerHasher for DefaultHashBuilder {}
+impl InternerHasher for DefaultHashBuilder {
+    fn keys(&self) -> Option<Keys> {
+        // What std hashes under its own random keys: std does not give these out.
+        static KEYS: LazyLock<Keys> = LazyLock::new(|| {
+            let random = RandomState::new();
+            [0_u8, 1].map(|number| random.hash_one(number))
+        });
+        Some(*KEYS)
+    }
+}
+
+impl InternerHasher for KeyedHashBuilder {
+    fn keys(&self) -> Option<Keys> {
+        Some(self.keys)
+    }
+}
+
+impl InternerHasher for FixedHashBuilder {
+    fn keys(&self) -> Option<Keys> {
+        None
+    }
+}

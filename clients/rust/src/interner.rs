@@ -24,33 +24,52 @@ impl<B: Backend, H> StringInterner<B, H> {
     }
 }
 
-impl<B: Backend, H: InternerHasher> StringInterner<B, H> {
+impl<B: Backend, H: InternerHasher + Default> StringInterner<B, H> {
     /// Returns an interner without texts.
     #[must_use]
     #[track_caller]
     pub fn new() -> Self {
-        Self::of(B::default())
+        Self::with_hasher(H::default())
     }
 
     /// Returns an interner without texts, with room for about `cap` of them.
     #[must_use]
     #[track_caller]
     pub fn with_capacity(cap: usize) -> Self {
-        Self::of(B::with_capacity(cap))
+        Self::with_capacity_and_hasher(cap, H::default())
     }
 
-    /// The same as [`StringInterner::new`], since there is one hasher.
+    /// Returns an interner of the texts of a JSON array of strings. Repeats add no text.
+    ///
+    /// # Errors
+    ///
+    /// If it is not such an array, or a text has no symbol, or memory is refused.
+    pub fn from_json(json: &str) -> Result<Self, JsonError> {
+        let handle = Handle::from_json(B::KIND, json, H::default().keys())?;
+        let have_symbols = Entries::over(&handle, B::KIND)
+            .all(|(number, _)| B::Symbol::try_from_usize(number).is_some());
+        if have_symbols {
+            Ok(Self::of(B::of(handle)))
+        } else {
+            Err(JsonError::NoSymbol)
+        }
+    }
+}
+
+impl<B: Backend, H: InternerHasher> StringInterner<B, H> {
+    /// Returns an interner without texts that hashes by `hash_builder`.
     #[must_use]
     #[track_caller]
-    pub fn with_hasher(_: H) -> Self {
-        Self::new()
+    pub fn with_hasher(hash_builder: H) -> Self {
+        Self::of(B::of(expect(Handle::new(B::KIND, hash_builder.keys()))))
     }
 
-    /// The same as [`StringInterner::with_capacity`], since there is one hasher.
+    /// The same with room for about `cap` texts.
     #[must_use]
     #[track_caller]
-    pub fn with_capacity_and_hasher(cap: usize, _: H) -> Self {
-        Self::with_capacity(cap)
+    pub fn with_capacity_and_hasher(cap: usize, hash_builder: H) -> Self {
+        let handle = Handle::with_capacity(B::KIND, cap, hash_builder.keys());
+        Self::of(B::of(expect(handle)))
     }
 
     /// Returns the number of texts.
@@ -144,22 +163,6 @@ impl<B: Backend, H: InternerHasher> StringInterner<B, H> {
     pub fn to_json(&self) -> String {
         expect(self.backend.handle().to_json())
     }
-
-    /// Returns an interner of the texts of a JSON array of strings. Repeats add no text.
-    ///
-    /// # Errors
-    ///
-    /// If it is not such an array, or a text has no symbol, or memory is refused.
-    pub fn from_json(json: &str) -> Result<Self, JsonError> {
-        let handle = Handle::from_json(B::KIND, json)?;
-        let have_symbols = Entries::over(&handle, B::KIND)
-            .all(|(number, _)| B::Symbol::try_from_usize(number).is_some());
-        if have_symbols {
-            Ok(Self::of(B::of(handle)))
-        } else {
-            Err(JsonError::NoSymbol)
-        }
-    }
 }
 
 impl Default for StringInterner<DefaultBackend> {
@@ -204,7 +207,7 @@ impl<B: Backend> fmt::Debug for Numbers<'_, B> {
     }
 }
 
-impl<B: Backend, H: InternerHasher, T: AsRef<str>> FromIterator<T> for StringInterner<B, H> {
+impl<B: Backend, H: InternerHasher + Default, T: AsRef<str>> FromIterator<T> for StringInterner<B, H> {
     fn from_iter<I: IntoIterator<Item = T>>(iter: I) -> Self {
         let iter = iter.into_iter();
         let mut interner = Self::with_capacity(iter.size_hint().0);

@@ -32,21 +32,21 @@
 //! | What does not compile | Why |
 //! |---|---|
 //! | a backend of the program's own, `impl Backend for ..` | the library keeps the texts |
-//! | an interner with another hasher than [`DefaultHashBuilder`], and a function that takes interners with any `H: BuildHasher` | the library hashes by itself |
+//! | an interner with a hasher that is not of [`hasher`], and a function that takes interners with any `H: BuildHasher` | the library hashes by itself |
 //! | serde's traits | see below |
 //! | programs without std, or for other targets than Linux on 64 bits | the library is built for these |
 //!
 //! What compiles and behaves differently:
 //!
-//! - An interner's hash codes are the same in each process, where the original's differ, so who chooses the texts can make it
-//!   slow. [`DefaultHashBuilder`] as the hasher of a `HashMap` has keys of the process.
+//! - An interner hashes by SipHash-1-3 under random keys of the process, and the original by a faster hash with a random seed.
+//!   [`FixedHashBuilder`](hasher::FixedHashBuilder) is as fast, and has the same codes in each process.
 //! - Numbers of all symbol types are below 2³² − 1, since those of the library are.
 //! - A text for which no symbol is left panics, as in the original, and is not kept.
 //! - A backend that is used alone finds a text that it has, where the original's keeps it again.
 //! - `Debug` shows symbols by number, and a backend's texts and not how they lie.
 //! - Memory comes from malloc, and not from Rust's global allocator.
 //!
-//! New are [`StringInterner::truncate`], [`StringInterner::to_json`] and [`StringInterner::from_json`].
+//! New are [`StringInterner::truncate`], [`StringInterner::to_json`], [`StringInterner::from_json`] and the module [`hasher`].
 //!
 //! # Features
 //!
@@ -87,7 +87,7 @@ compile_error!(
 
 pub mod backend;
 mod handle;
-mod hasher;
+pub mod hasher;
 mod interner;
 mod iter;
 mod json;

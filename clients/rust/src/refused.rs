@@ -115,7 +115,7 @@
 //! }
 //! ```
 //!
-//! A caller writes no backend, and no hasher but the default one is taken:
+//! A caller writes no backend, and no hasher is taken but those of this crate:
 //!
 //! ```compile_fail,E0277
 //! use string_interner::backend::Backend;

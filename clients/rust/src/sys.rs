@@ -36,6 +36,14 @@ extern "C" {
     pub fn si_version() -> u32;
     pub fn si_new(out: *mut *mut si_interner, kind: u32) -> u32;
     pub fn si_with_capacity(out: *mut *mut si_interner, kind: u32, capacity: usize) -> u32;
+    pub fn si_new_keyed(out: *mut *mut si_interner, kind: u32, key0: u64, key1: u64) -> u32;
+    pub fn si_with_capacity_keyed(
+        out: *mut *mut si_interner,
+        kind: u32,
+        capacity: usize,
+        key0: u64,
+        key1: u64,
+    ) -> u32;
     pub fn si_free(h: *mut si_interner);
     pub fn si_len(h: *const si_interner) -> usize;
     pub fn si_get_or_intern_utf8(
@@ -72,5 +80,13 @@ extern "C" {
         kind: u32,
         json: *const u8,
         json_len: usize,
+    ) -> u32;
+    pub fn si_from_json_keyed(
+        out: *mut *mut si_interner,
+        kind: u32,
+        json: *const u8,
+        json_len: usize,
+        key0: u64,
+        key1: u64,
     ) -> u32;
 }

@@ -1,9 +1,15 @@
-//! `DefaultHashBuilder` as the hasher of something else.
+//! Hashers: `DefaultHashBuilder` as the hasher of something else, what an interner answers under each, and how long texts take
+//! that are chosen to have one hash code.
 
 use std::collections::HashMap;
 use std::hash::{BuildHasher, BuildHasherDefault, DefaultHasher};
+use std::time::{Duration, Instant};
 
-use string_interner::{DefaultHashBuilder, DefaultStringInterner, DefaultSymbol, StringInterner};
+use string_interner::backend::{Backend, BucketBackend, BufferBackend};
+use string_interner::hasher::{FixedHashBuilder, KeyedHashBuilder};
+use string_interner::{
+    DefaultBackend, DefaultHashBuilder, DefaultStringInterner, DefaultSymbol, StringInterner,
+};
 
 #[test]
 fn hashes_a_map() {
@@ -31,4 +37,122 @@ fn an_interner_takes_it() {
     let mut interner: DefaultStringInterner = StringInterner::with_hasher(DefaultHashBuilder);
     let symbol = interner.get_or_intern_static("Tiger");
     assert_eq!(interner.resolve(symbol), Some("Tiger"));
+}
+
+#[test]
+fn an_interner_answers_alike_under_each() {
+    let texts = ["Tiger", "Horse", "Tiger", ""];
+    let usual: StringInterner<BufferBackend> = texts.into_iter().collect();
+    let mut fixed = StringInterner::<BufferBackend, FixedHashBuilder>::with_capacity(2);
+    let mut keyed = StringInterner::<BufferBackend, _>::with_hasher(KeyedHashBuilder::new(1, 2));
+    fixed.extend(texts);
+    keyed.extend(texts);
+    assert!(usual.iter().eq(fixed.iter()) && usual.iter().eq(keyed.iter()));
+    let read = StringInterner::<BufferBackend, FixedHashBuilder>::from_json(&usual.to_json());
+    assert!(read.unwrap() == fixed && keyed.clone() == keyed);
+    assert_eq!(keyed.clone().get("Horse"), usual.get("Horse"));
+}
+
+#[test]
+fn debug_shows_no_key() {
+    let shown = format!("{:?}", KeyedHashBuilder::new(77_777, 88_888));
+    assert_eq!(shown, "KeyedHashBuilder { .. }");
+}
+
+/// How many bytes each text has.
+const LENGTH: usize = 32;
+
+/// The state of the fixed hasher after 16 bytes more.
+fn state_after(block: &[u8; 16], state: u64) -> u64 {
+    let half = |from: usize| u64::from_le_bytes(block[from..from + 8].try_into().unwrap());
+    let product = u128::from(half(0) ^ state) * u128::from(half(8) ^ 0x9E37_79B9_7F4A_7C15);
+    (product >> 64) as u64 ^ product as u64
+}
+
+/// Spells a number by 16 letters.
+fn spell(number: u64) -> [u8; 16] {
+    let mut rest = number.wrapping_mul(0xD134_2543_DE82_EF95);
+    [0; 16].map(|_: u8| {
+        let letter = b'a' + (rest % 26) as u8;
+        rest = (rest / 26).wrapping_add(number << 32);
+        letter
+    })
+}
+
+/// Returns texts that have one code under the fixed hasher.
+///
+/// Where the state after 16 letters is 8 letters, these as the next half of a block make the product 0, whatever the other
+/// half is.
+fn chosen_texts(count: u64) -> Vec<String> {
+    let (block, state) = (0..)
+        .map(|number| {
+            let block = spell(number);
+            let state = state_after(&block, 0x243F_6A88_85A3_08D3 + LENGTH as u64);
+            (block, state.to_le_bytes())
+        })
+        .find(|(_, state)| state.iter().all(u8::is_ascii_graphic))
+        .unwrap();
+    let front = String::from_utf8([&block[..], &state].concat()).unwrap();
+    (0..count)
+        .map(|number| format!("{front}{number:08}"))
+        .collect()
+}
+
+fn other_texts(count: u64) -> Vec<String> {
+    (0..count)
+        .map(|number| format!("{number:0LENGTH$}"))
+        .collect()
+}
+
+/// The least time of some rounds to intern the texts.
+fn least_time<B, H>(
+    rounds: u32,
+    texts: &[String],
+    make: impl Fn() -> StringInterner<B, H>,
+) -> Duration
+where
+    B: Backend,
+    StringInterner<B, H>: for<'t> Extend<&'t String>,
+{
+    let time = |_| {
+        let mut interner = make();
+        let begun = Instant::now();
+        interner.extend(texts);
+        let took = begun.elapsed();
+        assert_eq!((&interner).into_iter().len(), texts.len());
+        took
+    };
+    (0..rounds).map(time).min().unwrap()
+}
+
+/// Fails if chosen texts take more than three times as long as others.
+#[track_caller]
+fn assert_no_longer<B, H>(make: impl Fn() -> StringInterner<B, H>)
+where
+    B: Backend,
+    StringInterner<B, H>: for<'t> Extend<&'t String>,
+{
+    let took = least_time(3, &chosen_texts(80_000), &make);
+    let usual = least_time(3, &other_texts(80_000), &make);
+    assert!(took < 3 * usual, "{took:?} instead of {usual:?}");
+}
+
+#[test]
+fn chosen_texts_take_no_longer_than_others_under_keys() {
+    let keyed = || StringInterner::<DefaultBackend, _>::with_hasher(KeyedHashBuilder::new(3, 4));
+    assert_no_longer(StringInterner::default);
+    assert_no_longer(DefaultStringInterner::<BufferBackend>::new);
+    assert_no_longer(|| DefaultStringInterner::<BucketBackend>::with_capacity(9));
+    assert_no_longer(|| DefaultStringInterner::<DefaultBackend>::from_json("[]").unwrap());
+    assert_no_longer(keyed);
+    assert_no_longer(|| keyed().clone());
+}
+
+/// So they are rightly chosen.
+#[test]
+fn chosen_texts_take_longer_under_the_fixed_hasher() {
+    let fixed = StringInterner::<DefaultBackend, FixedHashBuilder>::new;
+    let took = least_time(1, &chosen_texts(8_000), fixed);
+    let usual = least_time(3, &other_texts(8_000), fixed);
+    assert!(took > 10 * usual, "{took:?} beside {usual:?}");
 }

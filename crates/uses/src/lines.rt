@@ -3,7 +3,8 @@
 ghost use Rattle.std.specs.Prelude.{◌≡◌, [], take, true, IfOk};
 
 use std::alloc::Global;
-use string_interner::backend::{BufferBackend, InternError};
+use string_interner::backend::{BufferBackend, DefaultBackend, InternError};
+use string_interner::dedup::{KeyedHasher, KeyedState};
 use string_interner::json::JsonError;
 use string_interner::scope::Scopes;
 use string_interner::{DefaultStringInterner, FastStringInterner, StringInterner};
@@ -48,6 +49,18 @@ pub fn intern_fast(alloc: Global) -> Result<bool, InternError>
     let again = interner.get_or_intern("width")?;
     interner.symbol_law();
     Ok(again == width)
+}
+
+/// The same calls under random keys, which make it no slower for texts that an attacker chooses.
+pub fn intern_keyed(alloc: Global, key0: u64, key1: u64) -> Result<bool, InternError>
+    ensures { IfOk result (λ same. same ≡ true) }
+{
+    let hasher = KeyedHasher::new(KeyedState::new(key0, key1));
+    let mut interner = StringInterner::<DefaultBackend, KeyedHasher>::with_hasher(alloc, hasher);
+    let tiger = interner.get_or_intern("Tiger")?;
+    let again = interner.get_or_intern("Tiger")?;
+    interner.symbol_law();
+    Ok(tiger == again)
 }
 
 /// Collects over another backend. Stops at the first text that is refused; those before it stay.

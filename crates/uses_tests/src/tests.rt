@@ -2,11 +2,12 @@ use std::alloc::Global;
 use std::test::Fail;
 use string_interner::DefaultStringInterner;
 use string_interner::backend::InternError;
+use string_interner::dedup::KeyedState;
 use uses::blocks::Blocks;
 use uses::column::Column;
 use uses::lexer::{is_keyword, lex};
 use uses::lines::{
-    collect, encode, intern_and_compare, intern_fast, keep_the_first, nested_scopes,
+    collect, encode, intern_and_compare, intern_fast, intern_keyed, keep_the_first, nested_scopes,
     to_json_and_back,
 };
 use uses::same_text::same_text;
@@ -96,7 +97,7 @@ fn reads_back(alloc: Global) -> Result<bool, InternError> {
 }
 
 fn lines_answer(alloc: Global) -> Result<bool, InternError> {
-    let are_equal = intern_and_compare(alloc)? & intern_fast(alloc)?;
+    let are_equal = intern_and_compare(alloc)? & intern_fast(alloc)? & intern_keyed(alloc, 1, 2)?;
     let codes = encode(alloc)?;
     Ok(are_equal & (codes == 3) & (nested_scopes(alloc)? == (true, true)))
 }
@@ -105,4 +106,14 @@ fn lines_answer(alloc: Global) -> Result<bool, InternError> {
 fn lines_answer_as_they_say(rt: HostRuntime) -> Result<(), Fail> {
     passed(lines_answer(rt.alloc()))?;
     passed(reads_back(rt.alloc()))
+}
+
+fn shows_no_key(alloc: Global) -> Result<bool, InternError> {
+    let shown = format!(in alloc; "{:?}", KeyedState::new(77_777, 88_888))?;
+    Ok(shown.as_str() == "KeyedState { .. }")
+}
+
+#[test]
+fn a_keyed_state_shows_no_key(rt: HostRuntime) -> Result<(), Fail> {
+    passed(shows_no_key(rt.alloc()))
 }
