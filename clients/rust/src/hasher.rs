@@ -3,7 +3,8 @@
 //! | Hasher | Its codes | Use it when |
 //! |---|---|---|
 //! | [`DefaultHashBuilder`] | those of random keys of the process | in most cases |
-//! | [`KeyedHashBuilder`] | those of keys that you hand in | the keys are to be an interner's own, or come from elsewhere |
+//! | [`RandomState`], or another [`BuildHasher`] of yours | those of keys that it gives | each interner is to have keys of its own, or the same in each process |
+//! | [`KeyedHashBuilder`] | those of keys that you hand in | the keys come from elsewhere |
 //! | [`FixedHashBuilder`] | the same in each process | speed counts, and nobody who may wish you harm chooses the texts |
 //!
 //! ```
@@ -14,8 +15,10 @@
 //! assert_eq!(names.get("Tiger"), Some(tiger));
 //! ```
 //!
-//! What an interner answers does not depend on its hasher. The library hashes by itself: SipHash-1-3 under two keys of 64 bits,
-//! or a faster hash without keys.
+//! The library hashes the texts by itself: by SipHash-1-3 under two keys of 64 bits, or by a faster hash without keys. A
+//! [`BuildHasher`] hashes no text. It gives the keys, which are what it hashes the bytes 0 and 1 to. So codes are as hard to
+//! foresee as these two numbers are, and texts are found under every builder, even one whose hashes are all equal. What an
+//! interner returns does not depend on its hasher.
 
 use std::fmt;
 use std::hash::{BuildHasher, DefaultHasher, RandomState};
@@ -26,7 +29,7 @@ pub(crate) type Keys = [u64; 2];
 
 /// The hasher of an interner that names no other: SipHash-1-3 under random keys, which each process chooses once.
 ///
-/// Anywhere else, in a `HashMap` for example, it is SipHash with other random keys of the process, as std's [`RandomState`].
+/// Anywhere else, in a `HashMap` for example, it hashes as std's [`RandomState`] does, with the same keys in all of the process.
 #[derive(Clone, Copy, Debug, Default)]
 pub struct DefaultHashBuilder;
 
@@ -69,26 +72,19 @@ impl fmt::Debug for KeyedHashBuilder {
     }
 }
 
-/// A hasher that an interner may have. Other crates can't name this trait.
+/// A hasher that an interner may have: each [`BuildHasher`], and those of this module. Other crates can't name this trait.
 #[diagnostic::on_unimplemented(
     message = "an interner can't hash by `{Self}`",
-    label = "is no hasher of the module `hasher`",
-    note = "the library hashes by itself, so the hasher of an interner is `DefaultHashBuilder`, `KeyedHashBuilder` or \
-            `FixedHashBuilder`"
+    label = "is no `BuildHasher`, and no hasher of the module `hasher`"
 )]
 pub trait InternerHasher {
     /// Returns the keys, or `None` if it is the fast hasher.
     fn keys(&self) -> Option<Keys>;
 }
 
-impl InternerHasher for DefaultHashBuilder {
+impl<S: BuildHasher> InternerHasher for S {
     fn keys(&self) -> Option<Keys> {
-        // What std hashes under its own random keys: std does not give these out.
-        static KEYS: LazyLock<Keys> = LazyLock::new(|| {
-            let random = RandomState::new();
-            [0_u8, 1].map(|number| random.hash_one(number))
-        });
-        Some(*KEYS)
+        Some([0_u8, 1].map(|number| self.hash_one(number)))
     }
 }
 

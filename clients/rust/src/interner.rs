@@ -207,7 +207,9 @@ impl<B: Backend> fmt::Debug for Numbers<'_, B> {
     }
 }
 
-impl<B: Backend, H: InternerHasher + Default, T: AsRef<str>> FromIterator<T> for StringInterner<B, H> {
+impl<B: Backend, H: InternerHasher + Default, T: AsRef<str>> FromIterator<T>
+    for StringInterner<B, H>
+{
     fn from_iter<I: IntoIterator<Item = T>>(iter: I) -> Self {
         let iter = iter.into_iter();
         let mut interner = Self::with_capacity(iter.size_hint().0);

@@ -32,13 +32,13 @@
 //! | What does not compile | Why |
 //! |---|---|
 //! | a backend of the program's own, `impl Backend for ..` | the library keeps the texts |
-//! | an interner with a hasher that is not of [`hasher`], and a function that takes interners with any `H: BuildHasher` | the library hashes by itself |
 //! | serde's traits | see below |
 //! | programs without std, or for other targets than Linux on 64 bits | the library is built for these |
 //!
 //! What compiles and behaves differently:
 //!
-//! - An interner hashes by SipHash-1-3 under random keys of the process, and the original by a faster hash with a random seed.
+//! - The library hashes the texts by SipHash-1-3, under two keys that the interner's hasher gives; those of
+//!   [`DefaultHashBuilder`] are random. The original hashes by its hasher, which is faster, and has a random seed.
 //!   [`FixedHashBuilder`](hasher::FixedHashBuilder) is as fast, and has the same codes in each process.
 //! - Numbers of all symbol types are below 2³² − 1, since those of the library are.
 //! - A text for which no symbol is left panics, as in the original, and is not kept.

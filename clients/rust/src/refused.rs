@@ -115,7 +115,7 @@
 //! }
 //! ```
 //!
-//! A caller writes no backend, and no hasher is taken but those of this crate:
+//! A caller writes no backend:
 //!
 //! ```compile_fail,E0277
 //! use string_interner::backend::Backend;
@@ -145,10 +145,4 @@
 //!         std::iter::empty()
 //!     }
 //! }
-//! ```
-//!
-//! ```compile_fail,E0277
-//! use std::hash::RandomState;
-//! use string_interner::{DefaultBackend, StringInterner};
-//! let names: StringInterner<DefaultBackend, _> = StringInterner::with_hasher(RandomState::new());
 //! ```

@@ -2,7 +2,7 @@
 //! that are chosen to have one hash code.
 
 use std::collections::HashMap;
-use std::hash::{BuildHasher, BuildHasherDefault, DefaultHasher};
+use std::hash::{BuildHasher, BuildHasherDefault, DefaultHasher, Hasher, RandomState};
 use std::time::{Duration, Instant};
 
 use string_interner::backend::{Backend, BucketBackend, BufferBackend};
@@ -51,6 +51,43 @@ fn an_interner_answers_alike_under_each() {
     let read = StringInterner::<BufferBackend, FixedHashBuilder>::from_json(&usual.to_json());
     assert!(read.unwrap() == fixed && keyed.clone() == keyed);
     assert_eq!(keyed.clone().get("Horse"), usual.get("Horse"));
+}
+
+/// Interns in an interner that may have any hasher.
+fn intern_all<B: Backend, H: BuildHasher>(
+    interner: &mut StringInterner<B, H>,
+    texts: &[&str],
+) -> Vec<B::Symbol> {
+    texts
+        .iter()
+        .map(|text| interner.get_or_intern(text))
+        .collect()
+}
+
+#[test]
+fn an_interner_takes_any_builder() {
+    /// Hashes all to one number.
+    #[derive(Default)]
+    struct Seven;
+
+    impl Hasher for Seven {
+        fn write(&mut self, _: &[u8]) {}
+
+        fn finish(&self) -> u64 {
+            7
+        }
+    }
+
+    let texts = ["Tiger", "Horse", "Tiger", ""];
+    let mut usual = StringInterner::default();
+    let mut random = StringInterner::<DefaultBackend, _>::with_hasher(RandomState::new());
+    let mut same = StringInterner::<DefaultBackend, BuildHasherDefault<DefaultHasher>>::new();
+    let mut seven = StringInterner::<DefaultBackend, BuildHasherDefault<Seven>>::with_capacity(2);
+    let symbols = intern_all(&mut usual, &texts);
+    assert_eq!(symbols, intern_all(&mut random, &texts));
+    assert_eq!(symbols, intern_all(&mut same, &texts));
+    assert_eq!(symbols, intern_all(&mut seven, &texts));
+    assert!(seven.clone() == seven && seven.len() == 3);
 }
 
 #[test]
@@ -144,6 +181,7 @@ fn chosen_texts_take_no_longer_than_others_under_keys() {
     assert_no_longer(DefaultStringInterner::<BufferBackend>::new);
     assert_no_longer(|| DefaultStringInterner::<BucketBackend>::with_capacity(9));
     assert_no_longer(|| DefaultStringInterner::<DefaultBackend>::from_json("[]").unwrap());
+    assert_no_longer(|| StringInterner::<DefaultBackend, _>::with_hasher(RandomState::new()));
     assert_no_longer(keyed);
     assert_no_longer(|| keyed().clone());
 }
