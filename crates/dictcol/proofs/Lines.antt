@@ -1,19 +1,18 @@
 -- Joining lines, and what the lines of a text are.
 use Rattle.std.proofs.Common.{◌≡◌, ◌≢◌, ℕ, Bool, true, false, cond, List, [], ◌∷◌, ◌++◌, Option, Some, None, Bor, refl, sym, ap, ◌∙◌}
-use Rattle.std.specs.List.{list_any, slice_split, onto_first, join_with_byte, join_by}
+use Rattle.std.specs.List.{list_any, slice_split, onto_first, join_with_byte, flat_map}
 use Rattle.std.specs.Option.{option_map_or}
 use Rattle.std.proofs.lemmas.Bool.{or_parts}
 use Rattle.std.proofs.lemmas.List.{append-nil, append_assoc}
 use Rattle.std.proofs.lemmas.List.Splits.{join_with_byte-slice_split}
 use Rattle.string_interner.specs.Text.{Text, first}
 use Rattle.string_interner.specs.Collect.{fresh, texts_of}
-use Rattle.dictcol.specs.Lines.{is_newline, newline_if, has_newline, joined, lines_of, AreLines}
+use Rattle.dictcol.specs.Lines.{is_newline, newline_if, behind_newline, has_newline, joined, lines_of, AreLines}
 
--- the standard library's way of joining
-pub join_by-texts : (items : List (Bor Text)) → join_by (λ x. x.now) (10 ∷ []) items ≡ join_with_byte 10 (texts_of items)
-join_by-texts [] = refl
-join_by-texts (x ∷ []) = append-nil x.now
-join_by-texts (x ∷ y ∷ ys) = ap (λ rest. x.now ++ 10 ∷ rest) (join_by-texts (y ∷ ys))
+-- the first line, and each further one behind a newline
+pub joined-first : (x : Bor Text) (xs : List (Bor Text)) → join_with_byte 10 (texts_of (x ∷ xs)) ≡ x.now ++ flat_map (λ line. behind_newline line.now) xs
+joined-first x [] = sym (append-nil x.now)
+joined-first x (y ∷ ys) = ap (λ rest. x.now ++ 10 ∷ rest) (joined-first y ys)
 
 pub texts_of-append : (xs ys : List (Bor Text)) → texts_of (xs ++ ys) ≡ texts_of xs ++ texts_of ys
 texts_of-append [] ys = refl

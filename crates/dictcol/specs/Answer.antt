@@ -1,7 +1,6 @@
--- What a run writes for the bytes of its input.
+-- What a run writes for the bytes of its input: which texts are right.
 -- Cited by `answer`.
-use Rattle.std.specs.Prelude.{ℕ, List, Option, ⊤}
-use Rattle.std.specs.Io.KnownBytes.{Appends}
+use Rattle.std.specs.Prelude.{⊤}
 use Rattle.string_interner.specs.Text.{Text}
 use Rattle.dictcol.specs.File.{Encodes, Decodes}
 use Rattle.dictcol.specs.declared.arguments.Form.{Form}
@@ -19,7 +18,3 @@ Tells SortedCounts bytes text = ⊤
 abbrev pub Does : Task → Text → Text → Type 0
 Does Decode bytes text = Decodes bytes text
 Does (Write form _) bytes text = Tells form bytes text
-
--- the known bytes of the output grow by what the task asks for
-abbrev pub Answers : Task → Text → Option (List ℕ) → Option (List ℕ) → Type 0
-Answers task bytes old new = (text : Text) × Does task bytes text × Appends old new text

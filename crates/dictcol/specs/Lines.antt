@@ -11,6 +11,9 @@ is_newline byte = byte == 10
 abbrev pub newline_if : Bool → List ℕ
 newline_if is_ended = if is_ended then 10 ∷ [] else []
 
+abbrev pub behind_newline : Text → Text
+behind_newline line = 10 ∷ line
+
 -- the text of lines: they stand between newlines, and one more is at the end if it says so
 abbrev pub joined : List Text → Bool → Text
 joined lines is_ended = join_with_byte 10 lines ++ newline_if is_ended

@@ -6,17 +6,19 @@ ghost use Rattle.dictcol.specs.Fault.{IsReadFault, IsWriteFault};
 ghost use Rattle.dictcol.specs.Lines.{AreLines, is_newline, newline_if};
 ghost use Rattle.std.specs.List.{slice_split};
 ghost use Rattle.dictcol.specs.File.{Encodes};
-ghost use Rattle.dictcol.specs.Answer.{Tells, Does, Answers};
+ghost use Rattle.dictcol.specs.Writes.{Writes};
+ghost use Rattle.dictcol.specs.Answer.{Tells, Does};
 
 use crate::arguments::{Choice, Form, Task};
 use crate::fault::Fault;
+use crate::hasher::LineHasher;
 use crate::{count, file};
 use std::alloc::Global;
-use std::io::{ErrorKind, Read, Write};
+use std::io::{Read, Write};
 use string_interner::backend::{Backend, BucketBackend, BufferBackend, InternError, StringBackend};
 use uses::column::Column;
 
-/// Reads the whole input. A failed allocation is a kind of read error, and reported as `Memory`.
+/// Reads the whole input.
 pub fn read<R: Read>(alloc: Global, input: &mut R) -> Result<Vec<u8>, Fault>
     ensures whole { IfOk result (λ bytes. IfSome (R.remaining input.old) (λ all. bytes.items ≡ all)) }
     ensures end { OnOk result (IsAtEnd (R.remaining input.new)) }
@@ -25,8 +27,7 @@ pub fn read<R: Read>(alloc: Global, input: &mut R) -> Result<Vec<u8>, Fault>
     let mut bytes = Vec::new(alloc);
     match input.read_to_end(&mut bytes) {
         Ok(_) => Ok(bytes),
-        Err(error) if error.kind() == ErrorKind::OutOfMemory => Err(Fault::Memory),
-        Err(_) => Err(Fault::Input),
+        Err(error) => Err(Fault::of_read(error)),
     }
 }
 
@@ -60,10 +61,14 @@ fn without_end(bytes: &[u8]) -> (&[u8], bool)
 }
 
 /// Makes a column of the lines of a text without its newline at the very end.
-fn column_of<B: Backend + Drop>(alloc: Global, body: &str) -> Result<Column<B>, Fault>
+fn column_of<B: Backend + Drop>(
+    alloc: Global,
+    hasher: LineHasher,
+    body: &str,
+) -> Result<Column<B, LineHasher>, Fault>
     ensures { IfOk result (λ column. column ≡ slice_split is_newline body.now) }
 {
-    let mut lines = Column::new(alloc);
+    let mut lines = Column::with_hasher(alloc, hasher);
     match lines.encode(body.split('\n')) {
         Ok(()) => Ok(lines),
         Err(InternError::NoSymbol) => Err(Fault::TooMany),
@@ -72,22 +77,30 @@ fn column_of<B: Backend + Drop>(alloc: Global, body: &str) -> Result<Column<B>, 
 }
 
 /// Returns a column of the lines, and whether the last one ends in a newline.
-fn lines_of<B: Backend + Drop>(alloc: Global, bytes: &[u8]) -> Result<(Column<B>, bool), Fault>
+fn lines_of<B: Backend + Drop>(
+    alloc: Global,
+    hasher: LineHasher,
+    bytes: &[u8],
+) -> Result<(Column<B, LineHasher>, bool), Fault>
     ensures { IfOk result (λ lines. AreLines bytes.now lines.0 lines.1) }
 {
     let (body, is_ended) = without_end(bytes);
     let text = text_of(body)?;
     if bytes.is_empty() {
-        return Ok((Column::new(alloc), is_ended));
+        return Ok((Column::with_hasher(alloc, hasher), is_ended));
     }
-    Ok((column_of(alloc, text)?, is_ended))
+    Ok((column_of(alloc, hasher, text)?, is_ended))
 }
 
 /// Returns the file of the lines of the input, which are kept in the backend `B`.
-fn encoded<B: Backend + Drop>(alloc: Global, bytes: &[u8]) -> Result<String, Fault>
+fn encoded<B: Backend + Drop>(
+    alloc: Global,
+    hasher: LineHasher,
+    bytes: &[u8],
+) -> Result<String, Fault>
     ensures { IfOk result (λ text. Encodes bytes.now (string_bytes text)) }
 {
-    let (lines, is_ended) = lines_of::<B>(alloc, bytes)?;
+    let (lines, is_ended) = lines_of::<B>(alloc, hasher, bytes)?;
     match file::encoded(alloc, &lines, is_ended) {
         Ok(text) => Ok(text),
         Err(_) => Err(Fault::Memory),
@@ -97,33 +110,44 @@ fn encoded<B: Backend + Drop>(alloc: Global, bytes: &[u8]) -> Result<String, Fau
 /// Returns how often each line of the input comes, where lines are kept in the backend `B`.
 fn counted<B: Backend + Drop>(
     alloc: Global,
+    hasher: LineHasher,
     bytes: &[u8],
     is_sorted: bool,
 ) -> Result<String, Fault> {
-    let (lines, _) = lines_of::<B>(alloc, bytes)?;
+    let (lines, _) = lines_of::<B>(alloc, hasher, bytes)?;
     count::text_of(alloc, &lines, is_sorted).map_err(|_| Fault::Memory)
 }
 
 /// Returns what is written for the lines of the input, which are kept in the backend `B`.
-fn written<B: Backend + Drop>(alloc: Global, form: Form, bytes: &[u8]) -> Result<String, Fault>
+fn written<B: Backend + Drop>(
+    alloc: Global,
+    hasher: LineHasher,
+    form: Form,
+    bytes: &[u8],
+) -> Result<String, Fault>
     ensures { IfOk result (λ text. Tells form bytes.now (string_bytes text)) }
 {
     match form {
-        Form::File => encoded::<B>(alloc, bytes),
-        Form::Counts => counted::<B>(alloc, bytes, false),
-        Form::SortedCounts => counted::<B>(alloc, bytes, true),
+        Form::File => encoded::<B>(alloc, hasher, bytes),
+        Form::Counts => counted::<B>(alloc, hasher, bytes, false),
+        Form::SortedCounts => counted::<B>(alloc, hasher, bytes, true),
     }
 }
 
-/// Returns what the task asks for.
-fn done(alloc: Global, task: Task, bytes: &[u8]) -> Result<String, Fault>
-    ensures { IfOk result (λ text. Does task bytes.now (string_bytes text)) }
+/// Returns what is written for the lines of the input, which are kept in the backend of this name.
+fn written_over(
+    alloc: Global,
+    hasher: LineHasher,
+    form: Form,
+    choice: Choice,
+    bytes: &[u8],
+) -> Result<String, Fault>
+    ensures { IfOk result (λ text. Tells form bytes.now (string_bytes text)) }
 {
-    match task {
-        Task::Decode => file::decoded(alloc, text_of(bytes)?),
-        Task::Write(form, Choice::String) => written::<StringBackend>(alloc, form, bytes),
-        Task::Write(form, Choice::Bucket) => written::<BucketBackend>(alloc, form, bytes),
-        Task::Write(form, Choice::Buffer) => written::<BufferBackend>(alloc, form, bytes),
+    match choice {
+        Choice::String => written::<StringBackend>(alloc, hasher, form, bytes),
+        Choice::Bucket => written::<BucketBackend>(alloc, hasher, form, bytes),
+        Choice::Buffer => written::<BufferBackend>(alloc, hasher, form, bytes),
     }
 }
 
@@ -136,18 +160,37 @@ fn write_text<W: Write>(output: &mut W, text: String) -> Result<(), Fault>
     output.flush().map_err(Fault::of_write)
 }
 
-/// Writes what the task asks for. Nothing is written before all of it is known.
+/// Writes what is asked for of the lines of the input.
+fn write_form<W: Write>(
+    alloc: Global,
+    hasher: LineHasher,
+    form: Form,
+    choice: Choice,
+    bytes: &[u8],
+    output: &mut W,
+) -> Result<(), Fault>
+    ensures written { OnOk result (Writes (Tells form bytes.now) (W.contents output.old) (W.contents output.new)) }
+    ensures silent { IsOk result ⊎ (IsErrAnd result IsWriteFault ⊎ (output.new ≡ output.old)) }
+{
+    let text = written_over(alloc, hasher, form, choice, bytes)?;
+    write_text(output, text)
+}
+
+/// Writes what the task asks for. Nothing is written before all that can go wrong but writing has gone well.
 pub fn answer<W: Write>(
     alloc: Global,
+    hasher: LineHasher,
     task: Task,
     bytes: &[u8],
     output: &mut W,
 ) -> Result<(), Fault>
-    ensures answered { OnOk result (Answers task bytes.now (W.contents output.old) (W.contents output.new)) }
+    ensures answered { OnOk result (Writes (Does task bytes.now) (W.contents output.old) (W.contents output.new)) }
 
     // Unless all went well or a write failed, the output was not touched.
     ensures silent { IsOk result ⊎ (IsErrAnd result IsWriteFault ⊎ (output.new ≡ output.old)) }
 {
-    let text = done(alloc, task, bytes)?;
-    write_text(output, text)
+    match task {
+        Task::Decode => file::decode(alloc, text_of(bytes)?, output),
+        Task::Write(form, choice) => write_form(alloc, hasher, form, choice, bytes, output),
+    }
 }

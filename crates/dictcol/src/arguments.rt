@@ -1,5 +1,7 @@
 //! The arguments.
 
+use thiserror::Error;
+
 /// Which backend the texts are kept in.
 #[derive(Clone, Copy)]
 pub enum Choice {
@@ -28,51 +30,167 @@ pub enum Task {
     Write(Form, Choice),
 }
 
+/// Where the input comes from.
+#[derive(Clone, Copy)]
+pub enum Source<'a> {
+    StandardInput,
+    /// The file with this path.
+    File(&'a str),
+}
+
 /// What the arguments ask for.
 #[derive(Clone, Copy)]
-pub enum Request {
+pub enum Request<'a> {
     Help,
-    Do(Task),
+    Version,
+    Do(Task, Source<'a>),
 }
 
-/// Returns the backend of this name.
-fn choice_of(name: &str) -> Option<Choice> {
-    match name {
-        "string" => Some(Choice::String),
-        "bucket" => Some(Choice::Bucket),
-        "buffer" => Some(Choice::Buffer),
-        _ => None,
+/// What is wrong with the arguments. It is displayed as the message for standard error.
+#[derive(Clone, Copy, Debug, Error)]
+pub enum Misuse<'a> {
+    #[error("no command")]
+    NoCommand,
+    #[error("unknown command '{0}'")]
+    UnknownCommand(&'a str),
+    #[error("unknown option '{0}'")]
+    UnknownOption(&'a str),
+    #[error("{0} takes no option '{1}'")]
+    OptionOfAnother(&'static str, &'static str),
+    #[error("option '{0}' needs a value")]
+    NoValue(&'static str),
+    #[error("option '{0}' takes no value")]
+    HasValue(&'a str),
+    #[error("unknown backend '{0}'")]
+    UnknownBackend(&'a str),
+    #[error("extra operand '{0}'")]
+    ExtraOperand(&'a str),
+}
+
+#[derive(Clone, Copy)]
+enum Command {
+    Encode,
+    Decode,
+    Count,
+}
+
+/// What the next word is.
+#[derive(Clone, Copy)]
+enum Next {
+    OptionOrOperand,
+    /// The value of `--backend`.
+    Backend,
+    /// Behind `--`.
+    Operand,
+}
+
+/// What the words so far say.
+#[derive(Clone, Copy)]
+struct Given<'a> {
+    command: Option<Command>,
+    source: Option<Source<'a>>,
+    choice: Option<Choice>,
+    is_sorted: bool,
+}
+
+impl<'a> Given<'a> {
+    /// Takes the name of a backend. Of several names the last decides.
+    fn take_backend(&mut self, name: &'a str) -> Result<(), Misuse<'a>> {
+        self.choice = Some(match name {
+            "string" => Choice::String,
+            "bucket" => Choice::Bucket,
+            "buffer" => Choice::Buffer,
+            _ => return Err(Misuse::UnknownBackend(name)),
+        });
+        Ok(())
     }
-}
 
-/// Returns the task with the options: the last of several that say which backend is taken.
-fn with_options(form: Form, choice: Choice, options: &[String]) -> Option<Task> {
-    let Some((option, rest)) = options.split_first() else {
-        return Some(Task::Write(form, choice));
-    };
-    match (form, option.as_str()) {
-        (Form::Counts | Form::SortedCounts, "--sorted") => {
-            with_options(Form::SortedCounts, choice, rest)
+    /// Takes the command, or the file behind it.
+    fn take_operand(&mut self, word: &'a str) -> Result<(), Misuse<'a>> {
+        if self.command.is_none() {
+            self.command = Some(match word {
+                "encode" => Command::Encode,
+                "decode" => Command::Decode,
+                "count" => Command::Count,
+                _ => return Err(Misuse::UnknownCommand(word)),
+            });
+        } else if self.source.is_none() {
+            self.source = Some(match word {
+                "-" => Source::StandardInput,
+                path => Source::File(path),
+            });
+        } else {
+            return Err(Misuse::ExtraOperand(word));
         }
-        (_, "--backend") => {
-            let (name, rest) = rest.split_first()?;
-            with_options(form, choice_of(name.as_str())?, rest)
+        Ok(())
+    }
+
+    /// Takes an option with its value behind `=`, or an operand.
+    fn take_word(&mut self, word: &'a str) -> Result<(), Misuse<'a>> {
+        match word.split_once('=') {
+            Some(("--backend", name)) => self.take_backend(name),
+            Some((option, _))
+                if option == "--sorted" || option == "--help" || option == "--version" => {
+                Err(Misuse::HasValue(option))
+            }
+            _ if word.starts_with('-') && word != "-" => Err(Misuse::UnknownOption(word)),
+            _ => self.take_operand(word),
         }
-        _ => None,
+    }
+
+    /// Returns what all the words ask for.
+    fn task(self) -> Result<Task, Misuse<'a>> {
+        let choice = self.choice.unwrap_or(Choice::String);
+        match self.command.ok_or(Misuse::NoCommand)? {
+            Command::Encode if self.is_sorted => Err(Misuse::OptionOfAnother("encode", "--sorted")),
+            Command::Encode => Ok(Task::Write(Form::File, choice)),
+            Command::Count if self.is_sorted => Ok(Task::Write(Form::SortedCounts, choice)),
+            Command::Count => Ok(Task::Write(Form::Counts, choice)),
+            Command::Decode if self.is_sorted => Err(Misuse::OptionOfAnother("decode", "--sorted")),
+            Command::Decode if self.choice.is_some() => {
+                Err(Misuse::OptionOfAnother("decode", "--backend"))
+            }
+            Command::Decode => Ok(Task::Decode),
+        }
     }
 }
 
-/// Returns what the arguments ask for, if they are as the usage line says. `--help` anywhere asks for help.
-pub fn request_of(arguments: &[String]) -> Option<Request> {
-    if arguments.iter().any(|word| word.as_str() == "--help") {
-        return Some(Request::Help);
-    }
-    let (command, options) = arguments.split_first()?;
-    let task = match command.as_str() {
-        "encode" => with_options(Form::File, Choice::String, options)?,
-        "count" => with_options(Form::Counts, Choice::String, options)?,
-        "decode" if options.is_empty() => Task::Decode,
-        _ => return None,
+/// Returns what the arguments ask for, or the first thing that is wrong with them. Options may stand anywhere before `--`.
+pub fn request_of(arguments: &[String]) -> Result<Request<'_>, Misuse<'_>> {
+    let mut given = Given {
+        command: None,
+        source: None,
+        choice: None,
+        is_sorted: false,
     };
-    Some(Request::Do(task))
+    let mut next = Next::OptionOrOperand;
+    for argument in arguments {
+        next = match (next, argument.as_str()) {
+            (Next::Backend, name) => {
+                given.take_backend(name)?;
+                Next::OptionOrOperand
+            }
+            (Next::Operand, word) => {
+                given.take_operand(word)?;
+                Next::Operand
+            }
+            (Next::OptionOrOperand, "-h" | "--help") => return Ok(Request::Help),
+            (Next::OptionOrOperand, "--version") => return Ok(Request::Version),
+            (Next::OptionOrOperand, "--backend") => Next::Backend,
+            (Next::OptionOrOperand, "--") => Next::Operand,
+            (Next::OptionOrOperand, "--sorted") => {
+                given.is_sorted = true;
+                Next::OptionOrOperand
+            }
+            (Next::OptionOrOperand, word) => {
+                given.take_word(word)?;
+                Next::OptionOrOperand
+            }
+        };
+    }
+    if let Next::Backend = next {
+        return Err(Misuse::NoValue("--backend"));
+    }
+    let task = given.task()?;
+    Ok(Request::Do(task, given.source.unwrap_or(Source::StandardInput)))
 }

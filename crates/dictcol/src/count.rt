@@ -1,5 +1,6 @@
 //! How often each line comes.
 
+use crate::hasher::LineHasher;
 use std::alloc::{AllocError, Global};
 use std::fmt::Write;
 use string_interner::backend::Backend;
@@ -23,7 +24,7 @@ fn occurrences(
 /// Returns each distinct line with how often it comes, in the order of first appearance.
 fn counts_of<B: Backend>(
     alloc: Global,
-    lines: &Column<B>,
+    lines: &Column<B, LineHasher>,
 ) -> Result<Vec<(usize, &str)>, AllocError> {
     let numbers = lines.numbers(alloc)?;
     let counts = occurrences(alloc, &numbers, lines.count_distinct())?;
@@ -38,7 +39,7 @@ fn counts_of<B: Backend>(
 /// order of first appearance, or the most frequent first, where equally frequent ones keep that order.
 pub fn text_of<B: Backend>(
     alloc: Global,
-    lines: &Column<B>,
+    lines: &Column<B, LineHasher>,
     is_sorted: bool,
 ) -> Result<String, AllocError> {
     let mut rows = counts_of(alloc, lines)?;

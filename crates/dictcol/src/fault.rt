@@ -2,7 +2,7 @@
 
 ghost use Rattle.std.specs.Prelude.{◌≡◌};
 ghost use Rattle.std.specs.IoError.{error_kind};
-ghost use Rattle.dictcol.specs.Fault.{status_of, write_fault};
+ghost use Rattle.dictcol.specs.Fault.{arguments_fault, read_fault, write_fault, status_of, IsReadFault, IsWriteFault};
 
 use std::io;
 use std::io::ErrorKind;
@@ -11,18 +11,24 @@ use thiserror::Error;
 /// Why the program failed. It is displayed as the message for standard error.
 #[derive(Debug, Drop, Error)]
 pub enum Fault {
-    /// The arguments are not as the usage line says.
-    #[error("usage: dictcol encode|decode|count [--sorted] [--backend string|bucket|buffer] (--help tells more)")]
-    Usage,
+    /// An argument is not UTF-8.
+    #[error("an argument is not UTF-8")]
+    Argument,
     /// Reading failed.
-    #[error("cannot read input")]
-    Input,
+    #[error("cannot read input: {0}")]
+    Input(io::Error),
     /// The line with this number (1-based) is the first that is not UTF-8.
     #[error("line {0} is not UTF-8")]
     NotUtf8(usize),
-    /// The file is no JSON, or nests deeper than 127. The place (1-based) is where the reader stood.
-    #[error("not JSON at line {line}, column {column}")]
-    NotJson { line: usize, column: usize },
+    /// The file is no JSON, nests deeper than 127, or has a number too large for a float.
+    #[error("{0}")]
+    NotJson(serde_json::Error),
+    /// The file ends within its JSON, at this place (1-based, in bytes).
+    #[error("JSON ends too early, at line {line} column {column}")]
+    EndsEarly { line: usize, column: usize },
+    /// A byte order mark stands before the JSON.
+    #[error("a byte order mark stands before the JSON")]
+    ByteOrderMark,
     /// The file is no object with an array of this name.
     #[error("no array \"dictionary\"")]
     NoDictionary,
@@ -44,6 +50,9 @@ pub enum Fault {
     /// The file has no truth value of this name.
     #[error("no truth value \"final_newline\"")]
     NoFinalNewline,
+    /// The system gave no random keys.
+    #[error("cannot draw random keys: {0}")]
+    NoKeys(io::Error),
     /// The backend has no symbol for one more text.
     #[error("too many distinct lines")]
     TooMany,
@@ -51,32 +60,58 @@ pub enum Fault {
     #[error("out of memory")]
     Memory,
     /// Writing failed.
-    #[error("cannot write output")]
-    Output,
+    #[error("cannot write output: {0}")]
+    Output(io::Error),
     /// Nobody reads the output any more.
     #[error("output is closed")]
     ClosedOutput,
 }
 
 impl Fault {
-    /// Returns the fault of a write that failed with this error.
-    pub fn of_write(error: io::Error) -> Fault
-        ensures { result ≡ write_fault (error_kind error) }
+    /// Returns the fault of arguments that cannot be had.
+    pub fn of_arguments(error: io::Error) -> Fault
+        ensures { result ≡ arguments_fault (error_kind error) }
     {
         match error.kind() {
-            ErrorKind::BrokenPipe => Fault::ClosedOutput,
-            _ => Fault::Output,
+            ErrorKind::OutOfMemory => Fault::Memory,
+            _ => Fault::Argument,
         }
     }
 
-    /// Returns the exit status: 2 if the arguments or the input are wrong, 1 if the system failed or there is too much. Where
-    /// the output is closed it is 141, which a shell tells of `cat` or `sort` there: 128 and the number of SIGPIPE.
+    /// Returns the fault of a read that failed with this error. A failed allocation is a kind of read error.
+    pub fn of_read(error: io::Error) -> Fault
+        ensures value { result ≡ read_fault (error_kind error) error }
+        ensures reading { IsReadFault result }
+    {
+        match error.kind() {
+            ErrorKind::OutOfMemory => Fault::Memory,
+            _ => Fault::Input(error),
+        }
+    }
+
+    /// Returns the fault of a write that failed with this error.
+    pub fn of_write(error: io::Error) -> Fault
+        ensures value { result ≡ write_fault (error_kind error) error }
+        ensures writing { IsWriteFault result }
+    {
+        match error.kind() {
+            ErrorKind::BrokenPipe => Fault::ClosedOutput,
+            _ => Fault::Output(error),
+        }
+    }
+
+    /// Returns the exit status: 2 if the arguments or the input are wrong, 1 if the system failed or there is too much. If
+    /// the output is closed it is 141, as a shell tells of `cat` or `sort` there: 128 and the number of SIGPIPE.
     pub fn status(&self) -> u8
         ensures { result ≡ status_of self.now }
     {
         match self {
             Fault::ClosedOutput => 141,
-            Fault::Input | Fault::TooMany | Fault::Memory | Fault::Output => 1,
+            Fault::Input(_)
+            | Fault::NoKeys(_)
+            | Fault::TooMany
+            | Fault::Memory
+            | Fault::Output(_) => 1,
             _ => 2,
         }
     }

@@ -1,7 +1,8 @@
 //! The file: a JSON object with the dictionary, a number for each line, and whether the last line ends in a newline.
 
-ghost use Rattle.std.specs.Prelude.{◌≡◌, ◌≢◌, [], List, map, Bool, true, false, codes, Some, None, IfOk, IfErr, OnOk, string_bytes};
-ghost use Rattle.std.specs.List.{list_any};
+ghost use Rattle.std.specs.Prelude.{◌≡◌, ◌≢◌, ◌⊎◌, [], List, map, Bool, true, false, codes, Some, None, IfOk, IfErr, IsErrAnd, IsOk, OnOk, string_bytes};
+ghost use Rattle.std.specs.Io.KnownBytes.{Appends};
+ghost use Rattle.std.specs.List.{join_with_byte, list_any};
 ghost use Rattle.serde_json.specs.Data.{Data, boolean, array, Items};
 ghost use Rattle.serde_json.specs.Find.{get};
 ghost use Rattle.serde_json.specs.Read.{read};
@@ -9,13 +10,16 @@ ghost use Rattle.serde_json.specs.View.{view, items_of, items_view};
 ghost use Rattle.string_interner.specs.Text.{Text, IsDistinct};
 ghost use Rattle.string_interner.specs.Collect.{fresh, texts_of};
 ghost use Rattle.string_interner.specs.Json.{json_of_texts, json_of_number};
-ghost use Rattle.dictcol.specs.Fault.{IsDamage};
+ghost use Rattle.dictcol.specs.Fault.{IsDamage, IsWriteFault};
 ghost use Rattle.dictcol.specs.File.{IsFileOf, texts_at, SaysText, Decodes};
-ghost use Rattle.dictcol.specs.Lines.{has_newline, joined};
+ghost use Rattle.dictcol.specs.Lines.{behind_newline, has_newline, joined};
+ghost use Rattle.dictcol.specs.Writes.{Writes};
 
 use crate::fault::Fault;
+use crate::hasher::LineHasher;
 use serde_json::{Value, json};
 use std::alloc::{AllocError, Global};
+use std::io::Write;
 use string_interner::FastStringInterner;
 use string_interner::backend::Backend;
 use string_interner::json::JsonError;
@@ -35,7 +39,7 @@ fn array_of(alloc: Global, numbers: &[usize]) -> Result<Value, AllocError>
 /// Returns the file of the lines.
 fn file_of<B: Backend>(
     alloc: Global,
-    lines: &Column<B>,
+    lines: &Column<B, LineHasher>,
     is_ended: bool,
 ) -> Result<Value, AllocError>
     ensures file { IfOk result (λ value. IsFileOf lines.now is_ended (view value)) }
@@ -51,14 +55,16 @@ fn file_of<B: Backend>(
 /// Returns the text of the file of the lines.
 pub fn encoded<B: Backend>(
     alloc: Global,
-    lines: &Column<B>,
+    lines: &Column<B, LineHasher>,
     is_ended: bool,
 ) -> Result<String, AllocError>
     ensures file { IfOk result (λ text. (value : Data) × IsFileOf lines.now is_ended value × (read (string_bytes text) ≡ Some value)) }
     ensures distinct { OnOk result (IsDistinct (fresh [] lines.now)) }
 {
     let file = file_of(alloc, lines, is_ended)?;
-    file.to_string(alloc)
+    let mut text = file.to_string(alloc)?;
+    text.push('\n')?;
+    Ok(text)
 }
 
 /// Reads the dictionary.
@@ -112,15 +118,48 @@ fn lines_of<'t>(alloc: Global, texts: &[&'t str], numbers: &[Value]) -> Result<V
     Ok(lines)
 }
 
-/// Returns the text of the lines.
-fn text_of(alloc: Global, lines: &[&str], is_ended: bool) -> Result<String, AllocError>
-    ensures { IfOk result (λ text. string_bytes text ≡ joined (texts_of lines.now) is_ended) }
+/// Writes some bytes.
+fn write<W: Write>(output: &mut W, bytes: &[u8]) -> Result<(), Fault>
+    ensures written { OnOk result (Appends (W.contents output.old) (W.contents output.new) bytes.now) }
+    ensures fault { IfErr result IsWriteFault }
 {
-    let mut text = lines.join(alloc, "\n")?;
-    if is_ended {
-        text.push('\n')?;
+    output.write_all(bytes).map_err(Fault::of_write)
+}
+
+/// Writes a line behind a newline.
+fn write_further_line<W: Write>(output: &mut W, line: &str) -> Result<(), Fault>
+    ensures written { OnOk result (Appends (W.contents output.old) (W.contents output.new) (behind_newline line.now)) }
+    ensures fault { IfErr result IsWriteFault }
+{
+    write(output, b"\n")?;
+    write(output, line.as_bytes())
+}
+
+/// Writes lines with newlines between them.
+fn write_joined<W: Write>(output: &mut W, lines: &[&str]) -> Result<(), Fault>
+    ensures written { OnOk result (Appends (W.contents output.old) (W.contents output.new) (join_with_byte 10 (texts_of lines.now))) }
+    ensures fault { IfErr result IsWriteFault }
+{
+    let Some((first, rest)) = lines.split_first() else {
+        return Ok(());
+    };
+    write(output, first.as_bytes())?;
+    for line in rest {
+        write_further_line(output, line)?;
     }
-    Ok(text)
+    Ok(())
+}
+
+/// Writes the text of the lines.
+fn write_lines<W: Write>(output: &mut W, lines: &[&str], is_ended: bool) -> Result<(), Fault>
+    ensures written { OnOk result (Appends (W.contents output.old) (W.contents output.new) (joined (texts_of lines.now) is_ended)) }
+    ensures fault { IfErr result IsWriteFault }
+{
+    write_joined(output, lines)?;
+    if is_ended {
+        write(output, b"\n")?;
+    }
+    output.flush().map_err(Fault::of_write)
 }
 
 /// Finds the numbers of the lines.
@@ -143,16 +182,30 @@ fn end_of(file: &Value) -> Result<bool, Fault>
         .ok_or(Fault::NoFinalNewline)
 }
 
-/// Returns the text that the file says. Faults are looked for in the order of its members.
-fn said(alloc: Global, file: &Value) -> Result<String, Fault>
-    ensures ok { IfOk result (λ text. SaysText (view file.now) (string_bytes text)) }
+/// Writes the text that the file says. Faults are looked for in the order of its members, and nothing is written before all
+/// members are known to be good.
+fn write_said<W: Write>(alloc: Global, file: &Value, output: &mut W) -> Result<(), Fault>
+    ensures written { OnOk result (Writes (SaysText (view file.now)) (W.contents output.old) (W.contents output.new)) }
     ensures err { IfErr result (λ fault. IsDamage fault → (text : Text) → ¬ (SaysText (view file.now) text)) }
+    ensures silent { IsOk result ⊎ (IsErrAnd result IsWriteFault ⊎ (output.new ≡ output.old)) }
 {
     let dictionary = dictionary_of(alloc, file)?;
     let texts = texts_of(alloc, &dictionary)?;
     let lines = lines_of(alloc, &texts, numbers_of(file)?)?;
     let is_ended = end_of(file)?;
-    text_of(alloc, &lines, is_ended).map_err(|_| Fault::Memory)
+    write_lines(output, &lines, is_ended)
+}
+
+/// Returns the fault of a file that ends within its JSON.
+fn ends_early(file: &str) -> Fault
+    ensures { IsDamage result }
+{
+    let newlines = file.bytes().filter(|byte| *byte == b'\n').count();
+    let last_line = file.rsplit('\n').next().unwrap_or("");
+    Fault::EndsEarly {
+        line: newlines.saturating_add(1),
+        column: last_line.len().saturating_add(1),
+    }
 }
 
 /// Reads the JSON of a file.
@@ -163,20 +216,23 @@ fn parsed(alloc: Global, file: &str) -> Result<Value, Fault>
     match Value::from_str(alloc, file) {
         Ok(value) => Ok(value),
         Err(error) if error.is_memory() => Err(Fault::Memory),
-        Err(error) => Err(Fault::NotJson {
-            line: error.line(),
-            column: error.column(),
-        }),
+        Err(error) if error.is_eof() => Err(ends_early(file)),
+        Err(_) if file.starts_with('\u{feff}') => Err(Fault::ByteOrderMark),
+        Err(error) => Err(Fault::NotJson(error)),
     }
 }
 
-/// Returns the text that a file was made of, or where the file is damaged.
-pub fn decoded(alloc: Global, file: &str) -> Result<String, Fault>
-    ensures ok { IfOk result (λ text. Decodes file.now (string_bytes text)) }
+/// Writes the text that a file was made of, line by line, or finds where the file is damaged. Nothing is written of a damaged
+/// file.
+pub fn decode<W: Write>(alloc: Global, file: &str, output: &mut W) -> Result<(), Fault>
+    ensures written { OnOk result (Writes (Decodes file.now) (W.contents output.old) (W.contents output.new)) }
 
     // A file that says a text is never called damaged.
     ensures err { IfErr result (λ fault. IsDamage fault → (text : Text) → ¬ (Decodes file.now text)) }
+
+    // Unless all went well or a write failed, the output was not touched.
+    ensures silent { IsOk result ⊎ (IsErrAnd result IsWriteFault ⊎ (output.new ≡ output.old)) }
 {
     let value = parsed(alloc, file)?;
-    said(alloc, &value)
+    write_said(alloc, &value, output)
 }

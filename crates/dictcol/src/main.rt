@@ -6,32 +6,50 @@ mod arguments;
 mod count;
 mod fault;
 mod file;
+mod hasher;
 
-use arguments::Request;
+use arguments::{Request, Source, Task};
 use fault::Fault;
+use hasher::LineHasher;
 use std::env;
-use std::io::{IsTerminal, Write};
+use std::fs::File;
+use std::io::{BufWriter, IsTerminal, Write};
 use std::process::ExitCode;
 
 /// What `--help` prints.
 const HELP: &str = "\
-usage: dictcol encode [--backend string|bucket|buffer]
-       dictcol decode
-       dictcol count [--sorted] [--backend string|bucket|buffer]
+usage: dictcol encode [--backend NAME] [FILE]
+       dictcol decode [FILE]
+       dictcol count [--sorted] [--backend NAME] [FILE]
 
-Reads standard input and writes to standard output.
+Reads FILE, or standard input if there is no FILE or it is -, and writes to standard output.
 
 encode   writes lines as JSON: the distinct ones in the order of first appearance, and a number for each line
 decode   writes the lines back, byte for byte
-count    writes each distinct line behind how often it comes, in the order of first appearance, or with
-         --sorted the most frequent first
+count    writes each distinct line behind how often it comes, in the order of first appearance
 
---backend   where texts are kept while it runs, string where none is named; what is written is the same
---help      prints this
+    --sorted         the most frequent lines come first
+    --backend NAME   where texts are kept while it runs: string, bucket or buffer; what is written is the same
+    --               no word behind it is an option
+-h, --help           prints this
+    --version        prints the version
 
 The status is 2 for wrong arguments, lines that are not UTF-8 and a damaged file, 1 for what the system refused, and 141,
-with no message, where nobody reads the output any more.
+with no message, if nobody reads the output any more.
 ";
+
+/// What stands behind a message about arguments.
+const USAGE: &str =
+    "usage: dictcol encode|decode|count [OPTION ..] [FILE] (dictcol --help tells more)";
+
+/// The status where the arguments are wrong.
+const MISUSED: u8 = 2;
+
+/// What `--version` prints.
+const VERSION: &str = "dictcol 0.19.0\n";
+
+/// So many bytes are written at once.
+const BUFFER: usize = 1 << 16;
 
 /// Input of so many bytes is long: a terminal is told how far the work is.
 const LONG: usize = 1 << 24;
@@ -44,35 +62,71 @@ fn tell(rt: &HostRuntime, bytes: usize, what: &str) {
     }
 }
 
-/// Reads standard input, and writes what the arguments ask for.
-fn run(rt: &HostRuntime) -> Result<(), Fault> {
+/// Returns the arguments behind the program's name.
+fn arguments_of(rt: &HostRuntime) -> Result<Vec<String>, Fault> {
+    let words = env::args(rt).map_err(Fault::of_arguments)?;
+    words.skip(1).collect(rt.alloc()).map_err(|_| Fault::Memory)
+}
+
+/// Reads the whole input.
+fn read(rt: &HostRuntime, source: Source<'_>) -> Result<Vec<u8>, Fault> {
+    match source {
+        Source::StandardInput => answer::read(rt.alloc(), &mut rt.stdin()),
+        Source::File(path) => {
+            let mut file = File::open(rt, path).map_err(Fault::of_read)?;
+            answer::read(rt.alloc(), &mut file)
+        }
+    }
+}
+
+/// Reads the input, and writes what the task asks for.
+fn work(rt: &HostRuntime, task: Task, source: Source<'_>) -> Result<(), Fault> {
     let alloc = rt.alloc();
-    let arguments: Vec<String> = env::args(rt)
-        .map_err(|_| Fault::Usage)?
-        .skip(1)
-        .collect(alloc)
-        .map_err(|_| Fault::Usage)?;
-    let mut output = rt.stdout();
-    let task = match arguments::request_of(&arguments).ok_or(Fault::Usage)? {
-        Request::Help => return output.write_all(HELP.as_bytes()).map_err(Fault::of_write),
-        Request::Do(task) => task,
-    };
-    let bytes = answer::read(alloc, &mut rt.stdin())?;
+    let hasher = LineHasher::draw(rt)?;
+    let bytes = read(rt, source)?;
     tell(rt, bytes.len(), "read");
-    answer::answer(alloc, task, &bytes, &mut output)?;
+    let mut output = BufWriter::with_capacity(alloc, BUFFER, rt.stdout()).map_err(
+        |_| Fault::Memory,
+    )?;
+    answer::answer(alloc, hasher, task, &bytes, &mut output)?;
     tell(rt, bytes.len(), "done");
     Ok(())
 }
 
-fn main(rt: HostRuntime) -> ExitCode {
-    match run(&rt) {
-        Ok(()) => ExitCode::SUCCESS,
+/// Prints a text.
+fn print(rt: &HostRuntime, text: &str) -> Result<(), Fault> {
+    rt.stdout()
+        .write_all(text.as_bytes())
+        .map_err(Fault::of_write)
+}
+
+/// Says on standard error what failed, if something did, and returns the status.
+fn end(rt: &HostRuntime, source: Source<'_>, outcome: Result<(), Fault>) -> ExitCode {
+    let Err(fault) = outcome else {
+        return ExitCode::SUCCESS;
+    };
+    // Nothing is left to do if standard error is closed.
+    let _ = match (source, &fault) {
         // Who closed the output, as `head` does, wants no more, and no words about it.
-        Err(Fault::ClosedOutput) => ExitCode::from(Fault::ClosedOutput.status()),
-        Err(fault) => {
-            // Nothing is left to do if standard error is closed.
-            let _ = eprintln!(rt; "dictcol: {fault}");
-            ExitCode::from(fault.status())
+        (_, Fault::ClosedOutput) => Ok(()),
+        (Source::StandardInput, _) | (_, Fault::Output(_)) => eprintln!(rt; "dictcol: {fault}"),
+        (Source::File(path), _) => eprintln!(rt; "dictcol: {path}: {fault}"),
+    };
+    ExitCode::from(fault.status())
+}
+
+fn main(rt: HostRuntime) -> ExitCode {
+    let arguments = match arguments_of(&rt) {
+        Ok(arguments) => arguments,
+        Err(fault) => return end(&rt, Source::StandardInput, Err(fault)),
+    };
+    match arguments::request_of(&arguments) {
+        Ok(Request::Help) => end(&rt, Source::StandardInput, print(&rt, HELP)),
+        Ok(Request::Version) => end(&rt, Source::StandardInput, print(&rt, VERSION)),
+        Ok(Request::Do(task, source)) => end(&rt, source, work(&rt, task, source)),
+        Err(misuse) => {
+            let _ = eprintln!(rt; "dictcol: {misuse}\n{USAGE}");
+            ExitCode::from(MISUSED)
         }
     }
 }

@@ -10,4 +10,4 @@ returns-in-Ok g c =
     let drains = rw h.2 at h.4 in
     let split = YieldsList-from_str_split {s = c.split.result} 10 c.args.body.now (lit< tt) c.split.ensures.text c.split.ensures.has_more c.split.ensures.pattern in
     let lines = items_from_drains h.1 (drains.1.0, drains.1.1, λ _. (drains.0, drains.1.2)) split in
-    h.3 ∙ ap (λ old. old ++ texts_of h.1) c.new-lines.ensures ∙ lines
+    h.3 ∙ ap (λ old. old ++ texts_of h.1) c.with_hasher-lines.ensures ∙ lines

@@ -1,9 +1,13 @@
-use Rattle.std.proofs.lemmas.Result.{IfOk-weaker}
+use Rattle.std.proofs.Common.{◌≡◌, ◌++◌, ◌∷◌, [], string_bytes, ap, ◌∙◌, rules}
+use Rattle.serde_json.specs.Read.{read}
 use Rattle.serde_json.specs.View.{view}
+use Rattle.dictcol.proofs.Newline.{read-newline}
 use Rattle.dictcol.proofs.Says.{file-depth}
 use Rattle.dictcol.proofs.file.encoded.Goals as goal
 
 pub returns-clause-file : goal.returns-clause-file
 returns-clause-file g c =
     let file = c.in_ok-file.ensures.file in
-    IfOk-weaker c.to_string.result _ _ (λ text reads. (view c.in_ok-file.file, file, reads (file-depth c.args.lines.now c.args.is_ended (view c.in_ok-file.file) file))) c.to_string.ensures.reads_back
+    let reads = c.in_ok-text.ensures.reads_back (file-depth c.args.lines.now c.args.is_ended (view c.in_ok-file.file) file) in
+    let grown : string_bytes c.push.new.self ≡ string_bytes c.in_ok-text.text ++ 10 ∷ [] = search rules in
+    (view c.in_ok-file.file, file, ap read grown ∙ read-newline (string_bytes c.in_ok-text.text) (view c.in_ok-file.file) c.in_ok-text.ensures.compact reads)

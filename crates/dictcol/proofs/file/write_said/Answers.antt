@@ -6,16 +6,16 @@ use Rattle.dictcol.specs.Fault.{IsDamage}
 use Rattle.dictcol.specs.File.{texts_at}
 use Rattle.dictcol.specs.Lines.{has_newline}
 use Rattle.dictcol.proofs.Says.{more-than-a-line, no-index}
-use Rattle.dictcol.proofs.file.said.Goals as goal
+use Rattle.dictcol.proofs.file.write_said.Goals as goal
 
 pub returns-in_err-texts-clause-err : goal.returns-in_err-texts-clause-err
-returns-in_err-texts-clause-err c =
+returns-in_err-texts-clause-err g c =
     let dictionary = c.in_ok-dictionary.dictionary.texts in
     let has : IfErr c.from_residual-in_err-texts.result (λ fault. IsDamage fault → list_any has_newline c.in_ok-dictionary.dictionary.texts ≡ true) = search rules in
     IfErr-weaker c.from_residual-in_err-texts.result _ _ (λ fault has_it damage. more-than-a-line (view c.args.file.now) dictionary c.in_ok-dictionary.ensures.ok (has_it damage)) has
 
 pub returns-in_err-lines-clause-err : goal.returns-in_err-lines-clause-err
-returns-in_err-lines-clause-err c =
+returns-in_err-lines-clause-err g c =
     let dictionary = c.in_ok-dictionary.dictionary.texts in
     let numbers = items_view c.in_ok-numbers_of.field-0.now.items in
     let none : IfErr c.from_residual-in_err-lines.result (λ fault. IsDamage fault → texts_at c.in_ok-dictionary.dictionary.texts (items_view c.in_ok-numbers_of.field-0.now.items) ≡ None) = search rules in

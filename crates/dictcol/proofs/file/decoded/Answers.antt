@@ -1,7 +1,0 @@
-use Rattle.std.proofs.lemmas.Result.{IfErr-weaker}
-use Rattle.serde_json.specs.View.{view}
-use Rattle.dictcol.proofs.Says.{reads-as}
-use Rattle.dictcol.proofs.file.decoded.Goals as goal
-
-pub returns-clause-err : goal.returns-clause-err
-returns-clause-err c = IfErr-weaker c.said.result _ _ (λ fault not damage text. reads-as c.args.file.now text (view c.in_ok-value.value) c.in_ok-value.ensures.ok (not damage text)) c.said.ensures.err
