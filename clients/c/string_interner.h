@@ -64,7 +64,7 @@ typedef enum si_status {
   SI_OK = 0,          /**< The call did what it was asked for. */
   SI_BAD_TEXT = 1,    /**< The bytes are not UTF-8, or not JSON where JSON is read. */
   SI_NO_SYMBOL = 2,   /**< The numbers have run out, and a new text has none. */
-  SI_NO_MEMORY = 3,   /**< Memory was refused. What was asked for changes nothing; of many texts, those before the refused one stay. */
+  SI_NO_MEMORY = 3,   /**< Memory was refused. Nothing changes, but of many texts those before it stay. */
   SI_NOTHING = 4,     /**< There is no such text, or none at this number. */
   SI_NO_ROOM = 5,     /**< The room that was handed over is too short. */
   SI_BAD_KIND = 6,    /**< There is no such kind. */
@@ -179,7 +179,7 @@ si_status si_get_utf8(const si_interner *h, const char *text, size_t text_len, s
 /** Reports whether the text is known. */
 bool si_contains(const si_interner *h, const char *text, size_t text_len);
 
-/** Lends the text at the number, until the next call that may change the handle.
+/** Lends the text at the number, until the next call that may change the handle. si_get_or_intern_part interns a part of it.
  * SI_OK; or `text` stays as it was: SI_NOTHING.
  * On SI_BUFFER, numbers between those of texts may read something, too: always UTF-8 that lies in the buffer. */
 si_status si_resolve(const si_interner *h, size_t number, si_text *SI_RESTRICT text);
@@ -189,15 +189,15 @@ si_status si_resolve(const si_interner *h, size_t number, si_text *SI_RESTRICT t
 si_status si_copy(const si_interner *h, size_t number, char *SI_RESTRICT room, size_t room_len, size_t *SI_RESTRICT len);
 
 /** Writes the number and the text of each entry to `entries`, in the order of first interning, and their count to `count`.
- * The texts are lent.
+ * The texts are lent. (On SI_STRING and SI_BUCKET, si_resolve of 0, 1, 2, .. reads them without room for all.)
  * SI_OK; SI_NO_ROOM: `entries` stays as it was, and `count` is how many it needs. */
 si_status si_entries(const si_interner *h, si_entry *SI_RESTRICT entries, size_t entries_len, size_t *SI_RESTRICT count);
 
-/** Keeps the first `len` texts with their numbers, and drops the others. Takes and gives back no memory. SI_OK. */
-si_status si_truncate(si_interner *h, size_t len);
+/** Keeps the first `len` texts with their numbers, and drops the others. Takes and gives back no memory. */
+void si_truncate(si_interner *h, size_t len);
 
-/** Gives back memory that no text needs, as far as the allocator lets it; if not, nothing changes. SI_OK. */
-si_status si_shrink(si_interner *h);
+/** Gives back memory that no text needs, as far as the allocator lets it; if not, nothing changes. */
+void si_shrink(si_interner *h);
 
 /** Makes a handle on an interner of the same kind with the same texts under the same numbers, and writes its address to
  * `copy`. Hashes no text.

@@ -231,13 +231,13 @@ class Interner:
         if kept < 0:
             raise ValueError(f"length {kept}")
         with handle.lock:
-            check(library.si_truncate(handle.at, min(kept, LIMIT - 1)))
+            library.si_truncate(handle.at, min(kept, LIMIT - 1))
 
     def shrink(self) -> None:
         """Gives back memory that no text needs, if it can."""
         handle = self._handle
         with handle.lock:
-            check(library.si_shrink(handle.at))
+            library.si_shrink(handle.at)
 
     def copy(self) -> Self:
         """Returns an interner with the same texts under the same numbers."""

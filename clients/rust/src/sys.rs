@@ -65,8 +65,8 @@ extern "C" {
         number: *mut usize,
     ) -> u32;
     pub fn si_resolve(h: *const si_interner, number: usize, text: *mut si_text) -> u32;
-    pub fn si_truncate(h: *mut si_interner, len: usize) -> u32;
-    pub fn si_shrink(h: *mut si_interner) -> u32;
+    pub fn si_truncate(h: *mut si_interner, len: usize);
+    pub fn si_shrink(h: *mut si_interner);
     pub fn si_clone(h: *const si_interner, copy: *mut *mut si_interner) -> u32;
     pub fn si_equal(h: *const si_interner, other: *const si_interner) -> bool;
     pub fn si_to_json(

@@ -14,7 +14,7 @@ use Rattle.string_interner.specs.Text.{Text}
 use Rattle.string_interner.specs.Json.{json_of_texts}
 use Rattle.string_interner.specs.declared.backend.InternError.TheVariants.{NoSymbol as InternNoSymbol, Memory}
 use Rattle.string_interner.specs.declared.json.JsonError.{JsonError}
-use Rattle.handles.specs.Any.{FindsNumber, Interned, IsCopy, IsEmpty, IsMade, IsShrunk, KeepsFirst, kind_of, text_at, texts_in}
+use Rattle.handles.specs.Any.{FindsNumber, Interned, IsCopy, IsEmpty, IsMade, kind_of, text_at, texts_in}
 use Rattle.handles.specs.Kind.{code_of_kind}
 use Rattle.handles.specs.Status.{Tells, code_of_done, status_of_json}
 use Rattle.handles.specs.declared.kind.Kind.{Kind}
@@ -121,18 +121,6 @@ abbrev pub CopiesText : ℕ → AnyInterner → Result (Unit {0}) Status → Lis
 CopiesText number any outcome room after len told = MatchOption (text_at any number)
     ((outcome ≡ Err Nothing) × (after ≡ room) × (told ≡ len))
     (λ text. CopiesOut text outcome room after told)
-
--- ---- all texts
-
--- The first texts are kept.
-abbrev pub Truncates : ℕ → AnyInterner → Result (Unit {0}) Status → AnyInterner → Type 0
-Truncates len old (Ok _) new = KeepsFirst len old new
-Truncates len old (Err _) new = ⊥
-
--- Memory is given back.
-abbrev pub Shrinks : AnyInterner → Result (Unit {0}) Status → AnyInterner → Type 0
-Shrinks old (Ok _) new = IsShrunk old new
-Shrinks old (Err _) new = ⊥
 
 -- ---- JSON
 

@@ -44,7 +44,8 @@ impl Slot {
     }
 }
 
-/// The address of a handle that C gives back, or null: `si_interner *` of C.
+/// The address of a handle that C gives back, or null: `si_interner *` of C. A struct of one pointer is passed by value as that
+/// pointer is.
 #[repr(C)]
 pub struct Returned {
     at: *mut Handle,

@@ -3,8 +3,8 @@
 ghost use Rattle.std.specs.Prelude.{◌≡◌, ◌↔◌, IsSome, IsTrue, length, Result};
 ghost use Rattle.std.specs.Str.{IsUtf8};
 ghost use Rattle.string_interner.specs.Text.{first};
-ghost use Rattle.handles.specs.Any.{any_eq, texts_in};
-ghost use Rattle.handles.specs.Calls.{Answers, Copies, CopiesOut, CopiesText, Fills, FillsMade, FindsBytes, FindsText, InternsBytes, InternsText, MakesNew, MakesRoom, ResolvesNumber, Shrinks, Truncates};
+ghost use Rattle.handles.specs.Any.{IsShrunk, KeepsFirst, any_eq, texts_in};
+ghost use Rattle.handles.specs.Calls.{Answers, Copies, CopiesOut, CopiesText, Fills, FillsMade, FindsBytes, FindsText, InternsBytes, InternsText, MakesNew, MakesRoom, ResolvesNumber};
 ghost use Rattle.handles.specs.Encode.{InternsParts, ListsEntries};
 ghost use Rattle.handles.specs.Part.{InternsPart};
 
@@ -101,19 +101,17 @@ pub fn contains(h: &mut Handle, bytes: &[u8]) -> bool
 }
 
 /// Keeps the first `len` texts.
-pub fn truncate(h: &mut Handle, len: usize) -> Result<(), Status>
-    ensures { Truncates len h.old.value result h.new.value }
+pub fn truncate(h: &mut Handle, len: usize)
+    ensures { KeepsFirst len h.old.value h.new.value }
 {
     h.interner().truncate(len);
-    Ok(())
 }
 
 /// Releases memory that no text needs, if it can.
-pub fn shrink_to_fit(h: &mut Handle) -> Result<(), Status>
-    ensures { Shrinks h.old.value result h.new.value }
+pub fn shrink_to_fit(h: &mut Handle)
+    ensures { IsShrunk h.old.value h.new.value }
 {
     h.interner().shrink_to_fit();
-    Ok(())
 }
 
 /// Returns the text at a number. It lives until the next call on the handle.

@@ -4,8 +4,8 @@
 ghost use Rattle.std.specs.Prelude.{◌≡◌, ◌↔◌, IsTrue, IsSome, length};
 ghost use Rattle.std.specs.Str.{IsUtf8};
 ghost use Rattle.string_interner.specs.Text.{first};
-ghost use Rattle.handles.specs.Any.{ReadsAs, ReadsAsExactly, any_eq, texts_in};
-ghost use Rattle.handles.specs.Calls.{Answers, Copies, CopiesText, FillsMade, FindsBytes, FindsText, InternsBytes, InternsText, MakesNew, MakesRoom, ReadsJson, ResolvesNumber, Shrinks, TellsDone, Truncates, WritesJson};
+ghost use Rattle.handles.specs.Any.{IsShrunk, KeepsFirst, ReadsAs, ReadsAsExactly, any_eq, texts_in};
+ghost use Rattle.handles.specs.Calls.{Answers, Copies, CopiesText, FillsMade, FindsBytes, FindsText, InternsBytes, InternsText, MakesNew, MakesRoom, ReadsJson, ResolvesNumber, TellsDone, WritesJson};
 ghost use Rattle.handles.specs.Encode.{InternsParts, ListsEntries};
 ghost use Rattle.handles.specs.Part.{InternsPart};
 
@@ -185,18 +185,18 @@ pub extern "C" fn si_copy(h: &mut Handle, number: usize, room: &mut [u8], len: &
 
 /// Keeps the first `len` texts.
 #[unsafe(no_mangle)]
-pub extern "C" fn si_truncate(h: &mut Handle, len: usize) -> u32
-    ensures { TellsDone (λ outcome. Truncates len h.old.value outcome h.new.value) result }
+pub extern "C" fn si_truncate(h: &mut Handle, len: usize)
+    ensures { KeepsFirst len h.old.value h.new.value }
 {
-    finish(calls::truncate(h, len))
+    calls::truncate(h, len);
 }
 
 /// Releases memory that no text needs, if it can.
 #[unsafe(no_mangle)]
-pub extern "C" fn si_shrink(h: &mut Handle) -> u32
-    ensures { TellsDone (λ outcome. Shrinks h.old.value outcome h.new.value) result }
+pub extern "C" fn si_shrink(h: &mut Handle)
+    ensures { IsShrunk h.old.value h.new.value }
 {
-    finish(calls::shrink_to_fit(h))
+    calls::shrink_to_fit(h);
 }
 
 /// Makes a second handle, on a copy of what the first holds, and writes its address.
