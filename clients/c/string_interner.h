@@ -128,12 +128,12 @@ si_status si_new(si_interner **out, si_kind kind);
  * for each on SI_BUFFER, where a text counts with its length, which takes 1 byte up to 127, 2 up to 16,383, and so on. */
 si_status si_with_capacity(si_interner **out, si_kind kind, size_t capacity);
 
-/** The same as si_new, under a hasher with two keys, SipHash-1-3. If the keys are random (from getrandom, say) and secret, nobody
- * can choose texts that have one hash. It takes longer than the hasher without keys, above all for long texts. What calls write
- * and return does not depend on the hasher. A copy by si_clone has the same keys. */
+/** The same as si_new, but the handle hashes by two keys (SipHash-1-3). If these are random (from getrandom, say) and secret,
+ * nobody can choose texts that have one hash. A call that is handed a text then takes longer, above all for a long one. What it
+ * writes and returns does not depend on the keys. A copy by si_clone has the same keys. */
 si_status si_new_keyed(si_interner **out, si_kind kind, uint64_t key0, uint64_t key1);
 
-/** The same as si_with_capacity, under the hasher with these keys. */
+/** The same as si_with_capacity, with keys: see si_new_keyed. */
 si_status si_with_capacity_keyed(si_interner **out, si_kind kind, size_t capacity, uint64_t key0, uint64_t key1);
 
 /** Frees the handle and what it holds. Does nothing if it is null. */
@@ -220,11 +220,11 @@ si_status si_from_json(si_interner **out, si_kind kind, const char *json, size_t
 /** The same as si_from_json, but repeats are refused: SI_REPEATED. */
 si_status si_from_json_exact(si_interner **out, si_kind kind, const char *json, size_t json_len);
 
-/** The same as si_from_json, under the hasher with these keys: see si_new_keyed. */
+/** The same as si_from_json, with keys: see si_new_keyed. */
 si_status si_from_json_keyed(si_interner **out, si_kind kind, const char *json, size_t json_len, uint64_t key0,
                              uint64_t key1);
 
-/** The same as si_from_json_exact, under the hasher with these keys. */
+/** The same as si_from_json_exact, with keys: see si_new_keyed. */
 si_status si_from_json_exact_keyed(si_interner **out, si_kind kind, const char *json, size_t json_len, uint64_t key0,
                                    uint64_t key1);
 

@@ -51,9 +51,9 @@ Numbers are 0, 1, 2, .. on `string` and `bucket`. On `buffer`, which takes the l
 Hasher = Literal["keyed", "fixed"] | tuple[SupportsIndex, SupportsIndex]
 """How texts are hashed, which changes no answer, and only how long a call takes.
 
-`keyed` is SipHash-1-3 under two random keys of this process; so nobody can choose texts that all hash alike, which would make
-each call slow. Two numbers below 2 ** 64 are keys of your own, random and secret. `fixed` has no keys. It is faster, above all
-for long texts, and fit for texts that nobody chooses to do harm: whoever does finds as many with one hash as he likes.
+`keyed` is SipHash-1-3 under two random keys of this process, so nobody can choose texts that all hash alike, which would make
+each call slow. Two numbers below 2 ** 64 are keys of your own: let them be random, and secret. `fixed` has no keys, and is
+faster, above all for long texts. It is for texts that no attacker chooses, because any number with one hash are easily found.
 """
 
 Typecode = Literal["I", "Q"]
