@@ -431,7 +431,7 @@ def try_chosen_lines(program):
     best of three runs."""
     faults = []
     chosen, others = chosen_lines(CHOSEN), [b"%032d" % number for number in range(CHOSEN)]
-    for word in b"encode", b"count":
+    for word in b"encode", b"count", b"decode":
         times = []
         for lines in others, chosen:
             texts = [b'"%s"' % line for line in lines]

@@ -190,7 +190,7 @@ pub fn answer<W: Write>(
     ensures silent { IsOk result ⊎ (IsErrAnd result IsWriteFault ⊎ (output.new ≡ output.old)) }
 {
     match task {
-        Task::Decode => file::decode(alloc, text_of(bytes)?, output),
+        Task::Decode => file::decode(alloc, hasher, text_of(bytes)?, output),
         Task::Write(form, choice) => write_form(alloc, hasher, form, choice, bytes, output),
     }
 }

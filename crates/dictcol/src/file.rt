@@ -20,10 +20,14 @@ use crate::hasher::LineHasher;
 use serde_json::{Value, json};
 use std::alloc::{AllocError, Global};
 use std::io::Write;
-use string_interner::FastStringInterner;
-use string_interner::backend::Backend;
+use string_interner::backend::{Backend, DefaultBackend};
+use string_interner::dedup::WindowIndex;
 use string_interner::json::JsonError;
+use string_interner::{DefaultSymbol, StringInterner};
 use uses::column::Column;
+
+/// The texts of a file.
+type Dictionary = StringInterner<DefaultBackend, LineHasher, WindowIndex<DefaultSymbol>>;
 
 /// Returns the array of the numbers.
 fn array_of(alloc: Global, numbers: &[usize]) -> Result<Value, AllocError>
@@ -68,13 +72,13 @@ pub fn encoded<B: Backend>(
 }
 
 /// Reads the dictionary.
-fn dictionary_of(alloc: Global, file: &Value) -> Result<FastStringInterner, Fault>
+fn dictionary_of(alloc: Global, hasher: LineHasher, file: &Value) -> Result<Dictionary, Fault>
     ensures ok { IfOk result (λ dictionary. get (codes "dictionary") (view file.now) ≡ Some (json_of_texts dictionary.texts)) }
     ensures err { IfErr result (λ fault. IsDamage fault → (texts : List Text) → IsDistinct texts
         → get (codes "dictionary") (view file.now) ≢ Some (json_of_texts texts)) }
 {
     let value = file.get("dictionary").ok_or(Fault::NoDictionary)?;
-    match FastStringInterner::from_json_exact(alloc, value) {
+    match Dictionary::from_json_exact_with_hasher(alloc, value, hasher) {
         Ok(dictionary) => Ok(dictionary),
         Err(JsonError::NotAText { index }) => Err(Fault::NotAText(index)),
         Err(JsonError::Repeated { index }) => Err(Fault::Repeated(index)),
@@ -86,7 +90,7 @@ fn dictionary_of(alloc: Global, file: &Value) -> Result<FastStringInterner, Faul
 }
 
 /// Returns the texts of the dictionary, each of which must be one line.
-fn texts_of(alloc: Global, dictionary: &FastStringInterner) -> Result<Vec<&str>, Fault>
+fn texts_of(alloc: Global, dictionary: &Dictionary) -> Result<Vec<&str>, Fault>
     ensures ok { IfOk result (λ texts. texts_of texts.items ≡ dictionary.now.texts) }
     ensures distinct { IsDistinct dictionary.now.texts }
     ensures each_a_line { IfOk result (λ texts. list_any has_newline dictionary.now.texts ≡ false) }
@@ -184,12 +188,17 @@ fn end_of(file: &Value) -> Result<bool, Fault>
 
 /// Writes the text that the file says. Faults are looked for in the order of its members, and nothing is written before all
 /// members are known to be good.
-fn write_said<W: Write>(alloc: Global, file: &Value, output: &mut W) -> Result<(), Fault>
+fn write_said<W: Write>(
+    alloc: Global,
+    hasher: LineHasher,
+    file: &Value,
+    output: &mut W,
+) -> Result<(), Fault>
     ensures written { OnOk result (Writes (SaysText (view file.now)) (W.contents output.old) (W.contents output.new)) }
     ensures err { IfErr result (λ fault. IsDamage fault → (text : Text) → ¬ (SaysText (view file.now) text)) }
     ensures silent { IsOk result ⊎ (IsErrAnd result IsWriteFault ⊎ (output.new ≡ output.old)) }
 {
-    let dictionary = dictionary_of(alloc, file)?;
+    let dictionary = dictionary_of(alloc, hasher, file)?;
     let texts = texts_of(alloc, &dictionary)?;
     let lines = lines_of(alloc, &texts, numbers_of(file)?)?;
     let is_ended = end_of(file)?;
@@ -224,7 +233,12 @@ fn parsed(alloc: Global, file: &str) -> Result<Value, Fault>
 
 /// Writes the text that a file was made of, line by line, or finds where the file is damaged. Nothing is written of a damaged
 /// file.
-pub fn decode<W: Write>(alloc: Global, file: &str, output: &mut W) -> Result<(), Fault>
+pub fn decode<W: Write>(
+    alloc: Global,
+    hasher: LineHasher,
+    file: &str,
+    output: &mut W,
+) -> Result<(), Fault>
     ensures written { OnOk result (Writes (Decodes file.now) (W.contents output.old) (W.contents output.new)) }
 
     // A file that says a text is never called damaged.
@@ -234,5 +248,5 @@ pub fn decode<W: Write>(alloc: Global, file: &str, output: &mut W) -> Result<(),
     ensures silent { IsOk result ⊎ (IsErrAnd result IsWriteFault ⊎ (output.new ≡ output.old)) }
 {
     let value = parsed(alloc, file)?;
-    write_said(alloc, &value, output)
+    write_said(alloc, hasher, &value, output)
 }

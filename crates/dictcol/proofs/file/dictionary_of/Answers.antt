@@ -10,23 +10,23 @@ use Rattle.dictcol.proofs.file.dictionary_of.Goals as goal
 pub returns-in-Err-NotAText-clause-err : goal.returns-in-Err-NotAText-clause-err
 returns-in-Err-NotAText-clause-err c = λ damage texts distinct e.
     let found : Some (view c.in_ok-value.value.now) ≡ get (codes "dictionary") (view c.args.file.now) = search rules in
-    let told : c.from_json_exact.result ≡ Err (NotAText c.in-Err-NotAText.index) = search rules in
-    subst IsRead told (distinct-read (number_below (2 ^ 32 - 1)) length texts (view c.in_ok-value.value.now) c.from_json_exact.result distinct (same_Some _ _ (found ∙ e)) c.from_json_exact.ensures.reads)
+    let told : c.from_json_exact_with_hasher.result ≡ Err (NotAText c.in-Err-NotAText.index) = search rules in
+    subst IsRead told (distinct-read (number_below (2 ^ 32 - 1)) length texts (view c.in_ok-value.value.now) c.from_json_exact_with_hasher.result distinct (same_Some _ _ (found ∙ e)) c.from_json_exact_with_hasher.ensures.reads)
 
 pub returns-in-Err-Repeated-clause-err : goal.returns-in-Err-Repeated-clause-err
 returns-in-Err-Repeated-clause-err c = λ damage texts distinct e.
     let found : Some (view c.in_ok-value.value.now) ≡ get (codes "dictionary") (view c.args.file.now) = search rules in
-    let told : c.from_json_exact.result ≡ Err (Repeated c.in-Err-Repeated.index) = search rules in
-    subst IsRead told (distinct-read (number_below (2 ^ 32 - 1)) length texts (view c.in_ok-value.value.now) c.from_json_exact.result distinct (same_Some _ _ (found ∙ e)) c.from_json_exact.ensures.reads)
+    let told : c.from_json_exact_with_hasher.result ≡ Err (Repeated c.in-Err-Repeated.index) = search rules in
+    subst IsRead told (distinct-read (number_below (2 ^ 32 - 1)) length texts (view c.in_ok-value.value.now) c.from_json_exact_with_hasher.result distinct (same_Some _ _ (found ∙ e)) c.from_json_exact_with_hasher.ensures.reads)
 
 pub returns-in-Err-NotANumber-clause-err : goal.returns-in-Err-NotANumber-clause-err
 returns-in-Err-NotANumber-clause-err c = λ damage texts distinct e.
     let found : Some (view c.in_ok-value.value.now) ≡ get (codes "dictionary") (view c.args.file.now) = search rules in
-    let told : c.from_json_exact.result ≡ Err NotANumber = search rules in
-    subst IsRead told (distinct-read (number_below (2 ^ 32 - 1)) length texts (view c.in_ok-value.value.now) c.from_json_exact.result distinct (same_Some _ _ (found ∙ e)) c.from_json_exact.ensures.reads)
+    let told : c.from_json_exact_with_hasher.result ≡ Err NotANumber = search rules in
+    subst IsRead told (distinct-read (number_below (2 ^ 32 - 1)) length texts (view c.in_ok-value.value.now) c.from_json_exact_with_hasher.result distinct (same_Some _ _ (found ∙ e)) c.from_json_exact_with_hasher.ensures.reads)
 
 pub returns-in-Err-NotAList-clause-err : goal.returns-in-Err-NotAList-clause-err
 returns-in-Err-NotAList-clause-err c = λ damage texts distinct e.
     let found : Some (view c.in_ok-value.value.now) ≡ get (codes "dictionary") (view c.args.file.now) = search rules in
-    let told : c.from_json_exact.result ≡ Err NotAList = search rules in
-    subst IsRead told (distinct-read (number_below (2 ^ 32 - 1)) length texts (view c.in_ok-value.value.now) c.from_json_exact.result distinct (same_Some _ _ (found ∙ e)) c.from_json_exact.ensures.reads)
+    let told : c.from_json_exact_with_hasher.result ≡ Err NotAList = search rules in
+    subst IsRead told (distinct-read (number_below (2 ^ 32 - 1)) length texts (view c.in_ok-value.value.now) c.from_json_exact_with_hasher.result distinct (same_Some _ _ (found ∙ e)) c.from_json_exact_with_hasher.ensures.reads)
