@@ -65,7 +65,8 @@ def names_a_type(text, at):
 
 def without_comments(text):
     """The text without comments and imports, on which no verdict rests."""
-    lines = (line for line in text.splitlines() if not re.match(r"\s*(?://|--|(?:pub )?(?:ghost )?use |(?:pub )?mod \w+;)", line))
+    text = re.sub(r"^ *(?:pub )?(?:ghost )?use [^;{\n]*(?:\{[^{}]*\})?;", "", text, flags=re.M)
+    lines = (line for line in text.splitlines() if not re.match(r"\s*(?://|--|use |(?:pub )?mod \w+;)", line))
     return "\n".join(line.rstrip() for line in lines if line.strip())
 
 
@@ -78,4 +79,4 @@ def outside_functions(text):
 
 def items(text):
     """The items of a source text without their functions: types, traits, impls, constants and macros."""
-    return [it for it in re.split(r"^(?=\S)(?!\})", outside_functions(text), flags=re.M) if not re.match(r"(?:pub )?mod \w+;|$", it)]
+    return [it for it in re.split(r"^(?=\S)(?![}>])", outside_functions(text), flags=re.M) if not re.match(r"(?:pub )?mod \w+;|$", it)]

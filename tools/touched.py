@@ -5,13 +5,14 @@ The file tools/tried-in-full names the last commit on which all planted bugs of 
 toolchain. A planted bug is touched if, since then,
 
   - its own file is new or has changed,
-  - its function has changed, or a proof file of that function,
+  - its function has changed, or the head of the `impl` around it, or a proof file of that function,
   - the file that it changes has changed outside functions (types, invariants, ghost members),
   - a function that its function or its own text calls has another contract,
   - a trait's contract for a method of its function's name has changed,
-  - or a definition or a type has changed that its function cites, by itself or through other definitions.
+  - or a definition or a type has changed that its function cites, by itself or through other definitions; a type has changed,
+    too, if it has a trait that it had not.
 
-All this is told by names, so more are touched than need be. With no such commit, or with another toolchain, all are. What
+What is new beside what was there touches nothing else. All this is told by names, so more are touched than need be. With no such commit, or with another toolchain, all are. What
 tries the bugs (tools/*.py and tools/refuse-edits) is not considered: its own tests judge it.
 """
 
@@ -20,11 +21,12 @@ import subprocess
 from functools import cache
 
 from edits import TOP, below, crates, edits_of
-from source import functions, functions_of_traits, items, outside_functions, without_comments
+from source import block_around, functions, functions_of_traits, items, outside_functions, without_comments
 
 TRIED = TOP / "tools/tried-in-full"
 WORD = re.compile(r"[\w'-]+")
 DEFINES = re.compile(r"^ *(?:(?:pub|abbrev|unfoldable) )+(?:record |data )?([^\s:(]+)", re.M)
+IMPL_OF_TRAIT = re.compile(r"impl\b[^{]*? for &?(?:'\w+ )?(\w+)")
 RECORD = re.compile(r"^ *(?:pub )?(?:record|data) (\S+)")
 
 
@@ -35,10 +37,11 @@ def git(*words):
 
 
 def functions_by_name(text):
-    """For each name the texts of the functions that have it."""
+    """For each name the texts of the functions that have it, each behind the head of its block."""
     found = {}
     for function in functions(text):
-        found.setdefault(function.name, []).append(without_comments(function.text))
+        block = block_around(text, function)
+        found.setdefault(function.name, []).append((block and block[0], without_comments(function.text)))
     return found
 
 
@@ -83,11 +86,20 @@ class Changes:
         return self.changed_names(crate, lambda text: [(it.name, without_comments(it.contract)) for it in functions(text)])
 
     def changed_names(self, crate, named_texts, suffix=".rt"):
-        """The names that have other texts than before, where a function gives the names and texts of a file."""
+        """The names that lack a text that they had before, where a function gives the names and texts of a file."""
         names = set()
         for versions in self.changed_below(crate, suffix):
             old, new = map(set, map(named_texts, versions))
-            names |= {name for name, _ in old ^ new}
+            names |= {name for name, _ in old - new}
+        return names
+
+    def types_with_new_traits(self, crate):
+        """The types for which a trait is implemented as it was not before, and the ghost members of these."""
+        names = set()
+        for versions in self.changed_below(crate, ".rt"):
+            old, new = (set(items(text)) for text in versions)
+            for head in (match for it in new - old if (match := IMPL_OF_TRAIT.match(it))):
+                names |= {head[1], *re.findall(r"\bghost (\w+)", head.string)}
         return names
 
     @cache
@@ -96,6 +108,7 @@ class Changes:
         another."""
         names = self.changed_names(crate, lambda text: [(name, it) for it in items(text) for name in names_of(it)])
         names |= self.changed_names(crate, lambda text: [(name, it) for defined, it in definitions(text) for name in defined], ".antt")
+        names |= self.types_with_new_traits(crate)
         cited = [(defined, set(WORD.findall(text))) for defined, text in all_definitions(crate)] if names else []
         while more := {name for defined, words in cited if words & names for name in defined} - names:
             names |= more
@@ -122,6 +135,9 @@ class Changes:
 def names_of(item):
     """What an item of a source file declares or is about: its own name, its types, and its ghost members."""
     head = item.partition("{")[0]
+    # The head of an `impl` of methods alone counts as a part of each of them.
+    if head.startswith("impl") and " for " not in head and "ghost " not in item:
+        return set()
     return {*re.findall(r"\b[A-Z]\w+", head), *re.findall(r"\bghost (\w+)", item), *re.findall(r"\b(?:const|macro_rules!) (\w+)", head)}
 
 

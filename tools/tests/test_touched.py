@@ -3,7 +3,7 @@
 import unittest
 from unittest import mock
 
-from small import EDITS, SmallRepository
+from small import EDITS, SOURCE, SmallRepository
 import edits
 import touched
 
@@ -37,6 +37,9 @@ class TouchedTest(SmallRepository):
     def test_a_new_module_touches_nothing(self):
         self.assertEqual(self.touched_by(LIB, "mod shape;", "mod shape;\nmod size;"), set())
 
+    def test_an_import_over_several_lines_touches_nothing(self):
+        self.assertEqual(self.touched_by(LIB, "mod shape;", "mod shape;\n\nuse shape::{\n    Area, Shape,\n};"), set())
+
     def test_a_type_touches_its_file(self):
         low = {name for name, (crate, *_) in EDITS.items() if crate == "low"}
         self.assertEqual(self.touched_by(LIB, "side: u32", "side: u16"), low)
@@ -45,6 +48,21 @@ class TouchedTest(SmallRepository):
         self.write(ABOVE, "fn fourfold(number: u32) -> u32 {\n    Square { side: double(double(number)) }.side\n}\n")
         self.commit = self.commit_all()
         self.assertIn("doubles_instead", self.touched_by(LIB, "side: u32", "side: u16"))
+
+    def test_a_type_with_a_new_trait_touches_functions_of_other_crates_that_name_it(self):
+        self.write(ABOVE, "fn fourfold(number: u32) -> u32 {\n    Square { side: double(double(number)) }.side\n}\n")
+        self.commit = self.commit_all()
+        self.assertIn("doubles_instead", self.touched_by(LIB, "pub struct", "impl Drop for Square {\n}\n\npub struct"))
+
+    def test_a_new_function_of_a_known_name_touches_nothing(self):
+        self.write(SHAPE.replace("shape", "size"), "fn double(number: u64) -> u64\n    ensures { result ≡ 0 }\n{\n    0\n}\n")
+        self.assertEqual(self.touched(), set())
+
+    def test_the_head_of_an_impl_touches_its_methods(self):
+        self.write(LIB, SOURCE.replace("impl Shape for Square", "impl<T> Square<T>"))
+        self.commit = self.commit_all()
+        moved = "}\n\nimpl<T: Drop> Square<T> {\n    fn area"
+        self.assertIn("area_is_the_side", self.touched_by(LIB, "    fn area", f"    fn side() {{}}\n{moved}"))
 
     def test_the_contract_of_a_trait_touches_methods_of_the_name(self):
         self.assertEqual(self.touched_by(SHAPE, "self.now result };", "self.now 0 };"), {"area_is_the_side"})
