@@ -16,8 +16,8 @@
 //! ```
 //!
 //! The library hashes the texts by itself: by SipHash-1-3 under two keys of 64 bits, or by a faster hash without keys. A
-//! [`BuildHasher`] hashes no text. It gives the keys, which are what it hashes the bytes 0 and 1 to. So codes are as hard to
-//! foresee as these two numbers are, and texts are found under every builder, even one whose hashes are all equal. What an
+//! [`BuildHasher`] hashes no text. It gives the keys, which are its hashes of two values of this crate. So codes are as hard to
+//! foresee as these two hashes are, and texts are found under every builder, even one whose hashes are all equal. What an
 //! interner returns does not depend on its hasher.
 
 use std::fmt;
@@ -84,7 +84,8 @@ pub trait InternerHasher {
 
 impl<S: BuildHasher> InternerHasher for S {
     fn keys(&self) -> Option<Keys> {
-        Some([0_u8, 1].map(|number| self.hash_one(number)))
+        // Of values that no program hashes, because whoever sees these two codes knows the keys.
+        Some([0_u8, 1].map(|number| self.hash_one(("key of a string interner", number))))
     }
 }
 
