@@ -58,19 +58,20 @@
 //!
 //! # Why it is safe
 //!
-//! All `unsafe` blocks of this crate are in the module `handle`. They stand on the rules in the front of `string_interner.h`, and
-//! each call of the library keeps them so:
+//! All `unsafe` blocks of this crate are in the module `handle`. They rest on the rules at the top of `string_interner.h`, and
+//! each call of the library keeps them:
 //!
 //! | Rule | Kept by |
 //! |---|---|
-//! | 1: a handle is zeros at first, changed by calls alone, and not copied | `Handle` begins as zeros, its fields are private, it is no `Copy`, and is freed once, by `Drop` |
-//! | 2: pointers are not null and as long as they say; what is written to holds a value | all come from references, slices and texts, which are set before the call |
-//! | 3: what is handed over does not overlap | what is written to is a local variable; a lent text borrows the `Handle`, so calls that may change it are not handed one |
+//! | 1: a handle is what a call wrote, until it is freed; it is not null | `Handle` has what a call wrote as a private `NonNull`, is no `Copy`, and is freed once, by `Drop` |
+//! | 2: a pointer is aligned, and leads to as much as the length behind it says | all come from references, slices, texts and local variables |
+//! | 3: what a call writes to overlaps nothing else that it is handed | it is a local variable, or a `Vec` that nothing else borrows |
 //! | 4: a call that may change a handle has it alone | calls that only read take `&self`, and all others `&mut self`; no call of the library calls back |
-//! | 5: a lent text is not read after a call that may change its handle | it borrows the `Handle`, and calls that may change it take `&mut self` |
+//! | 5: a lent text is not read after a call that may change its handle, nor handed to one | it borrows the `Handle`, and calls that may change it take `&mut self` |
 //! | 6: one allocator; no signal handlers or forks | owed by the program, as for any C library and for Rust's own allocator |
-//! | 7: bytes that are not looked at are UTF-8 | they are those of a `&str` |
-//! | 8: static bytes stay | they are those of a `&'static str` |
+//!
+//! Three calls owe more. `si_get_or_intern_utf8` and `si_get_utf8` take bytes for UTF-8 without a look: they are those of a
+//! `&str`. `si_get_or_intern_static` takes bytes that stay: they are those of a `&'static str`.
 
 #![warn(
     missing_docs,

@@ -98,7 +98,7 @@
 //! A handle of the library is private, even to code that is generic over backends, and so is the state of an interner:
 //!
 //! ```compile_fail,E0603
-//! let handle = string_interner::handle::Handle::new(0);
+//! let handle = string_interner::handle::Handle::new(0, None);
 //! ```
 //!
 //! ```compile_fail,E0624
