@@ -51,7 +51,7 @@ pub fn intern_fast(alloc: Global) -> Result<bool, InternError>
     Ok(again == width)
 }
 
-/// The same calls under random keys, which make it no slower for texts that an attacker chooses.
+/// The same calls under keys. If they are random and secret, texts that an attacker chooses make it no slower.
 pub fn intern_keyed(alloc: Global, key0: u64, key1: u64) -> Result<bool, InternError>
     ensures { IfOk result (λ same. same ≡ true) }
 {

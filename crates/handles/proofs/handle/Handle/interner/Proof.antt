@@ -1,4 +1,4 @@
--- `inner` lends the interner of an open handle, and the handle follows it.
+-- `interner` lends the interner of a handle, and the handle follows it.
 use Rattle.std.proofs.Common.{◌≡◌, ℕ, List, [], ◌∷◌, refl, sym, ap, ◌∙◌}
 use seplogic.Ra.Ura.{Ura}
 use base.Fraction.{full_share}

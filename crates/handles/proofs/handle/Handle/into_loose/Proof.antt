@@ -1,4 +1,4 @@
--- `into_loose` takes what an open handle owns.
+-- `into_loose` takes what a handle owns.
 use Rattle.std.proofs.Common.{◌≡◌, List, [], ◌∷◌, ◌++◌, refl, sym, subst}
 use mir.Val.{Val, vptr}
 use base.Logic.{SProp, ent, emp, id⊢}

@@ -1,4 +1,4 @@
--- `of_loose` hands what the pointer owns to an open handle.
+-- `of_loose` hands what the pointer owns to a handle.
 use Rattle.std.proofs.Common.{◌≡◌, List, [], ◌∷◌, ◌++◌, refl, sym, subst}
 use mir.Val.{Val, vptr}
 use base.Logic.{SProp, ent, emp, id⊢}
