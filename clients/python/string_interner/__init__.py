@@ -208,7 +208,8 @@ class Interner:
     def resolve_all(self, numbers: Iterable[SupportsIndex]) -> list[str]:
         """Returns the text with each number, in order. Raises KeyError at a number without one.
 
-        Undoes `intern_all`, in about as long.
+        Undoes `intern_all`, in about as long. On the backend `buffer`, a number between those of texts may read something, or
+        raise KeyError.
         """
         wanted = copy_numbers(numbers)
         distinct = {*wanted}
