@@ -118,7 +118,7 @@ static void intern_one(si_interner *h, list *known) {
   static const char *const lasting[] = {"", "static", "a", "\u00df", "another text that stays"};
   text given = some_text();
   size_t number = 7777;
-  si_status told;
+  si_result told;
   switch (below(3)) {
   case 0:
     told = si_get_or_intern(h, given.bytes, given.len, &number);
@@ -147,7 +147,7 @@ static void refuse_no_text(si_interner *h) {
 static void look_up(si_interner *h, const list *known) {
   text sought = some_text();
   size_t at = find(known, &sought), number = 7777;
-  si_status (*get)(const si_interner *, const char *, size_t, size_t *) = below(2) ? si_get : si_get_utf8;
+  si_result (*get)(const si_interner *, const char *, size_t, size_t *) = below(2) ? si_get : si_get_utf8;
   MUST(si_contains(h, sought.bytes, sought.len) == (at < known->count));
   if (at < known->count) {
     MUST(get(h, sought.bytes, sought.len, &number) == SI_OK && number == known->numbers[at]);
@@ -203,7 +203,7 @@ static void intern_many(si_interner *h, list *known) {
   char bytes[8 * MOST_BYTES];
   size_t ends[8], numbers[9], len = 0, done = 7777, count = below(9), wrong_at = below(12), i;
   size_t room = below(20) ? count : below(count + 1), wanted[8], good = 0;
-  si_status told = SI_OK;
+  si_result told = SI_OK;
   for (i = 0; i < 9; i++) numbers[i] = 7777;
   for (i = 0; i < count; i++) {
     bool is_wrong = i == wrong_at;
@@ -310,7 +310,7 @@ static void write_and_read_json(si_interner *h, const list *known, si_interner *
 static void read_odd_json(si_kind kind) {
   static const struct row {
     const char *json;
-    si_status loose, exact;
+    si_result loose, exact;
     size_t len;
   } rows[] = {
       {" [ \"\\u00df\" , \"b\" ] ", SI_OK, SI_OK, 2},
@@ -326,8 +326,8 @@ static void read_odd_json(si_kind kind) {
   };
   const struct row *row = &rows[below(sizeof rows / sizeof *rows)];
   si_interner *made = NULL;
-  si_status wanted = below(2) ? row->loose : row->exact;
-  si_status (*read)(si_interner **, si_kind, const char *, size_t) = wanted == row->exact ? si_from_json_exact : si_from_json;
+  si_result wanted = below(2) ? row->loose : row->exact;
+  si_result (*read)(si_interner **, si_kind, const char *, size_t) = wanted == row->exact ? si_from_json_exact : si_from_json;
   MUST(read(&made, kind, row->json, strlen(row->json)) == wanted && (made != NULL) == (wanted == SI_OK));
   if (made) MUST(si_len(made) == row->len);
   si_free(made);
@@ -337,7 +337,7 @@ static void read_odd_json(si_kind kind) {
 static void intern_part(si_interner *h, list *known) {
   size_t at, from, to, number = 7777;
   text part = {{0}, 0};
-  si_status told;
+  si_result told;
   MUST(si_get_or_intern_part(h, next_number(known), 0, 0, &number) == SI_NOTHING && number == 7777);
   if (known->count == 0) return;
   at = below(known->count);

@@ -8,13 +8,13 @@ int main(void) {
   si_interner *animals;
   si_text text;
   size_t number, i;
-  si_status status = si_new(&animals, SI_STRING);
+  si_result status = si_new(&animals, SI_STRING);
   for (i = 0; status == SI_OK && i < sizeof words / sizeof *words; i++) {
     status = si_get_or_intern(animals, words[i], strlen(words[i]), &number);
     if (status == SI_OK) printf("%s is %zu\n", words[i], number);
   }
   if (status != SI_OK) {
-    fprintf(stderr, "demo: %s\n", si_status_text(status));
+    fprintf(stderr, "demo: %s\n", si_result_text(status));
     return 1;
   }
   if (si_resolve(animals, 2, &text) == SI_OK) printf("2 is %.*s\n", (int)text.len, text.bytes);

@@ -60,7 +60,7 @@ enum { NEW, NEW_KEYED, WITH_CAPACITY_KEYED, FROM_JSON_KEYED, FROM_JSON_EXACT_KEY
 
 static si_interner *make_by(int call, si_kind kind) {
   si_interner *made, *keyed;
-  si_status status;
+  si_result status;
   switch (call) {
   case NEW: status = si_new(&made, kind); break;
   case NEW_KEYED: status = si_new_keyed(&made, kind, 3, 4); break;

@@ -1,4 +1,6 @@
 // C++ over the header: a handle that frees itself, and texts that are string views.
+#include <csignal>
+
 #include "string_interner.h"
 #include <cstdio>
 #include <memory>
@@ -11,8 +13,8 @@ struct Free {
   void operator()(si_interner *h) const { si_free(h); }
 };
 
-void check(si_status status) {
-  if (status != SI_OK) throw std::runtime_error(si_status_text(status));
+void check(si_result status) {
+  if (status != SI_OK) throw std::runtime_error(si_result_text(status));
 }
 
 class Names {

@@ -2,9 +2,12 @@
  * read-only before they are made. Calls that change a handle are then seen to fault, so that this test can fail.
  * Linked with -Wl,--wrap=malloc,--wrap=realloc,--wrap=free. */
 #define _DEFAULT_SOURCE
+/* Before the header, because <signal.h> defines names that begin with si_ as macros. */
+#include <signal.h>
+#include <sys/wait.h>
+
 #include "string_interner.h"
 #include <setjmp.h>
-#include <signal.h>
 #include <stdio.h>
 #include <stdlib.h>
 #include <string.h>

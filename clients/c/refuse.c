@@ -34,7 +34,7 @@ void *__wrap_realloc(void *block, size_t size) {
 }
 
 /* Whether the call before was refused, so that it is to be made again. Its request was this run's. */
-static bool again(si_status told) {
+static bool again(si_result told) {
   if (told == SI_OK) return false;
   MUST(told == SI_NO_MEMORY && requests >= refused_request);
   refusals++;

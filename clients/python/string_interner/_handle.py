@@ -11,7 +11,7 @@ from array import array
 from itertools import count
 from operator import attrgetter, index
 from typing import TYPE_CHECKING, Any, Literal, SupportsIndex
-from weakref import WeakSet
+from weakref import ref
 
 from ._copies import encode
 from ._library import KINDS, LIMIT, NO_ROOM, address_of, check, library
@@ -38,6 +38,13 @@ def _keys_of(hasher: Hasher) -> tuple[int, ...]:
     return key0, key1
 
 
+class _Address(ctypes.c_void_p):
+    """The address of a handle of the library, which is freed once no call has it any more."""
+
+    def __del__(self, free: Any = library.si_free) -> None:
+        free(self)
+
+
 class Handle:
     """A handle of the library, and the lock that makes threads take turns on it."""
 
@@ -45,7 +52,7 @@ class Handle:
 
     def __init__(self, backend: Backend, hasher: Literal["keyed", "fixed"]) -> None:
         """Makes one that is closed."""
-        self._address = ctypes.c_void_p()
+        self._address = _Address()
         if backend not in KINDS:
             raise ValueError(f"no backend {backend!r}")
         self.backend = backend
@@ -53,12 +60,12 @@ class Handle:
         # Reentrant, because a finalizer or a signal handler may call between any two steps of a call. No call of the library
         # is cut in two by that.
         self.lock = threading.RLock()
+        # Made before, because that may start a collection, and a finalizer may wait for a lock of a thread that forks, which
+        # waits for the registry.
+        reference = ref(self, _handles.discard)
         with _registry:
             self.serial = next(_serials)
-            _handles.add(self)
-
-    def __del__(self, free: Any = library.si_free) -> None:
-        free(self._address)
+            _handles.add(reference)
 
     @classmethod
     def make(cls, backend: Backend, capacity: int, hasher: Hasher) -> Handle:
@@ -98,8 +105,11 @@ class Handle:
     @property
     def at(self) -> ctypes.c_void_p:
         """The handle of the library, which takes no call with null for one. Raises ValueError if there is none."""
-        self.check_open()
-        return self._address
+        # Read once, because a signal handler may close it between any two steps.
+        address = self._address
+        if address.value is None:
+            raise ValueError("the interner is closed")
+        return address
 
     def check_open(self) -> None:
         """Raises ValueError if it is closed."""
@@ -108,8 +118,8 @@ class Handle:
 
     def close(self) -> None:
         """Frees the handle of the library, if there is one."""
-        address, self._address = self._address, ctypes.c_void_p()
-        library.si_free(address)
+        # Not freed at once: a signal handler may close it within a call.
+        self._address = _Address()
 
     def write_json(self) -> bytes:
         """The JSON array of all texts."""
@@ -149,7 +159,7 @@ class Handle:
 
 _registry = threading.RLock()
 """Held while a handle is made, and by a thread that forks, from the last lock that it takes to the fork."""
-_handles: WeakSet[Handle] = WeakSet()
+_handles: set[ref[Handle]] = set()
 _serials = count()
 
 
@@ -175,7 +185,8 @@ def _hold_all() -> None:
     while True:
         _registry.acquire()
         newest = held[-1].serial if held else -1
-        later = sorted((handle for handle in _handles if handle.serial > newest), key=attrgetter("serial"))
+        handles = (reference() for reference in list(_handles))
+        later = sorted((it for it in handles if it is not None and it.serial > newest), key=attrgetter("serial"))
         if not later:
             break
         _registry.release()

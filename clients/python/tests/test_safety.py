@@ -15,6 +15,7 @@ from array import array
 from contextlib import contextmanager
 
 from string_interner import Interner
+from string_interner._handle import _registry
 
 BACKENDS = ("string", "bucket", "buffer")
 
@@ -494,6 +495,38 @@ class CallsBetweenSteps(unittest.TestCase):
             signal.signal(signal.SIGALRM, before)
         self.assertGreater(handled, 100)
         self.assertEqual(failed, [])
+
+    def test_a_signal_handler_closes_within_a_call(self):
+        self.assertEqual(run_apart("""
+            import random, signal
+            from string_interner import Interner
+            current, text = None, "tiger" * 20
+            signal.signal(signal.SIGALRM, lambda *_: current and current.close())
+            chance, closed = random.Random(5), 0
+            for _ in range(1000):
+                current = Interner([text, "x"])
+                signal.setitimer(signal.ITIMER_REAL, 0.00005 + chance.random() * 0.0003)
+                try:
+                    while current.resolve(0) == text:
+                        pass
+                except ValueError:
+                    closed += 1
+            print(closed)
+        """), (0, "1000", ""))
+
+    def test_no_collection_runs_while_a_handle_is_registered(self):
+        found = []
+        note = lambda phase, _: found.append(_registry._is_owned())
+        threshold = gc.get_threshold()
+        gc.callbacks.append(note)
+        gc.set_threshold(1)
+        try:
+            interners = [Interner() for _ in range(1000)]
+        finally:
+            gc.set_threshold(*threshold)
+            gc.callbacks.remove(note)
+        self.assertGreater(len(found), len(interners))
+        self.assertNotIn(True, found)
 
 
 if __name__ == "__main__":

@@ -25,7 +25,7 @@ use std::hash::{BuildHasher, DefaultHasher, RandomState};
 use std::sync::LazyLock;
 
 /// Two keys of SipHash-1-3.
-pub(crate) type Keys = [u64; 2];
+pub type Keys = [u64; 2];
 
 /// The hasher of an interner that names no other: SipHash-1-3 under random keys, which each process chooses once.
 ///
@@ -72,14 +72,21 @@ impl fmt::Debug for KeyedHashBuilder {
     }
 }
 
-/// A hasher that an interner may have: each [`BuildHasher`], and those of this module. Other crates can't name this trait.
-#[diagnostic::on_unimplemented(
-    message = "an interner can't hash by `{Self}`",
-    label = "is no `BuildHasher`, and no hasher of the module `hasher`"
-)]
-pub trait InternerHasher {
-    /// Returns the keys, or `None` if it is the fast hasher.
-    fn keys(&self) -> Option<Keys>;
+pub(crate) use sealed::InternerHasher;
+
+mod sealed {
+    use super::Keys;
+
+    /// A hasher that an interner may have: each [`BuildHasher`](std::hash::BuildHasher), and those of this module. Other crates
+    /// can't name this trait.
+    #[diagnostic::on_unimplemented(
+        message = "an interner can't hash by `{Self}`",
+        label = "is no `BuildHasher`, and no hasher of the module `hasher`"
+    )]
+    pub trait InternerHasher {
+        /// Returns the keys, or `None` if it is the fast hasher.
+        fn keys(&self) -> Option<Keys>;
+    }
 }
 
 impl<S: BuildHasher> InternerHasher for S {

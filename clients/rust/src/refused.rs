@@ -115,6 +115,13 @@
 //! }
 //! ```
 //!
+//! So are the keys of a hasher:
+//!
+//! ```compile_fail,E0603
+//! use string_interner::hasher::InternerHasher;
+//! let keys = string_interner::DefaultHashBuilder.keys();
+//! ```
+//!
 //! A caller writes no backend:
 //!
 //! ```compile_fail,E0277
