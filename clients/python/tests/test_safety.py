@@ -526,7 +526,7 @@ class CallsBetweenSteps(unittest.TestCase):
             gc.set_threshold(*threshold)
             gc.callbacks.remove(note)
         self.assertGreater(len(found), len(interners))
-        self.assertNotIn(True, found)
+        self.assertFalse(any(found))
 
 
 if __name__ == "__main__":
