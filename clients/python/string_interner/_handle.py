@@ -31,6 +31,10 @@ def _keys_of(hasher: Hasher) -> tuple[int, ...]:
         return ()
     if isinstance(hasher, str):
         raise ValueError(f"no hasher {hasher!r}")
+    if not isinstance(hasher, tuple):
+        raise TypeError("a hasher is 'keyed', 'fixed' or a tuple of two keys")
+    if len(hasher) != 2:
+        raise ValueError("a hasher has two keys")
     key0, key1 = map(index, hasher)
     if not 0 <= min(key0, key1) <= max(key0, key1) < 1 << 64:
         # Without the keys, which are secret.

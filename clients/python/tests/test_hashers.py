@@ -81,7 +81,7 @@ class Hashers(unittest.TestCase):
         for make in (Interner, lambda hasher: Interner.from_json("[]", hasher=hasher)):
             for wrong in ("", "Fixed", (1, 2, 3), (1,), (-1, 0), (0, LIMIT)):
                 self.assertRaises(ValueError, make, hasher=wrong)
-            for wrong in (None, 1, ("1", "2"), (1.0, 2.0)):
+            for wrong in (None, b"ab", [1, 2], 1, ("1", "2"), (1.0, 2.0)):
                 self.assertRaises(TypeError, make, hasher=wrong)
 
     def test_no_key_is_told(self):
