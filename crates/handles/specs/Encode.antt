@@ -37,8 +37,10 @@ IsTextBetween bytes from end (Err BadText) = (from ≤ end) × (end ≤ length b
 IsTextBetween bytes from end (Err BadEnds) = ¬ ((from ≤ end) × (end ≤ length bytes))
 IsTextBetween bytes from end (Err _) = ⊥
 
--- The first parts, so many of them, are interned, and their numbers stand at the front of a list, whose rest stays.
+-- The first parts, so many of them, are interned, and their numbers stand at the front of a list, whose rest stays. It has room
+-- for the numbers of all parts.
 pub record Encoded (bytes ends before : List ℕ) (old : AnyInterner) (done : ℕ) (new : AnyInterner) (after : List ℕ) : Type 0 where
+  pub fits : length ends ≤ length before
   pub kind : kind_of new ≡ kind_of old
   pub ends_are : (i : ℕ) → i < done → IsEnd bytes ends i
   pub taken : TakesIn numbered (place old) (cost_in (kind_of old)) (contents old) (parts bytes ends done) (contents new)

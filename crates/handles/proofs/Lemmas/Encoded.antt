@@ -39,8 +39,9 @@ pub start-more : (ends : List ℕ) (done : ℕ) → start_at ends (done + 1) ≡
 start-more ends done = let is : done + 1 ≡ suc done = omega arith in ap (λ (n : ℕ). start_at ends n) is
 
 -- before the first part
-pub encoded-none : (bytes ends before : List ℕ) (old : AnyInterner) → Encoded bytes ends before old 0 old before
-encoded-none bytes ends before old = record {
+pub encoded-none : (bytes ends before : List ℕ) (old : AnyInterner) → length ends ≤ length before → Encoded bytes ends before old 0 old before
+encoded-none bytes ends before old fits = record {
+  fits = fits;
   kind = refl;
   ends_are = λ i lt. absurd (omega (arith, lt));
   taken = record { interned = refl; keeps = λ symbol text stands. stands; spent = omega arith; known = λ none. refl };
@@ -60,6 +61,7 @@ encoded-more bytes ends before old mid new done number so_far after encoded fits
     let taken = taken-more numbered (place old) (cost_in (kind_of old)) seven_eighths (contents old) (contents mid) (contents new) (parts bytes ends done) text number encoded.taken call_is in
     let stand = stand-more numbered (place old) (texts_in mid) (texts_in new) call_is.keeps (take done so_far) (parts bytes ends done) number text encoded.stand call_is.stands in
     record {
+      fits = encoded.fits;
       kind = call.kind ∙ encoded.kind;
       ends_are = λ i below. elim (cases_lt i done) as (λ _. IsEnd bytes ends i) [
         | inl lt ↦ encoded.ends_are i lt

@@ -5,7 +5,7 @@ use Rattle.handles.proofs.Lemmas.Encoded.{encoded-none, encoded-more, start-more
 use Rattle.handles.proofs.any.AnyInterner.intern_all.Goals as goal
 
 pub loop-end-init : goal.loop-end-init
-loop-end-init c = record { fits = c.if-numbers-ends.false; encoded = encoded-none _ _ _ _; index = refl; from = refl }
+loop-end-init c = record { fits = c.if-numbers-ends.false; encoded = encoded-none _ _ _ _ c.if-numbers-ends.false; index = refl; from = refl }
 
 pub loop-end-preserved : goal.loop-end-preserved
 loop-end-preserved c =
