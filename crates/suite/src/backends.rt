@@ -1,175 +1,142 @@
 //! Calls on backends, which look for no repeats: `one`, on which calls are made, and `other`.
 
 mod entries;
-mod looks;
-mod pairs;
-mod texts;
 
-use crate::fault::{Fault, Mistake};
-use crate::line::{Argument, Call, Row, call_of};
-use crate::own::{Extra, Shown};
-use looks::{Look, look_at};
-use pairs::{Pair, on_both};
-use std::io;
-use string_interner::backend::CopyBackend;
-use texts::{Change, change_one};
+use crate::counting::signal_backend;
+use crate::fault::{Failure, Mistake, Told};
+use crate::level::Level;
+use crate::line::Call;
+use crate::many::{Interning, intern_empties, numbered};
+use crate::own::Shown;
+use crate::sight::Sight;
+use crate::tell::{
+    symbol_of, tell, tell_done, tell_entries, tell_found, tell_offered, tell_symbol, tell_text,
+};
+use entries::Entries;
+use std::alloc::Global;
+use std::mem::swap;
+use string_interner::backend::{Backend, InternError};
+use string_interner::symbol::Symbol;
 
-/// A call on a backend.
-#[derive(Clone, Copy)]
-enum BackendCall {
-    Change(Change),
-    Look(Look),
-    Both(Pair),
+/// Two backends.
+#[derive(Drop)]
+pub struct Backends<B: Backend> {
+    one: B,
+    other: B,
 }
 
-/// The calls on a backend by their names.
-const CALLS: [Row<BackendCall>; 20] = [
-    ("new", Argument::Nothing, BackendCall::Change(Change::New)),
-    (
-        "with_capacity",
-        Argument::Number,
-        BackendCall::Change(Change::WithCapacity),
-    ),
-    (
-        "intern",
-        Argument::Text,
-        BackendCall::Change(Change::Intern),
-    ),
-    (
-        "intern_static",
-        Argument::StaticText,
-        BackendCall::Change(Change::InternStatic),
-    ),
-    (
-        "resolve_unchecked",
-        Argument::Text,
-        BackendCall::Change(Change::ResolveUnchecked),
-    ),
-    (
-        "letters",
-        Argument::Number,
-        BackendCall::Change(Change::Letters),
-    ),
-    (
-        "empties",
-        Argument::Number,
-        BackendCall::Change(Change::Empties),
-    ),
-    (
-        "shrink_to_fit",
-        Argument::Nothing,
-        BackendCall::Change(Change::ShrinkToFit),
-    ),
-    (
-        "truncate",
-        Argument::Number,
-        BackendCall::Change(Change::Truncate),
-    ),
-    ("count", Argument::Nothing, BackendCall::Look(Look::Count)),
-    (
-        "next_symbol",
-        Argument::Nothing,
-        BackendCall::Look(Look::NextSymbol),
-    ),
-    (
-        "resolve",
-        Argument::Number,
-        BackendCall::Look(Look::Resolve),
-    ),
-    (
-        "entry_at",
-        Argument::Nothing,
-        BackendCall::Look(Look::EntryAt),
-    ),
-    ("iter", Argument::Nothing, BackendCall::Look(Look::Iter)),
-    (
-        "as_bytes",
-        Argument::Nothing,
-        BackendCall::Look(Look::AsBytes),
-    ),
-    (
-        "texts_asked",
-        Argument::Nothing,
-        BackendCall::Look(Look::TextsAsked),
-    ),
-    ("clone", Argument::Nothing, BackendCall::Both(Pair::Clone)),
-    (
-        "try_copy",
-        Argument::Nothing,
-        BackendCall::Both(Pair::TryCopy),
-    ),
-    ("swap", Argument::Nothing, BackendCall::Both(Pair::Swap)),
-    ("equal", Argument::Nothing, BackendCall::Both(Pair::Equal)),
-];
+/// Puts a text last and calls `resolve_unchecked` with its symbol.
+fn read_back<'b, B: Backend>(backend: &'b mut B, text: &str) -> Result<&'b str, InternError> {
+    let symbol = backend.intern(text)?;
+    Ok(backend.resolve_unchecked(symbol))
+}
 
-/// Whether the backend offers a call.
-fn is_offered<B: Shown>(word: BackendCall) -> bool {
-    match word {
-        BackendCall::Look(Look::AsBytes) => B::offers(Extra::AsBytes),
-        BackendCall::Look(Look::TextsAsked) => B::offers(Extra::TextsAsked),
-        _ => true,
+/// Prints the next entry, where it was found and where the next one is, and returns whether there was one.
+fn entry_step<B: Backend>(rt: &HostRuntime, entries: &mut Entries<'_, B>) -> Result<bool, Failure> {
+    let place = entries.place();
+    match entries.next_entry() {
+        Some((symbol, text, next)) => {
+            println!(rt;
+                "  at {place}: symbol {}, text {text}, next {next}",
+                symbol.to_usize()
+            )?;
+            Ok(true)
+        }
+        None => Ok(false),
     }
 }
 
-/// Reads the call of a line. The backend must offer it.
-fn offered_call<B: Shown>(number: usize, line: &str) -> Result<(BackendCall, Call<'_>), Fault> {
-    let (word, call) = call_of(&CALLS, number, line)?;
-    if is_offered::<B>(word) {
-        return Ok((word, call));
-    }
-    Err(Fault::Line {
-        line: number,
-        mistake: Mistake::NotOffered,
-    })
-}
-
-/// Makes a call on backends.
-fn on_backends<B: CopyBackend + Shown + Drop>(
-    rt: &HostRuntime,
-    one: &mut B,
-    other: &mut B,
-    word: BackendCall,
-    call: Call<'_>,
-) -> io::Result<()> {
-    match word {
-        BackendCall::Change(kind) => change_one(rt, one, kind, call),
-        BackendCall::Look(kind) => look_at(rt, one, kind, call),
-        BackendCall::Both(kind) => on_both(rt, one, other, kind, call),
-    }
-}
-
-/// Makes the call of a line.
-fn call_line<B: CopyBackend + Shown + Drop>(
-    rt: &HostRuntime,
-    one: &mut B,
-    other: &mut B,
-    number: usize,
-    line: &str,
-) -> Result<(), Fault> {
-    let (word, call) = offered_call::<B>(number, line)?;
-    on_backends(rt, one, other, word, call)?;
-    Ok(())
-}
-
-/// Makes the calls of the lines on two backends, of which the first is called.
-fn all_calls<B: CopyBackend + Shown + Drop>(
-    rt: &HostRuntime,
-    one: &mut B,
-    other: &mut B,
-    lines: &str,
-) -> Result<(), Fault> {
-    let mut number: usize = 1;
-    for line in lines.split_terminator('\n') {
-        number = number.saturating_add(1);
-        call_line(rt, one, other, number, line)?;
+/// Prints each entry by `entry_at`, from place 0 on.
+fn entry_at<B: Backend>(rt: &HostRuntime, backend: &B) -> Told {
+    let mut entries = Entries::new(backend);
+    for _ in 0..u64::MAX {
+        if !entry_step(rt, &mut entries)? {
+            break;
+        }
     }
     Ok(())
 }
 
-/// Makes the calls of the lines on two new backends.
-pub fn backend_session<B: CopyBackend + Shown + Drop>(
-    rt: &HostRuntime,
-    lines: &str,
-) -> Result<(), Fault> {
-    all_calls::<B>(rt, &mut B::new(rt.alloc()), &mut B::new(rt.alloc()), lines)
+/// Prints how many bytes there are, and the first of them.
+fn as_bytes(rt: &HostRuntime, bytes: Option<&[u8]>) -> Told {
+    let Some(bytes) = bytes else {
+        return Err(Failure::Line(Mistake::NotOffered));
+    };
+    let first = bytes.get(..24).unwrap_or(bytes);
+    println!(rt; "{} bytes, {first:?}", bytes.len())?;
+    Ok(())
+}
+
+impl<B: Shown> Level for Backends<B> {
+    fn call(&mut self, rt: &HostRuntime, call: Call<'_>) -> Told {
+        match call.name {
+            "count" => tell(rt, &self.one.count()),
+            "next_symbol" => tell_found(rt, self.one.next_symbol()),
+            "resolve" => tell_text(rt, self.one.resolve(symbol_of(call.number)?)),
+            "entry_at" => entry_at(rt, &self.one),
+            "iter" => tell_entries(rt, &mut self.one.iter()),
+            "as_bytes" => as_bytes(rt, self.one.bytes()),
+            "texts_asked" => tell_offered(rt, self.one.texts_asked()),
+            "equal" => tell(rt, &self.one.is_equal(&self.other)),
+            "intern" | "letters" => tell_symbol(rt, self.one.intern(call.text)),
+            "intern_static" => tell_symbol(rt, self.one.intern_static(call.static_text)),
+            "resolve_unchecked" => tell_text(rt, Some(read_back(&mut self.one, call.text)?)),
+            "empties" => intern_empties(rt, self, call),
+            _ => self.change(rt, call),
+        }
+    }
+
+    fn sight(&self, _text: &str, most: usize) -> Sight {
+        signal_backend(&self.one);
+        let mut sight = Sight::new();
+        for (symbol, text) in self.one.walk() {
+            if sight.count < most {
+                sight = sight.with_entry(symbol, text, self.one.resolve(symbol) == Some(text));
+            }
+        }
+        signal_backend(&self.one);
+        sight
+            .with_symbol(self.one.next_symbol())
+            .with_number(self.one.count())
+            .with_number(self.one.bytes().map_or(0, |bytes| bytes.len()))
+    }
+}
+
+impl<B: Backend> Interning for Backends<B> {
+    fn count(&self) -> usize {
+        self.one.count()
+    }
+
+    fn finds(&self, _text: &str) -> bool {
+        false
+    }
+
+    fn intern_one(&mut self, text: &str) -> Result<usize, InternError> {
+        numbered(self.one.intern(text))
+    }
+}
+
+impl<B: Shown> Backends<B> {
+    /// Two backends with no texts.
+    pub fn new(alloc: Global) -> Self {
+        Backends {
+            one: B::new(alloc),
+            other: B::new(alloc),
+        }
+    }
+
+    /// Makes a call that prints `ok`.
+    fn change(&mut self, rt: &HostRuntime, call: Call<'_>) -> Told {
+        match call.name {
+            "new" => self.one = B::new(rt.alloc()),
+            "with_capacity" => self.one = B::with_capacity(rt.alloc(), call.number)?,
+            "shrink_to_fit" => self.one.shrink_to_fit(),
+            "truncate" => self.one.truncate(call.number),
+            "clone" => self.other = self.one.cloned()?,
+            "try_copy" => self.other = self.one.try_copy()?,
+            "swap" => swap(&mut self.one, &mut self.other),
+            _ => return Err(Failure::Line(Mistake::Call)),
+        }
+        tell_done(rt)
+    }
 }

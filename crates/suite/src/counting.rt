@@ -8,7 +8,7 @@ ghost use Rattle.std.specs.Prelude.{◌≡◌, length, slice_get};
 ghost use Rattle.std.proofs.Common.{rules, refl};
 ghost use Rattle.string_interner.specs.CountLaws.{length_grows, reads_at_length};
 
-use crate::own::{Extra, Shown};
+use crate::own::Shown;
 use std::alloc::{AllocError, Global};
 use std::cell::Cell;
 use string_interner::StringInterner;
@@ -170,12 +170,8 @@ pub fn signal<B: Backend, H: TextHasher, I: TextIndex<B::Symbol>>(
 }
 
 impl Shown for Counting {
-    fn offers(extra: Extra) -> bool {
-        extra == Extra::TextsAsked
-    }
-
-    fn texts_asked(&self) -> usize {
-        self.asked.replace(0)
+    fn texts_asked(&self) -> Option<usize> {
+        Some(self.asked.replace(0))
     }
 
     fn cloned(&self) -> Result<Self, AllocError> {

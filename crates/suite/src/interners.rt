@@ -1,298 +1,279 @@
 //! Calls on interners: `one`, on which calls are made, and `other`.
 
-mod choices;
 mod json;
-mod looks;
-mod makers;
-mod scale;
-mod texts;
 
-use crate::fault::{Fault, Mistake};
-use crate::line::{Argument, Call, Row, call_of};
-use crate::own::{CopyHasher, Extra, Shown};
+use crate::counting::signal;
+use crate::fault::{Failure, Mistake, Told};
+use crate::level::{Level, is_refused, tell_refusal};
+use crate::line::Call;
+use crate::many::{Interning, in_decimal, intern_many, numbered, written};
+use crate::own::{ScenarioHasher, Shown};
+use crate::sight::Sight;
+use crate::tell::{
+    symbol_of, tell, tell_done, tell_entries, tell_found, tell_symbol, tell_text, texts_hashed,
+};
 pub use json::{symbol_from_json, symbol_to_json};
-pub use looks::{Look, look_at, walk_over};
-pub use makers::put;
-use makers::{Maker, make};
-pub use scale::{CopyBy, put_copy};
-use scale::{Pair, on_both};
-use std::io;
+use json::{parsed, tell_read};
+use serde_json::Value;
+use std::alloc::Global;
+use std::mem::{replace, swap};
 use string_interner::StringInterner;
-use string_interner::backend::CopyBackend;
-use string_interner::dedup::CopyIndex;
-pub use texts::intern_text;
-use texts::{Change, change_one};
+use string_interner::backend::{Backend, InternError};
+use string_interner::dedup::{CopyIndex, TextHasher, TextIndex};
+use string_interner::json::JsonError;
+use string_interner::symbol::Symbol;
 
-/// A call on an interner.
-#[derive(Clone, Copy)]
-enum InternerCall {
-    Make(Maker),
-    Change(Change),
-    Look(Look),
-    Both(Pair),
+/// Two interners, the hasher under which they began, and the symbols of a call of `intern_all`.
+#[derive(Drop)]
+pub struct Interners<B: Backend, H: TextHasher, I: TextIndex<B::Symbol>> {
+    one: StringInterner<B, H, I>,
+    other: StringInterner<B, H, I>,
+    hasher: H,
+    symbols: Vec<B::Symbol>,
 }
 
-/// The calls on an interner by their names.
-const CALLS: [Row<InternerCall>; 39] = [
-    ("new", Argument::Nothing, InternerCall::Make(Maker::New)),
-    (
-        "with_hasher",
-        Argument::Nothing,
-        InternerCall::Make(Maker::WithHasher),
-    ),
-    (
-        "with_capacity",
-        Argument::Number,
-        InternerCall::Make(Maker::WithCapacity),
-    ),
-    (
-        "with_capacity_and_hasher",
-        Argument::Number,
-        InternerCall::Make(Maker::WithCapacityAndHasher),
-    ),
-    (
-        "from_iter",
-        Argument::Text,
-        InternerCall::Make(Maker::FromIter),
-    ),
-    (
-        "from_iter_numbers",
-        Argument::Number,
-        InternerCall::Make(Maker::FromIterNumbers),
-    ),
-    (
-        "from_json",
-        Argument::Text,
-        InternerCall::Make(Maker::FromJson),
-    ),
-    (
-        "from_json_exact",
-        Argument::Text,
-        InternerCall::Make(Maker::FromJsonExact),
-    ),
-    (
-        "into_backend",
-        Argument::Nothing,
-        InternerCall::Make(Maker::IntoBackend),
-    ),
-    (
-        "get_or_intern",
-        Argument::Text,
-        InternerCall::Change(Change::GetOrIntern),
-    ),
-    (
-        "get_or_intern_static",
-        Argument::StaticText,
-        InternerCall::Change(Change::GetOrInternStatic),
-    ),
-    (
-        "resolve_unchecked",
-        Argument::Text,
-        InternerCall::Change(Change::ResolveUnchecked),
-    ),
-    (
-        "letters",
-        Argument::Number,
-        InternerCall::Change(Change::Letters),
-    ),
-    (
-        "numbers",
-        Argument::Number,
-        InternerCall::Change(Change::Numbers),
-    ),
-    (
-        "choices",
-        Argument::NumberAndText,
-        InternerCall::Change(Change::Choices),
-    ),
-    (
-        "extend",
-        Argument::Text,
-        InternerCall::Change(Change::Extend),
-    ),
-    (
-        "extend_numbers",
-        Argument::Number,
-        InternerCall::Change(Change::ExtendNumbers),
-    ),
-    (
-        "intern_all",
-        Argument::Text,
-        InternerCall::Change(Change::InternAll),
-    ),
-    (
-        "intern_all_numbers",
-        Argument::Number,
-        InternerCall::Change(Change::InternAllNumbers),
-    ),
-    (
-        "shrink_to_fit",
-        Argument::Nothing,
-        InternerCall::Change(Change::ShrinkToFit),
-    ),
-    (
-        "truncate",
-        Argument::Number,
-        InternerCall::Change(Change::Truncate),
-    ),
-    ("get", Argument::Text, InternerCall::Look(Look::Get)),
-    (
-        "contains",
-        Argument::Text,
-        InternerCall::Look(Look::Contains),
-    ),
-    (
-        "next_symbol",
-        Argument::Nothing,
-        InternerCall::Look(Look::NextSymbol),
-    ),
-    (
-        "get_numbers",
-        Argument::Number,
-        InternerCall::Look(Look::GetNumbers),
-    ),
-    (
-        "resolve",
-        Argument::Number,
-        InternerCall::Look(Look::Resolve),
-    ),
-    ("len", Argument::Nothing, InternerCall::Look(Look::Len)),
-    (
-        "is_empty",
-        Argument::Nothing,
-        InternerCall::Look(Look::IsEmpty),
-    ),
-    ("iter", Argument::Nothing, InternerCall::Look(Look::Iter)),
-    (
-        "to_json",
-        Argument::Nothing,
-        InternerCall::Look(Look::ToJson),
-    ),
-    (
-        "symbol_to_json",
-        Argument::Number,
-        InternerCall::Look(Look::SymbolToJson),
-    ),
-    (
-        "symbol_from_json",
-        Argument::Text,
-        InternerCall::Look(Look::SymbolFromJson),
-    ),
-    ("clone", Argument::Nothing, InternerCall::Both(Pair::Clone)),
-    (
-        "try_copy",
-        Argument::Nothing,
-        InternerCall::Both(Pair::TryCopy),
-    ),
-    ("swap", Argument::Nothing, InternerCall::Both(Pair::Swap)),
-    ("equal", Argument::Nothing, InternerCall::Both(Pair::Equal)),
-    (
-        "json_again",
-        Argument::Nothing,
-        InternerCall::Both(Pair::JsonAgain),
-    ),
-    (
-        "json_exact_again",
-        Argument::Nothing,
-        InternerCall::Both(Pair::JsonExactAgain),
-    ),
-    (
-        "texts_asked",
-        Argument::Nothing,
-        InternerCall::Change(Change::TextsAsked),
-    ),
-];
+/// A clone of a hasher, which may have other codes.
+fn another<H: Clone + Default>(hasher: &H) -> H {
+    hasher.clone().unwrap_or_default()
+}
 
-/// Whether the backend and the hasher offer what a call needs.
-fn is_offered<B: Shown, H: CopyHasher>(word: InternerCall) -> bool {
-    match word {
-        InternerCall::Change(Change::TextsAsked) => B::offers(Extra::TextsAsked),
-        InternerCall::Both(Pair::TryCopy) => H::offers_try_copy(),
-        _ => true,
+/// What is seen of the first texts of an interner, so many at most, and of a text that may be among them.
+pub fn sight_of<B: Backend, H: TextHasher, I: TextIndex<B::Symbol>>(
+    interner: &StringInterner<B, H, I>,
+    text: &str,
+    most: usize,
+) -> Sight {
+    signal(interner);
+    let mut sight = Sight::new().with_symbol(interner.get(text));
+    for (symbol, text) in interner {
+        if sight.count < most {
+            sight = sight.with_entry(symbol, text, interner.get(text) == Some(symbol));
+        }
+    }
+    signal(interner);
+    sight
+}
+
+/// Interns a text and calls `resolve_unchecked` with its symbol.
+fn read_back<'i, B: Backend, H: TextHasher, I: TextIndex<B::Symbol>>(
+    interner: &'i mut StringInterner<B, H, I>,
+    text: &str,
+) -> Result<&'i str, InternError> {
+    let symbol = interner.get_or_intern(text)?;
+    Ok(interner.resolve_unchecked(symbol))
+}
+
+/// What a call returned that interns texts one by one: where it was refused memory, it may have interned the first.
+fn in_turn(outcome: Result<(), InternError>) -> Told {
+    match outcome {
+        Err(InternError::Memory(_)) => Err(Failure::Partly),
+        _ => Ok(outcome?),
     }
 }
 
-/// Reads the call of a line. The backend and the hasher must offer it.
-fn offered_call<B: Shown, H: CopyHasher>(
-    number: usize,
-    line: &str,
-) -> Result<(InternerCall, Call<'_>), Fault> {
-    let (word, call) = call_of(&CALLS, number, line)?;
-    if is_offered::<B, H>(word) {
-        return Ok((word, call));
+/// Whether a text has a symbol which resolves to it.
+fn is_known<B: Backend, H: TextHasher, I: TextIndex<B::Symbol>>(
+    interner: &StringInterner<B, H, I>,
+    text: &str,
+) -> bool {
+    match interner.get(text) {
+        Some(symbol) => interner.resolve(symbol) == Some(text),
+        None => false,
     }
-    Err(Fault::Line {
-        line: number,
-        mistake: Mistake::NotOffered,
-    })
 }
 
-/// Makes a call on interners.
-fn on_interners<
-    B: CopyBackend + Drop,
-    H: CopyHasher + Default + Clone + Drop,
-    I: CopyIndex<B::Symbol> + Drop,
->(
+/// Looks for the decimal numbers below a count, and prints those that have no symbol which resolves to them.
+fn get_numbers<B: Backend, H: TextHasher, I: TextIndex<B::Symbol>>(
     rt: &HostRuntime,
-    one: &mut StringInterner<B, H, I>,
-    other: &mut StringInterner<B, H, I>,
-    word: InternerCall,
+    interner: &StringInterner<B, H, I>,
+    count: usize,
+) -> Told {
+    let mut known: usize = 0;
+    for number in 0..count {
+        if is_known(interner, written(&in_decimal(number)?)) {
+            known = known.saturating_add(1);
+        } else {
+            println!(rt; "  {number} is not known")?;
+        }
+    }
+    println!(rt; "{known} known")?;
+    Ok(())
+}
+
+/// A text that no scenario interns.
+const QUESTION: &'static str = "how many texts were you asked for?";
+
+/// How often a text is asked to be interned at most, so that a backend that refuses it always is seen.
+const MOST_QUESTIONS: usize = 1 << 20;
+
+/// Prints how many texts the backend was asked for, which a `Counting` tells by two refusals for each.
+fn texts_asked<B: Backend, H: TextHasher, I: TextIndex<B::Symbol>>(
+    rt: &HostRuntime,
+    interner: &mut StringInterner<B, H, I>,
     call: Call<'_>,
-) -> io::Result<()> {
-    match word {
-        InternerCall::Make(maker) => make(rt, one, maker, call),
-        InternerCall::Change(kind) => change_one(rt, one, kind, call),
-        InternerCall::Look(kind) => look_at(rt, one, kind, call),
-        InternerCall::Both(kind) => on_both(rt, one, other, kind, call),
+) -> Told {
+    if call.scenario.backend != "counting" {
+        return Err(Failure::Line(Mistake::NotOffered));
+    }
+    let count = interner.len();
+    let mut refusals: usize = 0;
+    signal(interner);
+    for _ in 0..MOST_QUESTIONS {
+        if interner.get_or_intern(QUESTION).is_ok() {
+            break;
+        }
+        refusals = refusals.saturating_add(1);
+    }
+    interner.truncate(count);
+    signal(interner);
+    // An odd refusal is one of memory.
+    tell_refusal(rt, call.name, true, refusals % 2 == 1)?;
+    tell(rt, &(refusals / 2))
+}
+
+/// Reads an interner from a value by the call that is named.
+fn read_by<B: Backend + Drop, H: TextHasher + Default + Drop, I: TextIndex<B::Symbol> + Drop>(
+    alloc: Global,
+    name: &str,
+    value: &Value,
+) -> Result<StringInterner<B, H, I>, JsonError> {
+    match name {
+        "from_json" | "json_again" => StringInterner::from_json(alloc, value),
+        _ => StringInterner::from_json_exact(alloc, value),
     }
 }
 
-/// Makes the call of a line.
-fn call_line<
-    B: CopyBackend + Shown + Drop,
-    H: CopyHasher + Default + Clone + Drop,
-    I: CopyIndex<B::Symbol> + Drop,
->(
-    rt: &HostRuntime,
-    one: &mut StringInterner<B, H, I>,
-    other: &mut StringInterner<B, H, I>,
-    number: usize,
-    line: &str,
-) -> Result<(), Fault> {
-    let (word, call) = offered_call::<B, H>(number, line)?;
-    on_interners(rt, one, other, word, call)?;
-    Ok(())
-}
-
-/// Makes the calls of the lines on two interners, of which the first is called.
-fn all_calls<
-    B: CopyBackend + Shown + Drop,
-    H: CopyHasher + Default + Clone + Drop,
-    I: CopyIndex<B::Symbol> + Drop,
->(
-    rt: &HostRuntime,
-    one: &mut StringInterner<B, H, I>,
-    other: &mut StringInterner<B, H, I>,
-    lines: &str,
-) -> Result<(), Fault> {
-    let mut number: usize = 1;
-    for line in lines.split_terminator('\n') {
-        number = number.saturating_add(1);
-        call_line(rt, one, other, number, line)?;
+impl<B: Shown, H: ScenarioHasher, I: CopyIndex<B::Symbol> + Drop> Level for Interners<B, H, I> {
+    fn call(&mut self, rt: &HostRuntime, call: Call<'_>) -> Told {
+        match call.name {
+            "get" => tell_found(rt, self.one.get(call.text)),
+            "contains" => tell(rt, &self.one.contains(call.text)),
+            "next_symbol" => tell_found(rt, self.one.next_symbol()),
+            "get_numbers" => get_numbers(rt, &self.one, call.number),
+            "resolve" => tell_text(rt, self.one.resolve(symbol_of(call.number)?)),
+            "len" => tell(rt, &self.one.len()),
+            "is_empty" => tell(rt, &self.one.is_empty()),
+            "iter" => tell_entries(rt, &mut self.one.iter()),
+            "equal" => tell(rt, &(self.one == self.other)),
+            "get_or_intern" | "letters" => tell_symbol(rt, self.one.get_or_intern(call.text)),
+            "get_or_intern_static" => tell_symbol(
+                rt,
+                self.one.get_or_intern_static(call.static_text),
+            ),
+            "resolve_unchecked" => tell_text(rt, Some(read_back(&mut self.one, call.text)?)),
+            "numbers" | "choices" => intern_many(rt, self, call),
+            "texts_asked" => texts_asked(rt, &mut self.one, call),
+            "texts_hashed" => texts_hashed(rt, call.scenario),
+            _ => self.change(rt, call),
+        }
     }
-    Ok(())
+
+    fn sight(&self, text: &str, most: usize) -> Sight {
+        sight_of(&self.one, text, most)
+    }
 }
 
-/// Makes the calls of the lines on two new interners.
-pub fn interner_session<
-    B: CopyBackend + Shown + Drop,
-    H: CopyHasher + Default + Clone + Drop,
-    I: CopyIndex<B::Symbol> + Drop,
->(rt: &HostRuntime, lines: &str) -> Result<(), Fault> {
-    all_calls::<B, H, I>(
-        rt,
-        &mut StringInterner::new(rt.alloc()),
-        &mut StringInterner::new(rt.alloc()),
-        lines,
-    )
+impl<B: Backend, H: TextHasher, I: TextIndex<B::Symbol>> Interning for Interners<B, H, I> {
+    fn count(&self) -> usize {
+        self.one.len()
+    }
+
+    fn finds(&self, text: &str) -> bool {
+        self.one.contains(text)
+    }
+
+    fn intern_one(&mut self, text: &str) -> Result<usize, InternError> {
+        numbered(self.one.get_or_intern(text))
+    }
+}
+
+impl<B: Shown, H: ScenarioHasher, I: CopyIndex<B::Symbol> + Drop> Interners<B, H, I> {
+    /// Two interners under a hasher.
+    pub fn new(alloc: Global, hasher: H) -> Self {
+        Interners {
+            one: StringInterner::with_hasher(alloc, another(&hasher)),
+            other: StringInterner::with_hasher(alloc, another(&hasher)),
+            hasher,
+            symbols: Vec::new(alloc),
+        }
+    }
+
+    /// Makes a call that prints `ok` and takes the hasher of an interner, or one that the program made.
+    fn change(&mut self, rt: &HostRuntime, call: Call<'_>) -> Told {
+        let alloc = rt.alloc();
+        match call.name {
+            "shrink_to_fit" => self.one.shrink_to_fit(),
+            "truncate" => self.one.truncate(call.number),
+            "extend" | "extend_numbers" => in_turn(self.one.extend(call.texts()))?,
+            "intern_all" | "intern_all_numbers" => self.intern_all(rt, call)?,
+            "with_hasher" => self.one = StringInterner::with_hasher(alloc, another(&self.hasher)),
+            "with_capacity_and_hasher" => {
+                let hasher = another(&self.hasher);
+                self.one = StringInterner::with_capacity_and_hasher(alloc, call.number, hasher)?;
+            }
+            "clone" => self.other = self.one.clone()?,
+            "try_copy" => self.other = H::copy_of(&self.one)?,
+            "swap" => swap(&mut self.one, &mut self.other),
+            _ => return self.make(rt, call),
+        }
+        tell_done(rt)
+    }
+
+    /// Makes a call that prints `ok` and takes the default of the hasher. One that counts has no default that does.
+    fn make(&mut self, rt: &HostRuntime, call: Call<'_>) -> Told {
+        match call.name {
+            _ if call.scenario.hasher == "counting" => return Err(Failure::Line(
+                Mistake::NotOffered,
+            )),
+            "new" => self.one = StringInterner::new(rt.alloc()),
+            "with_capacity" => self.one = StringInterner::with_capacity(rt.alloc(), call.number)?,
+            "from_iter" | "from_iter_numbers" => self.one = StringInterner::from_iter(
+                rt.alloc(),
+                call.texts(),
+            )?,
+            _ => return self.with_json(rt, call),
+        }
+        tell_done(rt)
+    }
+
+    /// Makes a call of JSON, or one that takes the interner apart.
+    fn with_json(&mut self, rt: &HostRuntime, call: Call<'_>) -> Told {
+        match call.name {
+            "to_json" => tell(rt, &self.one.to_json(rt.alloc())?),
+            "symbol_to_json" => symbol_to_json::<B::Symbol>(rt, call.number),
+            "symbol_from_json" => symbol_from_json::<B::Symbol>(rt, call.text),
+            "from_json" | "from_json_exact" => {
+                self.one = read_by(rt.alloc(), call.name, &parsed(rt.alloc(), call.text)?)?;
+                tell_read(rt, self.one.len())
+            }
+            "json_again" | "json_exact_again" => {
+                self.other = read_by(rt.alloc(), call.name, &self.one.to_json(rt.alloc())?)?;
+                tell_read(rt, self.other.len())
+            }
+            "into_backend" => {
+                let new = StringInterner::new(rt.alloc());
+                tell_entries(rt, &mut replace(&mut self.one, new).into_backend().iter())
+            }
+            _ => Err(Failure::Line(Mistake::Call)),
+        }
+    }
+
+    /// Calls `intern_all` with the texts that have no symbol in the list yet, which is new where nothing was refused, and
+    /// prints the list.
+    fn intern_all(&mut self, rt: &HostRuntime, call: Call<'_>) -> Told {
+        if !call.is_again {
+            self.symbols = Vec::new(rt.alloc());
+        }
+        let done = self.symbols.len();
+        let outcome = in_turn(
+            self.one
+                .intern_all(call.texts().skip(done), &mut self.symbols),
+        );
+        if !is_refused(&outcome) {
+            for symbol in &self.symbols {
+                println!(rt; "  symbol {}", symbol.to_usize())?;
+            }
+        }
+        outcome
+    }
 }

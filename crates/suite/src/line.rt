@@ -1,43 +1,31 @@
-//! The lines of a scenario: names in tables, and what stands after a name.
+//! The lines of a scenario: the name of a call, and what stands after it.
 
-use crate::fault::{Fault, Mistake};
+use crate::fault::Mistake;
+use crate::scenario::Scenario;
+use std::str::SplitN;
 
-/// What stands after the name of a call.
-#[derive(Clone, Copy)]
-pub enum Argument {
-    Nothing,
-    Text,
-    StaticText,
-    Number,
-    TwoNumbers,
-    NumberAndText,
-}
-
-/// The call of one line, with its argument in the form that the call takes it in.
+/// The call of one line, with its argument in each form in which calls take it.
 #[derive(Clone, Copy)]
 pub struct Call<'t> {
     /// The name of the call, as the scenario writes it.
     pub name: &'t str,
-    /// All that follows the first space, or the number.
+    /// All that follows the first space, or that follows the number.
     pub text: &'t str,
     /// How many texts `text` has between its commas: as many as there are, but none where there was no space.
     pub limit: usize,
     pub static_text: &'static str,
     pub number: usize,
     pub second: usize,
+    /// Whether it is made once more, since memory was refused.
+    pub is_again: bool,
+    pub scenario: Scenario<'t>,
 }
 
-/// A row of a table of calls: a name, what stands after it, and the call that it names.
-pub type Row<W> = (&'static str, Argument, W);
-
-/// What a name stands for in a table.
-pub fn named<W: Copy>(table: &[(&'static str, W)], name: &str) -> Option<W> {
-    for (known, word) in table {
-        if *known == name {
-            return Some(*word);
-        }
+impl<'t> Call<'t> {
+    /// The texts between the commas.
+    pub fn texts(self) -> SplitN<'t, char> {
+        self.text.splitn(self.limit, ',')
     }
-    None
 }
 
 /// Reads a number in decimal digits.
@@ -51,108 +39,85 @@ fn number_of(digits: &str) -> Result<usize, Mistake> {
     }
 }
 
-/// The call of this name with its argument.
-fn with_argument<'t>(
-    name: &'t str,
-    argument: Argument,
-    rest: Option<&'t str>,
-) -> Result<Call<'t>, Mistake> {
-    let text = rest.unwrap_or("");
-    let mut call = Call {
-        name,
-        text,
-        limit: if rest.is_some() { usize::MAX } else { 0 },
-        static_text: "",
-        number: 0,
-        second: 0,
-    };
-    match argument {
-        Argument::Nothing if rest.is_some() => return Err(Mistake::Unwanted),
-        Argument::Nothing | Argument::Text => {}
-        Argument::StaticText => call.static_text = static_text(text)?,
-        Argument::Number => call.number = number_of(text)?,
-        Argument::TwoNumbers => {
-            let (first, second) = text.split_once(' ').unwrap_or((text, ""));
+/// The calls that take nothing.
+const BARE: &'static str =
+    "new with_hasher into_backend shrink_to_fit next_symbol len is_empty iter to_json clone \
+    try_copy swap equal json_again json_exact_again texts_asked texts_hashed count entry_at as_bytes slots put_back \
+    greatest looks_size enter leave depth interner Len Shrink";
+
+/// The calls that take a number.
+const NUMBERED: &'static str =
+    "with_capacity with_capacity_and_hasher from_iter_numbers letters numbers \
+    extend_numbers intern_all_numbers truncate get_numbers resolve symbol_to_json empties try_from_usize \
+    InternNumbers Resolve Number Truncate";
+
+/// Whether a name is one of the words.
+fn is_among(words: &'static str, name: &str) -> bool {
+    for word in words.split(' ') {
+        if word == name {
+            return true;
+        }
+    }
+    false
+}
+
+/// Reads what stands after the name of a call: a text, if nothing else.
+fn with_argument<'t>(bare: Call<'t>) -> Result<Call<'t>, Mistake> {
+    let mut call = bare;
+    let (first, second) = bare.text.split_once(' ').unwrap_or((bare.text, ""));
+    match bare.name {
+        "get_or_intern_static" | "intern_static" | "InternStatic" => call.static_text = static_text(
+            bare.text,
+        )?,
+        "compare" => {
             call.number = number_of(first)?;
             call.second = number_of(second)?;
         }
-        Argument::NumberAndText => {
-            let (first, second) = text.split_once(' ').unwrap_or((text, ""));
+        "choices" => {
             call.number = number_of(first)?;
             call.text = second;
         }
+        name if is_among(NUMBERED, name) => call.number = number_of(bare.text)?,
+        name if bare.limit > 0 && is_among(BARE, name) => return Err(Mistake::Unwanted),
+        _ => {}
     }
     Ok(call)
 }
 
-/// Looks the name of a call up in a table, and reads its argument.
-fn read_call<'t, W: Copy>(table: &[Row<W>], line: &'t str) -> Result<(W, Call<'t>), Mistake> {
-    let (name, rest) = match line.split_once(' ') {
-        Some((name, rest)) => (name, Some(rest)),
-        None => (line, None),
+/// A call of this name with a text, but for what else the text may be read as.
+pub fn bare_call<'t>(name: &'t str, text: Option<&'t str>, scenario: Scenario<'t>) -> Call<'t> {
+    Call {
+        name,
+        text: text.unwrap_or(""),
+        limit: if text.is_some() { usize::MAX } else { 0 },
+        static_text: "",
+        number: 0,
+        second: 0,
+        is_again: false,
+        scenario,
+    }
+}
+
+/// Reads the call of a line.
+pub fn read_call<'t>(line: &'t str, scenario: Scenario<'t>) -> Result<Call<'t>, Mistake> {
+    let bare = match line.split_once(' ') {
+        Some((name, text)) => bare_call(name, Some(text), scenario),
+        None => bare_call(line, None, scenario),
     };
-    for (known, argument, word) in table {
-        if *known == name {
-            return Ok((*word, with_argument(name, *argument, rest)?));
-        }
-    }
-    Err(Mistake::Call)
+    with_argument(bare)
 }
 
-/// The call of a line. A fault names the line by its number.
-pub fn call_of<'t, W: Copy>(
-    table: &[Row<W>],
-    number: usize,
-    line: &'t str,
-) -> Result<(W, Call<'t>), Fault> {
-    match read_call(table, line) {
-        Ok(call) => Ok(call),
-        Err(mistake) => Err(Fault::Line {
-            line: number,
-            mistake,
-        }),
-    }
-}
-
-/// Texts that live as long as the program. A scenario names one by writing it.
-const STATIC_TEXTS: [&'static str; 30] = [
-    "",
-    "a",
-    "b",
-    "c",
-    "d",
-    "e",
-    "f",
-    "g",
-    "aa",
-    "bc",
-    "cc",
-    "de",
-    "zz",
-    "Tiger",
-    "Horse",
-    "Bear",
-    "Ox",
-    "Elephant",
-    "Earth",
-    "é",
-    "0",
-    "00",
-    "0 ",
-    "40000",
-    "65534",
-    "65535",
-    "fghijklm",
-    "a longer one",
-    "123456789012345678901234567890",
-    "a text that is longer than the room that two small texts leave to it in any of the backends",
-];
+/// Texts that live as long as the program, between commas. A scenario names one by writing it.
+const STATIC_TEXTS: &'static str =
+    ",a,b,c,d,e,f,g,aa,bc,cc,de,zz,Tiger,Horse,Bear,Ox,Elephant,Earth,é,0,00,0 ,40000,\
+    65534,65535,fghijklm,a longer one,123456789012345678901234567890,a text that is longer than the room that two \
+    small texts leave to it in any of the backends";
 
 /// The static text that is equal to a text.
 fn static_text(text: &str) -> Result<&'static str, Mistake> {
-    for known in &STATIC_TEXTS {
-        if *known == text {
-            return Ok(*known);
+    for known in STATIC_TEXTS.split(',') {
+        if known == text {
+            return Ok(known);
         }
     }
     Err(Mistake::NotStatic)

@@ -2,12 +2,14 @@
 
 ghost use Rattle.std.specs.Prelude.{◌<◌, ◌+◌, ◌*◌, ◌%◌, ◌^◌, ℕ, length};
 ghost use Rattle.std.proofs.Common.{rules, lit≤};
+ghost use Rattle.string_interner.specs.Hasher.{fnv_1a};
 ghost use Rattle.string_interner.specs.Symbol.{number_below, number_below-some};
 ghost use Rattle.suite.specs.Samples.{half_of, half_of-some, halves_equal, halves_same};
 
 use std::alloc::AllocError;
+use std::cell::Cell;
 use std::marker::Model;
-use string_interner::dedup::TextHasher;
+use string_interner::dedup::{FixedState, TextHasher};
 use string_interner::symbol::Symbol;
 
 /// A hasher that gives all texts one code.
@@ -53,6 +55,39 @@ impl TextHasher for Salted {
 
     fn hash_text(&self, text: &str) -> u64 {
         self.salt.wrapping_add(text.len() as u64)
+    }
+}
+
+impl Default for Salted {
+    fn default() -> Self {
+        Salted { salt: 5 }
+    }
+}
+
+/// A hasher with the codes of the default one, which counts the texts that it hashes. The count is in a cell, which it
+/// shares with its copies and clones.
+#[derive(Clone, Copy, Default)]
+pub struct CountingHasher<'c> {
+    hashed: Option<&'c Cell<usize>>,
+}
+
+impl<'c> CountingHasher<'c> {
+    /// Counts in this cell.
+    pub fn new(hashed: &'c Cell<usize>) -> Self {
+        CountingHasher {
+            hashed: Some(hashed),
+        }
+    }
+}
+
+impl<'c> TextHasher for CountingHasher<'c> {
+    ghost code = { λ _ text. fnv_1a text };
+
+    fn hash_text(&self, text: &str) -> u64 {
+        if let Some(hashed) = self.hashed {
+            hashed.set(hashed.get().wrapping_add(1));
+        }
+        FixedState.hash_text(text)
     }
 }
 
@@ -136,10 +171,4 @@ impl Symbol for Bit {
     ghost equal_by_number = { Prim.search rules };
 
     ghost injective = { λ a b same. same };
-}
-
-impl Default for Salted {
-    fn default() -> Self {
-        Salted { salt: 5 }
-    }
 }

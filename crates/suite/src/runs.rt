@@ -2,188 +2,118 @@
 
 mod commands;
 
-use crate::decimal::joined_again;
-use crate::fault::Fault;
-use crate::sight::{Sight, sight_of};
-use crate::tell::{
-    tell_answer, tell_count, tell_done, tell_no_memory, tell_number, tell_refusal, tell_text,
-};
-use commands::{Plan, commands_of, plan_of, texts_of};
-use std::alloc::Global;
-use std::io;
+use crate::fault::{Failure, Fault, Told};
+use crate::interners::sight_of;
+use crate::level::{Level, end_call, make_call};
+use crate::line::{Call, bare_call, read_call};
+use crate::many::joined_numbers;
+use crate::scenario::Scenario;
+use crate::sight::Sight;
+use crate::tell::{tell, tell_done, tell_text};
+use commands::{Plan, commands_of, texts_of};
+use std::alloc::{AllocError, Global};
 use string_interner::StringInterner;
 use string_interner::backend::{Backend, InternError};
-use string_interner::dedup::TextHasher;
-use string_interner::run::{Command, Reply, run};
+use string_interner::dedup::{TextHasher, TextIndex};
+use string_interner::json::JsonError;
+use string_interner::run::{Reply, run};
 
-/// How a refused run is told.
-const RUN: &'static str = "run";
-
-/// Whether a command was refused memory.
-fn has_no_memory(replies: &[Reply]) -> bool {
-    replies.iter().any(|reply| matches!(reply, Reply::NoMemory))
+/// An interner, the plan of the block that is run, and how many texts there were before it.
+#[derive(Drop)]
+pub struct Runs<B: Backend, H: TextHasher, I: TextIndex<B::Symbol>> {
+    interner: StringInterner<B, H, I>,
+    plan: Plan,
+    before: usize,
 }
 
 /// Prints a reply.
-fn tell_reply(rt: &HostRuntime, reply: &Reply) -> io::Result<()> {
+fn tell_reply(rt: &HostRuntime, reply: &Reply) -> Told {
     match reply {
-        Reply::Symbol(number) => tell_number(rt, Some(*number)),
-        Reply::Nothing => tell_number(rt, None),
+        Reply::Symbol(number) => Ok(println!(rt; "symbol {number}")?),
+        Reply::Nothing => tell(rt, &"none"),
         Reply::Text(text) => tell_text(rt, Some(text)),
-        Reply::Len(count) => tell_count(rt, *count),
+        Reply::Len(count) => tell(rt, count),
         Reply::Done => tell_done(rt),
-        Reply::NoReply => println!(rt; "no reply"),
-        Reply::NoSymbol => tell_answer(rt, Err(InternError::NoSymbol)),
-        Reply::NoMemory => tell_no_memory(rt),
+        Reply::NoReply => tell(rt, &"no reply"),
+        Reply::NoSymbol => tell(rt, &InternError::NoSymbol),
+        Reply::NoMemory => tell(rt, &"out of memory"),
     }
 }
 
 /// Prints the replies.
-fn tell_replies(rt: &HostRuntime, replies: &[Reply]) -> io::Result<()> {
+fn tell_replies(rt: &HostRuntime, replies: &[Reply]) -> Told {
     for reply in replies {
         tell_reply(rt, reply)?;
     }
     Ok(())
 }
 
-/// Calls `run`, and puts its replies in the place of those that there were, unless memory was refused for them. Returns
-/// whether it was not.
-fn put_replies<B: Backend, H: TextHasher>(
-    alloc: Global,
-    interner: &mut StringInterner<B, H>,
-    commands: &[Command<'_>],
-    replies: &mut Vec<Reply>,
-) -> bool {
-    match run(alloc, interner, commands) {
-        Ok(made) => {
-            *replies = made;
-            true
+impl<B: Backend, H: TextHasher, I: TextIndex<B::Symbol>> Runs<B, H, I> {
+    /// An interner with no texts.
+    pub fn new(alloc: Global, hasher: H) -> Self {
+        Runs {
+            interner: StringInterner::with_hasher(alloc, hasher),
+            plan: Plan::default(),
+            before: 0,
         }
-        Err(_) => false,
+    }
+
+    /// Drops the texts that came since the block began, as one of its commands was refused memory. Texts that a command
+    /// dropped do not come back.
+    fn take_back(&mut self) -> Failure {
+        self.interner.truncate(self.before);
+        if self.interner.len() < self.before {
+            Failure::Dropped
+        } else {
+            Failure::Error(JsonError::Memory(AllocError))
+        }
     }
 }
 
-/// Calls `run`, again if memory was refused for the replies. Returns whether there are replies.
-fn run_once<B: Backend, H: TextHasher>(
-    rt: &HostRuntime,
-    interner: &mut StringInterner<B, H>,
-    commands: &[Command<'_>],
-    replies: &mut Vec<Reply>,
-) -> io::Result<bool> {
-    let before = sight_of(interner);
-    if put_replies(rt.alloc(), interner, commands, replies) {
-        return Ok(true);
+impl<B: Backend, H: TextHasher, I: TextIndex<B::Symbol>> Level for Runs<B, H, I> {
+    /// Runs the commands of a block, which is the text of the call, and prints the replies and the count of texts.
+    fn call(&mut self, rt: &HostRuntime, call: Call<'_>) -> Told {
+        if !call.is_again {
+            self.before = self.interner.len();
+        }
+        let numbers = joined_numbers(rt.alloc(), self.plan.numbers)?;
+        let texts = texts_of(rt.alloc(), call, self.plan)?;
+        let commands = commands_of(rt.alloc(), call, self.plan, &texts, &numbers)?;
+        let replies = run(rt.alloc(), &mut self.interner, &commands)?;
+        if replies.iter().any(|reply| matches!(reply, Reply::NoMemory)) {
+            return Err(self.take_back());
+        }
+        tell_replies(rt, &replies)?;
+        tell(rt, &self.interner.len())
     }
-    let is_kept = sight_of(interner) == before;
-    let is_granted = put_replies(rt.alloc(), interner, commands, replies);
-    tell_refusal(rt, RUN, is_kept, is_granted)?;
-    Ok(is_granted)
+
+    fn sight(&self, text: &str, most: usize) -> Sight {
+        sight_of(&self.interner, text, most)
+    }
 }
 
-/// Runs the commands once more from the texts that there were, as one of them was refused memory. The replies stay those
-/// that there were where memory was refused for the new ones.
-fn run_again<B: Backend, H: TextHasher>(
-    rt: &HostRuntime,
-    interner: &mut StringInterner<B, H>,
-    commands: &[Command<'_>],
-    replies: &mut Vec<Reply>,
-    before: Sight,
-) -> io::Result<()> {
-    interner.truncate(before.count);
-    // Texts that a command dropped do not come back.
-    let is_kept = interner.len() < before.count || sight_of(interner) == before;
-    if put_replies(rt.alloc(), interner, commands, replies) {
-        tell_refusal(rt, RUN, is_kept, !has_no_memory(replies))?;
-    }
-    Ok(())
-}
-
-/// Runs the commands and prints the replies, for which an empty list is lent.
-fn run_commands<B: Backend, H: TextHasher>(
-    rt: &HostRuntime,
-    interner: &mut StringInterner<B, H>,
-    commands: &[Command<'_>],
-    replies: &mut Vec<Reply>,
-) -> io::Result<()> {
-    let before = sight_of(interner);
-    if !run_once(rt, interner, commands, replies)? {
-        return tell_no_memory(rt);
-    }
-    if has_no_memory(replies) {
-        run_again(rt, interner, commands, replies, before)?;
-    }
-    tell_replies(rt, replies)?;
-    tell_count(rt, interner.len())
-}
-
-/// The texts of all commands that extend, asked for again if memory was refused.
-fn texts_again<'t>(
-    rt: &HostRuntime,
-    block: &'t str,
-    plan: Plan,
-) -> io::Result<Option<Vec<&'t str>>> {
-    if let Ok(texts) = texts_of(rt.alloc(), block, plan) {
-        return Ok(Some(texts));
-    }
-    let again = texts_of(rt.alloc(), block, plan).ok();
-    tell_refusal(rt, RUN, true, again.is_some())?;
-    Ok(again)
-}
-
-/// The commands of a block, asked for again if memory was refused.
-fn commands_again<'t>(
-    rt: &HostRuntime,
-    block: &'t str,
-    plan: Plan,
-    texts: &'t [&'t str],
-    numbers: &'t str,
-) -> io::Result<Option<Vec<Command<'t>>>> {
-    if let Ok(commands) = commands_of(rt.alloc(), block, plan, texts, numbers) {
-        return Ok(Some(commands));
-    }
-    let again = commands_of(rt.alloc(), block, plan, texts, numbers).ok();
-    tell_refusal(rt, RUN, true, again.is_some())?;
-    Ok(again)
-}
-
-/// Runs the commands of a block.
-fn run_block<B: Backend, H: TextHasher>(
-    rt: &HostRuntime,
-    interner: &mut StringInterner<B, H>,
-    block: &str,
-    plan: Plan,
-) -> io::Result<()> {
-    let Some(numbers) = joined_again(rt, RUN, plan.numbers)? else {
-        return tell_no_memory(rt);
-    };
-    let Some(texts) = texts_again(rt, block, plan)? else {
-        return tell_no_memory(rt);
-    };
-    match commands_again(rt, block, plan, &texts, &numbers)? {
-        Some(commands) => run_commands(rt, interner, &commands, &mut Vec::new(rt.alloc())),
-        None => tell_no_memory(rt),
-    }
+/// Plans for a line of a block.
+fn add_line(plan: &mut Plan, line: &str, scenario: Scenario<'_>) -> Told {
+    Ok(plan.add(read_call(line, scenario)?)?)
 }
 
 /// Runs the blocks of lines one after another.
-fn all_blocks<B: Backend, H: TextHasher>(
+pub fn all_blocks<B: Backend, H: TextHasher, I: TextIndex<B::Symbol>>(
     rt: &HostRuntime,
-    interner: &mut StringInterner<B, H>,
-    lines: &str,
+    scenario: Scenario<'_>,
+    runs: &mut Runs<B, H, I>,
 ) -> Result<(), Fault> {
-    let mut first: usize = 2;
-    for block in lines.split("\n\n") {
-        let plan = plan_of(block, first)?;
-        run_block(rt, interner, block, plan)?;
-        first = first.saturating_add(plan.lines).saturating_add(1);
+    let mut number: usize = 1;
+    for lines in scenario.lines.split("\n\n") {
+        runs.plan = Plan::default();
+        for line in lines.split_terminator('\n') {
+            number = number.saturating_add(1);
+            let added = add_line(&mut runs.plan, line, scenario);
+            end_call(rt, number, added)?;
+        }
+        let ended = make_call(rt, runs, bare_call("run", Some(lines), scenario));
+        end_call(rt, number, ended)?;
+        number = number.saturating_add(1);
     }
     Ok(())
-}
-
-/// Runs the blocks of lines on a new interner.
-pub fn run_session<B: Backend + Drop, H: TextHasher + Default + Drop>(
-    rt: &HostRuntime,
-    lines: &str,
-) -> Result<(), Fault> {
-    all_blocks::<B, H>(rt, &mut StringInterner::new(rt.alloc()), lines)
 }

@@ -1,72 +1,61 @@
-//! What is seen of an interner, taken without memory, to tell whether a refused call changed it.
+//! What is seen without memory, to tell whether a refused call changed it.
 
-use crate::counting::signal;
-use string_interner::StringInterner;
-use string_interner::backend::Backend;
-use string_interner::dedup::{FixedState, TextHasher, TextIndex};
+use string_interner::dedup::{FixedState, TextHasher};
 use string_interner::symbol::Symbol;
 
-/// How many entries were looked at, and one number from their texts, their symbols and whether each is found.
+/// How many entries were looked at, one number from their texts, their symbols and whether each is found, and one from
+/// all else.
 #[derive(Clone, Copy, PartialEq, Eq)]
 pub struct Sight {
     pub count: usize,
-    pub code: u64,
+    entries: u64,
+    rest: u64,
+}
+
+/// A number from this one and from what is seen next.
+fn mix(seen: u64, next: u64) -> u64 {
+    seen.wrapping_mul(31).wrapping_add(next)
 }
 
 impl Sight {
     /// Nothing was looked at.
     pub fn new() -> Self {
-        Sight { count: 0, code: 0 }
+        Sight {
+            count: 0,
+            entries: 0,
+            rest: 0,
+        }
     }
 
-    /// The same with one more entry.
-    pub fn with(self, number: usize, text: &str, is_found: bool) -> Self {
-        let found: u64 = if is_found { 1 } else { 0 };
-        let code = self
-            .code
-            .wrapping_mul(31)
-            .wrapping_add(number as u64)
-            .wrapping_mul(31)
-            .wrapping_add(FixedState.hash_text(text))
-            .wrapping_mul(31)
-            .wrapping_add(found);
+    /// The same with one more entry: its symbol, its text, and whether the one is found by the other.
+    pub fn with_entry<S: Symbol>(self, symbol: S, text: &str, is_found: bool) -> Self {
+        let seen = mix(self.entries, symbol.to_usize() as u64);
+        let seen = mix(seen, FixedState.hash_text(text));
         Sight {
             count: self.count.saturating_add(1),
-            code,
+            entries: mix(seen, u64::from(is_found)),
+            ..self
         }
     }
-}
 
-/// The sight of an interner with one more entry.
-fn with_entry<B: Backend, H: TextHasher, I: TextIndex<B::Symbol>>(
-    sight: Sight,
-    interner: &StringInterner<B, H, I>,
-    symbol: B::Symbol,
-    text: &str,
-) -> Sight {
-    let is_found = interner.get(text) == Some(symbol);
-    sight.with(symbol.to_usize(), text, is_found)
-}
-
-/// What is seen of the first entries of an interner.
-pub fn sight_of_first<B: Backend, H: TextHasher, I: TextIndex<B::Symbol>>(
-    interner: &StringInterner<B, H, I>,
-    count: usize,
-) -> Sight {
-    signal(interner);
-    let mut sight = Sight::new();
-    for (symbol, text) in interner {
-        if sight.count < count {
-            sight = with_entry(sight, interner, symbol, text);
+    /// The same with one more number.
+    pub fn with_number(self, number: usize) -> Self {
+        Sight {
+            rest: mix(self.rest, number as u64),
+            ..self
         }
     }
-    signal(interner);
-    sight
-}
 
-/// What is seen of an interner.
-pub fn sight_of<B: Backend, H: TextHasher, I: TextIndex<B::Symbol>>(
-    interner: &StringInterner<B, H, I>,
-) -> Sight {
-    sight_of_first(interner, usize::MAX)
+    /// The same with a symbol, if there is one.
+    pub fn with_symbol<S: Symbol>(self, symbol: Option<S>) -> Self {
+        match symbol {
+            Some(symbol) => self.with_number(1).with_number(symbol.to_usize()),
+            None => self.with_number(0),
+        }
+    }
+
+    /// Whether the same entries were seen.
+    pub fn has_entries_of(self, other: Self) -> bool {
+        self.count == other.count && self.entries == other.entries
+    }
 }

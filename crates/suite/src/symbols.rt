@@ -1,33 +1,29 @@
 //! Calls on symbols, with no backend.
 
-use crate::fault::Fault;
+use crate::fault::{Failure, Mistake, Told};
 use crate::interners::{symbol_from_json, symbol_to_json};
-use crate::line::{Argument, Call, Row, call_of};
-use crate::tell::{number_found, tell_no_such_symbol, tell_number};
+use crate::level::Level;
+use crate::line::Call;
+use crate::sight::Sight;
+use crate::tell::{symbol_of, tell, tell_found};
 use std::cmp::Ordering;
 use std::hash::{DefaultHasher, Hash, Hasher};
-use std::io;
+use std::marker::PhantomData;
 use string_interner::dedup::{FixedState, TextHasher};
 use string_interner::symbol::Symbol;
 
-/// A call on symbols.
-#[derive(Clone, Copy)]
-enum SymbolCall {
-    TryFromUsize,
-    Compare,
-    ToJson,
-    FromJson,
-    HashText,
+/// A symbol type.
+#[derive(Drop)]
+pub struct Symbols<S: Symbol> {
+    of: PhantomData<S>,
 }
 
-/// The calls on symbols by their names.
-const CALLS: [Row<SymbolCall>; 5] = [
-    ("try_from_usize", Argument::Number, SymbolCall::TryFromUsize),
-    ("compare", Argument::TwoNumbers, SymbolCall::Compare),
-    ("symbol_to_json", Argument::Number, SymbolCall::ToJson),
-    ("symbol_from_json", Argument::Text, SymbolCall::FromJson),
-    ("hash_text", Argument::Text, SymbolCall::HashText),
-];
+impl<S: Symbol> Symbols<S> {
+    /// The type.
+    pub fn new() -> Self {
+        Symbols { of: PhantomData }
+    }
+}
 
 /// The hash of a symbol.
 fn hash_of<S: Hash>(symbol: &S) -> u64 {
@@ -36,68 +32,43 @@ fn hash_of<S: Hash>(symbol: &S) -> u64 {
     hasher.finish()
 }
 
-/// Prints how two symbols compare, and whether they have one hash.
-fn tell_order(rt: &HostRuntime, order: Ordering, has_same_hash: bool) -> io::Result<()> {
-    let order = match order {
+/// Compares the symbols with two numbers, and prints whether they have one hash.
+fn compare<S: Symbol + Ord + Hash>(rt: &HostRuntime, call: Call<'_>) -> Told {
+    let (one, other) = (symbol_of::<S>(call.number)?, symbol_of::<S>(call.second)?);
+    let order = match one.cmp(&other) {
         Ordering::Less => "less",
         Ordering::Equal => "equal",
         Ordering::Greater => "greater",
     };
-    let hash = if has_same_hash { "same" } else { "other" };
-    println!(rt; "{order}, {hash} hash")
-}
-
-/// Compares the symbols with two numbers.
-fn compare<S: Symbol + Ord + Hash>(rt: &HostRuntime, call: Call<'_>) -> io::Result<()> {
-    match (
-        S::try_from_usize(call.number),
-        S::try_from_usize(call.second),
-    ) {
-        (Some(one), Some(other)) => {
-            let has_same_hash = hash_of(&one) == hash_of(&other);
-            tell_order(rt, one.cmp(&other), has_same_hash)
-        }
-        _ => tell_no_such_symbol(rt),
-    }
+    let hash = if hash_of(&one) == hash_of(&other) {
+        "same"
+    } else {
+        "other"
+    };
+    println!(rt; "{order}, {hash} hash")?;
+    Ok(())
 }
 
 /// Prints the code of a text under the default hasher.
-fn hash_text(rt: &HostRuntime, text: &str) -> io::Result<()> {
-    println!(rt; "{:x}", FixedState.hash_text(text))
-}
-
-/// Makes a call on symbols.
-fn on_symbols<S: Symbol + Ord + Hash>(
-    rt: &HostRuntime,
-    word: SymbolCall,
-    call: Call<'_>,
-) -> io::Result<()> {
-    match word {
-        SymbolCall::TryFromUsize => tell_number(rt, number_found(S::try_from_usize(call.number))),
-        SymbolCall::Compare => compare::<S>(rt, call),
-        SymbolCall::ToJson => symbol_to_json::<S>(rt, call),
-        SymbolCall::FromJson => symbol_from_json::<S>(rt, call),
-        SymbolCall::HashText => hash_text(rt, call.text),
-    }
-}
-
-/// Makes the call of a line.
-fn call_line<S: Symbol + Ord + Hash>(
-    rt: &HostRuntime,
-    number: usize,
-    line: &str,
-) -> Result<(), Fault> {
-    let (word, call) = call_of(&CALLS, number, line)?;
-    on_symbols::<S>(rt, word, call)?;
+fn hash_text(rt: &HostRuntime, text: &str) -> Told {
+    println!(rt; "{:x}", FixedState.hash_text(text))?;
     Ok(())
 }
 
-/// Makes the calls of the lines.
-pub fn symbol_session<S: Symbol + Ord + Hash>(rt: &HostRuntime, lines: &str) -> Result<(), Fault> {
-    let mut number: usize = 1;
-    for line in lines.split_terminator('\n') {
-        number = number.saturating_add(1);
-        call_line::<S>(rt, number, line)?;
+impl<S: Symbol + Ord + Hash> Level for Symbols<S> {
+    fn call(&mut self, rt: &HostRuntime, call: Call<'_>) -> Told {
+        match call.name {
+            "try_from_usize" => tell_found(rt, S::try_from_usize(call.number)),
+            "compare" => compare::<S>(rt, call),
+            "symbol_to_json" => symbol_to_json::<S>(rt, call.number),
+            "symbol_from_json" => symbol_from_json::<S>(rt, call.text),
+            "hash_text" => hash_text(rt, call.text),
+            _ => Err(Failure::Line(Mistake::Call)),
+        }
     }
-    Ok(())
+
+    /// A symbol type has no texts.
+    fn sight(&self, _text: &str, _most: usize) -> Sight {
+        Sight::new()
+    }
 }

@@ -1,120 +1,97 @@
-//! What the program prints.
+//! What calls print.
 
-use crate::line::Call;
-use std::alloc::{AllocError, Global};
-use std::io;
-use string_interner::backend::InternError;
+use crate::fault::{Failure, Mistake, Told};
+use crate::scenario::Scenario;
+use std::fmt::Display;
+use std::iter::ExactSizeIterator;
+use string_interner::backend::{Backend, InternError, Iter};
 use string_interner::symbol::Symbol;
 
-/// Reports a call that was refused memory and made again: on standard output where the refusal changed what is seen,
-/// and on standard error where the second time was not refused.
-pub fn tell_refusal(
-    rt: &HostRuntime,
-    call: &str,
-    is_kept: bool,
-    is_granted: bool,
-) -> io::Result<()> {
-    if !is_kept {
-        println!(rt; "changed by a refused {call}")?;
-    }
-    if is_granted {
-        eprintln!(rt; "refused: {call}")?;
-    }
+/// Prints a value.
+pub fn tell<D: Display>(rt: &HostRuntime, value: &D) -> Told {
+    println!(rt; "{value}")?;
     Ok(())
 }
 
-/// Whether a text was refused for want of memory.
-pub fn is_refused<T>(answer: &Result<T, InternError>) -> bool {
-    matches!(answer, Err(InternError::Memory(_)))
-}
-
-/// The number of the symbol that was returned, or why there is none.
-pub fn numbered<S: Symbol>(answer: Result<S, InternError>) -> Result<usize, InternError> {
-    Ok(answer?.to_usize())
-}
-
-/// The number of a symbol, if there is one.
-pub fn number_found<S: Symbol>(symbol: Option<S>) -> Option<usize> {
-    Some(symbol?.to_usize())
-}
-
-/// Prints what interning a text returned.
-pub fn tell_answer(rt: &HostRuntime, answer: Result<usize, InternError>) -> io::Result<()> {
-    match answer {
-        Ok(number) => println!(rt; "symbol {number}"),
-        Err(error) => println!(rt; "{error}"),
-    }
-}
-
-/// Prints the number of a symbol.
-pub fn tell_number(rt: &HostRuntime, number: Option<usize>) -> io::Result<()> {
-    match number {
-        Some(number) => println!(rt; "symbol {number}"),
-        None => println!(rt; "none"),
-    }
-}
-
-/// Prints that no symbol has the number.
-pub fn tell_no_such_symbol(rt: &HostRuntime) -> io::Result<()> {
-    println!(rt; "no such symbol")
-}
-
-/// Prints a text.
-pub fn tell_text(rt: &HostRuntime, text: Option<&str>) -> io::Result<()> {
-    match text {
-        Some(text) => println!(rt; "text {text}"),
-        None => println!(rt; "none"),
-    }
-}
-
-/// Prints an entry of a walk.
-pub fn tell_entry(rt: &HostRuntime, left: usize, number: usize, text: &str) -> io::Result<()> {
-    println!(rt; "  {left} left, symbol {number}, text {text}")
-}
-
-/// Prints a flag.
-pub fn tell_bool(rt: &HostRuntime, flag: bool) -> io::Result<()> {
-    println!(rt; "{flag}")
-}
-
-/// Prints a count.
-pub fn tell_count(rt: &HostRuntime, count: usize) -> io::Result<()> {
-    println!(rt; "{count}")
-}
-
 /// Prints that a call returned.
-pub fn tell_done(rt: &HostRuntime) -> io::Result<()> {
-    println!(rt; "ok")
+pub fn tell_done(rt: &HostRuntime) -> Told {
+    tell(rt, &"ok")
 }
 
-/// Prints whether texts were interned.
-pub fn tell_outcome(rt: &HostRuntime, outcome: Result<(), InternError>) -> io::Result<()> {
-    match outcome {
-        Ok(()) => println!(rt; "ok"),
-        Err(error) => println!(rt; "{error}"),
+/// Prints the number of a symbol, or that there is none.
+pub fn tell_found<S: Symbol>(rt: &HostRuntime, symbol: Option<S>) -> Told {
+    match symbol {
+        Some(symbol) => Ok(println!(rt; "symbol {}", symbol.to_usize())?),
+        None => tell(rt, &"none"),
     }
 }
 
-/// Prints that memory was refused.
-pub fn tell_no_memory(rt: &HostRuntime) -> io::Result<()> {
-    println!(rt; "out of memory")
+/// Prints the symbol that interning a text returned.
+pub fn tell_symbol<S: Symbol>(rt: &HostRuntime, answer: Result<S, InternError>) -> Told {
+    tell_found(rt, Some(answer?))
 }
 
-/// Makes a text of so many letters `a`, which takes no memory but its own.
-fn letters(alloc: Global, count: usize) -> Result<String, AllocError> {
-    let mut text = String::with_capacity(alloc, count)?;
-    for _ in 0..count {
-        text.push('a')?;
+/// Prints a text, or that there is none.
+pub fn tell_text(rt: &HostRuntime, text: Option<&str>) -> Told {
+    match text {
+        Some(text) => Ok(println!(rt; "text {text}")?),
+        None => tell(rt, &"none"),
     }
-    Ok(text)
 }
 
-/// The text of a call of `letters`, made again if memory was refused.
-pub fn letters_of(rt: &HostRuntime, call: Call<'_>) -> io::Result<Option<String>> {
-    if let Ok(text) = letters(rt.alloc(), call.number) {
-        return Ok(Some(text));
+/// The symbol with a number.
+pub fn symbol_of<S: Symbol>(number: usize) -> Result<S, Failure> {
+    match S::try_from_usize(number) {
+        Some(symbol) => Ok(symbol),
+        None => Err(Failure::NoSuchSymbol),
     }
-    let again = letters(rt.alloc(), call.number).ok();
-    tell_refusal(rt, call.name, true, again.is_some())?;
-    Ok(again)
+}
+
+/// Prints a count, where there is one.
+pub fn tell_offered(rt: &HostRuntime, count: Option<usize>) -> Told {
+    match count {
+        Some(count) => tell(rt, &count),
+        None => Err(Failure::Line(Mistake::NotOffered)),
+    }
+}
+
+/// Prints how many texts were hashed since this was last done, where the hasher counts them.
+pub fn texts_hashed(rt: &HostRuntime, scenario: Scenario<'_>) -> Told {
+    match scenario.hasher {
+        "counting" => tell(rt, &scenario.hashed.replace(0)),
+        _ => Err(Failure::Line(Mistake::NotOffered)),
+    }
+}
+
+/// How many entries are still to come, by `len`. Says so where `size_hint` differs.
+fn left_of<B: Backend>(rt: &HostRuntime, walk: &Iter<'_, B>) -> Result<usize, Failure> {
+    let left = walk.len();
+    if walk.size_hint() != (left, Some(left)) {
+        println!(rt; "  size_hint differs")?;
+    }
+    Ok(left)
+}
+
+/// Prints the next entry of a walk, if there is one, and returns whether there was.
+fn step<B: Backend>(rt: &HostRuntime, walk: &mut Iter<'_, B>) -> Result<bool, Failure> {
+    let left = left_of(rt, walk)?;
+    match walk.next() {
+        Some((symbol, text)) => {
+            println!(rt; "  {left} left, symbol {}, text {text}", symbol.to_usize())?;
+            Ok(true)
+        }
+        None => Ok(false),
+    }
+}
+
+/// Prints the entries of a walk, and how many are left after the last one.
+pub fn tell_entries<B: Backend>(rt: &HostRuntime, walk: &mut Iter<'_, B>) -> Told {
+    for _ in 0..u64::MAX {
+        if !step(rt, walk)? {
+            break;
+        }
+    }
+    let left = left_of(rt, walk)?;
+    println!(rt; "{left} left")?;
+    Ok(())
 }

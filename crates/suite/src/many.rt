@@ -1,0 +1,169 @@
+//! Texts that the program makes, and calls on many of them.
+
+use crate::fault::{Failure, Told};
+use crate::level::{is_refused, tell_refusal};
+use crate::line::Call;
+use crate::tell::tell_symbol;
+use std::alloc::Global;
+use std::io;
+use std::io::{Cursor, Write};
+use std::str::from_utf8;
+use string_interner::backend::InternError;
+use string_interner::symbol::Symbol;
+
+/// A text of at most 96 bytes, which takes no memory.
+type SmallText = Cursor<[u8; 96]>;
+
+/// What was written.
+pub fn written(text: &SmallText) -> &str {
+    match text.get_ref().get(..text.position() as usize) {
+        Some(bytes) => from_utf8(bytes).unwrap_or(""),
+        None => "",
+    }
+}
+
+/// Writes a number in decimal.
+pub fn in_decimal(number: usize) -> io::Result<SmallText> {
+    let mut text = Cursor::new([0u8; 96]);
+    write!(text, "{number}")?;
+    Ok(text)
+}
+
+/// Joins words, one of each two: the first of them where the next bit of a number is 0, from its low end on.
+fn choice_of(words: &str, number: usize) -> io::Result<SmallText> {
+    let mut text = Cursor::new([0u8; 96]);
+    let mut bits = number;
+    let mut is_second = false;
+    for word in words.split(',') {
+        if (bits % 2 == 1) == is_second {
+            text.write_all(word.as_bytes())?;
+        }
+        if is_second {
+            bits /= 2;
+        }
+        is_second = !is_second;
+    }
+    Ok(text)
+}
+
+/// Makes a text of so many letters `a`, which takes no memory but its own.
+fn letters(alloc: Global, count: usize) -> Result<String, Failure> {
+    let mut text = String::with_capacity(alloc, count)?;
+    for _ in 0..count {
+        text.push('a')?;
+    }
+    Ok(text)
+}
+
+/// Joins the decimal numbers below a count by commas, in one request for memory: a number below the count has no more
+/// digits than the count.
+pub fn joined_numbers(alloc: Global, count: usize) -> Result<String, Failure> {
+    let width = written(&in_decimal(count)?).len().saturating_add(1);
+    let mut text = String::with_capacity(alloc, count.saturating_mul(width))?;
+    for number in 0..count {
+        if number > 0 {
+            text.push(',')?;
+        }
+        text.push_str(written(&in_decimal(number)?))?;
+    }
+    Ok(text)
+}
+
+/// The text that the program makes for a call, if it makes one.
+fn text_of(alloc: Global, call: Call<'_>) -> Result<Option<String>, Failure> {
+    match call.name {
+        "letters" => Ok(Some(letters(alloc, call.number)?)),
+        "extend_numbers" | "intern_all_numbers" | "from_iter_numbers" => Ok(Some(joined_numbers(
+            alloc,
+            call.number,
+        )?)),
+        _ => Ok(None),
+    }
+}
+
+/// The same, made again if memory was refused.
+pub fn text_again(rt: &HostRuntime, call: Call<'_>) -> Result<Option<String>, Failure> {
+    let made = text_of(rt.alloc(), call);
+    if !is_refused(&made) {
+        return made;
+    }
+    let again = text_of(rt.alloc(), call);
+    tell_refusal(rt, call.name, true, again.is_ok())?;
+    again
+}
+
+/// What takes in many texts, one by one.
+pub trait Interning {
+    /// How many texts there are.
+    fn count(&self) -> usize;
+
+    /// Whether a text is found, where texts are looked up.
+    fn finds(&self, text: &str) -> bool;
+
+    /// Interns a text.
+    fn intern_one(&mut self, text: &str) -> Result<usize, InternError>;
+}
+
+/// The number of the symbol that was returned.
+pub fn numbered<S: Symbol>(answer: Result<S, InternError>) -> Result<usize, InternError> {
+    Ok(answer?.to_usize())
+}
+
+/// Interns one of many texts, again if memory was refused. After a refusal only the count of texts and that text are
+/// looked at, as a sight of all texts takes too long here.
+fn intern_again<L: Interning>(
+    rt: &HostRuntime,
+    level: &mut L,
+    call: Call<'_>,
+    text: &str,
+) -> Result<Result<usize, InternError>, Failure> {
+    let (before, hashed) = (level.count(), call.scenario.hashed.get());
+    let answer = level.intern_one(text);
+    if !matches!(answer, Err(InternError::Memory(_))) {
+        return Ok(answer);
+    }
+    let is_kept = level.count() == before && !level.finds(text);
+    call.scenario.hashed.set(hashed);
+    let again = level.intern_one(text);
+    tell_refusal(
+        rt,
+        call.name,
+        is_kept,
+        !matches!(again, Err(InternError::Memory(_))),
+    )?;
+    Ok(again)
+}
+
+/// Interns the decimal numbers below a count, or choices of words by them. Prints a symbol where the step from the one
+/// before is another one than that one's was; the first is to be 0, and the next one 1.
+pub fn intern_many<L: Interning>(rt: &HostRuntime, level: &mut L, call: Call<'_>) -> Told {
+    let mut last = usize::MAX;
+    let mut step: usize = 1;
+    for number in 0..call.number {
+        let text = match call.name {
+            "choices" => choice_of(call.text, number)?,
+            _ => in_decimal(number)?,
+        };
+        match intern_again(rt, level, call, written(&text))? {
+            Ok(symbol) => {
+                if symbol.wrapping_sub(last) != step {
+                    step = symbol.wrapping_sub(last);
+                    println!(rt; "  {number} has symbol {symbol}, and so on")?;
+                }
+                last = symbol;
+            }
+            Err(error) => println!(rt; "  {number}: {error}")?,
+        }
+    }
+    println!(rt; "last symbol {last}")?;
+    Ok(())
+}
+
+/// Interns the empty text so many times, and prints the last answer.
+pub fn intern_empties<L: Interning>(rt: &HostRuntime, level: &mut L, call: Call<'_>) -> Told {
+    let mut last = Err(InternError::NoSymbol);
+    for _ in 0..call.number {
+        last = intern_again(rt, level, call, "")?;
+    }
+    tell_symbol(rt, last)
+}
