@@ -6,7 +6,7 @@ use Rattle.std.proofs.lemmas.Bool.{or_parts}
 use Rattle.std.proofs.lemmas.List.{append-nil, append_assoc}
 use Rattle.std.proofs.lemmas.List.Splits.{join_with_byte-slice_split}
 use Rattle.string_interner.specs.Text.{Text, first}
-use Rattle.string_interner.specs.Collect.{fresh, texts_of}
+use Rattle.string_interner.specs.Extend.{fresh, texts_of}
 use Rattle.dictcol.specs.Lines.{is_newline, newline_if, behind_newline, has_newline, joined, lines_of, AreLines}
 
 -- the first line, and each further one behind a newline

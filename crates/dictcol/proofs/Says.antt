@@ -10,7 +10,7 @@ use Rattle.serde_json.specs.Find.{get, as_number, as_u64}
 use Rattle.serde_json.specs.View.{items_of}
 use Rattle.serde_json.proofs.OnLiterals.{serde_json_on_literals}
 use Rattle.string_interner.specs.Text.{Text, IsDistinct}
-use Rattle.string_interner.specs.Collect.{fresh, texts_of}
+use Rattle.string_interner.specs.Extend.{fresh, texts_of}
 use Rattle.string_interner.specs.Backend.{Appends}
 use Rattle.string_interner.specs.Interner.{InternerContents}
 use Rattle.string_interner.specs.Json.{json_of_texts, json_of_number, refused, ReadsElementsExactly, ReadsArrayExactly}

@@ -7,7 +7,7 @@ use Rattle.serde_json.specs.Find.{get, as_number, as_u64}
 use Rattle.serde_json.specs.Read.{read}
 use Rattle.serde_json.specs.View.{items_of}
 use Rattle.string_interner.specs.Text.{Text, IsDistinct}
-use Rattle.string_interner.specs.Collect.{fresh}
+use Rattle.string_interner.specs.Extend.{fresh}
 use Rattle.string_interner.specs.Json.{json_of_texts, json_of_number}
 use Rattle.uses.specs.Column.{AreNumbersOf}
 use Rattle.dictcol.specs.Lines.{has_newline, joined, AreLines}

@@ -8,7 +8,7 @@ ghost use Rattle.serde_json.specs.Find.{get};
 ghost use Rattle.serde_json.specs.Read.{read};
 ghost use Rattle.serde_json.specs.View.{view, items_of, items_view};
 ghost use Rattle.string_interner.specs.Text.{Text, IsDistinct};
-ghost use Rattle.string_interner.specs.Collect.{fresh, texts_of};
+ghost use Rattle.string_interner.specs.Extend.{fresh, texts_of};
 ghost use Rattle.string_interner.specs.Json.{json_of_texts, json_of_number};
 ghost use Rattle.dictcol.specs.Fault.{IsDamage, IsWriteFault};
 ghost use Rattle.dictcol.specs.File.{IsFileOf, texts_at, SaysText, Decodes};

@@ -6,8 +6,8 @@ use Rattle.std.specs.Str.{IsUtf8}
 use Rattle.string_interner.specs.Text.{Text}
 use Rattle.string_interner.specs.StandsFor.{StandInOrder}
 use Rattle.string_interner.specs.StringBackend.{start_at}
-use Rattle.string_interner.specs.Collect.{TakesIn}
-use Rattle.string_interner.specs.Walk.{entries}
+use Rattle.string_interner.specs.Extend.{TakesIn}
+use Rattle.string_interner.specs.Iter.{entries}
 use Rattle.handles.specs.Kind.{numbered, cost_in}
 use Rattle.handles.specs.Any.{contents, kind_of, place, texts_in}
 use Rattle.handles.specs.Calls.{InternsBytes}

@@ -106,7 +106,7 @@ fn replies_over<B: Backend + Drop>(
     alloc: Global,
     commands: &[Command<'_>],
 ) -> Result<Vec<Reply>, Fault>
-    ensures ran { IfOk result (λ replies. (texts : List Text) × Run B.Symbol.symbol_of B.Symbol.number B.place B.read [] []
+    ensures ran { IfOk result (λ replies. (texts : List Text) × Run B.numbering [] []
         commands.now replies.items texts) }
     ensures fault { IsOkUnless result Fault.Memory }
 {

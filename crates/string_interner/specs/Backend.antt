@@ -3,6 +3,7 @@
 use Rattle.std.specs.Prelude.{◌≡◌, ℕ, ◌+◌, ◌<◌, ◌≤◌, ◌^◌, List, [], ◌∷◌, ◌++◌, length, take, All, Option, Some, None, IsSome, Result, Ok, Err, IsOk, OnOk, OnErr}
 use Rattle.std.specs.Str.{IsUtf8}
 use Rattle.string_interner.specs.Text.{Text}
+use Rattle.string_interner.specs.Numbering.{Numbering}
 use Rattle.string_interner.specs.declared.backend.InternError.{InternError}
 use Rattle.string_interner.specs.declared.backend.InternError.TheVariants.{NoSymbol, Memory}
 
@@ -26,7 +27,7 @@ abbrev pub IsPlace : (List Text → ℕ) → List Text → ℕ → Type 0
 IsPlace place texts at = (i : ℕ) × BeginsAt place texts at i
 
 -- what the list of every backend satisfies: its entries are UTF-8, each has a symbol, and the next place fits a `usize`
-pub record IsKept {S : Type 0} (symbol_of : ℕ → Option S) (place : List Text → ℕ) (texts : List Text) : Type 0 where
+pub record IsValidList {S : Type 0} (symbol_of : ℕ → Option S) (place : List Text → ℕ) (texts : List Text) : Type 0 where
   pub utf8 : All IsUtf8 texts
   pub has_symbols : (i : ℕ) → i < length texts → IsSome (symbol_of (place (take i texts)))
   pub fits : place texts < 2 ^ 64
@@ -48,13 +49,13 @@ pub record UsesRoom {T E : Type 0} (has_symbol : Type 0) (cost old new : ℕ) (o
   pub unspent : OnErr outcome (old ≤ new)
 
 -- The same of a backend that has these texts, buckets and spare capacity. On `Err` the buckets are unchanged.
-pub record AppendsInto {S B : Type 0} (symbol_of : ℕ → Option S) (place : List Text → ℕ) (cost : Text → ℕ) (texts_of : B → List Text)
+pub record AppendsInto {S B : Type 0} (numbering : Numbering S) (texts_of : B → List Text)
     (buckets_of : B → List Bucket) (room_of : B → ℕ) (old : B) (text : Text) (outcome : Result S InternError) (new : B) : Type 0 where
-  pub appends : Appends symbol_of place (texts_of old) text outcome (texts_of new)
-  pub kept : IsKept symbol_of place (texts_of new)
+  pub appends : Appends numbering.symbol_of numbering.place (texts_of old) text outcome (texts_of new)
+  pub valid : IsValidList numbering.symbol_of numbering.place (texts_of new)
   pub buckets : OnErr outcome (buckets_of new ≡ buckets_of old)
   -- within the spare capacity it does not fail for memory
-  pub room : UsesRoom (IsSome (symbol_of (place (texts_of old)))) (cost text) (room_of old) (room_of new) outcome
+  pub room : UsesRoom (IsSome (numbering.symbol_of (numbering.place (texts_of old)))) (numbering.cost text) (room_of old) (room_of new) outcome
 
 -- the texts are unchanged, with no more spare capacity than there was, and none if there are no texts
 pub record Shrinks (old new : Contents) : Type 0 where

@@ -5,7 +5,8 @@ use Rattle.std.specs.Prelude.{◌≡◌, ℕ, ◌+◌, ◌-◌, ◌*◌, ◌^◌
 use Rattle.std.specs.Str.{IsCharBoundary}
 use Rattle.std.specs.Int.{IsNextPowerOfTwo}
 use Rattle.string_interner.specs.Text.{Text}
-use Rattle.string_interner.specs.Backend.{AppendsInto, Bucket, IsKept}
+use Rattle.string_interner.specs.Numbering.{by_index}
+use Rattle.string_interner.specs.Backend.{AppendsInto, Bucket, IsValidList}
 use Rattle.string_interner.specs.declared.backend.InternError.{InternError}
 use Rattle.string_interner.specs.declared.backend.bucket.interned_str.InternedStr.{InternedStr}
 use Rattle.string_interner.specs.declared.backend.bucket.interned_str.InternedStr.TheVariants.{InBucket, Static}
@@ -46,8 +47,9 @@ abbrev pub AreBounded : List Bucket → Type 0
 AreBounded buckets = total_capacity buckets ≤ max (bucket_at buckets 0).capacity (4 * byte_count buckets)
 
 -- A text is appended. Its cost is its length in bytes, and at least one.
-abbrev pub AppendsText : {S : Type 0} → (ℕ → Option S) → BucketContents → Text → Result S InternError → BucketContents → Type 0
-AppendsText symbol_of = AppendsInto symbol_of length (λ text. max 1 (length text)) (λ b. b.texts) (λ b. buckets_of b.full b.head) (λ b. b.room)
+abbrev pub AppendsText : {S : Type 0} → (ℕ → Option S) → (S → ℕ) → BucketContents → Text → Result S InternError → BucketContents → Type 0
+AppendsText symbol_of number =
+    AppendsInto (by_index symbol_of number (λ text. max 1 (length text))) (λ b. b.texts) (λ b. buckets_of b.full b.head) (λ b. b.room)
 
 -- A text is stored in the buckets: appended to the head, if it fits the head's capacity. Else the head joins the older
 -- buckets, and the text begins a new head, whose capacity is the least power of two above both the old head's capacity
@@ -152,14 +154,14 @@ pub record IsInBuckets {S : Type 0} (symbol_of : ℕ → Option S) (full : List 
   pub standing : All (IsEntry (buckets_of full head)) entries
   pub shared : sum_by interned_len entries ≤ byte_count (buckets_of full head)
   pub tight : IsTight full head
-  pub kept : IsKept symbol_of length (map (interned_text (buckets_of full head)) entries)
+  pub valid : IsValidList symbol_of length (map (interned_text (buckets_of full head)) entries)
 
 -- An entry is copied: a text stored in a bucket is appended to this one, and a static text stays a reference.
-abbrev pub IsCopy : List Bucket → InternedStr → Bucket → Bucket → InternedStr → Type 0
-IsCopy buckets (InBucket bucket span) old new copy =
+abbrev pub IsBucketCopy : List Bucket → InternedStr → Bucket → Bucket → InternedStr → Type 0
+IsBucketCopy buckets (InBucket bucket span) old new copy =
     let text = interned_text buckets (InBucket bucket span) in
     (new ≡ record old { bytes = old.bytes ++ text }) × IsLast text [] new copy
-IsCopy buckets (Static text) old new copy = (new ≡ old) × (copy ≡ Static text)
+IsBucketCopy buckets (Static text) old new copy = (new ≡ old) × (copy ≡ Static text)
 
 -- the copies have the texts of the entries, of which those in buckets were appended to this one in order
 pub record AreCopies (buckets : List Bucket) (entries copies : List InternedStr) (bucket : Bucket) : Type 0 where

@@ -3,7 +3,8 @@
 use Rattle.std.specs.Prelude.{◌≡◌, ℕ, zero, suc, ◌+◌, ◌<◌, ◌≤◌, ◌^◌, ◌&&◌, List, [], ◌∷◌, ◌++◌, length, take, drop, Option, Some, None, nat_le, if◌then◌else◌, flat_map, sum_by, All}
 use Rattle.std.specs.Str.{IsUtf8, is_utf8}
 use Rattle.string_interner.specs.Text.{Text}
-use Rattle.string_interner.specs.Backend.{IsKept, IsPlace}
+use Rattle.string_interner.specs.Numbering.{Numbering}
+use Rattle.string_interner.specs.Backend.{IsValidList, IsPlace}
 use Rattle.string_interner.specs.Spelling.{spell, digits, IsChain, value, front_value, after_front, has_front}
 
 -- an entry: the length of the text, then its bytes
@@ -44,15 +45,25 @@ read_front bytes =
 abbrev pub read_at : List Text → ℕ → Option Text
 read_at texts n = read_front (drop n (bytes_of texts))
 
+-- Texts numbered by the byte at which their entries begin: the numbering of `BufferBackend`.
+abbrev pub by_byte : {S : Type 0} → (ℕ → Option S) → (S → ℕ) → Numbering S
+by_byte symbol_of number = record {
+  symbol_of = symbol_of;
+  number = number;
+  place = place_of;
+  read = read_at;
+  cost = entry_len;
+}
+
 -- the first `count` texts of a buffer
-abbrev pub texts_in : ℕ → List ℕ → List Text
-texts_in zero buffer = []
-texts_in (suc count) buffer = take (front_value buffer) (after_front buffer) ∷ texts_in count (drop (front_value buffer) (after_front buffer))
+abbrev pub front_texts : ℕ → List ℕ → List Text
+front_texts zero buffer = []
+front_texts (suc count) buffer = take (front_value buffer) (after_front buffer) ∷ front_texts count (drop (front_value buffer) (after_front buffer))
 
 -- the invariant of a `BufferBackend`: the buffer is that of the texts, and a backend may have this list
 pub record IsSpelled {S : Type 0} (symbol_of : ℕ → Option S) (buffer : List ℕ) (texts : List Text) : Type 0 where
   pub bytes_are : buffer ≡ bytes_of texts
-  pub kept : IsKept symbol_of place_of texts
+  pub valid : IsValidList symbol_of place_of texts
 
 -- the buffer is that of some texts, one of whose entries begins at the place
 pub record HasEntryAt (buffer : List ℕ) (at : ℕ) : Type 0 where

@@ -13,7 +13,7 @@ use Rattle.std.proofs.lemmas.List.Sums.{sum_by-cons, sum_by_push, get_or-le-sum_
 use Rattle.std.proofs.lemmas.Option.{slice_get-get_or}
 use Rattle.std.proofs.lemmas.Str.{is_utf8-from_IsUtf8}
 use Rattle.string_interner.specs.Text.{Text}
-use Rattle.string_interner.specs.Backend.{IsKept}
+use Rattle.string_interner.specs.Backend.{IsValidList}
 use Rattle.string_interner.specs.Spelling.{spell_within, spell, digits, IsLeastDigitCount, IsChain, value, front_len, front_value, after_front}
 use Rattle.string_interner.specs.BufferBackend.{entry_of, bytes_of, entry_len, place_of, read_front, read_at}
 
@@ -178,7 +178,7 @@ from_place texts i h =
     ∙ flat_map-cons entry_of (get_or texts i []) (drop (i + 1) texts)
 
 -- reading at the place of an entry gives its text
-pub reads_at_place : {S : Type 0} (symbol_of : ℕ → Option S) (texts : List Text) (i : ℕ) → IsKept symbol_of place_of texts → i < length texts → read_at texts (place_of (take i texts)) ≡ slice_get texts i
+pub reads_at_place : {S : Type 0} (symbol_of : ℕ → Option S) (texts : List Text) (i : ℕ) → IsValidList symbol_of place_of texts → i < length texts → read_at texts (place_of (take i texts)) ≡ slice_get texts i
 reads_at_place symbol_of texts i kept h =
     let t : Text = get_or texts i [] in
     let fits : length t < 2 ^ 64 = omega (arith, get_or-le-sum_by entry_len texts i [] h, kept.fits) in

@@ -9,6 +9,7 @@ use Rattle.std.proofs.lemmas.Option.{slice_get_within}
 use Rattle.string_interner.specs.Text.{Text}
 use Rattle.string_interner.specs.Backend.{BeginsAt, IsPlace}
 use Rattle.string_interner.specs.Entry.{text_ahead, entry_text}
+use Rattle.string_interner.specs.Numbering.{Numbering}
 
 -- what is there is some value
 some_value : {X : Type 0} (o : Option X) → IsSome o → (x : X) × (o ≡ Some x)
@@ -55,28 +56,28 @@ module _ (place : List Text → ℕ) where
         let f : (place behind == place (behind ++ t ∷ take i ts)) ≡ false = grind (arith, nat_tests) in
         rw (f, ← e) (text_ahead-at (behind ++ t ∷ []) ts i (omega arith))
 
-module _ {S : Type 0} (number : S → ℕ) (place : List Text → ℕ) where
+module _ {S : Type 0} (numbering : Numbering S) where
   -- the entry of a symbol begins at the symbol's number
-  pub entry_text-is : (texts : List Text) (symbol : S) (text : Text) → entry_text number place texts symbol ≡ Some text
-      → (i : ℕ) × (BeginsAt place texts (number symbol) i) × (slice_get texts i ≡ Some text)
+  pub entry_text-is : (texts : List Text) (symbol : S) (text : Text) → entry_text numbering texts symbol ≡ Some text
+      → (i : ℕ) × (BeginsAt numbering.place texts (numbering.number symbol) i) × (slice_get texts i ≡ Some text)
   entry_text-is texts symbol text e =
-      let r = text_ahead-is place [] texts (number symbol) text e in
+      let r = text_ahead-is numbering.place [] texts (numbering.number symbol) text e in
       (r.0, record { within = slice_get_within texts r.0 text r.1.is; begins = r.1.begins }, r.1.is)
 
   -- so an entry begins there
-  pub entry_text-IsPlace : (texts : List Text) (symbol : S) → IsSome (entry_text number place texts symbol) → IsPlace place texts (number symbol)
-  entry_text-IsPlace texts symbol h = let t = some_value (entry_text number place texts symbol) h in let r = entry_text-is texts symbol t.0 t.1 in (r.0, r.1)
+  pub entry_text-IsPlace : (texts : List Text) (symbol : S) → IsSome (entry_text numbering texts symbol) → IsPlace numbering.place texts (numbering.number symbol)
+  entry_text-IsPlace texts symbol h = let t = some_value (entry_text numbering texts symbol) h in let r = entry_text-is texts symbol t.0 t.1 in (r.0, r.1)
 
   -- a text that is the one of each entry that begins there is the text
-  pub entry_text-resolved : (texts : List Text) (symbol : S) (text : Text) → IsSome (entry_text number place texts symbol)
-      → ((i : ℕ) → BeginsAt place texts (number symbol) i → slice_get texts i ≡ Some text) → entry_text number place texts symbol ≡ Some text
+  pub entry_text-resolved : (texts : List Text) (symbol : S) (text : Text) → IsSome (entry_text numbering texts symbol)
+      → ((i : ℕ) → BeginsAt numbering.place texts (numbering.number symbol) i → slice_get texts i ≡ Some text) → entry_text numbering texts symbol ≡ Some text
   entry_text-resolved texts symbol text h each =
-      let t = some_value (entry_text number place texts symbol) h in let r = entry_text-is texts symbol t.0 t.1 in t.1 ∙ sym r.2 ∙ each r.0 r.1
+      let t = some_value (entry_text numbering texts symbol) h in let r = entry_text-is texts symbol t.0 t.1 in t.1 ∙ sym r.2 ∙ each r.0 r.1
 
   -- the symbol of the place of an entry has that entry's text
-  pub entry_text-at : ((texts : List Text) (text : Text) → place texts < place (texts ++ text ∷ [])) → (texts : List Text) (symbol : S) (i : ℕ)
-      → i < length texts → number symbol ≡ place (take i texts) → entry_text number place texts symbol ≡ slice_get texts i
-  entry_text-at grows texts symbol i h e = rw e (text_ahead-at place grows [] texts i h)
+  pub entry_text-at : ((texts : List Text) (text : Text) → numbering.place texts < numbering.place (texts ++ text ∷ [])) → (texts : List Text) (symbol : S) (i : ℕ)
+      → i < length texts → numbering.number symbol ≡ numbering.place (take i texts) → entry_text numbering texts symbol ≡ slice_get texts i
+  entry_text-at grows texts symbol i h e = rw e (text_ahead-at numbering.place grows [] texts i h)
 
 slice_get-append : {X : Type 0} (xs ys : List X) (i : ℕ) → i < length xs → slice_get (xs ++ ys) i ≡ slice_get xs i
 slice_get-append [] ys i h = absurd (omega arith)
@@ -93,29 +94,29 @@ pub record Adds {S : Type 0} (old new : S → Option Text) (symbol : S) (text : 
   pub kept : (s : S) (t : Text) → old s ≡ Some t → new s ≡ Some t
   pub only : (s : S) (t : Text) → new s ≡ Some t → (old s ≡ Some t) ⊎ (s ≡ symbol)
 
-module _ {S : Type 0} (symbol_of : ℕ → Option S) (number : S → ℕ) (place : List Text → ℕ)
-    (numbered : (i : ℕ) (s : S) → symbol_of i ≡ Some s → (number s ≡ i) × (i < 2 ^ 64))
-    (injective : (a b : S) → number a ≡ number b → a ≡ b)
-    (grows : (texts : List Text) (text : Text) → place texts < place (texts ++ text ∷ [])) where
+module _ {S : Type 0} (numbering : Numbering S)
+    (numbered : (i : ℕ) (s : S) → numbering.symbol_of i ≡ Some s → (numbering.number s ≡ i) × (i < 2 ^ 64))
+    (injective : (a b : S) → numbering.number a ≡ numbering.number b → a ≡ b)
+    (grows : (texts : List Text) (text : Text) → numbering.place texts < numbering.place (texts ++ text ∷ [])) where
   -- a text that is put last is one entry more
-  pub entry_text-adds : (texts : List Text) (text : Text) (symbol : S) → symbol_of (place texts) ≡ Some symbol
-      → Adds (entry_text number place texts) (entry_text number place (texts ++ text ∷ [])) symbol text
+  pub entry_text-adds : (texts : List Text) (text : Text) (symbol : S) → numbering.symbol_of (numbering.place texts) ≡ Some symbol
+      → Adds (entry_text numbering texts) (entry_text numbering (texts ++ text ∷ [])) symbol text
   entry_text-adds texts text symbol e =
-      let n : number symbol ≡ place texts = (numbered (place texts) symbol e).0 in
+      let n : numbering.number symbol ≡ numbering.place texts = (numbered (numbering.place texts) symbol e).0 in
       let more = texts ++ text ∷ [] in let long = length_push texts text in
       let whole : take (length texts) more ≡ texts = take-append-le (length texts) texts (text ∷ []) (omega arith) ∙ take_all (length texts) texts (omega arith) in
       record {
-        added = entry_text-at number place grows more symbol (length texts) (omega arith) (n ∙ sym (ap place whole)) ∙ slice_get-push texts text;
+        added = entry_text-at numbering grows more symbol (length texts) (omega arith) (n ∙ sym (ap numbering.place whole)) ∙ slice_get-push texts text;
         kept = λ s t h.
-            let r = entry_text-is number place texts s t h in let w = r.1.within in
+            let r = entry_text-is numbering texts s t h in let w = r.1.within in
             let same : take r.0 more ≡ take r.0 texts = take-append-le r.0 texts (text ∷ []) (omega arith) in
-            entry_text-at number place grows more s r.0 (omega arith) (sym r.1.begins ∙ sym (ap place same)) ∙ slice_get-append texts (text ∷ []) r.0 w ∙ r.2;
+            entry_text-at numbering grows more s r.0 (omega arith) (sym r.1.begins ∙ sym (ap numbering.place same)) ∙ slice_get-append texts (text ∷ []) r.0 w ∙ r.2;
         only = λ s t h.
-            let r = entry_text-is number place more s t h in let w = r.1.within in
-            elim (cases_lt r.0 (length texts)) as (λ _. (entry_text number place texts s ≡ Some t) ⊎ (s ≡ symbol)) [
+            let r = entry_text-is numbering more s t h in let w = r.1.within in
+            elim (cases_lt r.0 (length texts)) as (λ _. (entry_text numbering texts s ≡ Some t) ⊎ (s ≡ symbol)) [
               | inl l ↦
                   (let same : take r.0 more ≡ take r.0 texts = take-append-le r.0 texts (text ∷ []) (omega arith) in
-                  inl (entry_text-at number place grows texts s r.0 l (sym r.1.begins ∙ ap place same) ∙ sym (slice_get-append texts (text ∷ []) r.0 l) ∙ r.2))
-              | inr l ↦ (let last : r.0 ≡ length texts = omega arith in inr (injective s symbol (sym r.1.begins ∙ ap (λ i. place (take i more)) last ∙ ap place whole ∙ sym n)))
+                  inl (entry_text-at numbering grows texts s r.0 l (sym r.1.begins ∙ ap numbering.place same) ∙ sym (slice_get-append texts (text ∷ []) r.0 l) ∙ r.2))
+              | inr l ↦ (let last : r.0 ≡ length texts = omega arith in inr (injective s symbol (sym r.1.begins ∙ ap (λ i. numbering.place (take i more)) last ∙ ap numbering.place whole ∙ sym n)))
             ];
       }

@@ -2,7 +2,8 @@
 -- Cited by `StringInterner` and by all that stands on it.
 use Rattle.std.specs.Prelude.{◌≡◌, ℕ, ◌+◌, ◌^◌, ◌<◌, ◌≤◌, ◌↔◌, List, [], length, take, Option, Some, IsSome, MatchOption, IfOk, IsOkAnd, IsErrOf, OnErr, Result, option_and_then}
 use Rattle.string_interner.specs.Text.{Text, IsDistinct, first}
-use Rattle.string_interner.specs.Backend.{Bucket, IsKept, Appends, UsesRoom}
+use Rattle.string_interner.specs.Numbering.{Numbering}
+use Rattle.string_interner.specs.Backend.{Bucket, IsValidList, Appends, UsesRoom}
 use Rattle.string_interner.specs.Entry.{entry_text}
 use Rattle.string_interner.specs.StandsFor.{StandsFor, KeepsSymbols, FindsSymbol}
 use Rattle.string_interner.specs.SlotRule.{SlotRule, IsLeastSlotCount, GrowsIfFull}
@@ -39,58 +40,56 @@ pub record KeepsMemory (old new : InternerContents) : Type 0 where
   pub room : old.room ≤ new.room
   pub slots : new.slot_count ≡ old.slot_count
 
-module _ {S : Type 0} (symbol_of : ℕ → Option S) (place : List Text → ℕ) where
+module _ {S : Type 0} (numbering : Numbering S) where
   -- the symbol of the entry `i`
   abbrev pub entry_symbol : List Text → ℕ → Option S
-  entry_symbol texts i = symbol_of (place (take i texts))
+  entry_symbol texts i = numbering.symbol_of (numbering.place (take i texts))
 
   -- the symbol of a known text
   abbrev pub known_symbol : List Text → Text → Option S
   known_symbol texts text = option_and_then (entry_symbol texts) (first texts text)
 
   -- what the texts of every interner satisfy: they are distinct, and its backend may have them
-  pub record AreInterned (texts : List Text) : Type 0 where
+  pub record IsDistinctList (texts : List Text) : Type 0 where
     pub distinct : IsDistinct texts
-    pub kept : IsKept symbol_of place texts
+    pub valid : IsValidList numbering.symbol_of numbering.place texts
 
   -- Looking up a text finds this.
   pub record Finds (texts : List Text) (text : Text) (found : Option S) : Type 0 where
     pub symbol : found ≡ known_symbol texts text
     pub known : IsSome found ↔ IsSome (first texts text)
-    pub stands : FindsSymbol symbol_of place texts text found
+    pub stands : FindsSymbol numbering texts text found
 
   -- What a symbol resolves to: what the backend reads at its number, which is the text that the symbol stands for, if any.
-  pub record Resolves (read : List Text → ℕ → Option Text) (number : S → ℕ) (texts : List Text) (symbol : S) (found : Option Text) : Type 0 where
-    pub value : found ≡ read texts (number symbol)
-    pub stands : (text : Text) → StandsFor symbol_of place texts symbol text → found ≡ Some text
+  pub record Resolves (texts : List Text) (symbol : S) (found : Option Text) : Type 0 where
+    pub value : found ≡ numbering.read texts (numbering.number symbol)
+    pub stands : (text : Text) → StandsFor numbering texts symbol text → found ≡ Some text
 
   -- Interning a text in the old list has this outcome and gives this new list: for a known text `Ok` with the symbol of
   -- its first entry, and nothing changes; a new one is appended.
   abbrev pub Interns : List Text → Text → Result S InternError → List Text → Type 0
   Interns old text outcome new = MatchOption (first old text)
-      (Appends symbol_of place old text outcome new)
+      (Appends numbering.symbol_of numbering.place old text outcome new)
       (λ i. IsOkAnd outcome (λ symbol. entry_symbol old i ≡ Some symbol) × (new ≡ old))
 
-  -- The same of an interner, where a text has this cost and the index counts its slots by this rule.
-  pub record InternsInto (cost : Text → ℕ) (rule : SlotRule) (old : InternerContents) (text : Text) (outcome : Result S InternError) (new : InternerContents) : Type 0 where
+  -- The same of an interner whose index counts its slots by this rule.
+  pub record InternsInto (rule : SlotRule) (old : InternerContents) (text : Text) (outcome : Result S InternError) (new : InternerContents) : Type 0 where
     pub interns : Interns old.texts text outcome new.texts
-    pub texts : AreInterned new.texts
+    pub texts : IsDistinctList new.texts
     -- the symbol stands for the text, and each symbol for what it stood for, on `Err` too
-    pub stands : IfOk outcome (λ symbol. StandsFor symbol_of place new.texts symbol text)
-    pub keeps : KeepsSymbols symbol_of place old.texts new.texts
+    pub stands : IfOk outcome (λ symbol. StandsFor numbering new.texts symbol text)
+    pub keeps : KeepsSymbols numbering old.texts new.texts
     -- a known text changes nothing, and neither does `NoSymbol`
     pub known : IsSome (first old.texts text) → new ≡ old
     pub no_symbol : IsErrOf outcome NoSymbol → new ≡ old
     -- on `Err` the buckets are unchanged
     pub buckets : OnErr outcome (new.buckets ≡ old.buckets)
     -- within the spare capacity of the backend and of the index it does not fail for memory
-    pub room : UsesRoom (IsSome (symbol_of (place old.texts)) × rule.holds old.slot_count (length old.texts + 1)) (cost text) old.room new.room outcome
+    pub room : UsesRoom (IsSome (numbering.symbol_of (numbering.place old.texts)) × rule.holds old.slot_count (length old.texts + 1)) (numbering.cost text) old.room new.room outcome
     pub slots : GrowsIfFull rule (length old.texts) old.slot_count new.slot_count
 
-  -- The invariant of an interner: distinct texts that its backend may have, and an index of so many entries, which are
-  -- these texts with their symbols.
-  pub record IsInterned (number : S → ℕ) (indexes : (S → Option Text) → Type 0) (entries : ℕ) (texts : List Text) : Type 0 where
-    pub distinct : IsDistinct texts
-    pub kept : IsKept symbol_of place texts
-    pub whole : indexes (entry_text number place texts)
+  -- The invariant of an interner: its texts, and an index of so many entries, which are these texts with their symbols.
+  pub record IsSoundInterner (indexes : (S → Option Text) → Type 0) (entries : ℕ) (texts : List Text) : Type 0 where
+    pub are : IsDistinctList texts
+    pub whole : indexes (entry_text numbering texts)
     pub count : entries ≡ length texts

@@ -7,10 +7,11 @@ use Rattle.serde_json.specs.Data.{Data, number, unsigned, string, array, Items, 
 use Rattle.serde_json.specs.Find.{as_array, as_number, as_str, as_u64}
 use Rattle.serde_json.specs.View.{items_of}
 use Rattle.string_interner.specs.Text.{Text, first}
+use Rattle.string_interner.specs.Numbering.{Numbering}
 use Rattle.string_interner.specs.Backend.{Appends}
 use Rattle.string_interner.specs.SlotRule.{SlotRule, IsLeastSlotCount}
 use Rattle.string_interner.specs.StandsFor.{KeepsSymbols}
-use Rattle.string_interner.specs.Interner.{AreInterned, InternerContents, Interns}
+use Rattle.string_interner.specs.Interner.{IsDistinctList, InternerContents, Interns}
 use Rattle.string_interner.specs.declared.backend.InternError.{InternError}
 use Rattle.string_interner.specs.declared.backend.InternError.TheVariants.{NoSymbol as InternNoSymbol, Memory as InternMemory}
 use Rattle.string_interner.specs.declared.json.JsonError.{JsonError}
@@ -38,39 +39,38 @@ read_into interner (Err error) = Err error
 abbrev pub KeepsLeastSlots : SlotRule → InternerContents → InternerContents → Type 0
 KeepsLeastSlots rule old new = IsLeastSlotCount rule (length old.texts) old.slot_count → IsLeastSlotCount rule (length new.texts) new.slot_count
 
-module _ {S : Type 0} (symbol_of : ℕ → Option S) where
-  -- the symbol whose number the JSON value is, or the error
-  abbrev pub symbol_read : Data → Result S JsonError
-  symbol_read value = option_map_or (λ n. ok_or (symbol_of n) NoSymbol) (option_and_then as_u64 (as_number value)) (Err NotANumber)
+-- the symbol whose number the JSON value is, or the error
+abbrev pub symbol_read : {S : Type 0} → (ℕ → Option S) → Data → Result S JsonError
+symbol_read symbol_of value = option_map_or (λ n. ok_or (symbol_of n) NoSymbol) (option_and_then as_u64 (as_number value)) (Err NotANumber)
 
-  module _ (place : List Text → ℕ) where
-    -- The elements, the first of which has this index, are read into the old list in order, with this outcome: a string
-    -- is interned, and the first element that fails decides.
-    abbrev pub ReadsElements : List Text → ℕ → Items → Result InternerContents JsonError → Type 0
-    ReadsElements old index no_items outcome = IsOkAnd outcome (λ interner. interner.texts ≡ old)
-    ReadsElements old index (item element rest) outcome = MatchOption (as_str element)
-        (outcome ≡ Err (NotAText index))
-        (λ text. (interned : Result S InternError) × (mid : List Text) × Interns symbol_of place old text interned mid
-        × MatchResult interned (λ _. ReadsElements mid (index + 1) rest outcome) (λ error. outcome ≡ Err (refused error)))
+module _ {S : Type 0} (numbering : Numbering S) where
+  -- The elements, the first of which has this index, are read into the old list in order, with this outcome: a string
+  -- is interned, and the first element that fails decides.
+  abbrev pub ReadsElements : List Text → ℕ → Items → Result InternerContents JsonError → Type 0
+  ReadsElements old index no_items outcome = IsOkAnd outcome (λ interner. interner.texts ≡ old)
+  ReadsElements old index (item element rest) outcome = MatchOption (as_str element)
+      (outcome ≡ Err (NotAText index))
+      (λ text. (interned : Result S InternError) × (mid : List Text) × Interns numbering old text interned mid
+      × MatchResult interned (λ _. ReadsElements mid (index + 1) rest outcome) (λ error. outcome ≡ Err (refused error)))
 
-    -- The same where all must differ: the old list are the elements before these. A string equal to one of them fails,
-    -- and any other is appended.
-    abbrev pub ReadsElementsExactly : List Text → ℕ → Items → Result InternerContents JsonError → Type 0
-    ReadsElementsExactly old index no_items outcome = IsOkAnd outcome (λ interner. interner.texts ≡ old)
-    ReadsElementsExactly old index (item element rest) outcome = MatchOption (as_str element)
-        (outcome ≡ Err (NotAText index))
-        (λ text. MatchOption (first old text)
-        ((interned : Result S InternError) × (mid : List Text) × Appends symbol_of place old text interned mid
-        × MatchResult interned (λ _. ReadsElementsExactly mid (index + 1) rest outcome) (λ error. outcome ≡ Err (refused error)))
-        (λ _. outcome ≡ Err (Repeated index)))
+  -- The same where all must differ: the old list are the elements before these. A string equal to one of them fails,
+  -- and any other is appended.
+  abbrev pub ReadsElementsExactly : List Text → ℕ → Items → Result InternerContents JsonError → Type 0
+  ReadsElementsExactly old index no_items outcome = IsOkAnd outcome (λ interner. interner.texts ≡ old)
+  ReadsElementsExactly old index (item element rest) outcome = MatchOption (as_str element)
+      (outcome ≡ Err (NotAText index))
+      (λ text. MatchOption (first old text)
+      ((interned : Result S InternError) × (mid : List Text) × Appends numbering.symbol_of numbering.place old text interned mid
+      × MatchResult interned (λ _. ReadsElementsExactly mid (index + 1) rest outcome) (λ error. outcome ≡ Err (refused error)))
+      (λ _. outcome ≡ Err (Repeated index)))
 
-    -- the elements of an array are read into the empty list, and any other value fails
-    abbrev pub ReadsArray : Data → Result InternerContents JsonError → Type 0
-    ReadsArray value outcome = MatchOption (as_array value) (outcome ≡ Err NotAList) (λ elements. ReadsElements [] 0 elements outcome)
+  -- the elements of an array are read into the empty list, and any other value fails
+  abbrev pub ReadsArray : Data → Result InternerContents JsonError → Type 0
+  ReadsArray value outcome = MatchOption (as_array value) (outcome ≡ Err NotAList) (λ elements. ReadsElements [] 0 elements outcome)
 
-    -- the same, where no string may be equal to an earlier one
-    abbrev pub ReadsArrayExactly : Data → Result InternerContents JsonError → Type 0
-    ReadsArrayExactly value outcome = MatchOption (as_array value) (outcome ≡ Err NotAList) (λ elements. ReadsElementsExactly [] 0 elements outcome)
+  -- the same, where no string may be equal to an earlier one
+  abbrev pub ReadsArrayExactly : Data → Result InternerContents JsonError → Type 0
+  ReadsArrayExactly value outcome = MatchOption (as_array value) (outcome ≡ Err NotAList) (λ elements. ReadsElementsExactly [] 0 elements outcome)
 
 -- the outcome of reading a list back: the list, or `Memory`
 abbrev pub GivesBack : List Text → Result InternerContents JsonError → Type 0
@@ -80,6 +80,6 @@ GivesBack texts (Err _) = ⊥
 
 -- if the value is what `to_json` returns for a list that an interner may have, reading it gives that list back, and each
 -- symbol stands for what it stood for
-abbrev pub ReadsBack : {S : Type 0} → (ℕ → Option S) → (List Text → ℕ) → Data → Result InternerContents JsonError → Type 0
-ReadsBack symbol_of place value outcome = (texts : List Text) → AreInterned symbol_of place texts → value ≡ json_of_texts texts
-    → GivesBack texts outcome × IfOk outcome (λ interner. KeepsSymbols symbol_of place texts interner.texts)
+abbrev pub ReadsBack : {S : Type 0} → Numbering S → Data → Result InternerContents JsonError → Type 0
+ReadsBack numbering value outcome = (texts : List Text) → IsDistinctList numbering texts → value ≡ json_of_texts texts
+    → GivesBack texts outcome × IfOk outcome (λ interner. KeepsSymbols numbering texts interner.texts)

@@ -4,8 +4,9 @@ use Rattle.std.specs.Prelude.{◌≡◌, ℕ, List, [], ◌∷◌, ◌++◌, len
 use Rattle.std.specs.Option.{option_map_or}
 use Rattle.std.specs.String.{string_bytes}
 use Rattle.string_interner.specs.Text.{Text, first}
+use Rattle.string_interner.specs.Numbering.{Numbering}
 use Rattle.string_interner.specs.Interner.{Interns}
-use Rattle.string_interner.specs.Collect.{texts_of, InternsInOrder}
+use Rattle.string_interner.specs.Extend.{texts_of, InternsInOrder}
 use Rattle.string_interner.specs.declared.backend.InternError.{InternError}
 use Rattle.string_interner.specs.declared.backend.InternError.TheVariants.{NoSymbol as InternNoSymbol, Memory}
 use Rattle.string_interner.specs.declared.run.Command.{Command}
@@ -29,9 +30,9 @@ extend_reply (Ok _) = Done
 extend_reply (Err error) = refusal error
 
 -- the number that a reply holds, if there is such a reply and it holds one
-abbrev pub number_told : Option Reply → Option ℕ
-number_told (Some (Symbol n)) = Some n
-number_told _ = None
+abbrev pub reply_number : Option Reply → Option ℕ
+reply_number (Some (Symbol n)) = Some n
+reply_number _ = None
 
 -- the reply is a copy of the text, or the copy could not be allocated
 abbrev pub CopyReply : Text → Reply → Type 0
@@ -46,31 +47,31 @@ InternsNone (InternStatic _) = ⊥
 InternsNone (Extend _) = ⊥
 InternsNone _ = ⊤
 
-module _ {S : Type 0} (symbol_of : ℕ → Option S) (number : S → ℕ) (place : List Text → ℕ) (read : List Text → ℕ → Option Text) where
+module _ {S : Type 0} (numbering : Numbering S) where
   -- the text at a number, if the number has a symbol and a text is read there
-  abbrev pub number_read : List Text → ℕ → Option Text
-  number_read texts n = option_and_then (λ _. read texts n) (symbol_of n)
+  abbrev pub text_at_number : List Text → ℕ → Option Text
+  text_at_number texts n = option_and_then (λ _. numbering.read texts n) (numbering.symbol_of n)
 
   -- the reply to a number: a copy of the text, or nothing
   abbrev pub NumberReply : List Text → ℕ → Reply → Type 0
-  NumberReply texts n reply = MatchOption (number_read texts n) (reply ≡ Nothing) (λ text. CopyReply text reply)
+  NumberReply texts n reply = MatchOption (text_at_number texts n) (reply ≡ Nothing) (λ text. CopyReply text reply)
 
   -- the text is interned, and the reply is for the outcome
   abbrev pub InternReply : List Text → Text → Reply → List Text → Type 0
-  InternReply old text reply new = (outcome : Result S InternError) × Interns symbol_of place old text outcome new × (reply ≡ intern_reply number outcome)
+  InternReply old text reply new = (outcome : Result S InternError) × Interns numbering old text outcome new × (reply ≡ intern_reply numbering.number outcome)
 
   -- the texts are interned in order, and the reply is for the outcome
   abbrev pub ExtendReply : List Text → List Text → Reply → List Text → Type 0
-  ExtendReply old texts reply new = (outcome : Result (Unit {0}) InternError) × InternsInOrder symbol_of place old texts outcome new × (reply ≡ extend_reply outcome)
+  ExtendReply old texts reply new = (outcome : Result (Unit {0}) InternError) × InternsInOrder numbering old texts outcome new × (reply ≡ extend_reply outcome)
 
   -- From the old list, after the earlier replies of the run, the command may have this reply and leave the new list.
   abbrev pub Step : List Text → List Reply → Command → Reply → List Text → Type 0
   Step old earlier (Intern text) reply new = InternReply old text.now reply new
   Step old earlier (InternStatic text) reply new = InternReply old text.now reply new
   -- the place of a known text, as the number of its symbol
-  Step old earlier (Get text) reply new = (reply ≡ option_map_or (λ i. Symbol (place (take i old))) (first old text.now) Nothing) × (new ≡ old)
+  Step old earlier (Get text) reply new = (reply ≡ option_map_or (λ i. Symbol (numbering.place (take i old))) (first old text.now) Nothing) × (new ≡ old)
   -- the reply to the number that reply `k` holds
-  Step old earlier (Resolve k) reply new = MatchOption (number_told (slice_get earlier k)) (reply ≡ NoReply) (λ n. NumberReply old n reply) × (new ≡ old)
+  Step old earlier (Resolve k) reply new = MatchOption (reply_number (slice_get earlier k)) (reply ≡ NoReply) (λ n. NumberReply old n reply) × (new ≡ old)
   Step old earlier (Number n) reply new = NumberReply old n reply × (new ≡ old)
   Step old earlier Len reply new = (reply ≡ LenReply (length old)) × (new ≡ old)
   Step old earlier Shrink reply new = (reply ≡ Done) × (new ≡ old)

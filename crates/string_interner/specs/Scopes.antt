@@ -30,8 +30,8 @@ joined_layers [] = []
 joined_layers (top ∷ below) = joined_layers below ++ top
 
 -- the interner, whose list is the layers joined
-abbrev pub interned : ScopesContents → InternerContents
-interned scopes = record { texts = joined_layers (layers scopes); buckets = scopes.buckets; room = scopes.room; slot_count = scopes.slot_count }
+abbrev pub as_interner : ScopesContents → InternerContents
+as_interner scopes = record { texts = joined_layers (layers scopes); buckets = scopes.buckets; room = scopes.room; slot_count = scopes.slot_count }
 
 -- Leaving a scope: the top layer goes, unless it is the only one, and the flag says which.
 abbrev pub Leaves : List Layer → Bool → List Layer → Type 0

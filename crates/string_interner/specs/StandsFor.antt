@@ -2,13 +2,14 @@
 -- Cited by the calls of `StringInterner` and `Scopes` that take or return symbols, and by callers.
 use Rattle.std.specs.Prelude.{◌≡◌, ℕ, ◌<◌, ◌↔◌, Bool, IsTrue, List, [], ◌∷◌, take, slice_get, Option, Some, MatchOption}
 use Rattle.string_interner.specs.Text.{Text}
+use Rattle.string_interner.specs.Numbering.{Numbering}
 
-module _ {S : Type 0} (symbol_of : ℕ → Option S) (place : List Text → ℕ) where
+module _ {S : Type 0} (numbering : Numbering S) where
   -- the symbol is that of an entry, which is the text
   pub record StandsFor (texts : List Text) (symbol : S) (text : Text) : Type 0 where
     pub index : ℕ
     pub entry : slice_get texts index ≡ Some text
-    pub symbol_is : symbol_of (place (take index texts)) ≡ Some symbol
+    pub symbol_is : numbering.symbol_of (numbering.place (take index texts)) ≡ Some symbol
 
   -- what stood for a text in the old list stands for it in the new one
   abbrev pub KeepsSymbols : List Text → List Text → Type 0
@@ -29,5 +30,5 @@ module _ {S : Type 0} (symbol_of : ℕ → Option S) (place : List Text → ℕ)
   TellsApart eq texts = (s t : S) (a b : Text) → StandsFor texts s a → StandsFor texts t b → IsTrue (eq s t) ↔ (a ≡ b)
 
   -- a later entry has a greater number
-  abbrev pub NumbersInOrder : (S → ℕ) → List Text → Type 0
-  NumbersInOrder number texts = (s t : S) (a b : Text) (before : StandsFor texts s a) (after : StandsFor texts t b) → before.index < after.index → number s < number t
+  abbrev pub NumbersInOrder : List Text → Type 0
+  NumbersInOrder texts = (s t : S) (a b : Text) (before : StandsFor texts s a) (after : StandsFor texts t b) → before.index < after.index → numbering.number s < numbering.number t

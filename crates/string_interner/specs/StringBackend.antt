@@ -3,7 +3,7 @@
 use Rattle.std.specs.Prelude.{◌≡◌, ℕ, zero, suc, ◌+◌, ◌-◌, List, [], ◌∷◌, ◌++◌, length, take, drop, slice_index, Option, All}
 use Rattle.std.specs.Str.{IsUtf8}
 use Rattle.string_interner.specs.Text.{Text}
-use Rattle.string_interner.specs.Backend.{IsKept}
+use Rattle.string_interner.specs.Backend.{IsValidList}
 
 -- the texts between the ends, the first text beginning at `from`
 abbrev pub cut : ℕ → List ℕ → List ℕ → List Text
@@ -34,4 +34,4 @@ pub record IsCut (bytes ends : List ℕ) (texts : List Text) : Type 0 where
 -- and a backend whose places are counts may have this list
 pub record IsJoined {S : Type 0} (symbol_of : ℕ → Option S) (bytes ends : List ℕ) (texts : List Text) : Type 0 where
   pub parts : IsCut bytes ends texts
-  pub kept : IsKept symbol_of length texts
+  pub valid : IsValidList symbol_of length texts

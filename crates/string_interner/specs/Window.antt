@@ -14,8 +14,8 @@ pub record WindowContents (S : Type 0) : Type 0 where
   pub codes : List ℕ
 
 -- what is kept of a code: its low 32 bits
-abbrev pub kept_code : ℕ → ℕ
-kept_code code = code % 2 ^ 32
+abbrev pub stored_code : ℕ → ℕ
+stored_code code = code % 2 ^ 32
 
 -- the tag of a kept code: 128 and its top seven bits, and so never 0
 abbrev pub tag_of : ℕ → ℕ
@@ -42,7 +42,7 @@ module _ {S : Type 0} (entry : S → Option Text) (code : Text → ℕ) where
   -- beside each symbol is what is kept of its text's code
   abbrev pub IsCoded : WindowContents S → Type 0
   IsCoded window = (k : ℕ) (symbol : S) (text : Text) → k < length window.slots → slice_index_or window.slots k None ≡ Some symbol
-      → entry symbol ≡ Some text → slice_index_or window.codes k 0 ≡ kept_code (code text)
+      → entry symbol ≡ Some text → slice_index_or window.codes k 0 ≡ stored_code (code text)
 
   -- the slots map the text of each entry to its symbol and hold nothing else, with the codes of these texts
   pub record IsWindow (window : WindowContents S) : Type 0 where
@@ -63,7 +63,7 @@ TagTells {S} test window tag = (k : ℕ) (symbol : S) → k < length window.slot
 pub record FillsCoded {S : Type 0} (old new : WindowContents S) (home : ℕ) (symbol : S) (code : ℕ) : Type 0 where
   pub slot : FillsSlot old.slots new.slots home symbol
   pub counted : length old.codes ≡ length old.slots
-  pub codes : new.codes ≡ slice_set old.codes slot.at (kept_code code)
+  pub codes : new.codes ≡ slice_set old.codes slot.at (stored_code code)
 
 -- what is in a slot with this tag, beside which this item is stored
 abbrev pub slot_in : {S : Type 0} → ℕ → S → Option S

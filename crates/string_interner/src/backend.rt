@@ -2,8 +2,8 @@
 
 mod bucket;
 mod buffer;
+mod iter;
 mod string;
-mod walk;
 
 ghost use Rattle.std.specs.Prelude.{◌≡◌, ℕ, ◌+◌, ◌^◌, ◌<◌, ◌≤◌, List, [], ◌∷◌, ◌++◌, length, take, slice_get, Option, Some, IfOk, OnOk};
 ghost use Rattle.std.specs.Option.{option_copied};
@@ -12,10 +12,10 @@ ghost use Rattle.string_interner.specs.Text.{Text};
 use crate::symbol::{DefaultSymbol, Symbol};
 pub use bucket::BucketBackend;
 pub use buffer::{BufferBackend, spelling_law};
+pub use iter::Iter;
 use std::alloc::{AllocError, Global};
 pub use string::StringBackend;
 use thiserror::Error;
-pub use walk::Iter;
 
 /// Why interning a text failed. That text left the list unchanged.
 #[derive(Clone, Copy, Debug, PartialEq, Eq, Error)]
@@ -50,22 +50,17 @@ pub trait Backend {
     /// The type of the symbols.
     type Symbol: Symbol;
 
-    ghost use Rattle.string_interner.specs.Backend.{Bucket, BeginsAt, IsPlace, IsKept, AppendsInto};
+    ghost use Rattle.string_interner.specs.Backend.{Bucket, BeginsAt, IsPlace, IsValidList, AppendsInto};
+    ghost use Rattle.string_interner.specs.Numbering.{Numbering};
 
     /// The texts, in insertion order.
     ghost texts: { Self → List Text };
 
-    /// The place of the next entry after a list of texts.
-    ghost place: { List Text → ℕ };
-
-    /// What resolving a symbol with this number returns, by the list alone.
-    ghost read: { List Text → ℕ → Option Text };
+    /// How it numbers texts: the place of each, its symbol, what is read at a number, and what a text costs.
+    ghost numbering: { Numbering Self.Symbol };
 
     /// Spare capacity, counted in costs: appending a text whose cost fits does not fail for memory.
     ghost room: { Self → ℕ };
-
-    /// The most that appending a text takes of the spare capacity.
-    ghost cost: { Text → ℕ };
 
     /// The spare capacity that `with_capacity` grants, at least.
     ghost grant: { ℕ → ℕ };
@@ -89,43 +84,43 @@ pub trait Backend {
     /// Returns the number of texts, repeats included.
     fn count(&self) -> usize
         ensures value { result ≡ length (texts self.now) }
-        ensures kept { IsKept Self.Symbol.symbol_of place (texts self.now) };
+        ensures valid { IsValidList numbering.symbol_of numbering.place (texts self.now) };
 
     /// Returns the symbol of the next place: `None` exactly if the symbol type has no symbol with that number.
     fn next_symbol(&self) -> Option<Self::Symbol>
-        ensures { result ≡ Self.Symbol.symbol_of (place (texts self.now)) };
+        ensures { result ≡ numbering.symbol_of (numbering.place (texts self.now)) };
 
     /// Appends a text, without looking for an equal one, and returns the symbol of its place.
     ///
     /// Returns `NoSymbol` exactly if `next_symbol` is `None`, before any allocation. Returns `Memory` only if an
     /// allocation fails or the place after the text does not fit a `usize`. On `Err` texts and buckets are unchanged.
     fn intern(&mut self, text: &str) -> Result<Self::Symbol, InternError>
-        ensures { AppendsInto Self.Symbol.symbol_of place cost texts buckets room self.old text.now result self.new };
+        ensures { AppendsInto numbering texts buckets room self.old text.now result self.new };
 
     /// Appends a text as `intern` does. A backend may store the reference instead of a copy.
     fn intern_static(&mut self, text: &'static str) -> Result<Self::Symbol, InternError>
-        ensures { AppendsInto Self.Symbol.symbol_of place cost texts buckets room self.old text.now result self.new }
+        ensures { AppendsInto numbering texts buckets room self.old text.now result self.new }
     {
         self.intern(text)
     }
 
     /// Returns the text at a symbol's number, if any. For the symbol of an entry this is the entry's text.
     fn resolve(&self, symbol: Self::Symbol) -> Option<&str>
-        ensures { option_copied result ≡ read (texts self.now) (Self.Symbol.number symbol) };
+        ensures { option_copied result ≡ numbering.read (texts self.now) (numbering.number symbol) };
 
     /// Returns the text of an entry by its symbol, without checking the symbol: it must be that of an entry.
     fn resolve_unchecked(&self, symbol: Self::Symbol) -> &str
-        requires { IsPlace place (texts self.now) (Self.Symbol.number symbol) }
-        ensures { (i : ℕ) → BeginsAt place (texts self.now) (Self.Symbol.number symbol) i
+        requires { IsPlace numbering.place (texts self.now) (numbering.number symbol) }
+        ensures { (i : ℕ) → BeginsAt numbering.place (texts self.now) (numbering.number symbol) i
             → slice_get (texts self.now) i ≡ Some result.now };
 
     /// Returns the entry that begins at a place: its symbol, its text, and the place of the next entry. An entry must
     /// begin there.
     fn entry_at(&self, at: usize) -> (Self::Symbol, &str, usize)
-        requires { IsPlace place (texts self.now) at }
-        ensures symbol { Self.Symbol.symbol_of at ≡ Some result.0 }
-        ensures text { (i : ℕ) → BeginsAt place (texts self.now) at i → slice_get (texts self.now) i ≡ Some result.1.now }
-        ensures next { (i : ℕ) → BeginsAt place (texts self.now) at i → result.2 ≡ place (take (i + 1) (texts self.now)) };
+        requires { IsPlace numbering.place (texts self.now) at }
+        ensures symbol { numbering.symbol_of at ≡ Some result.0 }
+        ensures text { (i : ℕ) → BeginsAt numbering.place (texts self.now) at i → slice_get (texts self.now) i ≡ Some result.1.now }
+        ensures next { (i : ℕ) → BeginsAt numbering.place (texts self.now) at i → result.2 ≡ numbering.place (take (i + 1) (texts self.now)) };
 
     /// Releases memory that no text needs, if it can; a backend need not release any. Texts, symbols and buckets are
     /// unchanged.
@@ -150,18 +145,21 @@ pub trait Backend {
         Iter::new(self)
     }
 
+    /// The numbering's symbols are those of the symbol type, with their numbers.
+    ghost symbols: { (numbering.symbol_of ≡ Self.Symbol.symbol_of) × (numbering.number ≡ Self.Symbol.number) };
+
     /// The first entry is at place 0.
-    ghost starts: { place [] ≡ 0 };
+    ghost starts: { numbering.place [] ≡ 0 };
 
     /// Each text raises the next place.
-    ghost grows: { (texts : List Text) (text : Text) → place texts < place (texts ++ text ∷ []) };
+    ghost grows: { (texts : List Text) (text : Text) → numbering.place texts < numbering.place (texts ++ text ∷ []) };
 
     /// Each text costs more than 0.
-    ghost costs: { (text : Text) → 0 < cost text };
+    ghost costs: { (text : Text) → 0 < numbering.cost text };
 
     /// Reading at the place of an entry gives its text.
-    ghost reads: { (texts : List Text) (i : ℕ) → IsKept Self.Symbol.symbol_of place texts → i < length texts
-        → read texts (place (take i texts)) ≡ slice_get texts i };
+    ghost reads: { (texts : List Text) (i : ℕ) → IsValidList numbering.symbol_of numbering.place texts → i < length texts
+        → numbering.read texts (numbering.place (take i texts)) ≡ slice_get texts i };
 }
 
 /// A backend that can be copied.

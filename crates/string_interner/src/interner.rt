@@ -1,8 +1,8 @@
 //! An interner: each text once, with the symbol that stands for it.
 
-mod collect;
-mod encode;
+mod extend;
 mod given;
+mod intern_all;
 mod law;
 
 ghost use Rattle.std.specs.Prelude.{◌≡◌, ℕ, ◌≤◌, ◌&&◌, ◌↔◌, List, [], ◌∷◌, length, take, slice_get, Some, IsTrue, IsSome, IfOk};
@@ -10,7 +10,7 @@ ghost use Rattle.std.specs.Option.{option_copied};
 ghost use Rattle.std.specs.Cmp.{partial_equiv_from_equiv, on_equiv};
 ghost use Rattle.string_interner.specs.Text.{Text, first, texts_eq, texts_eq-IsEquivalence};
 ghost use Rattle.string_interner.specs.Backend.{BeginsAt, IsPlace};
-ghost use Rattle.string_interner.specs.Interner.{AreInterned, Finds, InternerContents, InternsInto, IsMadeFor, IsNew, KeepsMemory, Resolves};
+ghost use Rattle.string_interner.specs.Interner.{IsDistinctList, Finds, InternerContents, InternsInto, IsMadeFor, IsNew, KeepsMemory, Resolves};
 ghost use Rattle.string_interner.specs.StandsFor.{KeepsSymbols};
 ghost use Rattle.string_interner.specs.Given.{given_text};
 ghost use Rattle.string_interner.specs.SlotRule.{IsLoaded, IsLeastSlotCount};
@@ -47,7 +47,7 @@ pub struct StringInterner<
 
 /// Contracts see the texts, the buckets and the room of the backend, and the count of slots.
 impl<B: Backend, H: TextHasher, I: TextIndex<B::Symbol>> Model for StringInterner<B, H, I> {
-    ghost use Rattle.string_interner.specs.Interner.{InternerContents, IsInterned};
+    ghost use Rattle.string_interner.specs.Interner.{InternerContents, IsSoundInterner};
 
     ghost Value = { InternerContents };
 
@@ -58,7 +58,7 @@ impl<B: Backend, H: TextHasher, I: TextIndex<B::Symbol>> Model for StringInterne
       slot_count = I.slots i.index;
     } };
 
-    ghost invariant = { λ i. IsInterned B.Symbol.symbol_of B.place B.Symbol.number
+    ghost invariant = { λ i. IsSoundInterner B.numbering
         (λ entry. I.indexes i.index entry (H.code i.hasher)) (I.entries i.index) (B.texts i.backend) };
 }
 
@@ -124,7 +124,7 @@ impl<B: Backend, H: TextHasher, I: TextIndex<B::Symbol>> StringInterner<B, H, I>
         ensures value { result ≡ length self.now.texts }
 
         // What holds of every interner.
-        ensures texts { AreInterned B.Symbol.symbol_of B.place self.now.texts }
+        ensures texts { IsDistinctList B.numbering self.now.texts }
         ensures loaded { IsLoaded I.rule self.now.slot_count (length self.now.texts) }
     {
         self.index.len()
@@ -139,7 +139,7 @@ impl<B: Backend, H: TextHasher, I: TextIndex<B::Symbol>> StringInterner<B, H, I>
 
     /// Returns the symbol of a text: `Some` exactly if the text is known. Allocates nothing.
     pub fn get(&self, text: &str) -> Option<B::Symbol>
-        ensures { Finds B.Symbol.symbol_of B.place self.now.texts text.now result }
+        ensures { Finds B.numbering self.now.texts text.now result }
     {
         match self.index.entry(&self.hasher, &self.backend, text) {
             Entry::Occupied(symbol) => Some(symbol),
@@ -157,7 +157,7 @@ impl<B: Backend, H: TextHasher, I: TextIndex<B::Symbol>> StringInterner<B, H, I>
     /// Returns the symbol that the next new text gets: `None` exactly if the symbol type has no symbol for the next
     /// place, and interning a new text then returns `NoSymbol`.
     pub fn next_symbol(&self) -> Option<B::Symbol>
-        ensures { result ≡ B.Symbol.symbol_of (B.place self.now.texts) }
+        ensures { result ≡ B.numbering.symbol_of (B.numbering.place self.now.texts) }
     {
         self.backend.next_symbol()
     }
@@ -170,7 +170,7 @@ impl<B: Backend, H: TextHasher, I: TextIndex<B::Symbol>> StringInterner<B, H, I>
     /// factor allows one more entry.
     #[inline(always)]
     pub fn get_or_intern(&mut self, text: &str) -> Result<B::Symbol, InternError>
-        ensures { InternsInto B.Symbol.symbol_of B.place B.cost I.rule self.old text.now result self.new }
+        ensures { InternsInto B.numbering I.rule self.old text.now result self.new }
     {
         self.intern_given(Given::Copied(text))
     }
@@ -178,7 +178,7 @@ impl<B: Backend, H: TextHasher, I: TextIndex<B::Symbol>> StringInterner<B, H, I>
     /// Returns the symbol of a text, as `get_or_intern` does. A new text is appended by the backend's `intern_static`,
     /// which may store the reference instead of a copy.
     pub fn get_or_intern_static(&mut self, text: &'static str) -> Result<B::Symbol, InternError>
-        ensures { InternsInto B.Symbol.symbol_of B.place B.cost I.rule self.old text.now result self.new }
+        ensures { InternsInto B.numbering I.rule self.old text.now result self.new }
     {
         self.intern_given(Given::Static(text))
     }
@@ -186,7 +186,7 @@ impl<B: Backend, H: TextHasher, I: TextIndex<B::Symbol>> StringInterner<B, H, I>
     /// Returns the symbol of a text, and appends the text if it is new.
     #[inline(always)]
     fn intern_given(&mut self, given: Given<'_>) -> Result<B::Symbol, InternError>
-        ensures { InternsInto B.Symbol.symbol_of B.place B.cost I.rule self.old (given_text given.entry) result self.new }
+        ensures { InternsInto B.numbering I.rule self.old (given_text given.entry) result self.new }
     {
         let vacancy = match self.index.entry(&self.hasher, &self.backend, given.text()) {
             Entry::Occupied(symbol) => return Ok(symbol),
@@ -209,7 +209,7 @@ impl<B: Backend, H: TextHasher, I: TextIndex<B::Symbol>> StringInterner<B, H, I>
         ensures texts { self.new.texts ≡ self.old.texts }
         ensures buckets { self.new.buckets ≡ self.old.buckets }
         ensures slots { self.new.slot_count ≡ self.old.slot_count }
-        ensures keeps { KeepsSymbols B.Symbol.symbol_of B.place self.old.texts self.new.texts }
+        ensures keeps { KeepsSymbols B.numbering self.old.texts self.new.texts }
     {
         self.backend.shrink_to_fit();
     }
@@ -222,7 +222,7 @@ impl<B: Backend, H: TextHasher, I: TextIndex<B::Symbol>> StringInterner<B, H, I>
         ensures texts { self.new.texts ≡ take len self.old.texts }
         ensures same { length self.old.texts ≤ len → self.new ≡ self.old }
         ensures memory { KeepsMemory self.old self.new }
-        ensures keeps { KeepsSymbols B.Symbol.symbol_of B.place (take len self.old.texts) self.new.texts }
+        ensures keeps { KeepsSymbols B.numbering (take len self.old.texts) self.new.texts }
     {
         if len < self.index.len() {
             self.backend.truncate(len);
@@ -233,7 +233,7 @@ impl<B: Backend, H: TextHasher, I: TextIndex<B::Symbol>> StringInterner<B, H, I>
     /// Returns what the backend reads at a symbol's number, for any symbol. For the symbol of an entry this is its
     /// text.
     pub fn resolve(&self, symbol: B::Symbol) -> Option<&str>
-        ensures { Resolves B.Symbol.symbol_of B.place B.read B.Symbol.number self.now.texts symbol
+        ensures { Resolves B.numbering self.now.texts symbol
             (option_copied result) }
     {
         self.backend.resolve(symbol)
@@ -241,8 +241,8 @@ impl<B: Backend, H: TextHasher, I: TextIndex<B::Symbol>> StringInterner<B, H, I>
 
     /// Returns the text of an entry by its symbol, without checking the symbol: it must be that of an entry.
     pub fn resolve_unchecked(&self, symbol: B::Symbol) -> &str
-        requires { IsPlace B.place self.now.texts (B.Symbol.number symbol) }
-        ensures { (i : ℕ) → BeginsAt B.place self.now.texts (B.Symbol.number symbol) i
+        requires { IsPlace B.numbering.place self.now.texts (B.numbering.number symbol) }
+        ensures { (i : ℕ) → BeginsAt B.numbering.place self.now.texts (B.numbering.number symbol) i
             → slice_get self.now.texts i ≡ Some result.now }
     {
         self.backend.resolve_unchecked(symbol)
@@ -270,7 +270,7 @@ impl<B: Backend + Drop, H: TextHasher + Drop, I: TextIndex<B::Symbol> + Drop> St
         ensures texts { B.texts result ≡ self.texts }
         ensures buckets { B.buckets result ≡ self.buckets }
         ensures room { B.room result ≡ self.room }
-        ensures interned { AreInterned B.Symbol.symbol_of B.place (B.texts result) }
+        ensures interned { IsDistinctList B.numbering (B.texts result) }
     {
         self.backend
     }
@@ -292,7 +292,7 @@ impl<
         ensures texts { IfOk result (λ copy. copy.texts ≡ self.now.texts) }
         ensures buckets { IfOk result (λ copy. B.copies self.now.texts self.now.buckets copy.buckets) }
         ensures slots { IfOk result (λ copy. IsLeastSlotCount I.rule (length self.now.texts) copy.slot_count) }
-        ensures keeps { IfOk result (λ copy. KeepsSymbols B.Symbol.symbol_of B.place self.now.texts copy.texts) }
+        ensures keeps { IfOk result (λ copy. KeepsSymbols B.numbering self.now.texts copy.texts) }
     {
         let hasher = self.hasher.clone()?;
         let mut index = I::with_capacity(self.index.allocator(), self.len())?;
@@ -320,7 +320,7 @@ impl<B: CopyBackend + Drop, H: TextHasher + Copy, I: CopyIndex<B::Symbol> + Drop
         ensures texts { IfOk result (λ copy. copy.texts ≡ self.now.texts) }
         ensures buckets { IfOk result (λ copy. B.copies self.now.texts self.now.buckets copy.buckets) }
         ensures slots { IfOk result (λ copy. copy.slot_count ≡ self.now.slot_count) }
-        ensures keeps { IfOk result (λ copy. KeepsSymbols B.Symbol.symbol_of B.place self.now.texts copy.texts) }
+        ensures keeps { IfOk result (λ copy. KeepsSymbols B.numbering self.now.texts copy.texts) }
     {
         let index = self.index.try_copy(&self.backend)?;
         Ok(StringInterner {

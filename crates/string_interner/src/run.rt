@@ -2,9 +2,9 @@
 
 ghost use Rattle.std.specs.Prelude.{◌≡◌, [], All, slice_get, Option, Some, None, IfOk, OnErr};
 ghost use Rattle.std.specs.Option.{option_copied};
-ghost use Rattle.string_interner.specs.Collect.{texts_of};
+ghost use Rattle.string_interner.specs.Extend.{texts_of};
 ghost use Rattle.string_interner.specs.ListAnswers.{AnswersAsAList};
-ghost use Rattle.string_interner.specs.Run.{refusal, intern_reply, number_told, CopyReply, number_read, NumberReply, ExtendReply, InternsNone, Step, Run};
+ghost use Rattle.string_interner.specs.Run.{refusal, intern_reply, reply_number, CopyReply, text_at_number, NumberReply, ExtendReply, InternsNone, Step, Run};
 
 use crate::backend::{Backend, InternError};
 use crate::dedup::{TextHasher, TextIndex};
@@ -84,7 +84,7 @@ fn extend_reply<B: Backend, H: TextHasher, I: TextIndex<B::Symbol>>(
     interner: &mut StringInterner<B, H, I>,
     texts: &[&str],
 ) -> Reply
-    ensures { ExtendReply B.Symbol.symbol_of B.Symbol.number B.place B.read interner.old.texts (texts_of texts.now)
+    ensures { ExtendReply B.numbering interner.old.texts (texts_of texts.now)
         result interner.new.texts }
 {
     match interner.extend(texts.iter().copied()) {
@@ -101,8 +101,8 @@ fn copy_reply(alloc: Global, text: &str) -> Reply
 }
 
 /// Returns the number of the symbol in reply `k`, if it holds one.
-fn number_told(earlier: &[Reply], k: usize) -> Option<usize>
-    ensures { result ≡ number_told (slice_get earlier.now k) }
+fn reply_number(earlier: &[Reply], k: usize) -> Option<usize>
+    ensures { result ≡ reply_number (slice_get earlier.now k) }
 {
     match earlier.get(k) {
         Some(Reply::Symbol(n)) => Some(*n),
@@ -111,11 +111,11 @@ fn number_told(earlier: &[Reply], k: usize) -> Option<usize>
 }
 
 /// Returns the text at a number, if the number has a symbol and a text is read there.
-fn number_read<B: Backend, H: TextHasher, I: TextIndex<B::Symbol>>(
+fn text_at_number<B: Backend, H: TextHasher, I: TextIndex<B::Symbol>>(
     interner: &StringInterner<B, H, I>,
     n: usize,
 ) -> Option<&str>
-    ensures { option_copied result ≡ number_read B.Symbol.symbol_of B.Symbol.number B.place B.read interner.now.texts n }
+    ensures { option_copied result ≡ text_at_number B.numbering interner.now.texts n }
 {
     interner.resolve(B::Symbol::try_from_usize(n)?)
 }
@@ -126,9 +126,9 @@ fn number_reply<B: Backend, H: TextHasher, I: TextIndex<B::Symbol>>(
     interner: &StringInterner<B, H, I>,
     n: usize,
 ) -> Reply
-    ensures { NumberReply B.Symbol.symbol_of B.Symbol.number B.place B.read interner.now.texts n result }
+    ensures { NumberReply B.numbering interner.now.texts n result }
 {
-    match number_read(interner, n) {
+    match text_at_number(interner, n) {
         Some(text) => copy_reply(alloc, text),
         None => Reply::Nothing,
     }
@@ -141,7 +141,7 @@ fn step<B: Backend, H: TextHasher, I: TextIndex<B::Symbol>>(
     earlier: &[Reply],
     command: &Command<'_>,
 ) -> Reply
-    ensures step { Step B.Symbol.symbol_of B.Symbol.number B.place B.read interner.old.texts earlier.now command.now
+    ensures step { Step B.numbering interner.old.texts earlier.now command.now
         result interner.new.texts }
     ensures stays { InternsNone command.now
         → (interner.new.buckets ≡ interner.old.buckets) × (interner.new.slot_count ≡ interner.old.slot_count) }
@@ -153,7 +153,7 @@ fn step<B: Backend, H: TextHasher, I: TextIndex<B::Symbol>>(
             Some(symbol) => Reply::Symbol(symbol.to_usize()),
             None => Reply::Nothing,
         },
-        Command::Resolve(k) => match number_told(earlier, *k) {
+        Command::Resolve(k) => match reply_number(earlier, *k) {
             Some(n) => number_reply(alloc, interner, n),
             None => Reply::NoReply,
         },
@@ -191,9 +191,9 @@ pub fn run<B: Backend, H: TextHasher, I: TextIndex<B::Symbol>>(
     interner: &mut StringInterner<B, H, I>,
     commands: &[Command<'_>],
 ) -> Result<Vec<Reply>, AllocError>
-    ensures run { IfOk result (λ replies. Run B.Symbol.symbol_of B.Symbol.number B.place B.read interner.old.texts []
+    ensures run { IfOk result (λ replies. Run B.numbering interner.old.texts []
         commands.now replies.items interner.new.texts) }
-    ensures as_a_list { IfOk result (λ replies. AnswersAsAList B.place interner.old.texts commands.now replies.items
+    ensures as_a_list { IfOk result (λ replies. AnswersAsAList B.numbering.place interner.old.texts commands.now replies.items
         interner.new.texts) }
     ensures err { OnErr result (interner.new ≡ interner.old) }
 

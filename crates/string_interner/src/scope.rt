@@ -3,9 +3,9 @@
 ghost use Rattle.std.specs.Prelude.{◌≡◌, ◌+◌, ◌↔◌, [], ◌∷◌, ◌++◌, length, None, IsTrue, IsSome, OnOk, OnErr};
 ghost use Rattle.std.specs.Option.{option_copied};
 ghost use Rattle.string_interner.specs.Text.{first};
-ghost use Rattle.string_interner.specs.Interner.{AreInterned, Finds, InternsInto, KeepsMemory, Resolves};
+ghost use Rattle.string_interner.specs.Interner.{IsDistinctList, Finds, InternsInto, KeepsMemory, Resolves};
 ghost use Rattle.string_interner.specs.StandsFor.{KeepsSymbols};
-ghost use Rattle.string_interner.specs.Scopes.{layers, joined_layers, interned, Leaves, LayerStep, LeavingGivesBack};
+ghost use Rattle.string_interner.specs.Scopes.{layers, joined_layers, as_interner, Leaves, LayerStep, LeavingGivesBack};
 
 use crate::backend::{Backend, InternError, Iter};
 use crate::dedup::{DefaultHashBuilder, Index, TextHasher, TextIndex};
@@ -52,7 +52,7 @@ impl<B: Backend, H: TextHasher, I: TextIndex<B::Symbol>> Scopes<B, H, I> {
     /// Wraps an interner, with no open scope: all its texts are in the bottom layer. Allocates nothing.
     pub fn new(alloc: Global, interner: StringInterner<B, H, I>) -> Self
         ensures layers { layers result ≡ interner.texts ∷ [] }
-        ensures interner { interned result ≡ interner }
+        ensures interner { as_interner result ≡ interner }
     {
         Scopes {
             interner,
@@ -65,7 +65,7 @@ impl<B: Backend, H: TextHasher, I: TextIndex<B::Symbol>> Scopes<B, H, I> {
     /// Returns `Err` only if memory for one more scope cannot be allocated. Nothing changes then.
     pub fn enter(&mut self) -> Result<(), AllocError>
         ensures layers { OnOk result (layers self.new ≡ [] ∷ layers self.old) }
-        ensures interner { interned self.new ≡ interned self.old }
+        ensures interner { as_interner self.new ≡ as_interner self.old }
         ensures err { OnErr result (self.new ≡ self.old) }
         ensures step { LayerStep (layers self.old) (layers self.new) }
     {
@@ -81,8 +81,8 @@ impl<B: Backend, H: TextHasher, I: TextIndex<B::Symbol>> Scopes<B, H, I> {
         ensures layers { Leaves (layers self.old) result (layers self.new) }
         ensures none { self.old.below ≡ [] → self.new ≡ self.old }
         ensures step { LayerStep (layers self.old) (layers self.new) }
-        ensures memory { KeepsMemory (interned self.old) (interned self.new) }
-        ensures keeps { KeepsSymbols B.Symbol.symbol_of B.place (joined_layers self.old.below)
+        ensures memory { KeepsMemory (as_interner self.old) (as_interner self.new) }
+        ensures keeps { KeepsSymbols B.numbering (joined_layers self.old.below)
             (joined_layers (layers self.new)) }
     {
         match self.starts.pop() {
@@ -98,8 +98,8 @@ impl<B: Backend, H: TextHasher, I: TextIndex<B::Symbol>> Scopes<B, H, I> {
     ///
     /// Fails as `StringInterner::get_or_intern` does. No layer changes then.
     pub fn declare(&mut self, text: &str) -> Result<B::Symbol, InternError>
-        ensures interns { InternsInto B.Symbol.symbol_of B.place B.cost I.rule (interned self.old) text.now result
-            (interned self.new) }
+        ensures interns { InternsInto B.numbering I.rule (as_interner self.old) text.now result
+            (as_interner self.new) }
 
         // No layer but the top one changes, and that only by a new text at its end.
         ensures below { self.new.below ≡ self.old.below }
@@ -115,7 +115,7 @@ impl<B: Backend, H: TextHasher, I: TextIndex<B::Symbol>> Scopes<B, H, I> {
     /// Returns the symbol of a text, which is looked up in all layers: `Some` exactly if the text is known. Allocates
     /// nothing.
     pub fn find(&self, text: &str) -> Option<B::Symbol>
-        ensures { Finds B.Symbol.symbol_of B.place (joined_layers (layers self.now)) text.now result }
+        ensures { Finds B.numbering (joined_layers (layers self.now)) text.now result }
     {
         self.interner.get(text)
     }
@@ -130,7 +130,7 @@ impl<B: Backend, H: TextHasher, I: TextIndex<B::Symbol>> Scopes<B, H, I> {
     /// Returns what the backend reads at a symbol's number, for any symbol. For the symbol of a text in any layer this
     /// is that text.
     pub fn resolve(&self, symbol: B::Symbol) -> Option<&str>
-        ensures { Resolves B.Symbol.symbol_of B.place B.read B.Symbol.number (joined_layers (layers self.now)) symbol
+        ensures { Resolves B.numbering (joined_layers (layers self.now)) symbol
             (option_copied result) }
     {
         self.interner().resolve(symbol)
@@ -141,7 +141,7 @@ impl<B: Backend, H: TextHasher, I: TextIndex<B::Symbol>> Scopes<B, H, I> {
         ensures value { result ≡ length (joined_layers (layers self.now)) }
 
         // What holds of all scopes.
-        ensures texts { AreInterned B.Symbol.symbol_of B.place (joined_layers (layers self.now)) }
+        ensures texts { IsDistinctList B.numbering (joined_layers (layers self.now)) }
     {
         self.interner().len()
     }
@@ -163,7 +163,7 @@ impl<B: Backend, H: TextHasher, I: TextIndex<B::Symbol>> Scopes<B, H, I> {
 
     /// Returns the interner, whose list is all layers joined.
     pub fn interner(&self) -> &StringInterner<B, H, I>
-        ensures { result.now ≡ interned self.now }
+        ensures { result.now ≡ as_interner self.now }
     {
         &self.interner
     }

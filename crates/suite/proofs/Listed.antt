@@ -13,7 +13,7 @@ use Rattle.string_interner.specs.Text.{Text}
 use Rattle.string_interner.specs.Backend.{BeginsAt, IsPlace}
 use Rattle.string_interner.specs.Entry.{entry_text}
 use Rattle.string_interner.specs.TextIndex.{IsNewText}
-use Rattle.string_interner.specs.Walk.{entries}
+use Rattle.string_interner.specs.Iter.{entries}
 use Rattle.string_interner.specs.EntryLaws.{entry_text-adds, entry_text-IsPlace, entry_text-resolved}
 use Rattle.suite.specs.LinearIndex.{IsListed}
 

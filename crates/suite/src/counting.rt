@@ -6,7 +6,7 @@
 
 ghost use Rattle.std.specs.Prelude.{◌≡◌, length, slice_get};
 ghost use Rattle.std.proofs.Common.{rules, refl};
-ghost use Rattle.string_interner.specs.CountLaws.{length_grows, reads_at_length};
+ghost use Rattle.string_interner.specs.ByIndexLaws.{length_grows, reads_at_length};
 
 use crate::own::Shown;
 use std::alloc::{AllocError, Global};

@@ -8,8 +8,9 @@ use Rattle.std.proofs.lemmas.Option.{slice_get-get_or, slice_get_within, get_or_
 use Rattle.std.proofs.lemmas.Slice.Zip.{all_zipped_more}
 use Rattle.string_interner.specs.Text.{Text}
 use Rattle.string_interner.specs.StandsFor.{StandsFor, NumbersInOrder}
-use Rattle.string_interner.specs.Walk.{entries}
+use Rattle.string_interner.specs.Iter.{entries}
 use Rattle.uses.specs.Column.{AreNumbersOf, AreStarts}
+use Rattle.string_interner.specs.Numbering.{Numbering}
 
 -- the number of one more row
 pub one-more : (dictionary : List Text) (numbers : List ℕ) (rows : List Text) (k number : ℕ) (row : Text) → AreNumbersOf dictionary numbers (take k rows) → slice_get rows k ≡ Some row → slice_get dictionary number ≡ Some row
@@ -23,30 +24,30 @@ below_or_not : (a b : ℕ) (t : Bool) → ltb a b ≡ t → (a < b) ⊎ (b ≤ a
 below_or_not a b true e = inl (ltb-true a b e)
 below_or_not a b false e = inr (ltb-false a b e)
 
-module _ {S : Type 0} (symbol_of : ℕ → Option S) (place : List Text → ℕ) (number : S → ℕ) where
-  known : (o : Option S) (n : ℕ) → option_map number o ≡ Some n → (s : S) × (o ≡ Some s) × (number s ≡ n)
+module _ {S : Type 0} (numbering : Numbering S) where
+  known : (o : Option S) (n : ℕ) → option_map numbering.number o ≡ Some n → (s : S) × (o ≡ Some s) × (numbering.number s ≡ n)
   known None n e = absurd (cc)
   known (Some s) n e = (s, refl, same_Some _ _ e)
 
   -- the number at an index is that of the entry's symbol
-  start-at : (front texts : List Text) (starts : List ℕ) → AreStarts number (entries symbol_of place front texts) starts → (i : ℕ) → i < length texts
-      → (s : S) × (symbol_of (place (front ++ take i texts)) ≡ Some s) × (slice_get starts i ≡ Some (number s))
+  start-at : (front texts : List Text) (starts : List ℕ) → AreStarts numbering.number (entries numbering.symbol_of numbering.place front texts) starts → (i : ℕ) → i < length texts
+      → (s : S) × (numbering.symbol_of (numbering.place (front ++ take i texts)) ≡ Some s) × (slice_get starts i ≡ Some (numbering.number s))
   start-at front [] starts h i l = absurd (omega arith)
   start-at front (t ∷ ts) [] h i l = absurd h
   start-at front (t ∷ ts) (n ∷ ns) h zero l =
-      let k = known (symbol_of (place front)) n h.0 in
-      (k.0, ap (λ f. symbol_of (place f)) (append-nil front) ∙ k.1, ap (λ m. Some m) (sym k.2))
+      let k = known (numbering.symbol_of (numbering.place front)) n h.0 in
+      (k.0, ap (λ f. numbering.symbol_of (numbering.place f)) (append-nil front) ∙ k.1, ap (λ m. Some m) (sym k.2))
   start-at front (t ∷ ts) (n ∷ ns) h (suc i) l =
       let r = start-at (front ++ t ∷ []) ts ns h.1 i (omega arith) in
-      (r.0, ap (λ f. symbol_of (place f)) (sym (append_assoc front (t ∷ []) (take i ts))) ∙ r.1, r.2)
+      (r.0, ap (λ f. numbering.symbol_of (numbering.place f)) (sym (append_assoc front (t ∷ []) (take i ts))) ∙ r.1, r.2)
 
-  start-count : (front texts : List Text) (starts : List ℕ) → AreStarts number (entries symbol_of place front texts) starts → length starts ≡ length texts
+  start-count : (front texts : List Text) (starts : List ℕ) → AreStarts numbering.number (entries numbering.symbol_of numbering.place front texts) starts → length starts ≡ length texts
   start-count front [] [] h = refl
   start-count front [] (n ∷ ns) h = absurd h
   start-count front (t ∷ ts) [] h = absurd h
   start-count front (t ∷ ts) (n ∷ ns) h = ap suc (start-count (front ++ t ∷ []) ts ns h.1)
 
-  module _ (texts : List Text) (starts : List ℕ) (are : AreStarts number (entries symbol_of place [] texts) starts) (order : NumbersInOrder symbol_of place number texts) where
+  module _ (texts : List Text) (starts : List ℕ) (are : AreStarts numbering.number (entries numbering.symbol_of numbering.place [] texts) starts) (order : NumbersInOrder numbering texts) where
     rises : (i j d : ℕ) → i < j → j < length starts → get_or starts i d < get_or starts j d
     rises i j d lt l =
         let all = start-count [] texts starts are in
@@ -77,12 +78,12 @@ module _ {S : Type 0} (symbol_of : ℕ → Option S) (place : List Text → ℕ)
         ]
 
     -- so the number of a symbol that stands for a text is found at the text's index
-    pub number-found : (code : S) (text : Text) → StandsFor symbol_of place texts code text → (start p : ℕ) → start ≡ number code
+    pub number-found : (code : S) (text : Text) → StandsFor numbering texts code text → (start p : ℕ) → start ≡ numbering.number code
         → (IsPartitionedBy (λ n. ltb n start) starts → IsPartitionPoint (λ n. ltb n start ≡ true) (λ n. ltb n start ≡ false) starts p)
         → slice_get texts p ≡ Some text
     number-found code text stands start p is clause =
         let r = start-at [] texts starts are stands.index (slice_get_within texts stands.index text stands.entry) in
         let same : r.0 ≡ code = same_Some _ _ (sym r.1 ∙ stands.symbol_is) in
-        let at : slice_get starts stands.index ≡ Some start = r.2 ∙ ap (λ s. Some (number s)) same ∙ ap (λ n. Some n) (sym is) in
+        let at : slice_get starts stands.index ≡ Some start = r.2 ∙ ap (λ s. Some (numbering.number s)) same ∙ ap (λ n. Some n) (sym is) in
         let point = clause (IsPartitionedBy-ltb (λ n. n) starts start up) in
         subst (λ i. slice_get texts i ≡ Some text) (sym (found stands.index start p at point)) stands.entry

@@ -3,6 +3,7 @@
 use Rattle.std.specs.Prelude.{ℕ, List, [], ◌∷◌, length, map, reverse, Option, Some, None}
 use Rattle.std.specs.Option.{option_map_or}
 use Rattle.string_interner.specs.Text.{Text}
+use Rattle.string_interner.specs.Numbering.{Numbering}
 use Rattle.string_interner.specs.Interner.{InternerContents, known_symbol}
 
 -- what contracts see of open blocks
@@ -22,7 +23,7 @@ opened block outer = record { innermost = block.texts; outer = map (λ names. na
 
 -- What a use of a name means: the declaration in the innermost block that has the name, by how many blocks there are
 -- around that one, and by the symbol that the name has there.
-abbrev pub meant : {S : Type 0} → (ℕ → Option S) → (List Text → ℕ) → List (List Text) → Text → Option (ℕ × S)
-meant symbol_of place [] name = None
-meant symbol_of place (block ∷ outer) name =
-    option_map_or (λ symbol. Some (length outer, symbol)) (known_symbol symbol_of place block name) (meant symbol_of place outer name)
+abbrev pub meant : {S : Type 0} → Numbering S → List (List Text) → Text → Option (ℕ × S)
+meant numbering [] name = None
+meant numbering (block ∷ outer) name =
+    option_map_or (λ symbol. Some (length outer, symbol)) (known_symbol numbering.symbol_of numbering.place block name) (meant numbering outer name)

@@ -76,9 +76,9 @@ impl<B: Backend, H: TextHasher> Blocks<B, H> {
     ///
     /// Fails as `get_or_intern` does. No block changes then.
     pub fn declare(&mut self, name: &str) -> Result<B::Symbol, InternError>
-        ensures interns { Interns B.Symbol.symbol_of B.place self.old.innermost name.now result self.new.innermost }
-        ensures stands { IfOk result (λ symbol. StandsFor B.Symbol.symbol_of B.place self.new.innermost symbol name.now) }
-        ensures keeps { KeepsSymbols B.Symbol.symbol_of B.place self.old.innermost self.new.innermost }
+        ensures interns { Interns B.numbering self.old.innermost name.now result self.new.innermost }
+        ensures stands { IfOk result (λ symbol. StandsFor B.numbering self.new.innermost symbol name.now) }
+        ensures keeps { KeepsSymbols B.numbering self.old.innermost self.new.innermost }
         ensures outer { self.new.outer ≡ self.old.outer }
     {
         self.innermost.get_or_intern(name)
@@ -87,7 +87,7 @@ impl<B: Backend, H: TextHasher> Blocks<B, H> {
     /// Returns which declaration a use of a name means, if any: that of the innermost block which has the name, as the
     /// number of blocks around that one and the name's symbol there.
     pub fn resolve(&self, name: &str) -> Option<(usize, B::Symbol)>
-        ensures { result ≡ meant B.Symbol.symbol_of B.place (blocks self.now) name.now }
+        ensures { result ≡ meant B.numbering (blocks self.now) name.now }
     {
         resolve_in(&self.innermost, &self.outer, name)
     }
@@ -99,7 +99,7 @@ fn resolve_in<B: Backend, H: TextHasher>(
     outer: &[StringInterner<B, H>],
     name: &str,
 ) -> Option<(usize, B::Symbol)>
-    ensures { result ≡ meant B.Symbol.symbol_of B.place (blocks (opened block.now outer.now)) name.now }
+    ensures { result ≡ meant B.numbering (blocks (opened block.now outer.now)) name.now }
 {
     if let Some(symbol) = block.get(name) {
         return Some((outer.len(), symbol));

@@ -3,8 +3,8 @@
 ghost use Rattle.std.specs.Prelude.{◌≡◌, [], length, slice_get, IfOk};
 ghost use Rattle.std.specs.Option.{option_copied};
 ghost use Rattle.std.specs.Iterator.{IsFiniteIterable};
-ghost use Rattle.string_interner.specs.Collect.{fresh};
-ghost use Rattle.string_interner.specs.Walk.{entries};
+ghost use Rattle.string_interner.specs.Extend.{fresh, YieldedBy};
+ghost use Rattle.string_interner.specs.Iter.{entries};
 ghost use Rattle.uses.specs.Column.{AppendsRows, AreNumbersOf, AreStarts};
 
 use std::alloc::{AllocError, Global};
@@ -34,10 +34,10 @@ impl<B: Backend, H: TextHasher, I: TextIndex<B::Symbol>> Model for Column<B, H, 
 
     ghost Value = { List Text };
 
-    ghost view = { λ c. decoded B.read B.Symbol.number c.dictionary.texts c.codes.items };
+    ghost view = { λ c. decoded B.numbering c.dictionary.texts c.codes.items };
 
-    ghost invariant = { λ c. IsColumn B.Symbol.symbol_of B.place c.dictionary.texts c.codes.items
-        (decoded B.read B.Symbol.number c.dictionary.texts c.codes.items) };
+    ghost invariant = { λ c. IsColumn B.numbering c.dictionary.texts c.codes.items
+        (decoded B.numbering c.dictionary.texts c.codes.items) };
 }
 
 impl<B: Backend, H: TextHasher + Default, I: TextIndex<B::Symbol>> Column<B, H, I> {
@@ -67,7 +67,7 @@ impl<B: Backend, H: TextHasher, I: TextIndex<B::Symbol>> Column<B, H, I> {
         texts: T,
     ) -> Result<(), InternError>
         requires { IsFiniteIterable T.into_iter_gives T.IntoIter.can_next T.IntoIter.remaining texts }
-        ensures { AppendsRows T.into_iter_gives T.IntoIter.next_gives texts self.old result self.new }
+        ensures { AppendsRows (YieldedBy T.into_iter_gives T.IntoIter.next_gives texts) self.old result self.new }
     {
         let outcome = self.dictionary.intern_all(texts, &mut self.codes);
         // For the proof: states what holds of every interner.

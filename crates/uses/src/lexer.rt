@@ -19,9 +19,9 @@ pub fn lex<B: Backend, H: TextHasher>(
     words: &mut StringInterner<B, H>,
     source: &str,
 ) -> Result<Vec<B::Symbol>, InternError>
-    ensures tokens { IfOk result (λ tokens. StandInOrder B.Symbol.symbol_of B.place words.new.texts tokens.items
+    ensures tokens { IfOk result (λ tokens. StandInOrder B.numbering words.new.texts tokens.items
         (words_of source.now)) }
-    ensures keeps { KeepsSymbols B.Symbol.symbol_of B.place words.old.texts words.new.texts }
+    ensures keeps { KeepsSymbols B.numbering words.old.texts words.new.texts }
 {
     let mut tokens = Vec::new(alloc);
     words.intern_all(source.split(' '), &mut tokens)?;
@@ -35,8 +35,8 @@ pub fn is_keyword<B: Backend, H: TextHasher>(
     last: B::Symbol,
     token: B::Symbol,
 ) -> bool
-    ensures { (keyword word : Text) (end : StandsFor B.Symbol.symbol_of B.place words.now.texts last keyword)
-        (at : StandsFor B.Symbol.symbol_of B.place words.now.texts token word) → IsTrue result ↔ (at.index ≤ end.index) }
+    ensures { (keyword word : Text) (end : StandsFor B.numbering words.now.texts last keyword)
+        (at : StandsFor B.numbering words.now.texts token word) → IsTrue result ↔ (at.index ≤ end.index) }
 {
     // For the proof: states that of two texts the later has the greater number.
     words.symbol_law();

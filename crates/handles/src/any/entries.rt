@@ -1,7 +1,7 @@
 //! All texts in a list.
 
 ghost use Rattle.std.specs.Prelude.{◌≡◌, ◌≤◌, [], length, map, take, drop, Some};
-ghost use Rattle.string_interner.specs.Walk.{entries};
+ghost use Rattle.string_interner.specs.Iter.{entries};
 ghost use Rattle.handles.specs.Encode.{ListsEntries, told};
 ghost use Rattle.handles.specs.Kind.{numbered};
 

@@ -1,2 +1,3 @@
-pub mod IsKept
-pub mod Walk
+pub mod IsValidList
+pub mod Entries
+pub mod Numbering

@@ -1,5 +1,5 @@
-pub mod Encodes
+pub mod InternsEach
 pub mod Extends
 pub mod InternsInto
-pub mod IsInterned
+pub mod IsSoundInterner
 pub mod StandsFor

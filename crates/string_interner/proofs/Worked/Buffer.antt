@@ -1,5 +1,5 @@
 -- Bytes and places of texts in a byte buffer: each text stands behind its length.
-use Rattle.std.proofs.Common.{◌≡◌, ℕ, ◌+◌, List, [], ◌∷◌, length, refl, arith}
+use Rattle.std.proofs.Common.{◌≡◌, ℕ, ◌+◌, [], ◌∷◌, length, refl, arith}
 use Rattle.string_interner.specs.Text.{Text}
 use Rattle.string_interner.specs.Spelling.{spell_within, spell, digits}
 use Rattle.string_interner.specs.BufferBackend.{bytes_of, entry_len, place_of}

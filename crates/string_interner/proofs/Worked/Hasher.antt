@@ -1,5 +1,5 @@
 -- Codes of the default hasher: the vectors that Fowler, Noll and Vo published for 64-bit FNV-1a.
-use Rattle.std.proofs.Common.{◌≡◌, ℕ, [], ◌∷◌, refl}
+use Rattle.std.proofs.Common.{◌≡◌, [], ◌∷◌, refl}
 use Rattle.string_interner.specs.Hasher.{fnv_1a}
 
 pub code-of-empty : fnv_1a [] ≡ 0xCBF2_9CE4_8422_2325

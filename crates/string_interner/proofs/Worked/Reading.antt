@@ -1,6 +1,6 @@
 -- What is read in a byte buffer at numbers that are no entry's: a length in base 128 from there on, and as many bytes of
 -- text behind it.
-use Rattle.std.proofs.Common.{◌≡◌, ℕ, List, [], ◌∷◌, Option, Some, None, refl}
+use Rattle.std.proofs.Common.{◌≡◌, List, [], ◌∷◌, Some, None, refl}
 use Rattle.std.specs.Str.{is_utf8, chars}
 use lib.Utf8.{encode}
 use Rattle.string_interner.specs.Text.{Text}

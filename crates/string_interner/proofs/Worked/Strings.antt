@@ -1,5 +1,5 @@
 -- Texts joined in one, and where each ends.
-use Rattle.std.proofs.Common.{◌≡◌, ℕ, List, [], ◌∷◌, refl}
+use Rattle.std.proofs.Common.{◌≡◌, List, [], ◌∷◌, refl}
 use Rattle.string_interner.specs.Text.{Text}
 use Rattle.string_interner.specs.StringBackend.{cut, joined, ends_of}
 

@@ -5,21 +5,21 @@ use Rattle.std.proofs.lemmas.Nat.{pow_pos}
 use Rattle.string_interner.specs.Index.{IsSlotCount}
 use Rattle.string_interner.specs.IndexLaws.{IsSlotCount-grown}
 use Rattle.string_interner.specs.SlotRule.{IsLeastSlotCount}
-use Rattle.string_interner.specs.Window.{HoldsInWindow, kept_code, seven_eighths, tag_of}
+use Rattle.string_interner.specs.Window.{HoldsInWindow, stored_code, seven_eighths, tag_of}
 use Rattle.string_interner.specs.WindowLaws.{grown-le, seven_eighths-laws}
 
 -- Tags of the codes that the default hasher gives.
 
 -- of the empty text
-pub tag-of-empty : tag_of (kept_code 0xCBF2_9CE4_8422_2325) ≡ 0xC2
+pub tag-of-empty : tag_of (stored_code 0xCBF2_9CE4_8422_2325) ≡ 0xC2
 tag-of-empty = refl
 
 -- `a`
-pub tag-of-a : tag_of (kept_code 0xAF63_DC4C_8601_EC8C) ≡ 0xC3
+pub tag-of-a : tag_of (stored_code 0xAF63_DC4C_8601_EC8C) ≡ 0xC3
 tag-of-a = refl
 
 -- `foobar`
-pub tag-of-foobar : tag_of (kept_code 0x8594_4171_F739_67E8) ≡ 0xFB
+pub tag-of-foobar : tag_of (stored_code 0x8594_4171_F739_67E8) ≡ 0xFB
 tag-of-foobar = refl
 
 -- The least slots for a capacity.

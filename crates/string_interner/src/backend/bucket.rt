@@ -9,9 +9,10 @@ mod interned_str;
 ghost use Rattle.std.specs.Prelude.{◌≡◌, ◌+◌, ◌^◌, max, ◌<◌, ◌≤◌, [], ◌∷◌, ◌++◌, length, take, map, slice_get, true, false, Some, IfOk, OnOk, OnErr, refl};
 ghost use Rattle.std.specs.Cmp.{partial_equiv_from_equiv, on_equiv};
 ghost use Rattle.std.proofs.Common.{rules};
-ghost use Rattle.string_interner.specs.Backend.{IsKept};
+ghost use Rattle.string_interner.specs.Backend.{IsValidList};
 ghost use Rattle.string_interner.specs.Text.{texts_eq, texts_eq-IsEquivalence};
-ghost use Rattle.string_interner.specs.CountLaws.{length_grows, reads_at_length};
+ghost use Rattle.string_interner.specs.Numbering.{by_index};
+ghost use Rattle.string_interner.specs.ByIndexLaws.{length_grows, reads_at_length};
 ghost use Rattle.string_interner.specs.BucketBackend.{BucketContents, empty_contents, buckets_of, AppendsText, AreBounded, CopiesBuckets, JoinsBuckets, KeepsBuckets, Puts, Stays, interned_text};
 
 use crate::backend::{Backend, CopyBackend, InternError, Iter};
@@ -69,7 +70,7 @@ impl<S: Symbol> BucketBackend<S> {
     fn text_at(&self, index: usize) -> &str
         requires { index < length self.now.texts }
         ensures text { slice_get self.now.texts index ≡ Some result.now }
-        ensures kept { IsKept S.symbol_of length self.now.texts }
+        ensures valid { IsValidList S.symbol_of length self.now.texts }
     {
         interned_text(&self.full, &self.head, self.entries[index])
     }
@@ -80,13 +81,9 @@ impl<S: Symbol> Backend for BucketBackend<S> {
 
     ghost texts = { λ b. b.texts };
 
-    ghost place = { length };
-
-    ghost read = { slice_get };
-
     ghost room = { λ b. b.room };
 
-    ghost cost = { λ text. max 1 (length text) };
+    ghost numbering = { by_index S.symbol_of S.number (λ text. max 1 (length text)) };
 
     ghost grant = { λ capacity. capacity };
 
@@ -124,7 +121,7 @@ impl<S: Symbol> Backend for BucketBackend<S> {
     /// `BucketBackend`.
     fn count(&self) -> usize
         ensures value { result ≡ length self.now.texts }
-        ensures kept { IsKept S.symbol_of length self.now.texts }
+        ensures valid { IsValidList S.symbol_of length self.now.texts }
         ensures statics { length self.now.statics ≡ result }
         ensures bounded { AreBounded (buckets_of self.now.full self.now.head) }
     {
@@ -136,7 +133,7 @@ impl<S: Symbol> Backend for BucketBackend<S> {
     }
 
     fn intern(&mut self, text: &str) -> Result<S, InternError>
-        ensures appends { AppendsText S.symbol_of self.old text.now result self.new }
+        ensures appends { AppendsText S.symbol_of S.number self.old text.now result self.new }
 
         // The text goes into a bucket, where all that stood stays.
         ensures statics { OnOk result (self.new.statics ≡ self.old.statics ++ false ∷ []) }
@@ -153,7 +150,7 @@ impl<S: Symbol> Backend for BucketBackend<S> {
     }
 
     fn intern_static(&mut self, text: &'static str) -> Result<S, InternError>
-        ensures appends { AppendsText S.symbol_of self.old text.now result self.new }
+        ensures appends { AppendsText S.symbol_of S.number self.old text.now result self.new }
 
         // The text stays where it is, and no bucket changes.
         ensures statics { OnOk result (self.new.statics ≡ self.old.statics ++ true ∷ []) }
@@ -206,6 +203,8 @@ impl<S: Symbol> Backend for BucketBackend<S> {
     {
         self.entries.truncate(len);
     }
+
+    ghost symbols = { (refl, refl) };
 
     ghost starts = { refl };
 

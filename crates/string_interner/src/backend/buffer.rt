@@ -6,9 +6,9 @@ ghost use Rattle.std.specs.Prelude.{◌≡◌, ℕ, ◌+◌, ◌*◌, ◌^◌, �
 ghost use Rattle.std.specs.Option.{option_copied};
 ghost use Rattle.std.specs.Cmp.{partial_equiv_from_equiv, on_equiv};
 ghost use Rattle.string_interner.specs.Text.{Text, texts_eq, texts_eq-IsEquivalence};
-ghost use Rattle.string_interner.specs.Backend.{Contents, Shrinks, BeginsAt, IsKept};
+ghost use Rattle.string_interner.specs.Backend.{Contents, Shrinks, BeginsAt, IsValidList};
 ghost use Rattle.string_interner.specs.Spelling.{digits, IsLeastDigitCount};
-ghost use Rattle.string_interner.specs.BufferBackend.{entry_of, bytes_of, entry_len, place_of, Reads, read_front, read_at, HasEntryAt};
+ghost use Rattle.string_interner.specs.BufferBackend.{by_byte, entry_of, bytes_of, entry_len, place_of, Reads, read_front, read_at, HasEntryAt};
 ghost use Rattle.string_interner.specs.BufferLaws.{entry_len-positive, place_grows, reads_at_place};
 
 use crate::backend::{Backend, CopyBackend, InternError, Iter};
@@ -43,13 +43,13 @@ pub struct BufferBackend<S: Symbol = DefaultSymbol> {
 impl<S: Symbol> Model for BufferBackend<S> {
     ghost use Rattle.std.specs.Prelude.{◌-◌, vec_len, vec_capacity};
     ghost use Rattle.string_interner.specs.Backend.{Contents};
-    ghost use Rattle.string_interner.specs.BufferBackend.{texts_in, IsSpelled};
+    ghost use Rattle.string_interner.specs.BufferBackend.{front_texts, IsSpelled};
 
     ghost Value = { Contents };
 
-    ghost view = { λ b. record { texts = texts_in b.count b.bytes.items; room = vec_capacity b.bytes - vec_len b.bytes } };
+    ghost view = { λ b. record { texts = front_texts b.count b.bytes.items; room = vec_capacity b.bytes - vec_len b.bytes } };
 
-    ghost invariant = { λ b. IsSpelled S.symbol_of b.bytes.items (texts_in b.count b.bytes.items) };
+    ghost invariant = { λ b. IsSpelled S.symbol_of b.bytes.items (front_texts b.count b.bytes.items) };
 }
 
 /// Returns the text at the front, behind its length: `None` unless the length can be decoded and the text is complete
@@ -89,7 +89,7 @@ impl<S: Symbol> BufferBackend<S> {
     pub fn as_bytes(&self) -> &[u8]
         ensures spelled { result.now ≡ bytes_of self.now.texts }
         ensures len { length result.now ≡ place_of self.now.texts }
-        ensures kept { IsKept S.symbol_of place_of self.now.texts }
+        ensures valid { IsValidList S.symbol_of place_of self.now.texts }
     {
         &self.bytes
     }
@@ -113,13 +113,9 @@ impl<S: Symbol> Backend for BufferBackend<S> {
 
     ghost texts = { λ b. b.texts };
 
-    ghost place = { place_of };
-
-    ghost read = { read_at };
-
     ghost room = { λ b. b.room };
 
-    ghost cost = { entry_len };
+    ghost numbering = { by_byte S.symbol_of S.number };
 
     ghost grant = { λ capacity. 13 * capacity };
 
@@ -203,6 +199,8 @@ impl<S: Symbol> Backend for BufferBackend<S> {
             self.count = len;
         }
     }
+
+    ghost symbols = { (refl, refl) };
 
     ghost starts = { refl };
 

@@ -6,7 +6,8 @@ ghost use Rattle.std.proofs.Common.{rules};
 ghost use Rattle.string_interner.specs.Backend.{Contents, Shrinks};
 ghost use Rattle.string_interner.specs.Text.{texts_eq, texts_eq-IsEquivalence};
 ghost use Rattle.string_interner.specs.StringBackend.{cut, start_at, IsCut};
-ghost use Rattle.string_interner.specs.CountLaws.{length_grows, reads_at_length};
+ghost use Rattle.string_interner.specs.Numbering.{by_index};
+ghost use Rattle.string_interner.specs.ByIndexLaws.{length_grows, reads_at_length};
 
 use crate::backend::{Backend, CopyBackend, InternError, Iter};
 use crate::symbol::{DefaultSymbol, Symbol};
@@ -66,13 +67,9 @@ impl<S: Symbol> Backend for StringBackend<S> {
 
     ghost texts = { λ b. b.texts };
 
-    ghost place = { length };
-
-    ghost read = { slice_get };
-
     ghost room = { λ b. b.room };
 
-    ghost cost = { λ text. max 5 (length text) };
+    ghost numbering = { by_index S.symbol_of S.number (λ text. max 5 (length text)) };
 
     ghost grant = { λ capacity. 5 * capacity };
 
@@ -152,6 +149,8 @@ impl<S: Symbol> Backend for StringBackend<S> {
             self.ends.truncate(len);
         }
     }
+
+    ghost symbols = { (refl, refl) };
 
     ghost starts = { refl };
 

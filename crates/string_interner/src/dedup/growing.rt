@@ -6,7 +6,7 @@ ghost use Rattle.string_interner.specs.Slots.{symbols};
 ghost use Rattle.string_interner.specs.SlotRule.{IsLeastSlotCount};
 ghost use Rattle.string_interner.specs.Index.{Fits, GrowsTo, Holds, IsWhole, IsSlotCount, three_quarters};
 ghost use Rattle.string_interner.specs.Text.{IsDistinct};
-ghost use Rattle.string_interner.specs.Backend.{IsKept};
+ghost use Rattle.string_interner.specs.Backend.{IsValidList};
 ghost use Rattle.string_interner.specs.Probe.{Rebuilt};
 
 use crate::backend::Backend;
@@ -27,11 +27,11 @@ pub fn rehash<S: Symbol, H: TextHasher, B: Backend<Symbol = S>>(
     backend: &B,
     alloc: Global,
 ) -> Result<Slots<S>, AllocError>
-    requires fits { Fits (entry_text S.number B.place (B.texts backend.now)) (H.code hasher.now) slots.old }
+    requires fits { Fits (entry_text B.numbering (B.texts backend.now)) (H.code hasher.now) slots.old }
     requires more { length slots.old < count }
     requires count { IsSlotCount count }
     ensures same { slots.new ≡ slots.old }
-    ensures made { IfOk result (λ bigger. Rebuilt (entry_text S.number B.place (B.texts backend.now))
+    ensures made { IfOk result (λ bigger. Rebuilt (entry_text B.numbering (B.texts backend.now))
         (H.code hasher.now) slots.old bigger) }
     ensures count { IfOk result (λ bigger. length bigger ≡ count) }
 {
@@ -51,12 +51,12 @@ pub fn put_all<S: Symbol, H: TextHasher, B: Backend<Symbol = S>>(
     hasher: &H,
     backend: &B,
 )
-    requires kept { IsKept S.symbol_of B.place (B.texts backend.now) }
+    requires valid { IsValidList B.numbering.symbol_of B.numbering.place (B.texts backend.now) }
     requires distinct { IsDistinct (B.texts backend.now) }
     requires empty { symbols slots.old ≡ [] }
     requires room { Holds (length slots.old) (length (B.texts backend.now)) }
     requires count { IsSlotCount (length slots.old) }
-    ensures whole { IsWhole (entry_text S.number B.place (B.texts backend.now)) (H.code hasher.now) slots.new }
+    ensures whole { IsWhole (entry_text B.numbering (B.texts backend.now)) (H.code hasher.now) slots.new }
     ensures entries { length (symbols slots.new) ≡ length (B.texts backend.now) }
     ensures count { length slots.new ≡ length slots.old }
 {

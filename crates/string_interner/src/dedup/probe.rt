@@ -60,9 +60,9 @@ pub fn probe<S: Symbol, B: Backend<Symbol = S>>(
     requires some { 0 < length slots.now }
     requires count { IsSlotCount (length slots.now) }
     requires entries { (s : S) → Contains slots.now (Some s)
-        → IsSome (entry_text S.number B.place (B.texts looks.old.backend) s) }
+        → IsSome (entry_text B.numbering (B.texts looks.old.backend) s) }
     ensures found { found_by result ≡ first_passing
-        (has_text (entry_text S.number B.place (B.texts looks.old.backend)) text.now)
+        (has_text (entry_text B.numbering (B.texts looks.old.backend)) text.now)
         (filled_run (probed slots.now (code % length slots.now))) }
     ensures vacant { IfVacant result (IsVacant slots.now code) }
     ensures backend { looks.new.backend ≡ looks.old.backend }

@@ -111,7 +111,7 @@ impl<S: Symbol> Slots<S> {
     /// slots, and read them without a look.
     pub fn try_copy<B: Backend<Symbol = S>>(&self, backend: &B) -> Result<Self, AllocError>
         requires { (s : S) → Contains self.now (Some s)
-            → IsSome (entry_text S.number B.place (B.texts backend.now) s) }
+            → IsSome (entry_text B.numbering (B.texts backend.now) s) }
         ensures { IfOk result (λ copy. copy ≡ self.now) }
     {
         Ok(Slots {
@@ -137,11 +137,11 @@ impl<S: Symbol> Slots<S> {
     ) -> Option<Seen<S>>
         requires within { at < length self.now }
         requires is_entry { (s : S) → slice_index_or self.now at None ≡ Some s
-            → IsSome (entry_text S.number B.place (B.texts looks.old.backend) s) }
+            → IsSome (entry_text B.numbering (B.texts looks.old.backend) s) }
         ensures empty { IfNone result (slice_index_or self.now at None ≡ None) }
         ensures symbol { IfSome result (λ seen. slice_index_or self.now at None ≡ Some seen.symbol) }
         ensures matches { IfSome result (λ seen. seen.matches
-            ≡ has_text (entry_text S.number B.place (B.texts looks.old.backend)) text.now seen.symbol) }
+            ≡ has_text (entry_text B.numbering (B.texts looks.old.backend)) text.now seen.symbol) }
         ensures backend { looks.new.backend ≡ looks.old.backend }
         ensures count { looks.new.count ≡ looks.old.count + 1 }
     {

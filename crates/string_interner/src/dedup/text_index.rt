@@ -81,11 +81,11 @@ pub trait TextIndex<S: Symbol> {
         backend: &B,
         text: &str,
     ) -> Entry<S, Self::Vacancy>
-        requires { indexes self.now (entry_text S.number B.place (B.texts backend.now)) (H.code hasher.now) }
+        requires { indexes self.now (entry_text B.numbering (B.texts backend.now)) (H.code hasher.now) }
         ensures occupied { IfOccupied result
-            (λ symbol. entry_text S.number B.place (B.texts backend.now) symbol ≡ Some text.now) }
+            (λ symbol. entry_text B.numbering (B.texts backend.now) symbol ≡ Some text.now) }
         ensures new_text { IfVacant result
-            (λ _. IsNewText (entry_text S.number B.place (B.texts backend.now)) text.now) }
+            (λ _. IsNewText (entry_text B.numbering (B.texts backend.now)) text.now) }
         ensures vacant { IfVacant result (is_vacant self.now (H.code hasher.now text.now)) };
 
     /// Makes room for one more entry: does nothing if the load factor allows one more, and else grows once.
@@ -96,8 +96,8 @@ pub trait TextIndex<S: Symbol> {
         hasher: &H,
         backend: &B,
     ) -> Result<(), AllocError>
-        requires { indexes self.old (entry_text S.number B.place (B.texts backend.now)) (H.code hasher.now) }
-        ensures same { indexes self.new (entry_text S.number B.place (B.texts backend.now)) (H.code hasher.now) }
+        requires { indexes self.old (entry_text B.numbering (B.texts backend.now)) (H.code hasher.now) }
+        ensures same { indexes self.new (entry_text B.numbering (B.texts backend.now)) (H.code hasher.now) }
         ensures count { entries self.new ≡ entries self.old }
         ensures room { OnOk result (rule.holds (slots self.new) (entries self.new + 1)) }
         ensures had_room { rule.holds (slots self.old) (entries self.old + 1)
@@ -124,7 +124,7 @@ pub trait TextIndex<S: Symbol> {
     fn refill<H: TextHasher, B: Backend<Symbol = S>>(&mut self, hasher: &H, backend: &B)
         requires distinct { IsDistinct (B.texts backend.now) }
         requires room { rule.holds (slots self.old) (length (B.texts backend.now)) }
-        ensures whole { indexes self.new (entry_text S.number B.place (B.texts backend.now)) (H.code hasher.now) }
+        ensures whole { indexes self.new (entry_text B.numbering (B.texts backend.now)) (H.code hasher.now) }
         ensures count { entries self.new ≡ length (B.texts backend.now) }
         ensures slots { slots self.new ≡ slots self.old };
 
@@ -140,7 +140,7 @@ pub trait CopyIndex<S: Symbol>: TextIndex<S> {
     /// is to count its looks, as `Index::find`, cannot copy the index and look at the copy.
     fn try_copy<B: Backend<Symbol = S>>(&self, backend: &B) -> Result<Self, AllocError>
         requires { (code : Text → ℕ)
-            × Self.indexes self.now (entry_text S.number B.place (B.texts backend.now)) code }
+            × Self.indexes self.now (entry_text B.numbering (B.texts backend.now)) code }
         ensures { IfOk result (λ copy. copy ≡ self.now) };
 }
 

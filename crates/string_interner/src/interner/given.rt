@@ -28,7 +28,7 @@ impl<'t> Given<'t> {
     /// Appends the text to the backend, by `intern` or by `intern_static`.
     #[inline(always)]
     pub fn store_in<B: Backend>(self, backend: &mut B) -> Result<B::Symbol, InternError>
-        ensures { AppendsInto B.Symbol.symbol_of B.place B.cost B.texts B.buckets B.room backend.old
+        ensures { AppendsInto B.numbering B.texts B.buckets B.room backend.old
             (given_text self.entry) result backend.new }
     {
         match self {

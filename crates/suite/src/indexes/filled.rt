@@ -20,14 +20,14 @@ pub struct Filled<B: Backend, H: TextHasher> {
 impl<B: Backend, H: TextHasher> Model for Filled<B, H> {
     ghost use Rattle.std.specs.Prelude.{List};
     ghost use Rattle.string_interner.specs.Text.{Text};
-    ghost use Rattle.string_interner.specs.Interner.{IsInterned};
+    ghost use Rattle.string_interner.specs.Interner.{IsSoundInterner};
     ghost use Rattle.string_interner.specs.Index.{IsWhole, entry_count};
 
     ghost Value = { List Text };
 
     ghost view = { λ f. B.texts f.backend };
 
-    ghost invariant = { λ f. IsInterned B.Symbol.symbol_of B.place B.Symbol.number
+    ghost invariant = { λ f. IsSoundInterner B.Symbol.symbol_of B.place B.Symbol.number
         (λ entry. IsWhole entry (H.code f.hasher) f.index.slots) (entry_count f.index) (B.texts f.backend) };
 }
 

@@ -1,7 +1,7 @@
 use Rattle.std.proofs.Common.{lit<, ◌++◌, ap, ◌∙◌}
 use Rattle.std.proofs.lemmas.Iterator.{items_from_drains}
 use Rattle.std.proofs.lemmas.Iterator.Splits.{YieldsList-from_str_split}
-use Rattle.string_interner.specs.Collect.{texts_of}
+use Rattle.string_interner.specs.Extend.{texts_of}
 use Rattle.dictcol.proofs.answer.column_of.Goals as goal
 
 pub returns-in-Ok : goal.returns-in-Ok

@@ -1,6 +1,6 @@
 use Rattle.std.proofs.Common.{◌≡◌, ◌≤◌, ◌++◌, drop, length, vec_len, vec_capacity, option_map}
 use Rattle.serde_json.specs.View.{items_view}
-use Rattle.string_interner.specs.Collect.{texts_of}
+use Rattle.string_interner.specs.Extend.{texts_of}
 use Rattle.dictcol.specs.File.{texts_at}
 use Rattle.dictcol.proofs.file.lines_of.Given as goal
 

@@ -1,8 +1,8 @@
 use Rattle.std.proofs.Common.{◌≡◌, ◌^◌, ◌-◌, ◌||◌, ◌++◌, true, false, length, sym, ap, ◌∙◌, arith}
 use Rattle.std.specs.List.{list_any}
 use Rattle.std.proofs.lemmas.List.{append-nil}
-use Rattle.string_interner.specs.Collect.{texts_of}
-use Rattle.string_interner.proofs.Lemmas.Backend.Walk.{first_entry, no_entry}
+use Rattle.string_interner.specs.Extend.{texts_of}
+use Rattle.string_interner.proofs.Lemmas.Backend.Entries.{first_entry, no_entry}
 use Rattle.string_interner.specs.Symbol.{number_below}
 use Rattle.dictcol.specs.Lines.{has_newline}
 use Rattle.dictcol.proofs.Lines.{walked-on}

@@ -1,6 +1,6 @@
 use Rattle.std.proofs.Common.{◌≡◌, ◌≤◌, ◌+◌, ◌++◌, length, vec_len, vec_capacity}
 use Rattle.std.specs.List.{list_any}
-use Rattle.string_interner.specs.Collect.{texts_of}
+use Rattle.string_interner.specs.Extend.{texts_of}
 use Rattle.dictcol.specs.Lines.{has_newline}
 use Rattle.dictcol.proofs.file.texts_of.Given as goal
 

@@ -2,7 +2,7 @@ use Rattle.std.proofs.Common.{◌≡◌, ◌∷◌, take, ap, ◌∙◌, rules}
 use Rattle.std.proofs.KnownBytes.{Appends-trans}
 use Rattle.std.proofs.lemmas.List.{take_all}
 use Rattle.std.specs.List.{join_with_byte}
-use Rattle.string_interner.specs.Collect.{texts_of}
+use Rattle.string_interner.specs.Extend.{texts_of}
 use Rattle.dictcol.proofs.Lines.{joined-first}
 use Rattle.dictcol.proofs.file.write_joined.Goals as goal
 

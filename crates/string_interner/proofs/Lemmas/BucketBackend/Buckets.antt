@@ -10,12 +10,12 @@ use Rattle.std.proofs.lemmas.List.{append-nil, append_assoc, get_or_append_left,
 use Rattle.std.proofs.lemmas.List.Elements.{All-push, All-head, All-tail, All-weaker, All-get_or, All-take}
 use Rattle.std.proofs.lemmas.List.Sums.{sum_by_push, sum_by-take-le}
 use Rattle.string_interner.specs.Text.{Text}
-use Rattle.string_interner.specs.Backend.{Bucket, IsKept}
-use Rattle.string_interner.specs.CountLaws.{length_grows}
-use Rattle.string_interner.specs.BucketBackend.{AreFew, buckets_of, bucket_at, total_capacity, byte_count, Puts, Stays, is_static, copied_bytes, interned_text, IsPart, IsEntry, interned_len, IsLast, IsTight, IsInBuckets, IsCopy, AreCopies, BucketContents, JoinsBuckets, CopiesBuckets}
+use Rattle.string_interner.specs.Backend.{Bucket, IsValidList}
+use Rattle.string_interner.specs.ByIndexLaws.{length_grows}
+use Rattle.string_interner.specs.BucketBackend.{AreFew, buckets_of, bucket_at, total_capacity, byte_count, Puts, Stays, is_static, copied_bytes, interned_text, IsPart, IsEntry, interned_len, IsLast, IsTight, IsInBuckets, IsBucketCopy, AreCopies, BucketContents, JoinsBuckets, CopiesBuckets}
 use Rattle.string_interner.specs.declared.backend.bucket.interned_str.InternedStr.{InternedStr}
 use Rattle.string_interner.specs.declared.backend.bucket.interned_str.InternedStr.TheVariants.{InBucket, Static}
-use Rattle.string_interner.proofs.Lemmas.Backend.IsKept.{kept-take, kept-more}
+use Rattle.string_interner.proofs.Lemmas.Backend.IsValidList.{valid-take, valid-more}
 
 -- a boundary between characters is one still where a text follows
 IsCharBoundary-append : (bytes text : List ℕ) (i : ℕ) → IsUtf8 text → IsCharBoundary bytes i → IsCharBoundary (bytes ++ text) i
@@ -242,7 +242,7 @@ stored-puts symbol_of text full head new_full new_head e entries more stored utf
         standing = entries-more _ _ entries e grow stored.standing (last_entry text new_full new_head e utf8 last);
         shared = omega (arith, sum_by_push interned_len entries e, stored.shared, last_len text new_full new_head e last, byte_count-puts text full head new_full new_head puts);
         tight = tight-puts text full head new_full new_head stored.tight puts;
-        kept = rw now (kept-more symbol_of length texts text stored.kept utf8 some (omega (arith, count, length_push texts text)));
+        valid = rw now (valid-more symbol_of length texts text stored.valid utf8 some (omega (arith, count, length_push texts text)));
       }),
     )
 
@@ -258,7 +258,7 @@ stored-static symbol_of text full head entries more stored utf8 some small is =
       standing = All-push (IsEntry (buckets_of full head)) entries (Static text) stored.standing tt;
       shared = omega (arith, sum_by_push interned_len entries (Static text), stored.shared);
       tight = stored.tight;
-      kept = rw now (kept-more symbol_of length texts text.now stored.kept utf8 some (omega (arith, count, length_push texts text.now)));
+      valid = rw now (valid-more symbol_of length texts text.now stored.valid utf8 some (omega (arith, count, length_push texts text.now)));
     })
 
 -- the first entries stay stored, in the same buckets
@@ -267,7 +267,7 @@ stored-take symbol_of full head entries fewer len stored is = rw is (record {
   standing = All-take (IsEntry (buckets_of full head)) len entries stored.standing;
   shared = omega (arith, sum_by-take-le interned_len entries len, stored.shared);
   tight = stored.tight;
-  kept = subst (IsKept symbol_of length) (take-map (interned_text (buckets_of full head)) len entries) (kept-take symbol_of length length_grows len (map (interned_text (buckets_of full head)) entries) stored.kept);
+  valid = subst (IsValidList symbol_of length) (take-map (interned_text (buckets_of full head)) len entries) (valid-take symbol_of length length_grows len (map (interned_text (buckets_of full head)) entries) stored.valid);
 })
 
 -- ---- a copy
@@ -279,7 +279,7 @@ copied_bytes-more (InBucket bucket span ∷ entries) buckets e = rw (copied_byte
 copied_bytes-more (Static text ∷ entries) buckets e = copied_bytes-more entries buckets e
 
 -- one more entry was copied
-AreCopies-more : (buckets : List Bucket) (entries copies : List InternedStr) (old new : Bucket) (e copy : InternedStr) → IsEntry buckets e → IsUtf8 (interned_text buckets e) → AreCopies buckets entries copies old → IsCopy buckets e old new copy → AreCopies buckets (entries ++ e ∷ []) (copies ++ copy ∷ []) new
+AreCopies-more : (buckets : List Bucket) (entries copies : List InternedStr) (old new : Bucket) (e copy : InternedStr) → IsEntry buckets e → IsUtf8 (interned_text buckets e) → AreCopies buckets entries copies old → IsBucketCopy buckets e old new copy → AreCopies buckets (entries ++ e ∷ []) (copies ++ copy ∷ []) new
 AreCopies-more buckets entries copies old new (InBucket bucket span) copy there utf8 are is =
     let e : InternedStr = InBucket bucket span in
     let text = interned_text buckets e in
@@ -304,13 +304,13 @@ AreCopies-more buckets entries copies old new (Static text) copy there utf8 are 
       len = omega (arith, sum_by_push interned_len copies (Static text), sum_by_push interned_len entries (Static text), are.len);
     })
 
-copy_capacity : (buckets : List Bucket) (old new : Bucket) (e copy : InternedStr) → IsCopy buckets e old new copy → new.capacity ≡ old.capacity
+copy_capacity : (buckets : List Bucket) (old new : Bucket) (e copy : InternedStr) → IsBucketCopy buckets e old new copy → new.capacity ≡ old.capacity
 copy_capacity buckets old new (InBucket bucket span) copy is = rw is.0 refl
 copy_capacity buckets old new (Static text) copy is = rw is.0 refl
 
 -- the same in a loop over the entries, which leaves the capacity of the bucket
 pub AreCopies-step : (buckets : List Bucket) (entries copies more : List InternedStr) (old new : Bucket) (i : ℕ) (d copy : InternedStr) → i < length entries → All (IsEntry buckets) entries → All IsUtf8 (map (interned_text buckets) entries)
-    → AreCopies buckets (take i entries) copies old → IsCopy buckets (get_or entries i d) old new copy → more ≡ copies ++ copy ∷ [] → (new.capacity ≡ old.capacity) × AreCopies buckets (take (i + 1) entries) more new
+    → AreCopies buckets (take i entries) copies old → IsBucketCopy buckets (get_or entries i d) old new copy → more ≡ copies ++ copy ∷ [] → (new.capacity ≡ old.capacity) × AreCopies buckets (take (i + 1) entries) more new
 AreCopies-step buckets entries copies more old new i d copy within standing utf8 are is m =
     let text : IsUtf8 (interned_text buckets (get_or entries i d)) = rw (← get_or-map (interned_text buckets) entries i d [] within) (All-get_or IsUtf8 (map (interned_text buckets) entries) i [] (omega (arith, length-map entries (interned_text buckets))) utf8) in
     (copy_capacity buckets old new (get_or entries i d) copy is, rw (m, take_more entries i d within) (AreCopies-more buckets (take i entries) copies old new (get_or entries i d) copy (All-get_or (IsEntry buckets) entries i d within standing) text are is))
@@ -326,7 +326,7 @@ stored-copies symbol_of full head entries copies bucket stored are capacity = re
     newest = λ some. absurd (omega arith);
     few = omega arith;
   };
-  kept = rw are.texts stored.kept;
+  valid = rw are.texts stored.valid;
 }
 
 -- a text takes no more of the room of the head and of the free entries than its length, and at least one

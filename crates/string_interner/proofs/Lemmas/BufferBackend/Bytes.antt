@@ -7,9 +7,9 @@ use Rattle.std.proofs.lemmas.List.Sums.{sum_by-cons}
 use Rattle.std.proofs.lemmas.Slice.Eq.{bytes_eq-Decides}
 use Rattle.string_interner.specs.Text.{Text, texts_eq}
 use Rattle.string_interner.specs.Spelling.{spell, digits, front_len, front_value, after_front}
-use Rattle.string_interner.specs.BufferBackend.{entry_of, bytes_of, entry_len, place_of, texts_in, IsSpelled}
+use Rattle.string_interner.specs.BufferBackend.{entry_of, bytes_of, entry_len, place_of, front_texts, IsSpelled}
 use Rattle.string_interner.specs.BufferLaws.{length-spell, spell-IsChain, value-spell, front_len-chain, front_value-chain, after_front-chain, entry_len-positive, length-bytes_of, place_grows}
-use Rattle.string_interner.proofs.Lemmas.Backend.IsKept.{kept-take, kept-more}
+use Rattle.string_interner.proofs.Lemmas.Backend.IsValidList.{valid-take, valid-more}
 use Rattle.string_interner.proofs.Lemmas.Texts.Equal.{texts_eq-Decides, same_tests}
 
 -- what stands at the front of an entry
@@ -58,53 +58,53 @@ bytes_of-apart (l ∷ ls) (m ∷ ms) e =
     cc
 
 -- the texts in the bytes of texts are the texts
-pub texts_in-bytes_of : (texts : List Text) → texts_in (length texts) (bytes_of texts) ≡ texts
-texts_in-bytes_of [] = refl
-texts_in-bytes_of (t ∷ ts) =
+pub front_texts-bytes_of : (texts : List Text) → front_texts (length texts) (bytes_of texts) ≡ texts
+front_texts-bytes_of [] = refl
+front_texts-bytes_of (t ∷ ts) =
     let f = entry_front t (bytes_of ts) in
     let c : bytes_of (t ∷ ts) ≡ entry_of t ++ bytes_of ts = flat_map-cons entry_of t ts in
     let number : front_value (bytes_of (t ∷ ts)) ≡ length t = ap front_value c ∙ f.number in
     let after : after_front (bytes_of (t ∷ ts)) ≡ t ++ bytes_of ts = ap after_front c ∙ f.after in
-    rw (number, after, take_at t (bytes_of ts) (length t) refl, drop_at t (bytes_of ts) (length t) refl, texts_in-bytes_of ts) refl
+    rw (number, after, take_at t (bytes_of ts) (length t) refl, drop_at t (bytes_of ts) (length t) refl, front_texts-bytes_of ts) refl
 
-pub length-texts_in : (count : ℕ) (buffer : List ℕ) → length (texts_in count buffer) ≡ count
-length-texts_in zero buffer = refl
-length-texts_in (suc count) buffer = ap suc (length-texts_in count (drop (front_value buffer) (after_front buffer)))
+pub length-front_texts : (count : ℕ) (buffer : List ℕ) → length (front_texts count buffer) ≡ count
+length-front_texts zero buffer = refl
+length-front_texts (suc count) buffer = ap suc (length-front_texts count (drop (front_value buffer) (after_front buffer)))
 
 length-le-place_of : (texts : List Text) → length texts ≤ place_of texts
 length-le-place_of [] = omega arith
 length-le-place_of (t ∷ ts) = omega (arith, length-le-place_of ts, sum_by-cons entry_len t ts, entry_len-positive t)
 
 -- each text takes a byte at least
-pub count_below : {S : Type 0} (symbol_of : ℕ → Option S) (buffer : List ℕ) (count : ℕ) → IsSpelled symbol_of buffer (texts_in count buffer) → count ≤ length buffer
+pub count_below : {S : Type 0} (symbol_of : ℕ → Option S) (buffer : List ℕ) (count : ℕ) → IsSpelled symbol_of buffer (front_texts count buffer) → count ≤ length buffer
 count_below symbol_of buffer count is =
-    omega (arith, ap length is.bytes_are, length-bytes_of (texts_in count buffer), length-le-place_of (texts_in count buffer), length-texts_in count buffer)
+    omega (arith, ap length is.bytes_are, length-bytes_of (front_texts count buffer), length-le-place_of (front_texts count buffer), length-front_texts count buffer)
 
 bytes_of-push : (texts : List Text) (t : Text) → bytes_of (texts ++ t ∷ []) ≡ bytes_of texts ++ entry_of t
 bytes_of-push texts t = flat_map-append entry_of texts (t ∷ []) ∙ ap (λ (b : List ℕ). bytes_of texts ++ b) (flat_map-cons entry_of t [] ∙ append-nil (entry_of t))
 
 -- one more text is spelled
-pub spelled-more : {S : Type 0} (symbol_of : ℕ → Option S) (buffer more_buffer : List ℕ) (count : ℕ) (t : Text) → IsSpelled symbol_of buffer (texts_in count buffer) → IsUtf8 t → IsSome (symbol_of (place_of (texts_in count buffer))) → length more_buffer < 2 ^ 64 → more_buffer ≡ (buffer ++ spell (length t)) ++ t →
-    (texts_in (count + 1) more_buffer ≡ texts_in count buffer ++ t ∷ []) × IsSpelled symbol_of more_buffer (texts_in (count + 1) more_buffer)
+pub spelled-more : {S : Type 0} (symbol_of : ℕ → Option S) (buffer more_buffer : List ℕ) (count : ℕ) (t : Text) → IsSpelled symbol_of buffer (front_texts count buffer) → IsUtf8 t → IsSome (symbol_of (place_of (front_texts count buffer))) → length more_buffer < 2 ^ 64 → more_buffer ≡ (buffer ++ spell (length t)) ++ t →
+    (front_texts (count + 1) more_buffer ≡ front_texts count buffer ++ t ∷ []) × IsSpelled symbol_of more_buffer (front_texts (count + 1) more_buffer)
 spelled-more symbol_of buffer more_buffer count t is utf8 has small e =
-    let texts : List Text = texts_in count buffer in
+    let texts : List Text = front_texts count buffer in
     let bytes_are : more_buffer ≡ bytes_of (texts ++ t ∷ []) = e ∙ append_assoc buffer (spell (length t)) t ∙ ap (λ (b : List ℕ). b ++ entry_of t) is.bytes_are ∙ sym (bytes_of-push texts t) in
-    let n : count + 1 ≡ length (texts ++ t ∷ []) = omega (arith, length_push texts t, length-texts_in count buffer) in
-    let texts_are : texts_in (count + 1) more_buffer ≡ texts ++ t ∷ [] = ap (λ (k : ℕ). texts_in k more_buffer) n ∙ ap (texts_in (length (texts ++ t ∷ []))) bytes_are ∙ texts_in-bytes_of (texts ++ t ∷ []) in
+    let n : count + 1 ≡ length (texts ++ t ∷ []) = omega (arith, length_push texts t, length-front_texts count buffer) in
+    let texts_are : front_texts (count + 1) more_buffer ≡ texts ++ t ∷ [] = ap (λ (k : ℕ). front_texts k more_buffer) n ∙ ap (front_texts (length (texts ++ t ∷ []))) bytes_are ∙ front_texts-bytes_of (texts ++ t ∷ []) in
     let fits : place_of (texts ++ t ∷ []) < 2 ^ 64 = omega (arith, ap length bytes_are, length-bytes_of (texts ++ t ∷ [])) in
-    (texts_are, rw texts_are (record { bytes_are = bytes_are; kept = kept-more symbol_of place_of texts t is.kept utf8 has fits }))
+    (texts_are, rw texts_are (record { bytes_are = bytes_are; valid = valid-more symbol_of place_of texts t is.valid utf8 has fits }))
 
 -- the first texts stay spelled
-pub spelled-take : {S : Type 0} (symbol_of : ℕ → Option S) (buffer fewer_buffer : List ℕ) (count len : ℕ) → IsSpelled symbol_of buffer (texts_in count buffer) → len ≤ count → fewer_buffer ≡ take (place_of (take len (texts_in count buffer))) buffer →
-    (texts_in len fewer_buffer ≡ take len (texts_in count buffer)) × IsSpelled symbol_of fewer_buffer (texts_in len fewer_buffer)
+pub spelled-take : {S : Type 0} (symbol_of : ℕ → Option S) (buffer fewer_buffer : List ℕ) (count len : ℕ) → IsSpelled symbol_of buffer (front_texts count buffer) → len ≤ count → fewer_buffer ≡ take (place_of (take len (front_texts count buffer))) buffer →
+    (front_texts len fewer_buffer ≡ take len (front_texts count buffer)) × IsSpelled symbol_of fewer_buffer (front_texts len fewer_buffer)
 spelled-take symbol_of buffer fewer_buffer count len is h e =
-    let texts : List Text = texts_in count buffer in
+    let texts : List Text = front_texts count buffer in
     let front = take len texts in
     let split : bytes_of texts ≡ bytes_of front ++ bytes_of (drop len texts) = ap bytes_of (sym (take-append-drop len texts)) ∙ flat_map-append entry_of front (drop len texts) in
     let bytes_are : fewer_buffer ≡ bytes_of front = e ∙ ap (take (place_of front)) (is.bytes_are ∙ split) ∙ take_at (bytes_of front) (bytes_of (drop len texts)) (place_of front) (length-bytes_of front) in
-    let n : len ≡ length front = sym (length-take-le len texts (omega (arith, length-texts_in count buffer))) in
-    let texts_are : texts_in len fewer_buffer ≡ front = ap (λ (k : ℕ). texts_in k fewer_buffer) n ∙ ap (texts_in (length front)) bytes_are ∙ texts_in-bytes_of front in
-    (texts_are, rw texts_are (record { bytes_are = bytes_are; kept = kept-take symbol_of place_of place_grows len texts is.kept }))
+    let n : len ≡ length front = sym (length-take-le len texts (omega (arith, length-front_texts count buffer))) in
+    let texts_are : front_texts len fewer_buffer ≡ front = ap (λ (k : ℕ). front_texts k fewer_buffer) n ∙ ap (front_texts (length front)) bytes_are ∙ front_texts-bytes_of front in
+    (texts_are, rw texts_are (record { bytes_are = bytes_are; valid = valid-take symbol_of place_of place_grows len texts is.valid }))
 
 -- the test of the bytes is the test of the lists
 pub bytes_of-eq : (ls ms : List Text) → bytes_eq (bytes_of ls) (bytes_of ms) ≡ texts_eq ls ms

@@ -6,18 +6,19 @@ use Rattle.std.specs.Str.{bytes_eq}
 use Rattle.std.proofs.lemmas.List.{append_assoc, append-nil, length-append, get_or_append_left, get_or-append_right}
 use Rattle.std.proofs.lemmas.Slice.Eq.{bytes_eq-Decides}
 use Rattle.string_interner.specs.Text.{Text, IsDistinct, first}
-use Rattle.string_interner.specs.Backend.{IsKept}
-use Rattle.string_interner.specs.Walk.{entries}
+use Rattle.string_interner.specs.Backend.{IsValidList}
+use Rattle.string_interner.specs.Iter.{entries}
 use Rattle.string_interner.specs.Entry.{entry_text}
 use Rattle.string_interner.specs.Slots.{symbols}
 use Rattle.string_interner.specs.Index.{Fits, IndexContents}
 use Rattle.string_interner.specs.Probe.{FillsSlot}
 use Rattle.string_interner.proofs.Lemmas.Index.Slots.{none, Contains-symbols}
 use Rattle.string_interner.proofs.Lemmas.Texts.First.{first_new}
-use Rattle.string_interner.proofs.Lemmas.Backend.IsKept.{kept-front}
+use Rattle.string_interner.proofs.Lemmas.Backend.IsValidList.{valid-front}
 use Rattle.string_interner.proofs.Lemmas.Index.Inserts.{inserted}
-use Rattle.string_interner.proofs.Lemmas.Interner.IsInterned.{IsFilled, fits-more, absent-more, text-more, interned-more}
+use Rattle.string_interner.proofs.Lemmas.Interner.IsSoundInterner.{IsFilled, fits-more, absent-more, text-more, interned-more}
 use Rattle.string_interner.proofs.Lemmas.Index.LookUp.{text_in-from}
+use Rattle.string_interner.specs.Numbering.{Numbering}
 
 -- slots without symbols fit all entries
 pub Fits-none : {S : Type 0} (entry : S → Option Text) (code : Text → ℕ) (slots : List (Option S)) → symbols slots ≡ [] → Fits entry code slots
@@ -41,28 +42,27 @@ distinct-next xs ys t d =
     by (bytes_eq (get_or xs k []) t) refl)
 
 -- where a walk over the texts stands: these are in the slots, and those are ahead
-pub record IsPlaced {S : Type 0} (symbol_of : ℕ → Option S) (number : S → ℕ) (place : List Text → ℕ) (code : Text → ℕ)
+pub record IsPlaced {S : Type 0} (numbering : Numbering S) (code : Text → ℕ)
     (texts behind ahead : List Text) (slots : List (Option S)) : Type 0 where
   pub done : List Text
   pub todo : List Text
   pub all : texts ≡ done ++ todo
-  pub interned : IsFilled symbol_of place number code done slots
-  pub same : entries symbol_of place behind ahead ≡ entries symbol_of place done todo
+  pub interned : IsFilled numbering code done slots
+  pub same : entries numbering behind ahead ≡ entries numbering done todo
 
-module _ {S : Type 0} (symbol_of : ℕ → Option S) (number : S → ℕ) (place : List Text → ℕ)
-    (numbered : (i : ℕ) (s : S) → symbol_of i ≡ Some s → (number s ≡ i) × (i < 2 ^ 64))
-    (injective : (a b : S) → number a ≡ number b → a ≡ b)
-    (grows : (texts : List Text) (text : Text) → place texts < place (texts ++ text ∷ []))
-    (code : Text → ℕ) (texts : List Text) (kept : IsKept symbol_of place texts) (distinct : IsDistinct texts) where
-  pub placed-start : (slots : List (Option S)) → symbols slots ≡ [] → IsPlaced symbol_of number place code texts [] texts slots
+module _ {S : Type 0} (numbering : Numbering S)
+    (numbered : (i : ℕ) (s : S) → numbering.symbol_of i ≡ Some s → (numbering.number s ≡ i) × (i < 2 ^ 64))
+    (injective : (a b : S) → numbering.number a ≡ numbering.number b → a ≡ b)
+    (grows : (texts : List Text) (text : Text) → numbering.place texts < numbering.place (texts ++ text ∷ []))
+    (code : Text → ℕ) (texts : List Text) (valid : IsValidList numbering.symbol_of numbering.place texts) (distinct : IsDistinct texts) where
+  pub placed-start : (slots : List (Option S)) → symbols slots ≡ [] → IsPlaced numbering code texts [] texts slots
   placed-start slots e = record {
     done = [];
     todo = texts;
     all = refl;
     interned = record {
-      distinct = λ i j d l m. absurd (omega arith);
-      kept = kept-front symbol_of place grows [] texts kept;
-      whole = record { fits = Fits-none (entry_text number place []) code slots e; whole = λ s t q. absurd (cc) };
+      are = record { distinct = λ i j d l m. absurd (omega arith); valid = valid-front numbering.symbol_of numbering.place grows [] texts valid };
+      whole = record { fits = Fits-none (entry_text numbering []) code slots e; whole = λ s t q. absurd (cc) };
       count = ap length e;
     };
     same = refl;
@@ -72,40 +72,40 @@ module _ {S : Type 0} (symbol_of : ℕ → Option S) (number : S → ℕ) (place
   index slots = record { slots = slots; put_back = 0; greatest = 0 }
 
   step : (done todo behind ahead : List Text) (slots new : List (Option S)) (s : S) (t : Text) → texts ≡ done ++ todo
-      → IsFilled symbol_of place number code done slots → entries symbol_of place done todo ≡ (Some s, t) ∷ entries symbol_of place behind ahead
-      → FillsSlot slots new (code t % length slots) s → IsPlaced symbol_of number place code texts behind ahead new
+      → IsFilled numbering code done slots → entries numbering done todo ≡ (Some s, t) ∷ entries numbering behind ahead
+      → FillsSlot slots new (code t % length slots) s → IsPlaced numbering code texts behind ahead new
   step done [] behind ahead slots new s t all is e puts = absurd (cc)
   step done (u ∷ us) behind ahead slots new s t all is e puts =
       let more = done ++ u ∷ [] in let front : texts ≡ more ++ us = all ∙ sym (append_assoc done (u ∷ []) us) in
-      let head : ◌≡◌ {A = Option S × Text} (symbol_of (place done), u) (Some s, t) = cc in let rest : entries symbol_of place more us ≡ entries symbol_of place behind ahead = cc in
+      let head : ◌≡◌ {A = Option S × Text} (numbering.symbol_of (numbering.place done), u) (Some s, t) = cc in let rest : entries numbering more us ≡ entries numbering behind ahead = cc in
       let new_text = distinct-next done us u (rw all at distinct) in
-      let put : (symbol_of (place done) ≡ Some s) × (more ≡ done ++ u ∷ []) = (ap (λ p. p.0) head, refl) in
-      let fits = fits-more symbol_of number place numbered injective grows code done slots is u s more new_text put in
-      let absent = absent-more symbol_of number place numbered injective grows code done slots is u s more new_text put in
-      let text = text-more symbol_of number place numbered injective grows code done slots is u s more new_text put in
+      let put : (numbering.symbol_of (numbering.place done) ≡ Some s) × (more ≡ done ++ u ∷ []) = (ap (λ p. p.0) head, refl) in
+      let fits = fits-more numbering numbered injective grows code done slots is u s more new_text put in
+      let absent = absent-more numbering numbered injective grows code done slots is u s more new_text put in
+      let text = text-more numbering numbered injective grows code done slots is u s more new_text put in
       let now : IndexContents S = record { slots = new; put_back = 0; greatest = max 0 (length (symbols slots) + 1) } in
-      let inserts = inserted (entry_text number place more) code (index slots) now slots s refl refl refl fits absent
+      let inserts = inserted (entry_text numbering more) code (index slots) now slots s refl refl refl fits absent
       (subst (λ x. FillsSlot slots new (code x % length slots) s) (sym (ap (λ p. p.1) head) ∙ sym text) puts) in
       record {
         done = more;
         todo = us;
         all = front;
-        interned = interned-more symbol_of number place numbered injective grows code done slots is u s more new_text put (index slots) now (kept-front symbol_of place grows more us (rw front at kept)) refl inserts;
+        interned = interned-more numbering numbered injective grows code done slots is u s more new_text put (index slots) now (valid-front numbering.symbol_of numbering.place grows more us (rw front at valid)) refl inserts;
         same = sym rest;
       }
 
   -- one more entry is put
-  pub placed-next : (behind ahead behind' ahead' : List Text) (slots new : List (Option S)) (s : S) (t : Text) → IsPlaced symbol_of number place code texts behind ahead slots
-      → entries symbol_of place behind ahead ≡ (Some s, t) ∷ entries symbol_of place behind' ahead' → FillsSlot slots new (code t % length slots) s
-      → IsPlaced symbol_of number place code texts behind' ahead' new
+  pub placed-next : (behind ahead behind' ahead' : List Text) (slots new : List (Option S)) (s : S) (t : Text) → IsPlaced numbering code texts behind ahead slots
+      → entries numbering behind ahead ≡ (Some s, t) ∷ entries numbering behind' ahead' → FillsSlot slots new (code t % length slots) s
+      → IsPlaced numbering code texts behind' ahead' new
   placed-next behind ahead behind' ahead' slots new s t p e puts = step p.done p.todo behind' ahead' slots new s t p.all p.interned (sym p.same ∙ e) puts
 
-  finished : (done todo : List Text) (slots : List (Option S)) → texts ≡ done ++ todo → IsFilled symbol_of place number code done slots
-      → entries symbol_of place done todo ≡ [] → IsFilled symbol_of place number code texts slots
+  finished : (done todo : List Text) (slots : List (Option S)) → texts ≡ done ++ todo → IsFilled numbering code done slots
+      → entries numbering done todo ≡ [] → IsFilled numbering code texts slots
   finished done [] slots all is e = rw (all ∙ append-nil done) is
   finished done (u ∷ us) slots all is e = absurd (cc)
 
   -- once none is ahead, all are
-  pub placed-end : (behind ahead : List Text) (slots : List (Option S)) → IsPlaced symbol_of number place code texts behind ahead slots
-      → entries symbol_of place behind ahead ≡ [] → IsFilled symbol_of place number code texts slots
+  pub placed-end : (behind ahead : List Text) (slots : List (Option S)) → IsPlaced numbering code texts behind ahead slots
+      → entries numbering behind ahead ≡ [] → IsFilled numbering code texts slots
   placed-end behind ahead slots p e = finished p.done p.todo slots p.all p.interned (sym p.same ∙ e)

@@ -1,7 +1,7 @@
 -- Interning text after text.
 use Rattle.std.proofs.Common.{◌≡◌, ℕ, ◌+◌, ◌≤◌, List, [], ◌∷◌, ◌++◌, length, refl, sym, ap, ◌∙◌, subst, arith, Option, Some, None, Ok, Err, Bor}
 use Rattle.std.specs.Prelude.{MatchOption, IsSome, Result}
-use Rattle.std.specs.Iterator.{Yields, YieldsThen, AlwaysYields}
+use Rattle.std.specs.Iterator.{Drains, Yields, YieldsThen, AlwaysYields}
 use Rattle.std.specs.List.{sum_by}
 use Rattle.std.specs.Option.{option_map_or}
 use Rattle.std.proofs.lemmas.List.{append_assoc, append-nil, map_push, map-append, length-append, length_push}
@@ -12,10 +12,11 @@ use Rattle.string_interner.specs.Backend.{Appends}
 use Rattle.string_interner.specs.SlotRule.{SlotRule, IsLoaded, IsLeastSlotCount, GrowsFor, IsSlotRule}
 use Rattle.string_interner.specs.Interner.{InternerContents, IsNew, Interns, InternsInto, entry_symbol}
 use Rattle.string_interner.proofs.Lemmas.Index.SlotRule.{GrowsFor-room, least-grown}
-use Rattle.string_interner.specs.Collect.{texts_of, fresh, IsMemory, InternsAll, TakesIn, StopsAt, Extends, Collects, InternsInOrder}
+use Rattle.string_interner.specs.Extend.{texts_of, fresh, IsMemory, InternsAll, TakesIn, StopsAt, Extends, Collects, InternsInOrder, YieldedBy}
 use Rattle.string_interner.proofs.Laws.{refused-keeps}
 use Rattle.string_interner.specs.declared.backend.InternError.{InternError}
 use Rattle.string_interner.specs.declared.backend.InternError.TheVariants.{NoSymbol, Memory}
+use Rattle.string_interner.specs.Numbering.{Numbering}
 
 -- two lists that make none together are empty
 append-empty : (xs ys : List Text) → xs ++ ys ≡ [] → (xs ≡ []) × (ys ≡ [])
@@ -43,17 +44,17 @@ fresh-append old (x ∷ xs) ys =
     ∙ ap (λ zs. (now ++ later) ++ fresh zs ys) (append_assoc old now later)
     ∙ ap (λ zs. zs ++ fresh (old ++ zs) ys) (sym (fresh-first old x xs))
 
-module _ {S : Type 0} (symbol_of : ℕ → Option S) (place : List Text → ℕ) where
+module _ {S : Type 0} (numbering : Numbering S) where
   -- a text that is interned is put last where it is fresh
-  pub interned-fresh : (old : List Text) (text : Text) (symbol : S) (new : List Text) → Interns symbol_of place old text (Ok symbol) new → new ≡ old ++ fresh old (text ∷ [])
+  pub interned-fresh : (old : List Text) (text : Text) (symbol : S) (new : List Text) → Interns numbering old text (Ok symbol) new → new ≡ old ++ fresh old (text ∷ [])
   interned-fresh old text symbol new i = of (first old text) i
     where
-      of : (o : Option ℕ) → MatchOption o (Appends symbol_of place old text (Ok symbol) new) (λ i. (entry_symbol symbol_of place old i ≡ Some symbol) × (new ≡ old)) → new ≡ old ++ option_map_or (λ _. []) o (text ∷ [])
+      of : (o : Option ℕ) → MatchOption o (Appends numbering.symbol_of numbering.place old text (Ok symbol) new) (λ i. (entry_symbol numbering old i ≡ Some symbol) × (new ≡ old)) → new ≡ old ++ option_map_or (λ _. []) o (text ∷ [])
       of None h = h.1
       of (Some i) h = h.1 ∙ sym (append-nil old)
 
   -- texts that are interned put the fresh ones last
-  pub all-fresh : (old texts new : List Text) → InternsAll symbol_of place old texts new → new ≡ old ++ fresh old texts
+  pub all-fresh : (old texts new : List Text) → InternsAll numbering old texts new → new ≡ old ++ fresh old texts
   all-fresh old [] new h = h ∙ sym (append-nil old)
   all-fresh old (text ∷ texts) new h =
       let now = fresh old (text ∷ []) in
@@ -64,32 +65,32 @@ module _ {S : Type 0} (symbol_of : ℕ → Option S) (place : List Text → ℕ)
       ∙ ap (λ zs. old ++ zs) (sym (fresh-first old text texts))
 
   -- one more text is interned
-  pub all-more : (old texts mid : List Text) (text : Text) (symbol : S) (new : List Text) → InternsAll symbol_of place old texts mid → Interns symbol_of place mid text (Ok symbol) new → InternsAll symbol_of place old (texts ++ text ∷ []) new
-  all-more old [] mid text symbol new h i = (new, (symbol, subst (λ (xs : List Text). Interns symbol_of place xs text (Ok symbol) new) h i), refl)
+  pub all-more : (old texts mid : List Text) (text : Text) (symbol : S) (new : List Text) → InternsAll numbering old texts mid → Interns numbering mid text (Ok symbol) new → InternsAll numbering old (texts ++ text ∷ []) new
+  all-more old [] mid text symbol new h i = (new, (symbol, subst (λ (xs : List Text). Interns numbering xs text (Ok symbol) new) h i), refl)
   all-more old (t ∷ ts) mid text symbol new h i = (h.0, h.1, all-more h.0 ts mid text symbol new h.2 i)
 
-  module _ (cost : Text → ℕ) where
+  module _ where
     -- what is so of a length and a count of slots, where one more entry keeps it, is so once a text was interned
-    pub interned-slots : (rule : SlotRule) (P : ℕ → ℕ → Type 0) (mid new : InternerContents) (text : Text) (symbol : S) → InternsInto symbol_of place cost rule mid text (Ok symbol) new → IsLoaded rule new.slot_count (length new.texts)
+    pub interned-slots : (rule : SlotRule) (P : ℕ → ℕ → Type 0) (mid new : InternerContents) (text : Text) (symbol : S) → InternsInto numbering rule mid text (Ok symbol) new → IsLoaded rule new.slot_count (length new.texts)
         → (rule.holds new.slot_count (length mid.texts + 1) → P (length mid.texts + 1) new.slot_count) → P (length mid.texts) mid.slot_count → P (length new.texts) new.slot_count
     interned-slots rule P mid new text symbol call loaded more now = of (first mid.texts text) call.interns call.known
       where
-        of : (o : Option ℕ) → MatchOption o (Appends symbol_of place mid.texts text (Ok symbol) new.texts) (λ i. (entry_symbol symbol_of place mid.texts i ≡ Some symbol) × (new.texts ≡ mid.texts)) → (IsSome o → new ≡ mid) → P (length new.texts) new.slot_count
+        of : (o : Option ℕ) → MatchOption o (Appends numbering.symbol_of numbering.place mid.texts text (Ok symbol) new.texts) (λ i. (entry_symbol numbering mid.texts i ≡ Some symbol) × (new.texts ≡ mid.texts)) → (IsSome o → new ≡ mid) → P (length new.texts) new.slot_count
         of None h known = let n : length new.texts ≡ length mid.texts + 1 = ap length h.1 ∙ length_push mid.texts text in
             subst (λ k. P k new.slot_count) (sym n) (more (subst (λ k. rule.holds new.slot_count k) n loaded.load))
         of (Some i) h known = subst (λ (it : InternerContents). P (length it.texts) it.slot_count) (sym (known refl)) now
 
     -- slots that were the least for the texts are so once a text was interned
-    pub interned-least : (rule : SlotRule) (laws : IsSlotRule rule) (mid new : InternerContents) (text : Text) (symbol : S) → InternsInto symbol_of place cost rule mid text (Ok symbol) new → IsLoaded rule new.slot_count (length new.texts)
+    pub interned-least : (rule : SlotRule) (laws : IsSlotRule rule) (mid new : InternerContents) (text : Text) (symbol : S) → InternsInto numbering rule mid text (Ok symbol) new → IsLoaded rule new.slot_count (length new.texts)
         → IsLeastSlotCount rule (length mid.texts) mid.slot_count → IsLeastSlotCount rule (length new.texts) new.slot_count
     interned-least rule laws mid new text symbol call loaded before = interned-slots rule (IsLeastSlotCount rule) mid new text symbol call loaded (least-grown rule laws _ _ _ before call.slots) before
 
     -- a text that is interned takes its cost, and nothing where it was known
-    spent-fresh : (mid new : InternerContents) (text : Text) → (IsSome (first mid.texts text) → new ≡ mid) → mid.room ≤ new.room + cost text → mid.room ≤ new.room + sum_by cost (fresh mid.texts (text ∷ []))
+    spent-fresh : (mid new : InternerContents) (text : Text) → (IsSome (first mid.texts text) → new ≡ mid) → mid.room ≤ new.room + numbering.cost text → mid.room ≤ new.room + sum_by numbering.cost (fresh mid.texts (text ∷ []))
     spent-fresh mid new text known spent = of (first mid.texts text) known
       where
-        of : (o : Option ℕ) → (IsSome o → new ≡ mid) → mid.room ≤ new.room + sum_by cost (option_map_or (λ _. []) o (text ∷ []))
-        of None known = let one : sum_by cost (text ∷ []) ≡ cost text = omega arith in omega (arith, spent, one)
+        of : (o : Option ℕ) → (IsSome o → new ≡ mid) → mid.room ≤ new.room + sum_by numbering.cost (option_map_or (λ _. []) o (text ∷ []))
+        of None known = let one : sum_by numbering.cost (text ∷ []) ≡ numbering.cost text = omega arith in omega (arith, spent, one)
         of (Some i) known = let same : new.room ≡ mid.room = ap (λ (i : InternerContents). i.room) (known refl) in omega (arith, same)
 
     -- a text that is not fresh changes nothing
@@ -101,12 +102,12 @@ module _ {S : Type 0} (symbol_of : ℕ → Option S) (place : List Text → ℕ)
         of (Some i) known none = known refl
 
     -- what the fresh texts cost when one more text comes
-    cost-more : (old mid texts : List Text) (text : Text) → InternsAll symbol_of place old texts mid → sum_by cost (fresh old (texts ++ text ∷ [])) ≡ sum_by cost (fresh old texts) + sum_by cost (fresh mid (text ∷ []))
-    cost-more old mid texts text h = rw (fresh-append old texts (text ∷ []), ← all-fresh old texts mid h) (sum_by-append cost (fresh old texts) (fresh mid (text ∷ [])))
+    cost-more : (old mid texts : List Text) (text : Text) → InternsAll numbering old texts mid → sum_by numbering.cost (fresh old (texts ++ text ∷ [])) ≡ sum_by numbering.cost (fresh old texts) + sum_by numbering.cost (fresh mid (text ∷ []))
+    cost-more old mid texts text h = rw (fresh-append old texts (text ∷ []), ← all-fresh old texts mid h) (sum_by-append numbering.cost (fresh old texts) (fresh mid (text ∷ [])))
 
     -- one more text goes in
-    pub taken-more : (rule : SlotRule) (old mid new : InternerContents) (texts : List Text) (text : Text) (symbol : S) → TakesIn symbol_of place cost old texts mid → InternsInto symbol_of place cost rule mid text (Ok symbol) new
-        → TakesIn symbol_of place cost old (texts ++ text ∷ []) new
+    pub taken-more : (rule : SlotRule) (old mid new : InternerContents) (texts : List Text) (text : Text) (symbol : S) → TakesIn numbering old texts mid → InternsInto numbering rule mid text (Ok symbol) new
+        → TakesIn numbering old (texts ++ text ∷ []) new
     taken-more rule old mid new texts text symbol taken call = record {
       interned = all-more old.texts texts mid.texts text symbol new.texts taken.interned call.interns;
       keeps = λ s t stands. call.keeps s t (taken.keeps s t stands);
@@ -117,29 +118,29 @@ module _ {S : Type 0} (symbol_of : ℕ → Option S) (place : List Text → ℕ)
     }
 
     -- the same, of the item of an iteration
-    pub item-taken : (rule : SlotRule) (old mid new : InternerContents) (items : List (Bor Text)) (item : Bor Text) (symbol : S) → TakesIn symbol_of place cost old (texts_of items) mid → InternsInto symbol_of place cost rule mid item.now (Ok symbol) new
-        → TakesIn symbol_of place cost old (texts_of (items ++ item ∷ [])) new
-    item-taken rule old mid new items item symbol taken call = subst (λ (ts : List Text). TakesIn symbol_of place cost old ts new) (sym (map_push (λ (b : Bor Text). b.now) items item))
+    pub item-taken : (rule : SlotRule) (old mid new : InternerContents) (items : List (Bor Text)) (item : Bor Text) (symbol : S) → TakesIn numbering old (texts_of items) mid → InternsInto numbering rule mid item.now (Ok symbol) new
+        → TakesIn numbering old (texts_of (items ++ item ∷ [])) new
+    item-taken rule old mid new items item symbol taken call = subst (λ (ts : List Text). TakesIn numbering old ts new) (sym (map_push (λ (b : Bor Text). b.now) items item))
         (taken-more rule old mid new (texts_of items) item.now symbol taken call)
 
     -- memory is refused for a new text that has a symbol
-    memory-new : (mid new : List Text) (text : Text) (error : InternError) → IsMemory error → Interns symbol_of place mid text (Err error) new → (first mid text ≡ None) × IsSome (symbol_of (place mid))
+    memory-new : (mid new : List Text) (text : Text) (error : InternError) → IsMemory error → Interns numbering mid text (Err error) new → (first mid text ≡ None) × IsSome (numbering.symbol_of (numbering.place mid))
     memory-new mid new text NoSymbol m i = absurd m
     memory-new mid new text (Memory e) m i = of (first mid text) i
       where
-        of : (o : Option ℕ) → MatchOption o (IsSome (symbol_of (place mid)) × (new ≡ mid)) (λ i. ⊥ × (new ≡ mid)) → (o ≡ None) × IsSome (symbol_of (place mid))
+        of : (o : Option ℕ) → MatchOption o (IsSome (numbering.symbol_of (numbering.place mid)) × (new ≡ mid)) (λ i. ⊥ × (new ≡ mid)) → (o ≡ None) × IsSome (numbering.symbol_of (numbering.place mid))
         of None h = (refl, h.0)
         of (Some i) h = absurd h.0
 
     -- a text that does not fit is refused
-    pub stopped : (rule : SlotRule) (laws : IsSlotRule rule) (old mid new : InternerContents) (texts : List Text) (text : Text) (error : InternError) → TakesIn symbol_of place cost old texts mid → InternsInto symbol_of place cost rule mid text (Err error) new
-        → GrowsFor rule (length mid.texts) old.slot_count mid.slot_count → StopsAt symbol_of place cost rule old texts mid text error new
+    pub stopped : (rule : SlotRule) (laws : IsSlotRule rule) (old mid new : InternerContents) (texts : List Text) (text : Text) (error : InternError) → TakesIn numbering old texts mid → InternsInto numbering rule mid text (Err error) new
+        → GrowsFor rule (length mid.texts) old.slot_count mid.slot_count → StopsAt numbering rule old texts mid text error new
     stopped rule laws old mid new texts text error taken call grown = record {
       refuses = call;
       beyond = λ m fits.
           let is_new = memory-new mid.texts new.texts text error m call.interns in
           let one : fresh mid.texts (text ∷ []) ≡ text ∷ [] = rw is_new.0 refl in
-          let c : sum_by cost (fresh old.texts (texts ++ text ∷ [])) ≡ sum_by cost (fresh old.texts texts) + cost text = cost-more old.texts mid.texts texts text taken.interned ∙ (ap (λ ts. sum_by cost (fresh old.texts texts) + sum_by cost ts) one ∙ omega arith) in
+          let c : sum_by numbering.cost (fresh old.texts (texts ++ text ∷ [])) ≡ sum_by numbering.cost (fresh old.texts texts) + numbering.cost text = cost-more old.texts mid.texts texts text taken.interned ∙ (ap (λ ts. sum_by numbering.cost (fresh old.texts texts) + sum_by numbering.cost ts) one ∙ omega arith) in
           let n : length (fresh old.texts (texts ++ text ∷ [])) ≡ length (fresh old.texts texts) + 1 = ap length (fresh-append old.texts texts (text ∷ []) ∙ ap (λ zs. fresh old.texts texts ++ fresh zs (text ∷ [])) (sym (all-fresh old.texts texts mid.texts taken.interned)) ∙ ap (λ ts. fresh old.texts texts ++ ts) one) ∙ length_push (fresh old.texts texts) text in
           let l : length mid.texts ≡ length old.texts + length (fresh old.texts texts) = ap length (all-fresh old.texts texts mid.texts taken.interned) ∙ length-append old.texts (fresh old.texts texts) in
           let one_more : length old.texts + length (fresh old.texts (texts ++ text ∷ [])) ≡ length mid.texts + 1 = omega (arith, n, l) in
@@ -149,22 +150,24 @@ module _ {S : Type 0} (symbol_of : ℕ → Option S) (place : List Text → ℕ)
 
     -- an extension that a refused item ended
     pub extends-refused : (rule : SlotRule) (laws : IsSlotRule rule) {I W : Type 0} (becomes : I → W → Type 0) (steps : W → Option (Bor Text) → W → Type 0) (iter : I) (walk rest : W) (items : List (Bor Text)) (item : Bor Text) (old mid new : InternerContents) (error : InternError) (outcome : Result (Unit {0}) InternError)
-        → becomes iter walk → YieldsThen steps walk items (Some item) rest → outcome ≡ Err error → TakesIn symbol_of place cost old (texts_of items) mid → InternsInto symbol_of place cost rule mid item.now (Err error) new
-        → GrowsFor rule (length mid.texts) old.slot_count mid.slot_count → Extends symbol_of place cost rule becomes steps iter old outcome new
+        → becomes iter walk → YieldsThen steps walk items (Some item) rest → outcome ≡ Err error → TakesIn numbering old (texts_of items) mid → InternsInto numbering rule mid item.now (Err error) new
+        → GrowsFor rule (length mid.texts) old.slot_count mid.slot_count → Extends numbering rule (YieldedBy becomes steps iter) old outcome new
     extends-refused rule laws becomes steps iter walk rest items item old mid new error outcome b y e taken call grown = rw e (
-      walk,
       items,
       mid,
-      b,
       taken,
       grown,
-      (item, rest, y, stopped rule laws old mid new (texts_of items) item.now error taken call grown),
+      (item, (walk, b, rest, y), stopped rule laws old mid new (texts_of items) item.now error taken call grown),
     )
 
     -- no interner is made where an extension was refused
-    pub collects-refused : (rule : SlotRule) {I W : Type 0} (becomes : I → W → Type 0) (steps : W → Option (Bor Text) → W → Type 0) (iter : I) (empty front : InternerContents) (error : InternError) (outcome : Result InternerContents InternError)
-        → IsNew empty → outcome ≡ Err error → Extends symbol_of place cost rule becomes steps iter empty (Err error) front → Collects symbol_of place cost rule becomes steps iter outcome
-    collects-refused rule becomes steps iter empty front error outcome is_new e extends = rw e (empty, is_new, (front, extends))
+    pub collects-refused : (rule : SlotRule) (yields : List (Bor Text) → Option (Bor Text) → Type 0) (empty front : InternerContents) (error : InternError) (outcome : Result InternerContents InternError)
+        → IsNew empty → outcome ≡ Err error → Extends numbering rule yields empty (Err error) front → Collects numbering rule yields outcome
+    collects-refused rule yields empty front error outcome is_new e extends = rw e (empty, is_new, (front, extends))
+
+-- an iteration that is drained yields its items and ends
+pub drained-by : {I W A : Type 0} (becomes : I → W → Type 0) (steps : W → Option A → W → Type 0) (iter : I) (walk : W) (items : List A) → becomes iter walk → Drains steps walk items → YieldedBy becomes steps iter items None
+drained-by becomes steps iter walk items b drains = (walk, b, drains.0, drains.1)
 
 -- an iteration that ended went over the whole list
 drained : {W A : Type 0} (steps : W → Option A → W → Type 0) (xs : List A) (s t u : W) (all : List A) → Yields steps s xs t → steps t None u → AlwaysYields steps (λ x. x) s all → all ≡ xs
@@ -181,17 +184,17 @@ fronted steps (z ∷ zs) s t u x [] (j, sj, more) st always = absurd (always z j
 fronted steps (z ∷ zs) s t u x (y ∷ ys) (j, sj, more) st always = let m = always.1 z j sj in let r = fronted steps zs j t u x ys more st m.1 in (r.0, ap (λ k. k ∷ ys) (sym m.0) ∙ ap (λ l. z ∷ l) r.1)
 
 -- an interner that is extended by what yields a list interns its texts in order
-pub in-order : {S : Type 0} (symbol_of : ℕ → Option S) (place : List Text → ℕ) (cost : Text → ℕ) (rule : SlotRule) {I W : Type 0} (becomes : I → W → Type 0) (steps : W → Option (Bor Text) → W → Type 0) (iter : I) (old new : InternerContents) (outcome : Result (Unit {0}) InternError) (all : List (Bor Text))
-    → Extends symbol_of place cost rule becomes steps iter old outcome new → ((walk : W) → becomes iter walk → YieldsList steps (λ x. x) walk all) → InternsInOrder symbol_of place old.texts (texts_of all) outcome new.texts
-in-order symbol_of place cost rule becomes steps iter old new (Ok done) all (walk, items, mid, b, taken, grown, drains) lists =
-    let ends = drains.0 in rw (ap (λ (i : InternerContents). i.texts) drains.1, drained steps items walk ends.1.0 ends.0 all ends.1.1 ends.1.2 (lists walk b).runs) taken.interned
-in-order symbol_of place cost rule becomes steps iter old new (Err error) all (walk, items, mid, b, taken, grown, (item, left, yields, stops)) lists =
+pub in-order : {S : Type 0} (numbering : Numbering S) (rule : SlotRule) {I W : Type 0} (becomes : I → W → Type 0) (steps : W → Option (Bor Text) → W → Type 0) (iter : I) (old new : InternerContents) (outcome : Result (Unit {0}) InternError) (all : List (Bor Text))
+    → Extends numbering rule (YieldedBy becomes steps iter) old outcome new → ((walk : W) → becomes iter walk → YieldsList steps (λ x. x) walk all) → InternsInOrder numbering old.texts (texts_of all) outcome new.texts
+in-order numbering rule becomes steps iter old new (Ok done) all (items, mid, taken, grown, ((walk, b, rest, y), same)) lists =
+    rw (ap (λ (i : InternerContents). i.texts) same, drained steps items walk y.0 rest all y.1 y.2 (lists walk b).runs) taken.interned
+in-order numbering rule becomes steps iter old new (Err error) all (items, mid, taken, grown, (item, (walk, b, left, yields), stops)) lists =
     let f = fronted steps items walk yields.0 left item all yields.1 yields.2 (lists walk b).runs in
-    let same = refused-keeps symbol_of place mid.texts new.texts item.now error stops.refuses.interns in (
+    let same = refused-keeps numbering mid.texts new.texts item.now error stops.refuses.interns in (
       texts_of items,
       item.now,
       texts_of f.0,
       ap texts_of f.1 ∙ map-append (λ (b : Bor Text). b.now) items (item ∷ f.0),
       rw same taken.interned,
-      subst (λ (xs : List Text). Interns symbol_of place xs item.now (Err error) new.texts) (sym same) stops.refuses.interns,
+      subst (λ (xs : List Text). Interns numbering xs item.now (Err error) new.texts) (sym same) stops.refuses.interns,
     )

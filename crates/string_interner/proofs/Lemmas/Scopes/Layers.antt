@@ -8,6 +8,7 @@ use Rattle.string_interner.specs.Interner.{Interns, entry_symbol}
 use Rattle.string_interner.specs.Scopes.{Layer, joined_layers, LayerStep, stays, enters, declares, leaves, StepsAbove, none, one_more, LeavingGivesBack, top_layer, layers_below, AreStarts}
 use Rattle.string_interner.specs.declared.backend.InternError.{InternError}
 use Rattle.string_interner.proofs.Laws.{refused-keeps}
+use Rattle.string_interner.specs.Numbering.{Numbering}
 
 -- the layers of a list, joined, are the list
 pub joined_layers-of_list : (starts : List ℕ) (texts : List Text) → joined_layers (top_layer starts texts ∷ layers_below starts texts) ≡ texts
@@ -51,19 +52,19 @@ declares-below : (starts : List ℕ) (texts : List Text) (text : Text) → AreSt
 declares-below [] texts text are = refl
 declares-below (start ∷ starts) texts text are = rw (take-append-le start texts (text ∷ []) are.0) refl
 
-module _ {S : Type 0} (symbol_of : ℕ → Option S) (place : List Text → ℕ) (starts : List ℕ) (old : List Text) (are : AreStarts starts (length old)) where
+module _ {S : Type 0} (numbering : Numbering S) (starts : List ℕ) (old : List Text) (are : AreStarts starts (length old)) where
   -- where a new text is interned, it goes to the end of the top layer
-  pub top-gains : (text : Text) (outcome : Result S InternError) (new : List Text) → Interns symbol_of place old text outcome new → first old text ≡ None → OnOk outcome (top_layer starts new ≡ top_layer starts old ++ text ∷ [])
+  pub top-gains : (text : Text) (outcome : Result S InternError) (new : List Text) → Interns numbering old text outcome new → first old text ≡ None → OnOk outcome (top_layer starts new ≡ top_layer starts old ++ text ∷ [])
   top-gains text (Ok symbol) new interns is = let put = rw is at interns in rw put.1 (declares-top starts old text are)
   top-gains text (Err error) new interns is = tt
 
   -- the layers of a list in which a text is interned are a step from what they were
-  pub step-declares : (text : Text) (outcome : Result S InternError) (new : List Text) → Interns symbol_of place old text outcome new
+  pub step-declares : (text : Text) (outcome : Result S InternError) (new : List Text) → Interns numbering old text outcome new
       → LayerStep (top_layer starts old ∷ layers_below starts old) (top_layer starts new ∷ layers_below starts new)
-  step-declares text (Err error) new interns = rw (refused-keeps symbol_of place old new text error interns) stays
+  step-declares text (Err error) new interns = rw (refused-keeps numbering old new text error interns) stays
   step-declares text (Ok symbol) new interns = of (first old text) interns
     where
-      of : (o : Option ℕ) → MatchOption o (Appends symbol_of place old text (Ok symbol) new) (λ i. (entry_symbol symbol_of place old i ≡ Some symbol) × (new ≡ old))
+      of : (o : Option ℕ) → MatchOption o (Appends numbering.symbol_of numbering.place old text (Ok symbol) new) (λ i. (entry_symbol numbering old i ≡ Some symbol) × (new ≡ old))
           → LayerStep (top_layer starts old ∷ layers_below starts old) (top_layer starts new ∷ layers_below starts new)
       of None put = rw (put.1, declares-top starts old text are, declares-below starts old text are) (declares text)
       of (Some i) known = rw known.1 stays

@@ -8,10 +8,10 @@ use Rattle.std.proofs.lemmas.Option.{slice_get-get_or}
 use Rattle.std.proofs.lemmas.List.Elements.{All-push, All-head, All-tail, All-take, All-drop}
 use Rattle.std.proofs.lemmas.Str.{IsUtf8-append, IsUtf8-nil, IsCharBoundary-at_seam}
 use Rattle.string_interner.specs.Text.{Text}
-use Rattle.string_interner.specs.Backend.{IsKept, IsPlace}
-use Rattle.string_interner.proofs.Lemmas.Backend.IsKept.{kept-take, kept-more}
+use Rattle.string_interner.specs.Backend.{IsValidList, IsPlace}
+use Rattle.string_interner.proofs.Lemmas.Backend.IsValidList.{valid-take, valid-more}
 use Rattle.string_interner.specs.StringBackend.{cut, joined, ends_of, start_at, IsCut, IsJoined}
-use Rattle.string_interner.specs.CountLaws.{length_grows}
+use Rattle.string_interner.specs.ByIndexLaws.{length_grows}
 
 -- texts that are joined and cut again are the texts
 pub cut-joined : (from : ℕ) (texts : List Text) → cut from (joined texts) (ends_of from texts) ≡ texts
@@ -95,7 +95,7 @@ cut_length from bytes (e ∷ es) = ap (λ n. suc n) (cut_length e (drop (e - fro
 pub place_within : (texts : List Text) (at : ℕ) → IsPlace length texts at → at < length texts
 place_within texts at p = let l : p.0 ≤ length texts = omega (arith, p.1.within) in omega (arith, length-take-le p.0 texts l, p.1.begins, p.1.within)
 
-pub symbol_at : {S : Type 0} (symbol_of : ℕ → Option S) (texts : List Text) (at : ℕ) → IsKept symbol_of length texts → at < length texts → IsSome (symbol_of at)
+pub symbol_at : {S : Type 0} (symbol_of : ℕ → Option S) (texts : List Text) (at : ℕ) → IsValidList symbol_of length texts → at < length texts → IsSome (symbol_of at)
 symbol_at symbol_of texts at k h = let l : at ≤ length texts = omega arith in rw length-take-le at (k.has_symbols at h)
 
 -- one more text is stored
@@ -107,7 +107,7 @@ stored-more symbol_of bytes ends more_bytes more_ends t k u s small eb ee =
     let m : IsCut more_bytes more_ends (xs ++ t ∷ []) = rw (ee, n, eb) (cut-more bytes ends xs t k.parts u) in
     let fits : length (xs ++ t ∷ []) < 2 ^ 64 = omega (arith, length_push xs t, cut_length 0 bytes ends) in
     let is = cut-IsCut more_bytes more_ends (xs ++ t ∷ []) m in
-    (is, rw is (record { parts = m; kept = kept-more symbol_of length xs t k.kept u s fits }))
+    (is, rw is (record { parts = m; valid = valid-more symbol_of length xs t k.valid u s fits }))
 
 take-ends_of : (from len : ℕ) (xs : List Text) → take len (ends_of from xs) ≡ ends_of from (take len xs)
 take-ends_of from zero xs = refl
@@ -131,4 +131,4 @@ stored-take symbol_of bytes ends fewer_bytes fewer_ends len k h eb ee =
     let xs = cut 0 bytes ends in
     let m : IsCut fewer_bytes fewer_ends (take len xs) = rw (eb, ee) (cut-take bytes ends xs len k.parts (omega (arith, cut_length 0 bytes ends))) in
     let is = cut-IsCut fewer_bytes fewer_ends (take len xs) m in
-    (is, rw is (record { parts = m; kept = kept-take symbol_of length length_grows len xs k.kept }))
+    (is, rw is (record { parts = m; valid = valid-take symbol_of length length_grows len xs k.valid }))

@@ -3,14 +3,14 @@ use Rattle.std.proofs.Common.{◌≡◌, ℕ, ◌+◌, ◌%◌, ◌<◌, max, Li
 use Rattle.std.specs.Prelude.{◌^◌, slice_get}
 use Rattle.std.proofs.lemmas.List.{length-append, take-append-le, take_all}
 use Rattle.string_interner.specs.Text.{Text}
-use Rattle.string_interner.specs.Walk.{entries}
+use Rattle.string_interner.specs.Iter.{entries}
 use Rattle.string_interner.specs.Entry.{entry_text}
 use Rattle.string_interner.specs.Slots.{symbols}
 use Rattle.string_interner.specs.Index.{GrowsTo, IndexContents, InsertsByCode, IsSlotCount, IsWhole}
 use Rattle.string_interner.specs.IndexLaws.{IsSlotCount-grown}
 use Rattle.string_interner.specs.Probe.{HasFreeSlot, Rebuilt}
 use Rattle.string_interner.specs.TextIndex.{AddsEntry, IsNewText}
-use Rattle.string_interner.specs.Window.{FillsCoded, HoldsInWindow, IsCoded, IsCounted, IsWindow, WindowContents, kept_code}
+use Rattle.string_interner.specs.Window.{FillsCoded, HoldsInWindow, IsCoded, IsCounted, IsWindow, WindowContents, stored_code}
 use Rattle.string_interner.specs.EntryLaws.{entry_text-at}
 use Rattle.string_interner.proofs.Lemmas.Index.Inserts.{inserted, puts_at}
 use Rattle.string_interner.proofs.Lemmas.Index.IsWhole.{IsWhole-inserted}
@@ -18,6 +18,7 @@ use Rattle.string_interner.proofs.Lemmas.Index.Rebuilt.{Rebuilt-same}
 use Rattle.string_interner.proofs.Lemmas.Index.SlotCount.{GrowsTo-more}
 use Rattle.string_interner.proofs.Lemmas.Index.Refills.{IsPlaced, Fits-none}
 use Rattle.string_interner.proofs.Lemmas.WindowIndex.IsCoded.{IsCoded-kept, IsCoded-none, IsCoded-put}
+use Rattle.string_interner.specs.Numbering.{Numbering}
 
 module _ {S : Type 0} where
   -- without symbols it has each entry where there is none
@@ -66,29 +67,29 @@ module _ {S : Type 0} where
       inserted other codes before after old.slots symbol refl refl refl fits absent (puts_at old.slots new.slots _ _ symbol same puts.slot) in
       record {
         whole = IsWhole-inserted entry more code before after known_code symbol text adds is.whole e by;
-        coded = IsCoded-put more code old new _ symbol known_code puts text adds.added (ap kept_code e) (IsCoded-kept entry code more old adds.kept is.whole.fits is.coded);
+        coded = IsCoded-put more code old new _ symbol known_code puts text adds.added (ap stored_code e) (IsCoded-kept entry code more old adds.kept is.whole.fits is.coded);
       }
 
 slice_get-middle : {X : Type 0} (xs : List X) (y : X) (ys : List X) → slice_get (xs ++ y ∷ ys) (length xs) ≡ Some y
 slice_get-middle [] y ys = refl
 slice_get-middle (x ∷ xs) y ys = slice_get-middle xs y ys
 
-module _ {S : Type 0} (symbol_of : ℕ → Option S) (number : S → ℕ) (place : List Text → ℕ)
-    (numbered : (i : ℕ) (s : S) → symbol_of i ≡ Some s → (number s ≡ i) × (i < 2 ^ 64))
-    (grows : (texts : List Text) (text : Text) → place texts < place (texts ++ text ∷ []))
+module _ {S : Type 0} (numbering : Numbering S)
+    (numbered : (i : ℕ) (s : S) → numbering.symbol_of i ≡ Some s → (numbering.number s ≡ i) × (i < 2 ^ 64))
+    (grows : (texts : List Text) (text : Text) → numbering.place texts < numbering.place (texts ++ text ∷ []))
     (code : Text → ℕ) (texts behind ahead behind' ahead' : List Text) (slots : List (Option S)) (s : S) (t : Text) where
-  at_front : (done todo : List Text) → texts ≡ done ++ todo → entries symbol_of place done todo ≡ (Some s, t) ∷ entries symbol_of place behind' ahead'
-      → entry_text number place texts s ≡ Some t
+  at_front : (done todo : List Text) → texts ≡ done ++ todo → entries numbering done todo ≡ (Some s, t) ∷ entries numbering behind' ahead'
+      → entry_text numbering texts s ≡ Some t
   at_front done [] all e = absurd (cc)
   at_front done (u ∷ us) all e =
-      let head : ◌≡◌ {A = Option S × Text} (symbol_of (place done), u) (Some s, t) = cc in
-      let n : number s ≡ place done = (numbered (place done) s (ap (λ p. p.0) head)).0 in
+      let head : ◌≡◌ {A = Option S × Text} (numbering.symbol_of (numbering.place done), u) (Some s, t) = cc in
+      let n : numbering.number s ≡ numbering.place done = (numbered (numbering.place done) s (ap (λ p. p.0) head)).0 in
       let long = ap length all ∙ length-append done (u ∷ us) in
       let front : take (length done) texts ≡ done = ap (take (length done)) all ∙ take-append-le (length done) done (u ∷ us) (omega arith) ∙ take_all (length done) done (omega arith) in
-      entry_text-at number place grows texts s (length done) (omega arith) (n ∙ sym (ap place front))
+      entry_text-at numbering grows texts s (length done) (omega arith) (n ∙ sym (ap numbering.place front))
       ∙ ap (λ xs. slice_get xs (length done)) all ∙ slice_get-middle done u us ∙ ap Some (ap (λ p. p.1) head)
 
   -- the text that a walk over the entries comes to is that of its symbol's entry
-  pub entry-ahead : IsPlaced symbol_of number place code texts behind ahead slots → entries symbol_of place behind ahead ≡ (Some s, t) ∷ entries symbol_of place behind' ahead'
-      → entry_text number place texts s ≡ Some t
+  pub entry-ahead : IsPlaced numbering code texts behind ahead slots → entries numbering behind ahead ≡ (Some s, t) ∷ entries numbering behind' ahead'
+      → entry_text numbering texts s ≡ Some t
   entry-ahead p e = at_front p.done p.todo p.all (sym p.same ∙ e)

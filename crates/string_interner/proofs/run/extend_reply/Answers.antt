@@ -9,13 +9,13 @@ use Rattle.string_interner.proofs.run.extend_reply.Goals as goal
 pub returns-in-Ok : goal.returns-in-Ok
 returns-in-Ok g c = (
   c.extend.result,
-  in-order g.B.Symbol.Symbol.symbol_of g.B.Backend.place g.B.Backend.cost g.I.TextIndex.rule (λ a b. b ≡ a) _ c.copied.result _ _ _ c.args.texts.now c.extend.ensures (λ walk b. YieldsList-from_copied (YieldsList-from_slice c.args.texts.now (let is : walk ≡ c.copied.result = b in rw (is, c.copied.ensures.source) c.iter.ensures.rest))),
+  in-order g.B.Backend.numbering g.I.TextIndex.rule (λ a b. b ≡ a) _ c.copied.result _ _ _ c.args.texts.now c.extend.ensures (λ walk b. YieldsList-from_copied (YieldsList-from_slice c.args.texts.now (let is : walk ≡ c.copied.result = b in rw (is, c.copied.ensures.source) c.iter.ensures.rest))),
   rw c.in-Ok.is refl,
 )
 
 pub returns-in-Err : goal.returns-in-Err
 returns-in-Err g c = (
   c.extend.result,
-  in-order g.B.Symbol.Symbol.symbol_of g.B.Backend.place g.B.Backend.cost g.I.TextIndex.rule (λ a b. b ≡ a) _ c.copied.result _ _ _ c.args.texts.now c.extend.ensures (λ walk b. YieldsList-from_copied (YieldsList-from_slice c.args.texts.now (let is : walk ≡ c.copied.result = b in ap (λ w. iter_rest (copied_source w)) is ∙ (ap iter_rest c.copied.ensures.source ∙ c.iter.ensures.rest)))),
+  in-order g.B.Backend.numbering g.I.TextIndex.rule (λ a b. b ≡ a) _ c.copied.result _ _ _ c.args.texts.now c.extend.ensures (λ walk b. YieldsList-from_copied (YieldsList-from_slice c.args.texts.now (let is : walk ≡ c.copied.result = b in ap (λ w. iter_rest (copied_source w)) is ∙ (ap iter_rest c.copied.ensures.source ∙ c.iter.ensures.rest)))),
   rw c.in-Err.is c.refusal.ensures,
 )

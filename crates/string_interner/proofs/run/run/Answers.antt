@@ -1,12 +1,13 @@
 use Rattle.std.proofs.Common.{rules, ◌∙◌}
 use Rattle.std.proofs.lemmas.List.{take_all}
+use Rattle.string_interner.proofs.Lemmas.Backend.Numbering.{numbered}
 use Rattle.string_interner.proofs.Lemmas.Run.ListAnswers.{Run-tells}
 use Rattle.string_interner.proofs.Lemmas.Run.Run.{Run-step}
 use Rattle.string_interner.proofs.run.run.Goals as goal
 
 pub loop-command-preserved : goal.loop-command-preserved
 loop-command-preserved g c = record {
-  ran = Run-step g.B.Symbol.Symbol.symbol_of g.B.Symbol.Symbol.number g.B.Backend.place g.B.Backend.read _ _ _ _ _ _ _ _ _ _ c.loop-command-test.true c.loop-command.invariant.ran c.deref.ensures.value c.step-reply.ensures.step (search rules);
+  ran = Run-step g.B.Backend.numbering _ _ _ _ _ _ _ _ _ _ c.loop-command-test.true c.loop-command.invariant.ran c.deref.ensures.value c.step-reply.ensures.step (search rules);
   count = search rules;
   room = search rules;
   stays = λ none.
@@ -16,5 +17,5 @@ loop-command-preserved g c = record {
 }
 
 pub returns-clause-as_a_list : goal.returns-clause-as_a_list
-returns-clause-as_a_list g c = Run-tells g.B.Symbol.Symbol.symbol_of g.B.Symbol.Symbol.number g.B.Backend.place g.B.Backend.read g.met.B.Symbol.Symbol.numbered g.met.B.Backend.grows g.met.B.Backend.reads _ _ _ _ c.len.ensures.texts.kept
+returns-clause-as_a_list g c = Run-tells g.B.Backend.numbering (numbered g.B.Backend.numbering g.met.B.Backend.symbols g.met.B.Symbol.Symbol.numbered) g.met.B.Backend.grows g.met.B.Backend.reads _ _ _ _ c.len.ensures.texts.valid
     (rw (take_all c.loop-command.command-index c.args.commands.now c.loop-command-test.false) at c.loop-command.invariant.ran)

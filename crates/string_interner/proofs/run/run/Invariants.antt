@@ -5,7 +5,7 @@ use Rattle.string_interner.proofs.run.run.Given as goal
 -- the commands so far have had these replies, there is room for all, and if none interns, buckets and slots are unchanged
 abbrev pub invariant-loop-command : goal.invariant-loop-command
 invariant-loop-command g l = record {
-  ran : Run g.B.Symbol.Symbol.symbol_of g.B.Symbol.Symbol.number g.B.Backend.place g.B.Backend.read l.fn.interner.texts [] (take l.command-index l.commands) l.replies.items l.interner.texts;
+  ran : Run g.B.Backend.numbering l.fn.interner.texts [] (take l.command-index l.commands) l.replies.items l.interner.texts;
   count : vec_len l.replies ≡ l.command-index;
   room : length l.commands ≤ vec_capacity l.replies;
   stays : All InternsNone l.commands → (l.interner.buckets ≡ l.fn.interner.buckets) × (l.interner.slot_count ≡ l.fn.interner.slot_count);

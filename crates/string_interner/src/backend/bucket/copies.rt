@@ -2,7 +2,7 @@
 
 ghost use Rattle.std.specs.Prelude.{◌≡◌, ◌+◌, ◌^◌, ◌<◌, ◌≤◌, ◌↔◌, length, map, sum_by, All, IsSome, IfOk, IfSome};
 ghost use Rattle.std.specs.Str.{IsUtf8};
-ghost use Rattle.string_interner.specs.BucketBackend.{buckets_of, byte_count, interned_text, interned_len, IsEntry, IsCopy, AreCopies};
+ghost use Rattle.string_interner.specs.BucketBackend.{buckets_of, byte_count, interned_text, interned_len, IsEntry, IsBucketCopy, AreCopies};
 
 use crate::backend::bucket::buckets::interned_text;
 use crate::backend::bucket::fixed_str::FixedString;
@@ -32,7 +32,7 @@ fn copy_of(
 ) -> Result<InternedStr, AllocError>
     requires entry { IsEntry (buckets_of full.now head.now) interned }
     requires room { length bucket.old.bytes + interned_len interned ≤ bucket.old.capacity }
-    ensures { IfOk result (IsCopy (buckets_of full.now head.now) interned bucket.old bucket.new) }
+    ensures { IfOk result (IsBucketCopy (buckets_of full.now head.now) interned bucket.old bucket.new) }
 {
     match interned {
         InternedStr::InBucket { .. } => {

@@ -1,14 +1,14 @@
 //! How many slots a window index has, and moving its symbols into new ones, by what is kept of their codes.
 
 ghost use Rattle.std.specs.Prelude.{◌≡◌, ◌*◌, ◌%◌, ◌^◌, ◌<◌, ◌≤◌, length, slice_index_or, [], IfNone, IfOk, IfSome, IsSome, None, OnSome, Some};
-ghost use Rattle.string_interner.specs.Backend.{IsKept};
+ghost use Rattle.string_interner.specs.Backend.{IsValidList};
 ghost use Rattle.string_interner.specs.Entry.{entry_text};
 ghost use Rattle.string_interner.specs.Index.{Fits, IsSlotCount, text_of};
 ghost use Rattle.string_interner.specs.Probe.{Rebuilt};
 ghost use Rattle.string_interner.specs.SlotRule.{IsLeastSlotCount};
 ghost use Rattle.string_interner.specs.Slots.{symbols};
 ghost use Rattle.string_interner.specs.Text.{IsDistinct};
-ghost use Rattle.string_interner.specs.Window.{HoldsInWindow, IsCoded, IsWindow, kept_code, seven_eighths};
+ghost use Rattle.string_interner.specs.Window.{HoldsInWindow, IsCoded, IsWindow, stored_code, seven_eighths};
 
 use crate::backend::Backend;
 use crate::dedup::hasher::TextHasher;
@@ -18,7 +18,7 @@ use crate::symbol::Symbol;
 use std::alloc::{AllocError, Global};
 
 /// Up to this slot count a home is known by the 32 bits of a code that are kept.
-const MOST_SLOTS_BY_KEPT_CODE: usize = 0x1_0000_0000;
+const MOST_SLOTS_BY_STORED_CODE: usize = 0x1_0000_0000;
 
 /// Returns the least slot count whose load factor allows `capacity` entries. `None` if it does not fit a `usize`.
 pub fn least_slot_count(capacity: usize) -> Option<usize>
@@ -49,16 +49,16 @@ fn code_for<S: Symbol, H: TextHasher, B: Backend<Symbol = S>>(
 ) -> u64
     requires within { at < length slots.now.slots }
     requires slot { slice_index_or slots.now.slots at None ≡ Some symbol }
-    requires is_entry { IsSome (entry_text S.number B.place (B.texts backend.now) symbol) }
-    requires coded { IsCoded (entry_text S.number B.place (B.texts backend.now)) (H.code hasher.now) slots.now }
+    requires is_entry { IsSome (entry_text B.numbering (B.texts backend.now) symbol) }
+    requires coded { IsCoded (entry_text B.numbering (B.texts backend.now)) (H.code hasher.now) slots.now }
     requires some { 0 < count }
     requires count { IsSlotCount count }
     ensures home { result % count
-        ≡ H.code hasher.now (text_of (entry_text S.number B.place (B.texts backend.now)) symbol) % count }
-    ensures kept { kept_code result
-        ≡ kept_code (H.code hasher.now (text_of (entry_text S.number B.place (B.texts backend.now)) symbol)) }
+        ≡ H.code hasher.now (text_of (entry_text B.numbering (B.texts backend.now)) symbol) % count }
+    ensures stored { stored_code result
+        ≡ stored_code (H.code hasher.now (text_of (entry_text B.numbering (B.texts backend.now)) symbol)) }
 {
-    if count <= MOST_SLOTS_BY_KEPT_CODE {
+    if count <= MOST_SLOTS_BY_STORED_CODE {
         u64::from(slots.code_at(at))
     } else {
         hasher.hash_text(backend.resolve_unchecked(symbol))
@@ -75,13 +75,13 @@ pub fn rehash<S: Symbol, H: TextHasher, B: Backend<Symbol = S>>(
     backend: &B,
     alloc: Global,
 ) -> Result<CodedSlots<S>, AllocError>
-    requires fits { Fits (entry_text S.number B.place (B.texts backend.now)) (H.code hasher.now) slots.now.slots }
-    requires coded { IsCoded (entry_text S.number B.place (B.texts backend.now)) (H.code hasher.now) slots.now }
+    requires fits { Fits (entry_text B.numbering (B.texts backend.now)) (H.code hasher.now) slots.now.slots }
+    requires coded { IsCoded (entry_text B.numbering (B.texts backend.now)) (H.code hasher.now) slots.now }
     requires more { length slots.now.slots < count }
     requires count { IsSlotCount count }
-    ensures made { IfOk result (λ bigger. Rebuilt (entry_text S.number B.place (B.texts backend.now))
+    ensures made { IfOk result (λ bigger. Rebuilt (entry_text B.numbering (B.texts backend.now))
         (H.code hasher.now) slots.now.slots bigger.slots) }
-    ensures coded { IfOk result (λ bigger. IsCoded (entry_text S.number B.place (B.texts backend.now))
+    ensures coded { IfOk result (λ bigger. IsCoded (entry_text B.numbering (B.texts backend.now))
         (H.code hasher.now) bigger) }
     ensures count { IfOk result (λ bigger. length bigger.slots ≡ count) }
 {
@@ -101,12 +101,12 @@ pub fn put_all<S: Symbol, H: TextHasher, B: Backend<Symbol = S>>(
     hasher: &H,
     backend: &B,
 )
-    requires kept { IsKept S.symbol_of B.place (B.texts backend.now) }
+    requires valid { IsValidList B.numbering.symbol_of B.numbering.place (B.texts backend.now) }
     requires distinct { IsDistinct (B.texts backend.now) }
     requires empty { symbols slots.old.slots ≡ [] }
     requires room { HoldsInWindow (length slots.old.slots) (length (B.texts backend.now)) }
     requires count { IsSlotCount (length slots.old.slots) }
-    ensures whole { IsWindow (entry_text S.number B.place (B.texts backend.now)) (H.code hasher.now) slots.new }
+    ensures whole { IsWindow (entry_text B.numbering (B.texts backend.now)) (H.code hasher.now) slots.new }
     ensures entries { length (symbols slots.new.slots) ≡ length (B.texts backend.now) }
     ensures count { length slots.new.slots ≡ length slots.old.slots }
 {

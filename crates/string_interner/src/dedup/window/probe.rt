@@ -6,21 +6,21 @@ ghost use Rattle.string_interner.specs.Slots.{probed, filled_run, first_passing}
 ghost use Rattle.string_interner.specs.Index.{has_text};
 ghost use Rattle.string_interner.specs.Probe.{HasFreeSlot, IsVacant};
 ghost use Rattle.string_interner.specs.TextIndex.{IfVacant, found_by};
-ghost use Rattle.string_interner.specs.Window.{FillsCoded, TagTells, kept_code, tag_of};
+ghost use Rattle.string_interner.specs.Window.{FillsCoded, TagTells, stored_code, tag_of};
 
 use crate::backend::Backend;
 use crate::dedup::probe::{Vacancy, home_of};
 use crate::dedup::slots::slot_after;
 use crate::dedup::text_index::Entry;
 use crate::dedup::window::slots::CodedSlots;
-use crate::dedup::window::tags::{LANES, kept_code, tag_of};
+use crate::dedup::window::tags::{LANES, stored_code, tag_of};
 use crate::symbol::Symbol;
 
 /// Reports whether the entry of this symbol has this text.
 #[inline(always)]
 fn has_text<S: Symbol, B: Backend<Symbol = S>>(backend: &B, symbol: S, text: &str) -> bool
-    requires { IsSome (entry_text S.number B.place (B.texts backend.now) symbol) }
-    ensures { result ≡ has_text (entry_text S.number B.place (B.texts backend.now)) text.now symbol }
+    requires { IsSome (entry_text B.numbering (B.texts backend.now) symbol) }
+    ensures { result ≡ has_text (entry_text B.numbering (B.texts backend.now)) text.now symbol }
 {
     backend.resolve_unchecked(symbol) == text
 }
@@ -35,17 +35,17 @@ pub fn probe<S: Symbol, B: Backend<Symbol = S>>(
     text: &str,
 ) -> Entry<S, Vacancy>
     requires free { HasFreeSlot slots.now.slots }
-    requires tag { TagTells (has_text (entry_text S.number B.place (B.texts backend.now)) text.now) slots.now
-        (tag_of (kept_code code)) }
+    requires tag { TagTells (has_text (entry_text B.numbering (B.texts backend.now)) text.now) slots.now
+        (tag_of (stored_code code)) }
     requires entries { (s : S) → Contains slots.now.slots (Some s)
-        → IsSome (entry_text S.number B.place (B.texts backend.now) s) }
+        → IsSome (entry_text B.numbering (B.texts backend.now) s) }
     ensures found { found_by result ≡ first_passing
-        (has_text (entry_text S.number B.place (B.texts backend.now)) text.now)
+        (has_text (entry_text B.numbering (B.texts backend.now)) text.now)
         (filled_run (probed slots.now.slots (code % length slots.now.slots))) }
     ensures vacant { IfVacant result (IsVacant slots.now.slots code) }
 {
     let count = slots.len();
-    let tag = tag_of(kept_code(code));
+    let tag = tag_of(stored_code(code));
     let mut at = home_of(code, count);
     for _step in 0..count {
         let reached = slots.pass(at, tag);

@@ -3,10 +3,10 @@
 ghost use Rattle.std.specs.Prelude.{◌≡◌, ◌+◌, ◌<◌, ◌≤◌, ◌^◌, ℕ, length, slice_index_or, slice_set, replicate, vec_capacity, vec_len, [], IfOk, None, Some};
 ghost use Rattle.string_interner.specs.Index.{IsSlotCount};
 ghost use Rattle.string_interner.specs.Slots.{symbols};
-ghost use Rattle.string_interner.specs.Window.{FillsCoded, HasAnotherTag, kept_code};
+ghost use Rattle.string_interner.specs.Window.{FillsCoded, HasAnotherTag, stored_code};
 
 use crate::dedup::slots::slot_after;
-use crate::dedup::window::tags::{LANES, kept_code, lanes_passed, tag_of};
+use crate::dedup::window::tags::{LANES, lanes_passed, stored_code, tag_of};
 use crate::symbol::Symbol;
 use std::alloc::{AllocError, Global};
 use std::marker::Model;
@@ -151,12 +151,12 @@ impl<S: Symbol> CodedSlots<S> {
     pub fn set(&mut self, at: usize, symbol: S, code: u64)
         requires { at < length self.old.slots }
         ensures slots { self.new.slots ≡ slice_set self.old.slots at (Some symbol) }
-        ensures codes { self.new.codes ≡ slice_set self.old.codes at (kept_code code) }
+        ensures codes { self.new.codes ≡ slice_set self.old.codes at (stored_code code) }
         ensures counted { length self.old.codes ≡ length self.old.slots }
         ensures small { length self.old.slots < 2 ^ 64 }
     {
         fill_items(&mut self.items, self.codes.len(), symbol);
-        let kept = kept_code(code);
+        let kept = stored_code(code);
         self.items[at] = symbol;
         self.codes[at] = kept;
         self.tags[at] = tag_of(kept);

@@ -2,7 +2,7 @@
 
 ghost use Rattle.std.specs.Prelude.{◌≡◌, ◌≢◌, ℕ, ◌+◌, ◌<◌, ◌≤◌, length, slice_index_or};
 ghost use Rattle.std.specs.Int.{bit_at};
-ghost use Rattle.string_interner.specs.Window.{kept_code, tag_of};
+ghost use Rattle.string_interner.specs.Window.{stored_code, tag_of};
 
 use std::simd::prelude::*;
 
@@ -11,8 +11,8 @@ pub const LANES: usize = 16;
 
 /// Returns what is kept of a code: its low 32 bits.
 #[inline(always)]
-pub fn kept_code(code: u64) -> u32
-    ensures { result ≡ kept_code code }
+pub fn stored_code(code: u64) -> u32
+    ensures { result ≡ stored_code code }
 {
     (code % 0x1_0000_0000) as u32
 }

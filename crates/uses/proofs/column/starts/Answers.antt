@@ -1,7 +1,7 @@
 use Rattle.std.proofs.Common.{[]}
 use Rattle.std.proofs.lemmas.List.{append-nil}
 use Rattle.uses.specs.Column.{AreStarts}
-use Rattle.string_interner.specs.Walk.{entries}
+use Rattle.string_interner.specs.Iter.{entries}
 use Rattle.std.proofs.Common.{subst}
 use Rattle.uses.proofs.column.starts.Goals as goal
 

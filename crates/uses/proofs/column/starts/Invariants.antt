@@ -1,5 +1,5 @@
 use Rattle.std.proofs.Common.{ℕ, List, ◌++◌, ◌+◌, ◌≤◌, [], length, vec_len, vec_capacity}
-use Rattle.string_interner.specs.Walk.{entries}
+use Rattle.string_interner.specs.Iter.{entries}
 use Rattle.uses.specs.Column.{AreStarts}
 use Rattle.uses.proofs.column.starts.Given as goal
 

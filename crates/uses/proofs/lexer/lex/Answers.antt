@@ -6,7 +6,7 @@ use Rattle.uses.proofs.lexer.lex.Goals as goal
 pub returns-clause-tokens : goal.returns-clause-tokens
 returns-clause-tokens g c =
     let h = c.in_ok-intern_all.ensures in
-    let drains = rw h.3 at h.5.0 in
+    let then = rw h.3.0.1 at h.3.0.3 in
     let split = YieldsList-from_str_split {s = c.split.result} 32 c.args.source.now (lit< tt) c.split.ensures.text c.split.ensures.has_more c.split.ensures.pattern in
-    let words = items_from_drains h.1 (drains.1.0, drains.1.1, λ _. (drains.0, drains.1.2)) split in
-    rw (h.5.1, h.4.appended, c.new-tokens.ensures.items, ← words) h.4.stand
+    let words = items_from_drains h.0 (then.0, then.1, λ _. (h.3.0.2, then.2)) split in
+    rw (h.3.1, h.2.appended, c.new-tokens.ensures.items, ← words) h.2.stand

@@ -1,8 +1,8 @@
 use Rattle.std.proofs.Common.{refl, arith, ap, sym, ◌≡◌, ◌∙◌, ◌∷◌, ◌++◌, ℕ, List, Option, Some, length, map, take}
 use Rattle.std.proofs.lemmas.List.{append-nil, length-set}
 use Rattle.string_interner.specs.Text.{Text}
-use Rattle.string_interner.proofs.Lemmas.Backend.Walk.{first_entry, no_entry}
-use Rattle.string_interner.specs.Walk.{entries}
+use Rattle.string_interner.proofs.Lemmas.Backend.Entries.{first_entry, no_entry}
+use Rattle.string_interner.specs.Iter.{entries}
 use Rattle.handles.specs.Encode.{told}
 use Rattle.handles.specs.Kind.{numbered}
 use Rattle.handles.proofs.Lemmas.Encoded.{listed-more, rest-more}

@@ -1,5 +1,5 @@
 use Rattle.std.proofs.Common.{◌≡◌, ◌≤◌, ◌+◌, [], ◌++◌, map, length, take, drop}
-use Rattle.string_interner.specs.Walk.{entries}
+use Rattle.string_interner.specs.Iter.{entries}
 use Rattle.handles.specs.Encode.{told}
 use Rattle.handles.specs.Kind.{numbered}
 use Rattle.handles.proofs.any.entries.list.Given as goal

@@ -9,7 +9,7 @@ use Rattle.string_interner.proofs.dedup.Index.entry.Goals as goal
 
 pub returns-clause-found : goal.returns-clause-found
 returns-clause-found g c =
-    let slots = c.args.self.now.slots in let test = has_text (entry_text g.S.Symbol.number g.B.Backend.place (g.B.Backend.texts c.args.looks.now.backend)) c.args.text.now in
+    let slots = c.args.self.now.slots in let test = has_text (entry_text g.B.Backend.numbering (g.B.Backend.texts c.args.looks.now.backend)) c.args.text.now in
     c.probe.ensures.found ∙ ap (λ x. first_passing test (filled_run (probed x.slots (c.hash_text-code.result % length x.slots)))) c.self.view_is
     ∙ ap (λ n. first_passing test (filled_run (probed slots (n % length slots)))) c.hash_text-code.ensures
     ∙ Fits-find _ _ _ c.requires _

@@ -10,7 +10,7 @@ use Rattle.string_interner.proofs.dedup.Index.reserve_one.Goals as goal
 
 pub returns-clause-same : goal.returns-clause-same
 returns-clause-same g c =
-    let entry = entry_text g.S.Symbol.number g.B.Backend.place (g.B.Backend.texts c.args.backend.now) in let code = g.H.TextHasher.code c.args.hasher.now in
+    let entry = entry_text g.B.Backend.numbering (g.B.Backend.texts c.args.backend.now) in let code = g.H.TextHasher.code c.args.hasher.now in
     rw c.grow.ensures.slots (Rebuilt-same entry code c.args.self.now.slots c.in_ok-bigger.bigger c.requires
     (subst (λ xs. Rebuilt entry code xs c.in_ok-bigger.bigger) (ap (λ x. x.slots) c.self.view_is) c.in_ok-bigger.ensures.made))
 

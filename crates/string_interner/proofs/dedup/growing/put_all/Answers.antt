@@ -1,15 +1,16 @@
 use Rattle.std.proofs.Common.{refl, ◌∙◌}
+use Rattle.string_interner.proofs.Lemmas.Backend.Numbering.{numbered, injective}
 use Rattle.string_interner.proofs.Lemmas.Index.Inserts.{puts_at}
 use Rattle.string_interner.proofs.Lemmas.Index.LookUp.{FillsSlot-length}
 use Rattle.string_interner.proofs.Lemmas.Index.Refills.{placed-start, placed-next, placed-end}
-use Rattle.string_interner.proofs.Lemmas.Interner.IsInterned.{IsFilled}
+use Rattle.string_interner.proofs.Lemmas.Interner.IsSoundInterner.{IsFilled}
 use Rattle.string_interner.proofs.dedup.growing.put_all.Goals as goal
 use Rattle.string_interner.proofs.dedup.growing.put_all.Goals.{In-None}
 use Rattle.string_interner.proofs.dedup.growing.put_all.Given.{Over}
 
 pub loop-symbol-init : goal.loop-symbol-init
 loop-symbol-init g c = record {
-  placed = rw (c.into_iter-symbol-iterator.ensures.into_iter_gives, c.iter-symbol-items.ensures) (placed-start g.S.Symbol.symbol_of g.S.Symbol.number g.B.Backend.place g.met.S.Symbol.numbered g.met.S.Symbol.injective g.met.B.Backend.grows (g.H.TextHasher.code c.args.hasher.now) (g.B.Backend.texts c.args.backend.now) c.requires.kept c.requires.distinct c.args.slots.now c.requires.empty);
+  placed = rw (c.into_iter-symbol-iterator.ensures.into_iter_gives, c.iter-symbol-items.ensures) (placed-start g.B.Backend.numbering (numbered g.B.Backend.numbering g.met.B.Backend.symbols g.met.S.Symbol.numbered) (injective g.B.Backend.numbering g.met.B.Backend.symbols g.met.S.Symbol.injective) g.met.B.Backend.grows (g.H.TextHasher.code c.args.hasher.now) (g.B.Backend.texts c.args.backend.now) c.requires.valid c.requires.distinct c.args.slots.now c.requires.empty);
   size = refl;
 }
 
@@ -18,13 +19,13 @@ loop-symbol-preserved g c =
     let inv = c.loop-symbol.invariant in
     let puts = puts_at _ _ _ _ _ c.hash_text.ensures c.put_by_code.ensures in
     record {
-      placed = placed-next g.S.Symbol.symbol_of g.S.Symbol.number g.B.Backend.place g.met.S.Symbol.numbered g.met.S.Symbol.injective g.met.B.Backend.grows (g.H.TextHasher.code c.args.hasher.now) (g.B.Backend.texts c.args.backend.now) c.requires.kept c.requires.distinct _ _ _ _ c.loop-symbol.slots c.put_by_code.new.slots c.in-Some.symbol c.in-Some.text.now inv.placed c.in-Some.ensures.steps puts;
+      placed = placed-next g.B.Backend.numbering (numbered g.B.Backend.numbering g.met.B.Backend.symbols g.met.S.Symbol.numbered) (injective g.B.Backend.numbering g.met.B.Backend.symbols g.met.S.Symbol.injective) g.met.B.Backend.grows (g.H.TextHasher.code c.args.hasher.now) (g.B.Backend.texts c.args.backend.now) c.requires.valid c.requires.distinct _ _ _ _ c.loop-symbol.slots c.put_by_code.new.slots c.in-Some.symbol c.in-Some.text.now inv.placed c.in-Some.ensures.steps puts;
       size = FillsSlot-length _ _ _ _ puts ∙ inv.size;
     }
 
 -- once the walk has ended, all entries are in the slots
-filled : (g : Over) (c : In-None g) → IsFilled g.S.Symbol.symbol_of g.B.Backend.place g.S.Symbol.number (g.H.TextHasher.code c.args.hasher.now) (g.B.Backend.texts c.args.backend.now) c.loop-symbol.slots
-filled g c = placed-end g.S.Symbol.symbol_of g.S.Symbol.number g.B.Backend.place g.met.S.Symbol.numbered g.met.S.Symbol.injective g.met.B.Backend.grows (g.H.TextHasher.code c.args.hasher.now) (g.B.Backend.texts c.args.backend.now) c.requires.kept c.requires.distinct _ _ c.loop-symbol.slots c.loop-symbol.invariant.placed c.in-None.ensures.steps.0
+filled : (g : Over) (c : In-None g) → IsFilled g.B.Backend.numbering (g.H.TextHasher.code c.args.hasher.now) (g.B.Backend.texts c.args.backend.now) c.loop-symbol.slots
+filled g c = placed-end g.B.Backend.numbering (numbered g.B.Backend.numbering g.met.B.Backend.symbols g.met.S.Symbol.numbered) (injective g.B.Backend.numbering g.met.B.Backend.symbols g.met.S.Symbol.injective) g.met.B.Backend.grows (g.H.TextHasher.code c.args.hasher.now) (g.B.Backend.texts c.args.backend.now) c.requires.valid c.requires.distinct _ _ c.loop-symbol.slots c.loop-symbol.invariant.placed c.in-None.ensures.steps.0
 
 pub returns-clause-whole : goal.returns-clause-whole
 returns-clause-whole g c = (filled g c).whole

@@ -7,5 +7,5 @@ abbrev pub invariant-loop-at : goal.invariant-loop-at
 invariant-loop-at g l = record {
   same : l.slots ≡ l.fn.slots;
   size : length l.bigger ≡ l.count;
-  rebuilt : Rebuilt (entry_text g.S.Symbol.number g.B.Backend.place (g.B.Backend.texts l.backend)) (g.H.TextHasher.code l.hasher) (take l.at l.fn.slots) l.bigger;
+  rebuilt : Rebuilt (entry_text g.B.Backend.numbering (g.B.Backend.texts l.backend)) (g.H.TextHasher.code l.hasher) (take l.at l.fn.slots) l.bigger;
 }

@@ -34,13 +34,13 @@ loop-step-init g c = record {
 pub returns-then-seen-clause-found : goal.returns-then-seen-clause-found
 returns-then-seen-clause-found g c =
     let h = c.in-Some in
-    let same = ap (λ b. has_text (entry_text g.S.Symbol.number g.B.Backend.place (g.B.Backend.texts b)) c.args.text.now h.seen.symbol) c.loop-step.invariant.backend in
+    let same = ap (λ b. has_text (entry_text g.B.Backend.numbering (g.B.Backend.texts b)) c.args.text.now h.seen.symbol) c.loop-step.invariant.backend in
     sym (Walked-hit _ _ _ _ _ (mod_less _ _ c.requires.some) c.loop-step.invariant.walked h.seen.symbol (omega arith) h.ensures.symbol (sym same ∙ sym h.ensures.matches ∙ c.if-seen.true)).0
 
 pub loop-step-preserved : goal.loop-step-preserved
 loop-step-preserved g c =
     let h = c.in-Some in
-    let same = ap (λ b. has_text (entry_text g.S.Symbol.number g.B.Backend.place (g.B.Backend.texts b)) c.args.text.now h.seen.symbol) c.loop-step.invariant.backend in
+    let same = ap (λ b. has_text (entry_text g.B.Backend.numbering (g.B.Backend.texts b)) c.args.text.now h.seen.symbol) c.loop-step.invariant.backend in
     let after : Follows (length c.args.slots.now) c.loop-step.at c.slot_after-at.result = subst (λ n. Follows n c.loop-step.at c.slot_after-at.result) c.len-count.ensures c.slot_after-at.ensures in
     record {
       walked = Walked-more _ _ _ _ _ (mod_less _ _ c.requires.some) c.loop-step.invariant.walked h.seen.symbol _ (omega arith) h.ensures.symbol (sym same ∙ sym h.ensures.matches ∙ c.if-seen.false) after.within after.one_on;

@@ -6,7 +6,7 @@ use Rattle.string_interner.proofs.dedup.probe.probe.Given as goal
 
 abbrev pub invariant-loop-step : goal.invariant-loop-step
 invariant-loop-step g l = record {
-  walked : Walked (has_text (entry_text g.S.Symbol.number g.B.Backend.place (g.B.Backend.texts l.fn.looks.backend)) l.text) l.slots (l.code % length l.slots) l._step l.at;
+  walked : Walked (has_text (entry_text g.B.Backend.numbering (g.B.Backend.texts l.fn.looks.backend)) l.text) l.slots (l.code % length l.slots) l._step l.at;
   backend : l.looks.backend ≡ l.fn.looks.backend;
   count : l.looks.count ≡ l.fn.looks.count + l._step;
 }

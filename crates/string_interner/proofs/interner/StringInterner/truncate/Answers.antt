@@ -1,8 +1,8 @@
 use Rattle.std.proofs.Common.{length, ap, sym, subst, arith}
 use Rattle.std.proofs.lemmas.List.{length-take-le}
 use Rattle.string_interner.specs.Text.{IsDistinct}
-use Rattle.string_interner.specs.Backend.{IsKept}
-use Rattle.string_interner.proofs.Lemmas.Backend.IsKept.{kept-take, distinct-take}
+use Rattle.string_interner.specs.Backend.{IsValidList}
+use Rattle.string_interner.proofs.Lemmas.Backend.IsValidList.{valid-take, distinct-take}
 use Rattle.string_interner.proofs.interner.StringInterner.truncate.Goals as goal
 
 pub refill-requires-clause-room : goal.refill-requires-clause-room
@@ -12,8 +12,10 @@ refill-requires-clause-room g c =
 
 pub invariant_of-self : goal.invariant_of-self
 invariant_of-self g c = record {
-  distinct = subst IsDistinct (sym c.truncate.ensures.texts) (distinct-take c.args.len (g.B.Backend.texts c.self.inside.backend) c.self.invariant.distinct);
-  kept = subst (IsKept g.B.Symbol.Symbol.symbol_of g.B.Backend.place) (sym c.truncate.ensures.texts) (kept-take g.B.Symbol.Symbol.symbol_of g.B.Backend.place g.met.B.Backend.grows c.args.len (g.B.Backend.texts c.self.inside.backend) c.self.invariant.kept);
+  are = record {
+    distinct = subst IsDistinct (sym c.truncate.ensures.texts) (distinct-take c.args.len (g.B.Backend.texts c.self.inside.backend) c.self.invariant.are.distinct);
+    valid = subst (IsValidList g.B.Backend.numbering.symbol_of g.B.Backend.numbering.place) (sym c.truncate.ensures.texts) (valid-take g.B.Backend.numbering.symbol_of g.B.Backend.numbering.place g.met.B.Backend.grows c.args.len (g.B.Backend.texts c.self.inside.backend) c.self.invariant.are.valid);
+  };
   whole = c.refill.ensures.whole;
   count = c.refill.ensures.count;
 }

@@ -4,7 +4,7 @@ use Rattle.std.proofs.lemmas.Grind.{common_steps}
 use Rattle.std.proofs.lemmas.List.{length-map, take_all}
 use Rattle.std.proofs.lemmas.List.Sorted.{IsPartitionPoint-from_clause}
 use Rattle.std.proofs.lemmas.Option.{slice_get_read}
-use Rattle.string_interner.specs.Collect.{fresh}
+use Rattle.string_interner.specs.Extend.{fresh}
 use Rattle.uses.specs.Column.{AreNumbersOf}
 use Rattle.uses.proofs.Rows.{stands-at, all-fresh}
 use Rattle.uses.proofs.Starts.{number-found, one-more}
@@ -13,12 +13,12 @@ use Rattle.uses.proofs.column.Column.numbers.Goals as goal
 pub loop-code-preserved : goal.loop-code-preserved
 loop-code-preserved g c =
     let read : slice_get c.self.inside.codes.items c.loop-code.code-index ≡ Some c.code-item.result = search (rules, slice_get_read) in
-    let at = stands-at g.B.Symbol.Symbol.symbol_of g.B.Backend.place _ c.self.inside.codes.items _ c.self.invariant.stand c.loop-code.code-index _ read in
+    let at = stands-at g.B.Backend.numbering _ c.self.inside.codes.items _ c.self.invariant.stand c.loop-code.code-index _ read in
     let row = subst (λ rows. slice_get rows c.loop-code.code-index ≡ Some at.0) c.self.view_is at.1 in
-    let found = number-found g.B.Symbol.Symbol.symbol_of g.B.Backend.place g.B.Symbol.Symbol.number c.self.inside.dictionary.texts c.in_ok-starts.starts.items c.in_ok-starts.ensures c.symbol_law.ensures.order
-    c.code-item.result at.0 at.2 c.to_usize-start.result c.partition_point.result c.to_usize-start.ensures.value
+    let found = number-found g.B.Backend.numbering c.self.inside.dictionary.texts c.in_ok-starts.starts.items (rw g.met.B.Backend.numbers c.in_ok-starts.ensures) c.symbol_law.ensures.order
+    c.code-item.result at.0 at.2 c.to_usize-start.result c.partition_point.result (rw g.met.B.Backend.numbers c.to_usize-start.ensures.value)
     (λ parted. IsPartitionPoint-from_clause (λ n. ltb n c.to_usize-start.result) c.in_ok-starts.starts.items c.partition_point.result (rw c.deref.ensures.value at c.partition_point.ensures.partitioned) parted (λ a r q k. search rules)) in
-    let listed = rw c.self.view_is at (all-fresh g.B.Symbol.Symbol.symbol_of g.B.Backend.place _ _ _ c.self.invariant.dictionary) in
+    let listed = rw c.self.view_is at (all-fresh g.B.Backend.numbering _ _ _ c.self.invariant.dictionary) in
     record {
       so_far = rw c.push_reserved.ensures.items
           (one-more (fresh [] c.args.self.now) c.loop-code.numbers.items c.args.self.now c.loop-code.code-index c.partition_point.result at.0 c.loop-code.invariant.so_far row (subst (λ texts. slice_get texts c.partition_point.result ≡ Some at.0) listed found));

@@ -1,5 +1,5 @@
 use Rattle.std.proofs.Common.{◌≤◌, ◌≡◌, [], take, length, vec_len, vec_capacity}
-use Rattle.string_interner.specs.Collect.{fresh}
+use Rattle.string_interner.specs.Extend.{fresh}
 use Rattle.uses.specs.Column.{AreNumbersOf}
 use Rattle.uses.proofs.column.Column.numbers.Given as goal
 

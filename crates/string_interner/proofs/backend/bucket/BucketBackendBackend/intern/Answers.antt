@@ -1,4 +1,4 @@
-use Rattle.std.proofs.Common.{◌≡◌, List, Bool, false, ◌+◌, ◌-◌, ◌≤◌, ◌++◌, ◌∷◌, [], map, vec_len, vec_capacity, arith, rules, refl, ap, ◌∙◌}
+use Rattle.std.proofs.Common.{◌≡◌, List, false, ◌+◌, ◌-◌, ◌≤◌, ◌++◌, ◌∷◌, [], map, vec_len, vec_capacity, arith, rules, refl, ap, ◌∙◌}
 use Rattle.std.proofs.lemmas.List.{map_push}
 use Rattle.string_interner.specs.BucketBackend.{BucketContents, Puts, buckets_of, interned_text, is_static, IsLast, IsInBuckets}
 use Rattle.string_interner.specs.declared.backend.bucket.interned_str.InternedStr.{InternedStr}
@@ -31,7 +31,7 @@ pub returns-in_err-interned-clause-appends : goal.returns-in_err-interned-clause
 returns-in_err-interned-clause-appends g c =
     record {
       appends = search rules;
-      kept = rw ((same g c).0, (same g c).1, c.reserve.ensures.items) c.self.invariant.kept;
+      valid = rw ((same g c).0, (same g c).1, c.reserve.ensures.items) c.self.invariant.valid;
       buckets = rw (← ap (λ (b : BucketContents). b.full) c.self.view_is, ← ap (λ (b : BucketContents). b.head) c.self.view_is, (same g c).0, (same g c).1) (OnErr-always _ _ refl);
       room = search rules;
     }
@@ -53,7 +53,7 @@ returns-clause-appends g c =
     let spent = spent-puts c.args.text.now _ _ _ _ free left (puts g c) entry in
     record {
       appends = (search rules, (stored g c).0 ∙ ap (λ (b : BucketContents). b.texts ++ c.args.text.now ∷ []) c.self.view_is);
-      kept = (stored g c).1.kept;
+      valid = (stored g c).1.valid;
       buckets = tt;
       room = record { granted = λ _ _. refl; spent = omega (arith, spent, ap (λ (b : BucketContents). b.room) c.self.view_is); unspent = tt };
     }

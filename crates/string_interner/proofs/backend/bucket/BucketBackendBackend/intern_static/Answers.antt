@@ -24,7 +24,7 @@ returns-clause-appends g c =
     let text_of = interned_text (buckets_of c.self.inside.full.items c.self.inside.head) in
     record {
       appends = (search rules, ap (map text_of) (more g c) ∙ map_push text_of c.self.inside.entries.items (Static c.args.text) ∙ ap (λ (b : BucketContents). b.texts ++ c.args.text.now ∷ []) c.self.view_is);
-      kept = (stored g c).kept;
+      valid = (stored g c).valid;
       buckets = tt;
       room = record { granted = λ _ _. refl; spent = omega (arith, ap (λ (b : BucketContents). b.room) c.self.view_is); unspent = tt };
     }

@@ -1,6 +1,6 @@
 use Rattle.std.proofs.Common.{◌≡◌, ◌+◌, ◌++◌, ◌∷◌, [], length, arith, rules, ap, ◌∙◌}
 use Rattle.string_interner.specs.Backend.{Contents}
-use Rattle.string_interner.specs.BufferBackend.{texts_in, IsSpelled}
+use Rattle.string_interner.specs.BufferBackend.{front_texts, IsSpelled}
 use Rattle.string_interner.specs.BufferLaws.{digits-least_count}
 use Rattle.string_interner.proofs.Lemmas.BufferBackend.Bytes.{spelled-more, count_below}
 use Rattle.string_interner.proofs.backend.buffer.BufferBackendBackend.intern.Goals as goal
@@ -8,7 +8,7 @@ use Rattle.string_interner.proofs.backend.buffer.BufferBackendBackend.intern.Goa
 use Rattle.string_interner.proofs.backend.buffer.BufferBackendBackend.intern.Given.{Over}
 
 -- the text is spelled
-spelled : (g : Over) (c : After-unwrap g) → (texts_in (c.self.inside.count + 1) c.extend_from_slice.new.self.items ≡ texts_in c.self.inside.count c.self.inside.bytes.items ++ c.args.text.now ∷ []) × IsSpelled g.S.Symbol.symbol_of c.extend_from_slice.new.self.items (texts_in (c.self.inside.count + 1) c.extend_from_slice.new.self.items)
+spelled : (g : Over) (c : After-unwrap g) → (front_texts (c.self.inside.count + 1) c.extend_from_slice.new.self.items ≡ front_texts c.self.inside.count c.self.inside.bytes.items ++ c.args.text.now ∷ []) × IsSpelled g.S.Symbol.symbol_of c.extend_from_slice.new.self.items (front_texts (c.self.inside.count + 1) c.extend_from_slice.new.self.items)
 spelled g c = spelled-more g.S.Symbol.symbol_of _ _ _ _ c.self.invariant c.utf8.text (rw (ap (λ (b : Contents). b.texts) c.self.view_is) (search rules)) (omega (arith, c.extend_from_slice.new.self.small, c.extend_from_slice.new.self.ok.1, c.extend_from_slice.new.self.ok.0)) (search rules)
 
 pub overflow_add-self : goal.overflow_add-self
@@ -20,7 +20,7 @@ invariant_of-self-2 g c = (spelled g (goal.at.invariant_of-self-2 g c).After-unw
 pub returns : goal.returns
 returns g c = let is = spelled g (goal.at.returns g c).After-unwrap in record {
   appends = (search rules, is.0 ∙ ap (λ (b : Contents). b.texts ++ c.args.text.now ∷ []) c.self.view_is);
-  kept = is.1.kept;
+  valid = is.1.valid;
   buckets = search rules;
   room = search rules;
 }

@@ -9,4 +9,4 @@ text_at-text-requires-clause-within g c =
     rw c.deref.ensures.value (omega (arith, place_within _ _ c.requires))
 
 pub unwrap-requires : goal.unwrap-requires
-unwrap-requires g c = rw c.try_from_usize.ensures (symbol_at g.S.Symbol.symbol_of c.args.self.now.texts c.args.at (rw (ap (λ (b : Contents). b.texts) c.self.view_is) at c.self.invariant.kept) (place_within _ _ c.requires))
+unwrap-requires g c = rw c.try_from_usize.ensures (symbol_at g.S.Symbol.symbol_of c.args.self.now.texts c.args.at (rw (ap (λ (b : Contents). b.texts) c.self.view_is) at c.self.invariant.valid) (place_within _ _ c.requires))

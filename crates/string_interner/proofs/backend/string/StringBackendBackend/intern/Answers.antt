@@ -17,7 +17,7 @@ invariant_of-self-2 g c = (stored g c).1
 pub returns : goal.returns
 returns g c = record {
   appends = (search rules, (stored g c).0 ∙ ap (λ (b : Contents). b.texts ++ c.args.text.now ∷ []) c.self.view_is);
-  kept = (stored g c).1.kept;
+  valid = (stored g c).1.valid;
   buckets = search rules;
   room = search rules;
 }

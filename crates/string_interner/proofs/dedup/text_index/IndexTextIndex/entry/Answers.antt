@@ -5,7 +5,7 @@ use Rattle.string_interner.proofs.Lemmas.Index.IsWhole.{found-occupied, found-va
 use Rattle.string_interner.proofs.dedup.text_index.IndexTextIndex.entry.Goals as goal
 
 pub returns-clause-occupied : goal.returns-clause-occupied
-returns-clause-occupied g c = found-occupied (entry_text g.S.Symbol.number g.B.Backend.place (g.B.Backend.texts c.args.backend.now)) c.args.self.now.slots c.args.text.now _ (c.entry.ensures.found ∙ ap (λ (b : g.row.B.Denot). look_up (entry_text g.S.Symbol.number g.B.Backend.place (g.B.Backend.texts b)) c.args.self.now.slots c.args.text.now) c.new.ensures.backend)
+returns-clause-occupied g c = found-occupied (entry_text g.B.Backend.numbering (g.B.Backend.texts c.args.backend.now)) c.args.self.now.slots c.args.text.now _ (c.entry.ensures.found ∙ ap (λ (b : g.row.B.Denot). look_up (entry_text g.B.Backend.numbering (g.B.Backend.texts b)) c.args.self.now.slots c.args.text.now) c.new.ensures.backend)
 
 pub returns-clause-new_text : goal.returns-clause-new_text
-returns-clause-new_text g c = found-vacant _ _ _ _ _ c.requires (c.entry.ensures.found ∙ ap (λ (b : g.row.B.Denot). look_up (entry_text g.S.Symbol.number g.B.Backend.place (g.B.Backend.texts b)) c.args.self.now.slots c.args.text.now) c.new.ensures.backend)
+returns-clause-new_text g c = found-vacant _ _ _ _ _ c.requires (c.entry.ensures.found ∙ ap (λ (b : g.row.B.Denot). look_up (entry_text g.B.Backend.numbering (g.B.Backend.texts b)) c.args.self.now.slots c.args.text.now) c.new.ensures.backend)

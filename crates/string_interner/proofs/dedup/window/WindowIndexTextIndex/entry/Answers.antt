@@ -22,7 +22,7 @@ probe-requires-clause-entries g c = rw c.self.view_is c.requires.whole.fits.entr
 
 pub returns-clause-occupied : goal.returns-clause-occupied
 returns-clause-occupied g c =
-    let slots = c.args.self.now.slots in let test = has_text (entry_text g.S.Symbol.number g.B.Backend.place (g.B.Backend.texts c.args.backend.now)) c.args.text.now in
+    let slots = c.args.self.now.slots in let test = has_text (entry_text g.B.Backend.numbering (g.B.Backend.texts c.args.backend.now)) c.args.text.now in
     found-occupied _ slots c.args.text.now _
     (c.probe.ensures.found ∙ ap (λ x. first_passing test (filled_run (probed x.slots (c.hash_text-code.result % length x.slots)))) c.self.view_is
     ∙ ap (λ n. first_passing test (filled_run (probed slots (n % length slots)))) c.hash_text-code.ensures
@@ -30,7 +30,7 @@ returns-clause-occupied g c =
 
 pub returns-clause-new_text : goal.returns-clause-new_text
 returns-clause-new_text g c =
-    let slots = c.args.self.now.slots in let test = has_text (entry_text g.S.Symbol.number g.B.Backend.place (g.B.Backend.texts c.args.backend.now)) c.args.text.now in
+    let slots = c.args.self.now.slots in let test = has_text (entry_text g.B.Backend.numbering (g.B.Backend.texts c.args.backend.now)) c.args.text.now in
     found-vacant _ _ slots c.args.text.now _ c.requires.whole
     (c.probe.ensures.found ∙ ap (λ x. first_passing test (filled_run (probed x.slots (c.hash_text-code.result % length x.slots)))) c.self.view_is
     ∙ ap (λ n. first_passing test (filled_run (probed slots (n % length slots)))) c.hash_text-code.ensures

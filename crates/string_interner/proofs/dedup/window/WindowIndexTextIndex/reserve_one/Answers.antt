@@ -18,7 +18,7 @@ rehash-requires-clause-more g c = GrowsTo-more _ _
 
 pub returns-clause-same : goal.returns-clause-same
 returns-clause-same g c =
-    let entry = entry_text g.S.Symbol.number g.B.Backend.place (g.B.Backend.texts c.args.backend.now) in let code = g.H.TextHasher.code c.args.hasher.now in
+    let entry = entry_text g.B.Backend.numbering (g.B.Backend.texts c.args.backend.now) in let code = g.H.TextHasher.code c.args.hasher.now in
     IsWindow-rebuilt entry code c.args.self.now c.in_ok-bigger.bigger c.requires.whole
     (subst (λ x. Rebuilt entry code x.slots c.in_ok-bigger.bigger.slots) c.self.view_is c.in_ok-bigger.ensures.made) c.in_ok-bigger.ensures.coded
 

@@ -30,7 +30,7 @@ pub loop-at-preserved : goal.loop-at-preserved
 loop-at-preserved g c =
     let inv = c.loop-at.invariant in let slots = c.args.slots.now.slots in
     let slot : c.symbol_at.result ≡ get_or slots c.loop-at.at None = c.symbol_at.ensures in
-    let entry = entry_text g.S.Symbol.number g.B.Backend.place (g.B.Backend.texts c.args.backend.now) in let code = g.H.TextHasher.code c.args.hasher.now in
+    let entry = entry_text g.B.Backend.numbering (g.B.Backend.texts c.args.backend.now) in let code = g.H.TextHasher.code c.args.hasher.now in
     elim c.match-symbol_at.branch [
       | in-Some w ↦
           let here = sym slot ∙ w.in-Some.is in let s = w.in-Some.symbol in
@@ -40,7 +40,7 @@ loop-at-preserved g c =
           record {
             size = ap (λ x. length x.slots) w.bigger-is ∙ FillsSlot-length _ _ _ _ placed ∙ inv.size;
             rebuilt = rw w.bigger-is (placed_again entry code slots c.requires.fits c.loop-at.at (omega arith) c.loop-at.bigger.slots inv.rebuilt s w.put_by_code.new.slots.slots here placed);
-            coded = subst (IsCoded entry code) (sym w.bigger-is) (IsCoded-put entry code _ _ _ _ _ puts (text_of entry s) (text_of_is entry s is) w.code_for-code.ensures.kept inv.coded);
+            coded = subst (IsCoded entry code) (sym w.bigger-is) (IsCoded-put entry code _ _ _ _ _ puts (text_of entry s) (text_of_is entry s is) w.code_for-code.ensures.stored inv.coded);
           }
       | in_default w ↦ record {
         size = ap (λ x. length x.slots) w.bigger-is ∙ inv.size;

@@ -7,6 +7,6 @@ use Rattle.string_interner.proofs.dedup.window.growing.rehash.Given as goal
 abbrev pub invariant-loop-at : goal.invariant-loop-at
 invariant-loop-at g l = record {
   size : length l.bigger.slots ≡ l.count;
-  rebuilt : Rebuilt (entry_text g.S.Symbol.number g.B.Backend.place (g.B.Backend.texts l.backend)) (g.H.TextHasher.code l.hasher) (take l.at l.slots.slots) l.bigger.slots;
-  coded : IsCoded (entry_text g.S.Symbol.number g.B.Backend.place (g.B.Backend.texts l.backend)) (g.H.TextHasher.code l.hasher) l.bigger;
+  rebuilt : Rebuilt (entry_text g.B.Backend.numbering (g.B.Backend.texts l.backend)) (g.H.TextHasher.code l.hasher) (take l.at l.slots.slots) l.bigger.slots;
+  coded : IsCoded (entry_text g.B.Backend.numbering (g.B.Backend.texts l.backend)) (g.H.TextHasher.code l.hasher) l.bigger;
 }

@@ -28,9 +28,9 @@ loop-step-init g c =
 pub loop-step-preserved : goal.loop-step-preserved
 loop-step-preserved g c =
     let window = c.args.slots.now in let slots = window.slots in let free = c.requires.free.free in
-    let test = has_text (entry_text g.S.Symbol.number g.B.Backend.place (g.B.Backend.texts c.args.backend.now)) c.args.text.now in
+    let test = has_text (entry_text g.B.Backend.numbering (g.B.Backend.texts c.args.backend.now)) c.args.text.now in
     let h = mod_less c.args.code (length slots) (omega arith) in
-    let tells = subst (TagTells test window) (sym (c.tag_of-tag.ensures ∙ ap tag_of c.kept_code.ensures)) c.requires.tag in
+    let tells = subst (TagTells test window) (sym (c.tag_of-tag.ensures ∙ ap tag_of c.stored_code.ensures)) c.requires.tag in
     let inv = c.loop-step.invariant in let from = c.pass-reached.ensures.from in let passed = c.pass-reached.ensures.passed in
     elim c.if-reached-count.branch [
       | then-reached-count w ↦ rw w.at-is (Stands-round test window _ _ h free tells _ _ inv (λ k a b. passed k a (omega arith)))
@@ -44,33 +44,33 @@ loop-step-preserved g c =
 pub returns-in_default-clause-found : goal.returns-in_default-clause-found
 returns-in_default-clause-found g c =
     let window = c.args.slots.now in let slots = window.slots in let free = c.requires.free.free in
-    let test = has_text (entry_text g.S.Symbol.number g.B.Backend.place (g.B.Backend.texts c.args.backend.now)) c.args.text.now in
+    let test = has_text (entry_text g.B.Backend.numbering (g.B.Backend.texts c.args.backend.now)) c.args.text.now in
     let h = mod_less c.args.code (length slots) (omega arith) in
-    let tells = subst (TagTells test window) (sym (c.tag_of-tag.ensures ∙ ap tag_of c.kept_code.ensures)) c.requires.tag in
+    let tells = subst (TagTells test window) (sym (c.tag_of-tag.ensures ∙ ap tag_of c.stored_code.ensures)) c.requires.tag in
     let s = Stands-reached test window _ _ h free tells _ _ c.loop-step.invariant c.pass-reached.result c.pass-reached.ensures.from (omega arith) c.pass-reached.ensures.passed in
     sym (Stands-empty test window _ _ h free tells _ _ s (sym c.symbol_at.ensures ∙ c.in_default.is))
 
 pub returns-in_default-clause-vacant : goal.returns-in_default-clause-vacant
 returns-in_default-clause-vacant g c =
     let window = c.args.slots.now in let slots = window.slots in let free = c.requires.free.free in
-    let test = has_text (entry_text g.S.Symbol.number g.B.Backend.place (g.B.Backend.texts c.args.backend.now)) c.args.text.now in
+    let test = has_text (entry_text g.B.Backend.numbering (g.B.Backend.texts c.args.backend.now)) c.args.text.now in
     let h = mod_less c.args.code (length slots) (omega arith) in
-    let tells = subst (TagTells test window) (sym (c.tag_of-tag.ensures ∙ ap tag_of c.kept_code.ensures)) c.requires.tag in
+    let tells = subst (TagTells test window) (sym (c.tag_of-tag.ensures ∙ ap tag_of c.stored_code.ensures)) c.requires.tag in
     let s = Stands-reached test window _ _ h free tells _ _ c.loop-step.invariant c.pass-reached.result c.pass-reached.ensures.from (omega arith) c.pass-reached.ensures.passed in
     record { code_is = refl; before = omega arith; free = λ same some. Stands-free test window _ _ h free tells _ _ s (sym c.symbol_at.ensures ∙ c.in_default.is) }
 
 pub returns-then-has_text-clause-found : goal.returns-then-has_text-clause-found
 returns-then-has_text-clause-found g c =
     let window = c.args.slots.now in let slots = window.slots in let free = c.requires.free.free in
-    let test = has_text (entry_text g.S.Symbol.number g.B.Backend.place (g.B.Backend.texts c.args.backend.now)) c.args.text.now in
+    let test = has_text (entry_text g.B.Backend.numbering (g.B.Backend.texts c.args.backend.now)) c.args.text.now in
     let h = mod_less c.args.code (length slots) (omega arith) in
-    let tells = subst (TagTells test window) (sym (c.tag_of-tag.ensures ∙ ap tag_of c.kept_code.ensures)) c.requires.tag in
+    let tells = subst (TagTells test window) (sym (c.tag_of-tag.ensures ∙ ap tag_of c.stored_code.ensures)) c.requires.tag in
     let s = Stands-reached test window _ _ h free tells _ _ c.loop-step.invariant c.pass-reached.result c.pass-reached.ensures.from (omega arith) c.pass-reached.ensures.passed in
     sym (Stands-hit test window _ _ h free tells _ _ s c.in-Some.symbol (sym c.symbol_at.ensures ∙ c.in-Some.is) (sym c.has_text.ensures ∙ c.if-has_text.true))
 
 pub returns-clause-found : goal.returns-clause-found
 returns-clause-found g c =
-    let free = c.requires.free.free in let test = has_text (entry_text g.S.Symbol.number g.B.Backend.place (g.B.Backend.texts c.args.backend.now)) c.args.text.now in
+    let free = c.requires.free.free in let test = has_text (entry_text g.B.Backend.numbering (g.B.Backend.texts c.args.backend.now)) c.args.text.now in
     absurd (Stands-ends test c.args.slots.now _ _ (mod_less c.args.code (length c.args.slots.now.slots) (omega arith)) free c.requires.tag _ _ c.loop-step.invariant (omega arith))
 
 pub returns-clause-vacant : goal.returns-clause-vacant

@@ -6,4 +6,4 @@ use Rattle.string_interner.proofs.dedup.window.probe.probe.Given as goal
 
 abbrev pub invariant-loop-step : goal.invariant-loop-step
 invariant-loop-step g l =
-    Stands (has_text (entry_text g.S.Symbol.number g.B.Backend.place (g.B.Backend.texts l.backend)) l.text) l.slots.slots (l.code % length l.slots.slots) l._step l.at
+    Stands (has_text (entry_text g.B.Backend.numbering (g.B.Backend.texts l.backend)) l.text) l.slots.slots (l.code % length l.slots.slots) l._step l.at

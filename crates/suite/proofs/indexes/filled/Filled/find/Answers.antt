@@ -1,5 +1,5 @@
 use Rattle.std.proofs.Common.{ap, ◌∙◌, sym}
-use Rattle.string_interner.proofs.Lemmas.Interner.IsInterned.{sought}
+use Rattle.string_interner.proofs.Lemmas.Interner.IsSoundInterner.{sought}
 use Rattle.suite.proofs.indexes.filled.Filled.find.Goals as goal
 
 pub returns : goal.returns

@@ -1,4 +1,4 @@
-use Rattle.string_interner.proofs.Lemmas.Interner.IsInterned.{interned-same}
+use Rattle.string_interner.proofs.Lemmas.Interner.IsSoundInterner.{interned-same}
 use Rattle.suite.proofs.indexes.filled.Filled.reserve.Goals as goal
 
 pub invariant_of-self : goal.invariant_of-self

@@ -1,13 +1,13 @@
 use Rattle.std.proofs.Common.{sym, subst}
 use Rattle.string_interner.specs.Text.{IsDistinct}
-use Rattle.string_interner.specs.Backend.{IsKept}
-use Rattle.string_interner.proofs.Lemmas.Backend.IsKept.{kept-take, distinct-take}
+use Rattle.string_interner.specs.Backend.{IsValidList}
+use Rattle.string_interner.proofs.Lemmas.Backend.IsValidList.{valid-take, distinct-take}
 use Rattle.suite.proofs.indexes.filled.Filled.truncate.Goals as goal
 
 pub invariant_of-self : goal.invariant_of-self
 invariant_of-self g c = record {
   distinct = subst IsDistinct (sym c.truncate.ensures.texts) (distinct-take c.args.len (g.B.Backend.texts c.self.inside.backend) c.self.invariant.distinct);
-  kept = subst (IsKept g.B.Symbol.Symbol.symbol_of g.B.Backend.place) (sym c.truncate.ensures.texts) (kept-take g.B.Symbol.Symbol.symbol_of g.B.Backend.place g.met.B.Backend.grows c.args.len (g.B.Backend.texts c.self.inside.backend) c.self.invariant.kept);
+  valid = subst (IsValidList g.B.Symbol.Symbol.symbol_of g.B.Backend.place) (sym c.truncate.ensures.texts) (valid-take g.B.Symbol.Symbol.symbol_of g.B.Backend.place g.met.B.Backend.grows c.args.len (g.B.Backend.texts c.self.inside.backend) c.self.invariant.valid);
   whole = c.refill.ensures.whole;
   count = c.refill.ensures.count_is;
 }

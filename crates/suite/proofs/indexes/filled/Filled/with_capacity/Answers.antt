@@ -1,4 +1,4 @@
-use Rattle.string_interner.proofs.Lemmas.Interner.IsInterned.{interned-none}
+use Rattle.string_interner.proofs.Lemmas.Interner.IsSoundInterner.{interned-none}
 use Rattle.suite.proofs.indexes.filled.Filled.with_capacity.Goals as goal
 
 pub invariant_of-result : goal.invariant_of-result

@@ -1,6 +1,6 @@
 use Rattle.std.proofs.Common.{◌≡◌, None, Some, refl, sym, subst, length, get_or, set, arith, ap, ◌∙◌}
 use Rattle.string_interner.specs.Probe.{Follows}
-use Rattle.string_interner.specs.Window.{kept_code}
+use Rattle.string_interner.specs.Window.{stored_code}
 use Rattle.string_interner.proofs.Lemmas.Index.Walked.{Walked-start, empty_from, some_from}
 use Rattle.string_interner.proofs.Lemmas.WindowIndex.IsCoded.{FillsCoded-free}
 use Rattle.string_interner.proofs.Lemmas.WindowIndex.Stands.{none_tells, Stands-ends, Stands-free, Stands-missed, Stands-reached, Stands-round}
@@ -23,7 +23,7 @@ returns-then-is_none g c =
     FillsCoded-free window c.set.new.self c.args.home c.pass-reached.result c.args.symbol c.args.code
     (Stands-free _ window 0 _ c.requires.home c.requires.free (none_tells window 0) _ _ s e)
     (c.set.ensures.slots ∙ ap (λ x. set x.slots c.pass-reached.result (Some c.args.symbol)) same)
-    (c.set.ensures.codes ∙ ap (λ x. set x.codes c.pass-reached.result (kept_code c.args.code)) same)
+    (c.set.ensures.codes ∙ ap (λ x. set x.codes c.pass-reached.result (stored_code c.args.code)) same)
     (ap (λ x. length x.codes) (sym same) ∙ c.set.ensures.counted ∙ ap (λ x. length x.slots) same)
 
 pub loop-step-preserved : goal.loop-step-preserved

@@ -1,8 +1,8 @@
 //! Interning the texts of an iterator into a list of their symbols.
 
 ghost use Rattle.std.specs.Iterator.{IsFiniteIterable};
-ghost use Rattle.std.specs.Prelude.{vec_capacity};
-ghost use Rattle.string_interner.specs.Encode.{EncodesAll};
+ghost use Rattle.string_interner.specs.Extend.{YieldedBy};
+ghost use Rattle.string_interner.specs.InternAll.{InternsEach};
 
 use super::StringInterner;
 use crate::backend::{Backend, InternError};
@@ -27,8 +27,8 @@ impl<B: Backend, H: TextHasher, I: TextIndex<B::Symbol>> StringInterner<B, H, I>
         symbols: &mut Vec<B::Symbol>,
     ) -> Result<(), InternError>
         requires { IsFiniteIterable T.into_iter_gives T.IntoIter.can_next T.IntoIter.remaining texts }
-        ensures { EncodesAll B.Symbol.symbol_of B.place B.cost I.rule T.into_iter_gives T.IntoIter.next_gives texts self.old
-            symbols.old.items (vec_capacity symbols.old) result self.new symbols.new.items }
+        ensures { InternsEach B.numbering I.rule (YieldedBy T.into_iter_gives T.IntoIter.next_gives texts)
+            (self.old, symbols.old) result (self.new, symbols.new) }
     {
         // For the proof: states the load factor before the first text.
         let _ = self.len();

@@ -1,7 +1,7 @@
 //! Interning the texts of an iterator.
 
 ghost use Rattle.std.specs.Iterator.{IsFiniteIterable};
-ghost use Rattle.string_interner.specs.Collect.{Extends, Collects};
+ghost use Rattle.string_interner.specs.Extend.{Extends, Collects, YieldedBy};
 
 use super::StringInterner;
 use crate::backend::{Backend, InternError};
@@ -21,8 +21,8 @@ impl<B: Backend, H: TextHasher, I: TextIndex<B::Symbol>> StringInterner<B, H, I>
         iter: T,
     ) -> Result<(), InternError>
         requires { IsFiniteIterable T.into_iter_gives T.IntoIter.can_next T.IntoIter.remaining iter }
-        ensures { Extends B.Symbol.symbol_of B.place B.cost I.rule T.into_iter_gives T.IntoIter.next_gives iter self.old result
-            self.new }
+        ensures { Extends B.numbering I.rule (YieldedBy T.into_iter_gives T.IntoIter.next_gives iter)
+            self.old result self.new }
     {
         // For the proof: states the load factor before the first text.
         let _ = self.len();
@@ -48,7 +48,8 @@ impl<
         iter: T,
     ) -> Result<Self, InternError>
         requires { IsFiniteIterable T.into_iter_gives T.IntoIter.can_next T.IntoIter.remaining iter }
-        ensures { Collects B.Symbol.symbol_of B.place B.cost I.rule T.into_iter_gives T.IntoIter.next_gives iter result }
+        ensures { Collects B.numbering I.rule (YieldedBy T.into_iter_gives T.IntoIter.next_gives iter)
+            result }
     {
         let mut interner = StringInterner::new(alloc);
         interner.extend(iter)?;

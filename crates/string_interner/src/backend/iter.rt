@@ -3,7 +3,7 @@
 ghost use Rattle.std.specs.Prelude.{◌≡◌, [], length, Some, IfSome};
 ghost use Rattle.std.specs.Iterator.{UpTo, YieldsFirstBy, item_count};
 ghost use Rattle.std.specs.Iterator.SizeHint.{IsWithinCount};
-ghost use Rattle.string_interner.specs.Walk.{entries};
+ghost use Rattle.string_interner.specs.Iter.{entries};
 
 use crate::backend::Backend;
 use std::iter::ExactSizeIterator;
@@ -23,9 +23,9 @@ pub struct Iter<'a, B: Backend> {
 /// Contracts see the texts already yielded, and those ahead.
 impl<'a, B: Backend> Model for Iter<'a, B> {
     ghost use Rattle.std.specs.Prelude.{take, drop, length, ◌-◌, ◌≤◌, ◌≡◌};
-    ghost use Rattle.string_interner.specs.Walk.{Walk};
+    ghost use Rattle.string_interner.specs.Iter.{IterState};
 
-    ghost Value = { Walk };
+    ghost Value = { IterState };
 
     ghost view = { λ s. let done = length (B.texts s.backend.now) - s.left in record {
       behind = take done (B.texts s.backend.now);
@@ -33,7 +33,7 @@ impl<'a, B: Backend> Model for Iter<'a, B> {
     } };
 
     ghost invariant = { λ s. (s.left ≤ length (B.texts s.backend.now))
-        × (B.place (take (length (B.texts s.backend.now) - s.left) (B.texts s.backend.now)) ≡ s.next) };
+        × (B.numbering.place (take (length (B.texts s.backend.now) - s.left) (B.texts s.backend.now)) ≡ s.next) };
 }
 
 impl<'a, B: Backend> Iter<'a, B> {
@@ -53,7 +53,7 @@ impl<'a, B: Backend> Iterator for Iter<'a, B> {
     type Item = (B::Symbol, &'a str);
 
     ghost next_gives = { YieldsFirstBy (λ item. (Some item.0, item.1.now))
-        (λ walk. entries B.Symbol.symbol_of B.place walk.behind walk.ahead) };
+        (λ walk. entries B.numbering walk.behind walk.ahead) };
 
     ghost remaining = { item_count (λ walk. walk.ahead) };
 
