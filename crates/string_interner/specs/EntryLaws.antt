@@ -9,6 +9,7 @@ use Rattle.std.proofs.lemmas.Option.{slice_get_within}
 use Rattle.string_interner.specs.Text.{Text}
 use Rattle.string_interner.specs.Backend.{BeginsAt, IsPlace}
 use Rattle.string_interner.specs.Entry.{text_ahead, entry_text}
+use Rattle.string_interner.specs.TextIndex.{Adds}
 use Rattle.string_interner.specs.Numbering.{Numbering}
 
 -- what is there is some value
@@ -87,12 +88,6 @@ slice_get-append (x ∷ xs) ys (suc i) h = slice_get-append xs ys i (omega arith
 slice_get-push : {X : Type 0} (xs : List X) (x : X) → slice_get (xs ++ x ∷ []) (length xs) ≡ Some x
 slice_get-push [] x = refl
 slice_get-push (y ∷ xs) x = slice_get-push xs x
-
--- the new entries are the old ones and one more
-pub record Adds {S : Type 0} (old new : S → Option Text) (symbol : S) (text : Text) : Type 0 where
-  pub added : new symbol ≡ Some text
-  pub kept : (s : S) (t : Text) → old s ≡ Some t → new s ≡ Some t
-  pub only : (s : S) (t : Text) → new s ≡ Some t → (old s ≡ Some t) ⊎ (s ≡ symbol)
 
 module _ {S : Type 0} (numbering : Numbering S)
     (numbered : (i : ℕ) (s : S) → numbering.symbol_of i ≡ Some s → (numbering.number s ≡ i) × (i < 2 ^ 64))

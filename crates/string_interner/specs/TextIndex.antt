@@ -24,9 +24,13 @@ IfVacant (Vacant vacancy) P = P vacancy
 abbrev pub IsNewText : {S : Type 0} → (S → Option Text) → Text → Type 0
 IsNewText {S} entry text = (symbol : S) → entry symbol ≡ Some text → ⊥
 
--- The new entries are the old ones and one more, which has this symbol and this new text.
-pub record AddsEntry {S : Type 0} (old new : S → Option Text) (symbol : S) (text : Text) : Type 0 where
-  pub new_text : IsNewText old text
+-- the new entries are the old ones and one more, which has this symbol and this text
+pub record Adds {S : Type 0} (old new : S → Option Text) (symbol : S) (text : Text) : Type 0 where
   pub added : new symbol ≡ Some text
   pub kept : (s : S) (t : Text) → old s ≡ Some t → new s ≡ Some t
   pub only : (s : S) (t : Text) → new s ≡ Some t → (old s ≡ Some t) ⊎ (s ≡ symbol)
+
+-- the same, where the text is new
+pub record AddsEntry {S : Type 0} (old new : S → Option Text) (symbol : S) (text : Text) : Type 0 where
+  pub new_text : IsNewText old text
+  pub adds : Adds old new symbol text

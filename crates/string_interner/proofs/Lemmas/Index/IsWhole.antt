@@ -8,10 +8,10 @@ use Rattle.std.proofs.lemmas.Slice.Eq.{bytes_eq-Decides}
 use Rattle.string_interner.specs.Text.{Text, first}
 use Rattle.string_interner.specs.Slots.{symbols}
 use Rattle.string_interner.specs.Index.{AddsPair, Fits, FitsAll, IndexContents, InsertsByCode, IsAbsent, IsWhole, SameMap, has_text, look_up, text_of}
-use Rattle.string_interner.specs.TextIndex.{AddsEntry, IfOccupied, IfVacant, IsNewText, found_by}
+use Rattle.string_interner.specs.TextIndex.{Adds, AddsEntry, IfOccupied, IfVacant, IsNewText, found_by}
 use Rattle.string_interner.specs.declared.dedup.text_index.Entry.{Entry}
 use Rattle.string_interner.specs.declared.dedup.text_index.Entry.TheVariants.{Occupied, Vacant}
-use Rattle.string_interner.specs.EntryLaws.{Adds, entry_text-is, entry_text-at}
+use Rattle.string_interner.specs.EntryLaws.{entry_text-is, entry_text-at}
 use Rattle.string_interner.proofs.Lemmas.Index.Inserts.{text_of_is}
 use Rattle.string_interner.proofs.Lemmas.Index.LookUp.{FirstIs, first_is, entry_from_has}
 use Rattle.string_interner.proofs.Lemmas.Index.Fits.{Fits-kept, look_up-kept}
@@ -100,7 +100,7 @@ IsWhole-none code slots fits = record { fits = fits (λ _. None) code; whole = �
 pub IsWhole-inserted : {S : Type 0} (entry more : S → Option Text) (code : Text → ℕ) (old new : IndexContents S) (known_code : ℕ) (symbol : S) (t : Text) → AddsEntry entry more symbol t
     → IsWhole entry code old.slots → known_code ≡ code t → InsertsByCode known_code old new symbol → IsWhole more code new.slots
 IsWhole-inserted entry more code old new known_code symbol t adds whole is_code by =
-    let one : Adds entry more symbol t = record { added = adds.added; kept = adds.kept; only = adds.only } in
+    let one = adds.adds in
     let absent = look_up-none entry old.slots t adds.new_text in
     let text = text_of-added entry more code old.slots old.slots symbol t whole whole.fits (λ u. refl) one in
     let inserts = by more code (Fits-added entry more code old.slots old.slots symbol t whole whole.fits (λ u. refl) one)

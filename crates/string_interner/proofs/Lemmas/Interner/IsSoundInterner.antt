@@ -9,10 +9,10 @@ use Rattle.string_interner.specs.Text.{Text, IsDistinct, first}
 use Rattle.string_interner.specs.Backend.{IsValidList, Appends}
 use Rattle.string_interner.specs.Entry.{entry_text}
 use Rattle.string_interner.specs.Slots.{symbols}
-use Rattle.string_interner.specs.TextIndex.{AddsEntry, IsNewText}
+use Rattle.string_interner.specs.TextIndex.{Adds, AddsEntry, IsNewText}
 use Rattle.string_interner.specs.Index.{AddsPair, Fits, IndexContents, Inserts, InsertsByCode, IsAbsent, IsWhole, SameMap, look_up, text_of}
 use Rattle.string_interner.specs.Interner.{Finds, IsSoundInterner, entry_symbol, known_symbol}
-use Rattle.string_interner.specs.EntryLaws.{Adds, entry_text-adds, entry_text-at, entry_text-is}
+use Rattle.string_interner.specs.EntryLaws.{entry_text-adds, entry_text-at, entry_text-is}
 use Rattle.string_interner.proofs.Lemmas.Texts.First.{first_within, first_is, first_none}
 use Rattle.string_interner.proofs.Lemmas.Interner.StandsFor.{one_entry, finds-known}
 use Rattle.string_interner.proofs.Lemmas.Index.IsWhole.{Fits-added, text_of-added, IsAbsent-added, IsWhole-added, look_up-known}
@@ -102,9 +102,7 @@ module _ {S : Type 0} (numbering : Numbering S)
   adds-entry t s more is_new put =
       let adds : Adds entry (entry_text numbering more) s t = rw put.1 (entry_text-adds numbering numbered injective grows texts t s put.0) in record {
         new_text = λ u e. let r = entry_text-is numbering texts u t e in first_none texts t is_new r.0 [] r.1.within (get_or_from_slice_get texts r.0 t [] r.2);
-        added = adds.added;
-        kept = adds.kept;
-        only = adds.only;
+        adds = adds;
       }
 
   -- an index that takes it is one of the longer list

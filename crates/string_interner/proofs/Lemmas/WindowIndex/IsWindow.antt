@@ -67,7 +67,7 @@ module _ {S : Type 0} where
       inserted other codes before after old.slots symbol refl refl refl fits absent (puts_at old.slots new.slots _ _ symbol same puts.slot) in
       record {
         whole = IsWhole-inserted entry more code before after known_code symbol text adds is.whole e by;
-        coded = IsCoded-put more code old new _ symbol known_code puts text adds.added (ap stored_code e) (IsCoded-kept entry code more old adds.kept is.whole.fits is.coded);
+        coded = IsCoded-put more code old new _ symbol known_code puts text adds.adds.added (ap stored_code e) (IsCoded-kept entry code more old adds.adds.kept is.whole.fits is.coded);
       }
 
 slice_get-middle : {X : Type 0} (xs : List X) (y : X) (ys : List X) → slice_get (xs ++ y ∷ ys) (length xs) ≡ Some y
