@@ -34,6 +34,14 @@ pub record IsMadeFor (rule : SlotRule) (capacity grant : ℕ) (interner : Intern
   pub grant_fits : grant < 2 ^ 64
   pub slots_fit : interner.slot_count < 2 ^ 64
 
+-- its index has the least slot count for its texts
+abbrev pub HasLeastSlots : SlotRule → InternerContents → Type 0
+HasLeastSlots rule interner = IsLeastSlotCount rule (length interner.texts) interner.slot_count
+
+-- buckets and slot count are unchanged
+abbrev pub KeepsLayout : InternerContents → InternerContents → Type 0
+KeepsLayout old new = (new.buckets ≡ old.buckets) × (new.slot_count ≡ old.slot_count)
+
 -- no memory is released: buckets and slot count are unchanged, and there is no less spare capacity
 pub record KeepsMemory (old new : InternerContents) : Type 0 where
   pub buckets : new.buckets ≡ old.buckets

@@ -9,6 +9,10 @@ pub record IterState : Type 0 where
   pub behind : List Text
   pub ahead : List Text
 
+-- an iterator over these texts that has yielded none
+abbrev pub iter_over : List Text → IterState
+iter_over texts = record { behind = []; ahead = texts }
+
 -- The entries of the texts ahead: the symbol of each, which depends on the texts before it, and the text.
 abbrev pub entries : {S : Type 0} → Numbering S → List Text → List Text → List (Option S × Text)
 entries numbering behind [] = []

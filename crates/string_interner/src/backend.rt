@@ -8,6 +8,7 @@ mod string;
 ghost use Rattle.std.specs.Prelude.{◌≡◌, ℕ, ◌+◌, ◌^◌, ◌<◌, ◌≤◌, List, [], ◌∷◌, ◌++◌, length, take, slice_get, Option, Some, IfOk, OnOk};
 ghost use Rattle.std.specs.Option.{option_copied};
 ghost use Rattle.string_interner.specs.Text.{Text};
+ghost use Rattle.string_interner.specs.Iter.{iter_over};
 
 use crate::symbol::{DefaultSymbol, Symbol};
 pub use bucket::BucketBackend;
@@ -106,7 +107,8 @@ pub trait Backend {
 
     /// Returns the text at a symbol's number, if any. For the symbol of an entry this is the entry's text.
     fn resolve(&self, symbol: Self::Symbol) -> Option<&str>
-        ensures { option_copied result ≡ numbering.read (texts self.now) (numbering.number symbol) };
+        ensures { option_copied result
+            ≡ numbering.read (texts self.now) (numbering.number symbol) };
 
     /// Returns the text of an entry by its symbol, without checking the symbol: it must be that of an entry.
     fn resolve_unchecked(&self, symbol: Self::Symbol) -> &str
@@ -119,8 +121,10 @@ pub trait Backend {
     fn entry_at(&self, at: usize) -> (Self::Symbol, &str, usize)
         requires { IsPlace numbering.place (texts self.now) at }
         ensures symbol { numbering.symbol_of at ≡ Some result.0 }
-        ensures text { (i : ℕ) → BeginsAt numbering.place (texts self.now) at i → slice_get (texts self.now) i ≡ Some result.1.now }
-        ensures next { (i : ℕ) → BeginsAt numbering.place (texts self.now) at i → result.2 ≡ numbering.place (take (i + 1) (texts self.now)) };
+        ensures text { (i : ℕ) → BeginsAt numbering.place (texts self.now) at i
+            → slice_get (texts self.now) i ≡ Some result.1.now }
+        ensures next { (i : ℕ) → BeginsAt numbering.place (texts self.now) at i
+            → result.2 ≡ numbering.place (take (i + 1) (texts self.now)) };
 
     /// Releases memory that no text needs, if it can; a backend need not release any. Texts, symbols and buckets are
     /// unchanged.
@@ -140,25 +144,28 @@ pub trait Backend {
     final fn iter(&self) -> Iter<'_, Self>
     where
         Self: Sized,
-        ensures { result ≡ record { behind = []; ahead = texts self.now } }
+        ensures { result ≡ iter_over (texts self.now) }
     {
         Iter::new(self)
     }
 
     /// The numbering's symbols are those of the symbol type, with their numbers.
-    ghost symbols: { (numbering.symbol_of ≡ Self.Symbol.symbol_of) × (numbering.number ≡ Self.Symbol.number) };
+    ghost symbols: { (numbering.symbol_of ≡ Self.Symbol.symbol_of)
+        × (numbering.number ≡ Self.Symbol.number) };
 
     /// The first entry is at place 0.
     ghost starts: { numbering.place [] ≡ 0 };
 
     /// Each text raises the next place.
-    ghost grows: { (texts : List Text) (text : Text) → numbering.place texts < numbering.place (texts ++ text ∷ []) };
+    ghost grows: { (texts : List Text) (text : Text)
+        → numbering.place texts < numbering.place (texts ++ text ∷ []) };
 
     /// Each text costs more than 0.
     ghost costs: { (text : Text) → 0 < numbering.cost text };
 
     /// Reading at the place of an entry gives its text.
-    ghost reads: { (texts : List Text) (i : ℕ) → IsValidList numbering.symbol_of numbering.place texts → i < length texts
+    ghost reads: { (texts : List Text) (i : ℕ)
+        → IsValidList numbering.symbol_of numbering.place texts → i < length texts
         → numbering.read texts (numbering.place (take i texts)) ≡ slice_get texts i };
 }
 
@@ -168,7 +175,8 @@ pub trait CopyBackend: Backend {
 
     /// What the buckets of a copy are, by the texts and the buckets that are copied: none, unless the backend has
     /// buckets.
-    ghost copies: { List Text → List Bucket → List Bucket → Type 0 } = { λ _ _ buckets. buckets ≡ [] };
+    ghost copies: { List Text → List Bucket → List Bucket → Type 0 }
+        = { λ _ _ buckets. buckets ≡ [] };
 
     /// Returns a backend with an equal list, and so with the same symbols.
     ///

@@ -57,7 +57,8 @@ impl<S: Symbol> Model for Index<S> {
 
     ghost view = { λ i. record { slots = i.slots; put_back = i.put_back; greatest = i.greatest } };
 
-    ghost invariant = { λ i. IsSound (record { slots = i.slots; put_back = i.put_back; greatest = i.greatest }) i.len };
+    ghost invariant = { λ i. IsSound
+        (record { slots = i.slots; put_back = i.put_back; greatest = i.greatest }) i.len };
 }
 
 // What `TextIndex` asks for: a look-up, room for one more entry, the insertion, and all entries at once.
@@ -84,7 +85,8 @@ impl<S: Symbol> Index<S> {
     ///
     /// Returns `Err` only if an allocation fails or that count does not fit a `usize`.
     pub fn with_capacity(alloc: Global, capacity: usize) -> Result<Self, AllocError>
-        ensures slots { IfOk result (λ index. IsLeastSlotCount three_quarters capacity (length index.slots)) }
+        ensures slots { IfOk result (λ index. IsLeastSlotCount three_quarters capacity
+            (length index.slots)) }
         ensures count { IfOk result (λ index. entry_count index ≡ 0) }
         ensures put_back { IfOk result (λ index. index.put_back ≡ 0) }
         ensures greatest { IfOk result (λ index. index.greatest ≡ 0) }
@@ -124,7 +126,8 @@ impl<S: Symbol> Index<S> {
         looks: &mut Looks<'_, B>,
         text: &str,
     ) -> Entry<S, Vacancy>
-        requires { Fits (entry_text B.numbering (B.texts looks.old.backend)) (H.code hasher.now) self.now.slots }
+        requires { Fits (entry_text B.numbering (B.texts looks.old.backend))
+            (H.code hasher.now) self.now.slots }
         ensures found { found_by result
             ≡ look_up (entry_text B.numbering (B.texts looks.old.backend)) self.now.slots text.now }
         ensures vacant { IfVacant result (IsVacant self.now.slots (H.code hasher.now text.now)) }
@@ -147,7 +150,8 @@ impl<S: Symbol> Index<S> {
         looks: &mut Looks<'_, B>,
         text: &str,
     ) -> Option<S>
-        requires { Fits (entry_text B.numbering (B.texts looks.old.backend)) (H.code hasher.now) self.now.slots }
+        requires { Fits (entry_text B.numbering (B.texts looks.old.backend))
+            (H.code hasher.now) self.now.slots }
         ensures found { result
             ≡ look_up (entry_text B.numbering (B.texts looks.old.backend)) self.now.slots text.now }
         ensures looks { CountsLooks self.now (H.code hasher.now text.now) looks.old looks.new }
@@ -167,9 +171,12 @@ impl<S: Symbol> Index<S> {
         hasher: &H,
         backend: &B,
     ) -> Result<(), AllocError>
-        requires { Fits (entry_text B.numbering (B.texts backend.now)) (H.code hasher.now) self.old.slots }
-        ensures fits { Fits (entry_text B.numbering (B.texts backend.now)) (H.code hasher.now) self.new.slots }
-        ensures same { SameMap (entry_text B.numbering (B.texts backend.now)) self.old.slots self.new.slots }
+        requires { Fits (entry_text B.numbering (B.texts backend.now))
+            (H.code hasher.now) self.old.slots }
+        ensures fits { Fits (entry_text B.numbering (B.texts backend.now))
+            (H.code hasher.now) self.new.slots }
+        ensures same { SameMap (entry_text B.numbering (B.texts backend.now))
+            self.old.slots self.new.slots }
         ensures count { entry_count self.new ≡ entry_count self.old }
         ensures room { OnOk result (HasRoom self.new) }
         ensures had_room { HasRoom self.old → IsOk result × (self.new ≡ self.old) }
@@ -209,7 +216,8 @@ impl<S: Symbol> Index<S> {
     pub fn refill<H: TextHasher, B: Backend<Symbol = S>>(&mut self, hasher: &H, backend: &B)
         requires distinct { IsDistinct (B.texts backend.now) }
         requires room { Holds (length self.old.slots) (length (B.texts backend.now)) }
-        ensures { Refills (entry_text B.numbering (B.texts backend.now)) (H.code hasher.now) self.old self.new
+        ensures { Refills (entry_text B.numbering (B.texts backend.now))
+            (H.code hasher.now) self.old self.new
             (length (B.texts backend.now)) }
     {
         self.slots.clear();
@@ -254,10 +262,13 @@ impl<S: Symbol> Index<S> {
         backend: &B,
         symbol: S,
     )
-        requires fits { Fits (entry_text B.numbering (B.texts backend.now)) (H.code hasher.now) self.old.slots }
+        requires fits { Fits (entry_text B.numbering (B.texts backend.now))
+            (H.code hasher.now) self.old.slots }
         requires room { HasRoom self.old }
-        requires absent { IsAbsent (entry_text B.numbering (B.texts backend.now)) self.old.slots symbol }
-        ensures { Inserts (entry_text B.numbering (B.texts backend.now)) (H.code hasher.now) self.old self.new
+        requires absent { IsAbsent (entry_text B.numbering (B.texts backend.now))
+            self.old.slots symbol }
+        ensures { Inserts (entry_text B.numbering (B.texts backend.now))
+            (H.code hasher.now) self.old self.new
             symbol }
     {
         let text = backend.resolve_unchecked(symbol);

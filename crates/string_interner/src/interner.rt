@@ -9,8 +9,9 @@ ghost use Rattle.std.specs.Prelude.{◌≡◌, ℕ, ◌≤◌, ◌&&◌, ◌↔�
 ghost use Rattle.std.specs.Option.{option_copied};
 ghost use Rattle.std.specs.Cmp.{partial_equiv_from_equiv, on_equiv};
 ghost use Rattle.string_interner.specs.Text.{Text, first, texts_eq, texts_eq-IsEquivalence};
+ghost use Rattle.string_interner.specs.Iter.{iter_over};
 ghost use Rattle.string_interner.specs.Backend.{BeginsAt, IsPlace};
-ghost use Rattle.string_interner.specs.Interner.{IsDistinctList, Finds, InternerContents, InternsInto, IsMadeFor, IsNew, KeepsMemory, Resolves};
+ghost use Rattle.string_interner.specs.Interner.{IsDistinctList, Finds, HasLeastSlots, InternerContents, InternsInto, IsMadeFor, IsNew, KeepsMemory, Resolves};
 ghost use Rattle.string_interner.specs.StandsFor.{KeepsSymbols};
 ghost use Rattle.string_interner.specs.Given.{given_text};
 ghost use Rattle.string_interner.specs.SlotRule.{IsLoaded, IsLeastSlotCount};
@@ -59,7 +60,8 @@ impl<B: Backend, H: TextHasher, I: TextIndex<B::Symbol>> Model for StringInterne
     } };
 
     ghost invariant = { λ i. IsSoundInterner B.numbering
-        (λ entry. I.indexes i.index entry (H.code i.hasher)) (I.entries i.index) (B.texts i.backend) };
+        (λ entry. I.indexes i.index entry (H.code i.hasher))
+        (I.entries i.index) (B.texts i.backend) };
 }
 
 impl<B: Backend, H: TextHasher + Default, I: TextIndex<B::Symbol>> StringInterner<B, H, I> {
@@ -233,8 +235,7 @@ impl<B: Backend, H: TextHasher, I: TextIndex<B::Symbol>> StringInterner<B, H, I>
     /// Returns what the backend reads at a symbol's number, for any symbol. For the symbol of an entry this is its
     /// text.
     pub fn resolve(&self, symbol: B::Symbol) -> Option<&str>
-        ensures { Resolves B.numbering self.now.texts symbol
-            (option_copied result) }
+        ensures { Resolves B.numbering self.now.texts symbol (option_copied result) }
     {
         self.backend.resolve(symbol)
     }
@@ -250,7 +251,7 @@ impl<B: Backend, H: TextHasher, I: TextIndex<B::Symbol>> StringInterner<B, H, I>
 
     /// Iterates over the entries in insertion order, each with its symbol.
     pub fn iter(&self) -> Iter<'_, B>
-        ensures { result ≡ record { behind = []; ahead = self.now.texts } }
+        ensures { result ≡ iter_over self.now.texts }
     {
         self.backend.iter()
     }
@@ -290,8 +291,9 @@ impl<
     /// fit a `usize`.
     pub fn clone(&self) -> Result<Self, AllocError>
         ensures texts { IfOk result (λ copy. copy.texts ≡ self.now.texts) }
-        ensures buckets { IfOk result (λ copy. B.copies self.now.texts self.now.buckets copy.buckets) }
-        ensures slots { IfOk result (λ copy. IsLeastSlotCount I.rule (length self.now.texts) copy.slot_count) }
+        ensures buckets { IfOk result (λ copy. B.copies self.now.texts self.now.buckets
+            copy.buckets) }
+        ensures slots { IfOk result (HasLeastSlots I.rule) }
         ensures keeps { IfOk result (λ copy. KeepsSymbols B.numbering self.now.texts copy.texts) }
     {
         let hasher = self.hasher.clone()?;
@@ -318,7 +320,8 @@ impl<B: CopyBackend + Drop, H: TextHasher + Copy, I: CopyIndex<B::Symbol> + Drop
     /// not fit a `usize`.
     pub fn try_copy(&self) -> Result<Self, AllocError>
         ensures texts { IfOk result (λ copy. copy.texts ≡ self.now.texts) }
-        ensures buckets { IfOk result (λ copy. B.copies self.now.texts self.now.buckets copy.buckets) }
+        ensures buckets { IfOk result (λ copy. B.copies self.now.texts self.now.buckets
+            copy.buckets) }
         ensures slots { IfOk result (λ copy. copy.slot_count ≡ self.now.slot_count) }
         ensures keeps { IfOk result (λ copy. KeepsSymbols B.numbering self.now.texts copy.texts) }
     {
@@ -337,7 +340,7 @@ impl<'a, B: Backend, H: TextHasher, I: TextIndex<B::Symbol>> IntoIterator
 
     type IntoIter = Iter<'a, B>;
 
-    ghost into_iter_gives = { λ interner iter. iter ≡ record { behind = []; ahead = interner.now.texts } };
+    ghost into_iter_gives = { λ interner iter. iter ≡ iter_over interner.now.texts };
 
     fn into_iter(self) -> Iter<'a, B> {
         self.iter()
@@ -346,7 +349,8 @@ impl<'a, B: Backend, H: TextHasher, I: TextIndex<B::Symbol>> IntoIterator
 
 /// Reports whether the next text of an iterator is this one, and advances past it.
 fn next_is<B: Backend>(walk: &mut Iter<'_, B>, text: &str) -> bool
-    ensures { (texts : List Text) → texts_eq (text.now ∷ texts) walk.old.ahead ≡ (result && texts_eq texts walk.new.ahead) }
+    ensures { (texts : List Text) → texts_eq (text.now ∷ texts) walk.old.ahead
+        ≡ (result && texts_eq texts walk.new.ahead) }
 {
     match walk.next() {
         Some((_, found)) => text == found,
@@ -358,7 +362,8 @@ fn next_is<B: Backend>(walk: &mut Iter<'_, B>, text: &str) -> bool
 impl<B: Backend, H: TextHasher, I: TextIndex<B::Symbol>> PartialEq for StringInterner<B, H, I> {
     ghost eq = { λ a b. texts_eq a.texts b.texts };
 
-    ghost laws = { partial_equiv_from_equiv (on_equiv (λ (i : InternerContents). i.texts) texts_eq-IsEquivalence) };
+    ghost laws = { partial_equiv_from_equiv
+        (on_equiv (λ (i : InternerContents). i.texts) texts_eq-IsEquivalence) };
 
     fn eq(&self, other: &Self) -> bool {
         if self.len() != other.len() {

@@ -3,7 +3,7 @@
 ghost use Rattle.std.specs.Prelude.{◌≡◌, length, Ok, IfOk, IsOkAnd};
 ghost use Rattle.serde_json.specs.View.{view, items_view};
 ghost use Rattle.string_interner.specs.SlotRule.{IsLeastSlotCount};
-ghost use Rattle.string_interner.specs.Json.{json_of_texts, json_of_number, read_into, refused, KeepsLeastSlots, ReadsArray, ReadsArrayExactly, ReadsBack, ReadsElements, ReadsElementsExactly, symbol_read};
+ghost use Rattle.string_interner.specs.Json.{json_of_texts, json_of_number, read_into, refused, KeepsLeastSlots, ReadsTexts, ReadsTextsExactly, ReadsElements, ReadsElementsExactly, symbol_read};
 
 use crate::backend::{Backend, InternError};
 use crate::dedup::{TextHasher, TextIndex};
@@ -66,7 +66,8 @@ impl<B: Backend, H: TextHasher, I: TextIndex<B::Symbol>> StringInterner<B, H, I>
 impl<B: Backend, H: TextHasher, I: TextIndex<B::Symbol>> StringInterner<B, H, I> {
     /// Interns the elements of an array in order. The first that fails decides.
     fn read_elements(&mut self, elements: &[Value]) -> Result<(), JsonError>
-        ensures reads { ReadsElements B.numbering self.old.texts 0 (items_view elements.now) (read_into self.new result) }
+        ensures reads { ReadsElements B.numbering self.old.texts 0 (items_view elements.now)
+            (read_into self.new result) }
         ensures slots { IfOk result (λ _. KeepsLeastSlots I.rule self.old self.new) }
     {
         for (index, element) in elements.iter().enumerate() {
@@ -80,7 +81,8 @@ impl<B: Backend, H: TextHasher, I: TextIndex<B::Symbol>> StringInterner<B, H, I>
 
     /// Interns the elements of an array in order, which must all be new. The first that fails decides.
     fn read_elements_exactly(&mut self, elements: &[Value]) -> Result<(), JsonError>
-        ensures reads { ReadsElementsExactly B.numbering self.old.texts 0 (items_view elements.now) (read_into self.new result) }
+        ensures reads { ReadsElementsExactly B.numbering self.old.texts 0
+            (items_view elements.now) (read_into self.new result) }
         ensures slots { IfOk result (λ _. KeepsLeastSlots I.rule self.old self.new) }
     {
         for (index, element) in elements.iter().enumerate() {
@@ -110,11 +112,7 @@ impl<
     /// Returns `NotAList` if the value is not an array. Else the first element that fails decides: it returns
     /// `NotAText` if it is not a string, and fails as in `get_or_intern` if it is.
     pub fn from_json(alloc: Global, value: &Value) -> Result<Self, JsonError>
-        ensures reads { ReadsArray B.numbering (view value.now) result }
-        ensures slots { IfOk result (λ interner. IsLeastSlotCount I.rule (length interner.texts) interner.slot_count) }
-
-        // What `to_json` wrote is read back.
-        ensures gives_back { ReadsBack B.numbering (view value.now) result }
+        ensures { ReadsTexts B.numbering I.rule (view value.now) result }
     {
         StringInterner::from_json_with_hasher(alloc, value, H::default())
     }
@@ -125,12 +123,7 @@ impl<
     /// Reads and fails as `from_json` does, but accepts no repeats: a string equal to an earlier element returns
     /// `Repeated`, before a symbol or memory is asked for it. `["a", "b", "a"]` fails at index 2.
     pub fn from_json_exact(alloc: Global, value: &Value) -> Result<Self, JsonError>
-        ensures reads { ReadsArrayExactly B.numbering (view value.now) result }
-        ensures form { IfOk result (λ interner. view value.now ≡ json_of_texts interner.texts) }
-        ensures slots { IfOk result (λ interner. IsLeastSlotCount I.rule (length interner.texts) interner.slot_count) }
-
-        // What `to_json` wrote is read back.
-        ensures gives_back { ReadsBack B.numbering (view value.now) result }
+        ensures { ReadsTextsExactly B.numbering I.rule (view value.now) result }
     {
         StringInterner::from_json_exact_with_hasher(alloc, value, H::default())
     }
@@ -143,11 +136,7 @@ impl<B: Backend + Drop, H: TextHasher + Drop, I: TextIndex<B::Symbol> + Drop> St
 > {
     /// Makes an interner from a JSON array of strings as `from_json` does, under this hasher.
     pub fn from_json_with_hasher(alloc: Global, value: &Value, hasher: H) -> Result<Self, JsonError>
-        ensures reads { ReadsArray B.numbering (view value.now) result }
-        ensures slots { IfOk result (λ interner. IsLeastSlotCount I.rule (length interner.texts) interner.slot_count) }
-
-        // What `to_json` wrote is read back.
-        ensures gives_back { ReadsBack B.numbering (view value.now) result }
+        ensures { ReadsTexts B.numbering I.rule (view value.now) result }
     {
         let elements = value.as_array().ok_or(JsonError::NotAList)?;
         let mut interner = StringInterner::with_hasher(alloc, hasher);
@@ -161,12 +150,7 @@ impl<B: Backend + Drop, H: TextHasher + Drop, I: TextIndex<B::Symbol> + Drop> St
         value: &Value,
         hasher: H,
     ) -> Result<Self, JsonError>
-        ensures reads { ReadsArrayExactly B.numbering (view value.now) result }
-        ensures form { IfOk result (λ interner. view value.now ≡ json_of_texts interner.texts) }
-        ensures slots { IfOk result (λ interner. IsLeastSlotCount I.rule (length interner.texts) interner.slot_count) }
-
-        // What `to_json` wrote is read back.
-        ensures gives_back { ReadsBack B.numbering (view value.now) result }
+        ensures { ReadsTextsExactly B.numbering I.rule (view value.now) result }
     {
         let Some(elements) = value.as_array() else {
             return Err(JsonError::NotAList);
@@ -182,7 +166,8 @@ pub fn symbol_to_json<S: Symbol>(_alloc: Global, symbol: S) -> Result<Value, All
     ensures value { IsOkAnd result (λ value. view value ≡ json_of_number (S.number symbol)) }
 
     // `symbol_from_json` reads the symbol back.
-    ensures gives_back { IsOkAnd result (λ value. symbol_read S.symbol_of (view value) ≡ Ok symbol) }
+    ensures gives_back { IsOkAnd result
+        (λ value. symbol_read S.symbol_of (view value) ≡ Ok symbol) }
 {
     Ok(Value::from(symbol.to_usize()))
 }

@@ -3,6 +3,7 @@
 ghost use Rattle.std.specs.Prelude.{◌≡◌, ◌+◌, ◌↔◌, [], ◌∷◌, ◌++◌, length, None, IsTrue, IsSome, OnOk, OnErr};
 ghost use Rattle.std.specs.Option.{option_copied};
 ghost use Rattle.string_interner.specs.Text.{first};
+ghost use Rattle.string_interner.specs.Iter.{iter_over};
 ghost use Rattle.string_interner.specs.Interner.{IsDistinctList, Finds, InternsInto, KeepsMemory, Resolves};
 ghost use Rattle.string_interner.specs.StandsFor.{KeepsSymbols};
 ghost use Rattle.string_interner.specs.Scopes.{layers, joined_layers, as_interner, Leaves, LayerStep, LeavingGivesBack};
@@ -105,7 +106,8 @@ impl<B: Backend, H: TextHasher, I: TextIndex<B::Symbol>> Scopes<B, H, I> {
         ensures below { self.new.below ≡ self.old.below }
         ensures new { first (joined_layers (layers self.old)) text.now ≡ None
             → OnOk result (self.new.top ≡ self.old.top ++ text.now ∷ []) }
-        ensures known { IsSome (first (joined_layers (layers self.old)) text.now) → self.new ≡ self.old }
+        ensures known { IsSome (first (joined_layers (layers self.old)) text.now)
+            → self.new ≡ self.old }
         ensures err { OnErr result (layers self.new ≡ layers self.old) }
         ensures step { LayerStep (layers self.old) (layers self.new) }
     {
@@ -156,7 +158,7 @@ impl<B: Backend, H: TextHasher, I: TextIndex<B::Symbol>> Scopes<B, H, I> {
     /// Iterates over the texts of all layers in insertion order, from the bottom layer to the top one, each with its
     /// symbol.
     pub fn iter(&self) -> Iter<'_, B>
-        ensures { result ≡ record { behind = []; ahead = joined_layers (layers self.now) } }
+        ensures { result ≡ iter_over (joined_layers (layers self.now)) }
     {
         self.interner().iter()
     }

@@ -11,6 +11,7 @@ ghost use Rattle.std.specs.Cmp.{partial_equiv_from_equiv, on_equiv};
 ghost use Rattle.std.proofs.Common.{rules};
 ghost use Rattle.string_interner.specs.Backend.{IsValidList};
 ghost use Rattle.string_interner.specs.Text.{texts_eq, texts_eq-IsEquivalence};
+ghost use Rattle.string_interner.specs.Iter.{iter_over};
 ghost use Rattle.string_interner.specs.Numbering.{by_index};
 ghost use Rattle.string_interner.specs.ByIndexLaws.{length_grows, reads_at_length};
 ghost use Rattle.string_interner.specs.BucketBackend.{BucketContents, empty_contents, buckets_of, AppendsText, AreBounded, CopiesBuckets, JoinsBuckets, KeepsBuckets, Puts, Stays, interned_text};
@@ -58,7 +59,8 @@ impl<S: Symbol> Model for BucketBackend<S> {
       statics = map is_static b.entries.items;
       full = b.full.items;
       head = b.head;
-      room = min (b.head.capacity - length b.head.bytes) (vec_capacity b.entries - vec_len b.entries);
+      room = min (b.head.capacity - length b.head.bytes)
+        (vec_capacity b.entries - vec_len b.entries);
     } };
 
     ghost invariant = { λ b. IsInBuckets S.symbol_of b.full.items b.head b.entries.items };
@@ -137,8 +139,10 @@ impl<S: Symbol> Backend for BucketBackend<S> {
 
         // The text goes into a bucket, where all that stood stays.
         ensures statics { OnOk result (self.new.statics ≡ self.old.statics ++ false ∷ []) }
-        ensures puts { OnOk result (Puts text.now self.old.full self.old.head self.new.full self.new.head) }
-        ensures stays { Stays (buckets_of self.old.full self.old.head) (buckets_of self.new.full self.new.head) }
+        ensures puts { OnOk result (Puts text.now self.old.full self.old.head
+            self.new.full self.new.head) }
+        ensures stays { Stays (buckets_of self.old.full self.old.head)
+            (buckets_of self.new.full self.new.head) }
         ensures err { OnErr result (self.new ≡ record self.old { room = self.new.room }) }
     {
         // Asks for the symbol and allocates before it stores anything, so that nothing changes on `Err`.
@@ -242,7 +246,8 @@ impl<S: Symbol> CopyBackend for BucketBackend<S> {
     fn try_copy(&self) -> Result<Self, AllocError>
         ensures joins { IfOk result (JoinsBuckets self.now) }
         ensures texts { IfOk result (λ copy. copy.texts ≡ self.now.texts) }
-        ensures buckets { IfOk result (λ copy. CopiesBuckets self.now.texts (buckets_of self.now.full self.now.head)
+        ensures buckets { IfOk result (λ copy. CopiesBuckets self.now.texts
+            (buckets_of self.now.full self.now.head)
             (buckets_of copy.full copy.head)) }
     {
         // For the proof: states that each text is told as static or not.
@@ -256,7 +261,7 @@ impl<'a, S: Symbol> IntoIterator for &'a BucketBackend<S> {
 
     type IntoIter = Iter<'a, BucketBackend<S>>;
 
-    ghost into_iter_gives = { λ backend iter. iter ≡ record { behind = []; ahead = backend.now.texts } };
+    ghost into_iter_gives = { λ backend iter. iter ≡ iter_over backend.now.texts };
 
     fn into_iter(self) -> Iter<'a, BucketBackend<S>> {
         Iter::new(self)
@@ -267,7 +272,8 @@ impl<'a, S: Symbol> IntoIterator for &'a BucketBackend<S> {
 impl<S: Symbol> PartialEq for BucketBackend<S> {
     ghost eq = { λ a b. texts_eq a.texts b.texts };
 
-    ghost laws = { partial_equiv_from_equiv (on_equiv (λ (b : BucketContents). b.texts) texts_eq-IsEquivalence) };
+    ghost laws = { partial_equiv_from_equiv
+        (on_equiv (λ (b : BucketContents). b.texts) texts_eq-IsEquivalence) };
 
     fn eq(&self, other: &Self) -> bool {
         let count = self.count();

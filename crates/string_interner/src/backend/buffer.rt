@@ -6,6 +6,7 @@ ghost use Rattle.std.specs.Prelude.{◌≡◌, ℕ, ◌+◌, ◌*◌, ◌^◌, �
 ghost use Rattle.std.specs.Option.{option_copied};
 ghost use Rattle.std.specs.Cmp.{partial_equiv_from_equiv, on_equiv};
 ghost use Rattle.string_interner.specs.Text.{Text, texts_eq, texts_eq-IsEquivalence};
+ghost use Rattle.string_interner.specs.Iter.{iter_over};
 ghost use Rattle.string_interner.specs.Backend.{Contents, Shrinks, BeginsAt, IsValidList};
 ghost use Rattle.string_interner.specs.Spelling.{digits, IsLeastDigitCount};
 ghost use Rattle.string_interner.specs.BufferBackend.{by_byte, entry_of, bytes_of, entry_len, place_of, Reads, read_front, read_at, HasEntryAt};
@@ -47,9 +48,13 @@ impl<S: Symbol> Model for BufferBackend<S> {
 
     ghost Value = { Contents };
 
-    ghost view = { λ b. record { texts = front_texts b.count b.bytes.items; room = vec_capacity b.bytes - vec_len b.bytes } };
+    ghost view = { λ b. record {
+      texts = front_texts b.count b.bytes.items;
+      room = vec_capacity b.bytes - vec_len b.bytes;
+    } };
 
-    ghost invariant = { λ b. IsSpelled S.symbol_of b.bytes.items (front_texts b.count b.bytes.items) };
+    ghost invariant = { λ b. IsSpelled S.symbol_of b.bytes.items
+        (front_texts b.count b.bytes.items) };
 }
 
 /// Returns the text at the front, behind its length: `None` unless the length can be decoded and the text is complete
@@ -67,9 +72,11 @@ fn front_text(bytes: &[u8]) -> Option<&str>
 #[inline]
 fn text_and_next(bytes: &[u8], at: usize) -> (&str, usize)
     requires { HasEntryAt bytes.now at }
-    ensures text { (texts : List Text) (i : ℕ) → bytes.now ≡ bytes_of texts → BeginsAt place_of texts at i
+    ensures text { (texts : List Text) (i : ℕ) → bytes.now ≡ bytes_of texts
+        → BeginsAt place_of texts at i
         → slice_get texts i ≡ Some result.0.now }
-    ensures next { (texts : List Text) (i : ℕ) → bytes.now ≡ bytes_of texts → BeginsAt place_of texts at i
+    ensures next { (texts : List Text) (i : ℕ) → bytes.now ≡ bytes_of texts
+        → BeginsAt place_of texts at i
         → result.1 ≡ place_of (take (i + 1) texts) }
 {
     let front = &bytes[at..];
@@ -235,7 +242,7 @@ impl<'a, S: Symbol> IntoIterator for &'a BufferBackend<S> {
 
     type IntoIter = Iter<'a, BufferBackend<S>>;
 
-    ghost into_iter_gives = { λ backend iter. iter ≡ record { behind = []; ahead = backend.now.texts } };
+    ghost into_iter_gives = { λ backend iter. iter ≡ iter_over backend.now.texts };
 
     fn into_iter(self) -> Iter<'a, BufferBackend<S>> {
         Iter::new(self)
@@ -246,7 +253,8 @@ impl<'a, S: Symbol> IntoIterator for &'a BufferBackend<S> {
 impl<S: Symbol> PartialEq for BufferBackend<S> {
     ghost eq = { λ a b. texts_eq a.texts b.texts };
 
-    ghost laws = { partial_equiv_from_equiv (on_equiv (λ (b : Contents). b.texts) texts_eq-IsEquivalence) };
+    ghost laws = { partial_equiv_from_equiv
+        (on_equiv (λ (b : Contents). b.texts) texts_eq-IsEquivalence) };
 
     fn eq(&self, other: &Self) -> bool
         ensures value { result ≡ texts_eq self.now.texts other.now.texts }

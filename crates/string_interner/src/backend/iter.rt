@@ -3,7 +3,7 @@
 ghost use Rattle.std.specs.Prelude.{◌≡◌, [], length, Some, IfSome};
 ghost use Rattle.std.specs.Iterator.{UpTo, YieldsFirstBy, item_count};
 ghost use Rattle.std.specs.Iterator.SizeHint.{IsWithinCount};
-ghost use Rattle.string_interner.specs.Iter.{entries};
+ghost use Rattle.string_interner.specs.Iter.{entries, iter_over};
 
 use crate::backend::Backend;
 use std::iter::ExactSizeIterator;
@@ -33,13 +33,14 @@ impl<'a, B: Backend> Model for Iter<'a, B> {
     } };
 
     ghost invariant = { λ s. (s.left ≤ length (B.texts s.backend.now))
-        × (B.numbering.place (take (length (B.texts s.backend.now) - s.left) (B.texts s.backend.now)) ≡ s.next) };
+        × (B.numbering.place (take (length (B.texts s.backend.now) - s.left)
+            (B.texts s.backend.now)) ≡ s.next) };
 }
 
 impl<'a, B: Backend> Iter<'a, B> {
     /// Makes an iterator that starts at the first entry.
     pub fn new(backend: &'a B) -> Self
-        ensures { result ≡ record { behind = []; ahead = B.texts backend.now } }
+        ensures { result ≡ iter_over (B.texts backend.now) }
     {
         Iter {
             backend,

@@ -5,6 +5,7 @@ ghost use Rattle.std.specs.Cmp.{partial_equiv_from_equiv, on_equiv};
 ghost use Rattle.std.proofs.Common.{rules};
 ghost use Rattle.string_interner.specs.Backend.{Contents, Shrinks};
 ghost use Rattle.string_interner.specs.Text.{texts_eq, texts_eq-IsEquivalence};
+ghost use Rattle.string_interner.specs.Iter.{iter_over};
 ghost use Rattle.string_interner.specs.StringBackend.{cut, start_at, IsCut};
 ghost use Rattle.string_interner.specs.Numbering.{by_index};
 ghost use Rattle.string_interner.specs.ByIndexLaws.{length_grows, reads_at_length};
@@ -36,10 +37,12 @@ impl<S: Symbol> Model for StringBackend<S> {
 
     ghost view = { λ b. record {
       texts = cut 0 (string_bytes b.joined) b.ends.items;
-      room = min (string_capacity b.joined - string_len b.joined) (5 * (vec_capacity b.ends - vec_len b.ends));
+      room = min (string_capacity b.joined - string_len b.joined)
+        (5 * (vec_capacity b.ends - vec_len b.ends));
     } };
 
-    ghost invariant = { λ b. IsJoined S.symbol_of (string_bytes b.joined) b.ends.items (cut 0 (string_bytes b.joined) b.ends.items) };
+    ghost invariant = { λ b. IsJoined S.symbol_of (string_bytes b.joined) b.ends.items
+        (cut 0 (string_bytes b.joined) b.ends.items) };
 }
 
 /// Returns the byte at which entry `index` begins: the end of the entry before it, or 0.
@@ -185,7 +188,7 @@ impl<'a, S: Symbol> IntoIterator for &'a StringBackend<S> {
 
     type IntoIter = Iter<'a, StringBackend<S>>;
 
-    ghost into_iter_gives = { λ backend iter. iter ≡ record { behind = []; ahead = backend.now.texts } };
+    ghost into_iter_gives = { λ backend iter. iter ≡ iter_over backend.now.texts };
 
     fn into_iter(self) -> Iter<'a, StringBackend<S>> {
         Iter::new(self)
@@ -196,7 +199,8 @@ impl<'a, S: Symbol> IntoIterator for &'a StringBackend<S> {
 impl<S: Symbol> PartialEq for StringBackend<S> {
     ghost eq = { λ a b. texts_eq a.texts b.texts };
 
-    ghost laws = { partial_equiv_from_equiv (on_equiv (λ (b : Contents). b.texts) texts_eq-IsEquivalence) };
+    ghost laws = { partial_equiv_from_equiv
+        (on_equiv (λ (b : Contents). b.texts) texts_eq-IsEquivalence) };
 
     fn eq(&self, other: &Self) -> bool {
         self.ends == other.ends && self.joined == other.joined

@@ -27,7 +27,8 @@ pub fn rehash<S: Symbol, H: TextHasher, B: Backend<Symbol = S>>(
     backend: &B,
     alloc: Global,
 ) -> Result<Slots<S>, AllocError>
-    requires fits { Fits (entry_text B.numbering (B.texts backend.now)) (H.code hasher.now) slots.old }
+    requires fits { Fits (entry_text B.numbering (B.texts backend.now))
+        (H.code hasher.now) slots.old }
     requires more { length slots.old < count }
     requires count { IsSlotCount count }
     ensures same { slots.new ≡ slots.old }
@@ -56,7 +57,8 @@ pub fn put_all<S: Symbol, H: TextHasher, B: Backend<Symbol = S>>(
     requires empty { symbols slots.old ≡ [] }
     requires room { Holds (length slots.old) (length (B.texts backend.now)) }
     requires count { IsSlotCount (length slots.old) }
-    ensures whole { IsWhole (entry_text B.numbering (B.texts backend.now)) (H.code hasher.now) slots.new }
+    ensures whole { IsWhole (entry_text B.numbering (B.texts backend.now))
+        (H.code hasher.now) slots.new }
     ensures entries { length (symbols slots.new) ≡ length (B.texts backend.now) }
     ensures count { length slots.new ≡ length slots.old }
 {

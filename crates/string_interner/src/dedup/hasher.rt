@@ -146,7 +146,8 @@ impl<S: BuildHasher> StdHasher<S> {
 }
 
 impl<S: BuildHasher> TextHasher for StdHasher<S> {
-    ghost code = { λ hasher text. one_write S.Hasher.write S.Hasher.finish (S.build_hasher hasher.builder) text };
+    ghost code = { λ hasher text. one_write S.Hasher.write S.Hasher.finish
+        (S.build_hasher hasher.builder) text };
 
     #[inline]
     fn hash_text(&self, text: &str) -> u64 {

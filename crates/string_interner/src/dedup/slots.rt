@@ -139,7 +139,8 @@ impl<S: Symbol> Slots<S> {
         requires is_entry { (s : S) → slice_index_or self.now at None ≡ Some s
             → IsSome (entry_text B.numbering (B.texts looks.old.backend) s) }
         ensures empty { IfNone result (slice_index_or self.now at None ≡ None) }
-        ensures symbol { IfSome result (λ seen. slice_index_or self.now at None ≡ Some seen.symbol) }
+        ensures symbol { IfSome result (λ seen. slice_index_or self.now at None
+            ≡ Some seen.symbol) }
         ensures matches { IfSome result (λ seen. seen.matches
             ≡ has_text (entry_text B.numbering (B.texts looks.old.backend)) text.now seen.symbol) }
         ensures backend { looks.new.backend ≡ looks.old.backend }

@@ -81,7 +81,8 @@ pub trait TextIndex<S: Symbol> {
         backend: &B,
         text: &str,
     ) -> Entry<S, Self::Vacancy>
-        requires { indexes self.now (entry_text B.numbering (B.texts backend.now)) (H.code hasher.now) }
+        requires { indexes self.now (entry_text B.numbering (B.texts backend.now))
+            (H.code hasher.now) }
         ensures occupied { IfOccupied result
             (λ symbol. entry_text B.numbering (B.texts backend.now) symbol ≡ Some text.now) }
         ensures new_text { IfVacant result
@@ -96,8 +97,10 @@ pub trait TextIndex<S: Symbol> {
         hasher: &H,
         backend: &B,
     ) -> Result<(), AllocError>
-        requires { indexes self.old (entry_text B.numbering (B.texts backend.now)) (H.code hasher.now) }
-        ensures same { indexes self.new (entry_text B.numbering (B.texts backend.now)) (H.code hasher.now) }
+        requires { indexes self.old (entry_text B.numbering (B.texts backend.now))
+            (H.code hasher.now) }
+        ensures same { indexes self.new (entry_text B.numbering (B.texts backend.now))
+            (H.code hasher.now) }
         ensures count { entries self.new ≡ entries self.old }
         ensures room { OnOk result (rule.holds (slots self.new) (entries self.new + 1)) }
         ensures had_room { rule.holds (slots self.old) (entries self.old + 1)
@@ -114,8 +117,10 @@ pub trait TextIndex<S: Symbol> {
     fn insert_at(&mut self, vacancy: Self::Vacancy, symbol: S)
         requires room { rule.holds (slots self.old) (entries self.old + 1) }
         requires vacant { (code : ℕ) × is_vacant self.old code vacancy }
-        ensures adds { (entry more : S → Option Text) (code : Text → ℕ) (text : Text) → AddsEntry entry more symbol text
-            → indexes self.old entry code → is_vacant self.old (code text) vacancy → indexes self.new more code }
+        ensures adds { (entry more : S → Option Text) (code : Text → ℕ) (text : Text)
+            → AddsEntry entry more symbol text
+            → indexes self.old entry code → is_vacant self.old (code text) vacancy
+            → indexes self.new more code }
         ensures count { entries self.new ≡ entries self.old + 1 }
         ensures slots { slots self.new ≡ slots self.old };
 
@@ -124,7 +129,8 @@ pub trait TextIndex<S: Symbol> {
     fn refill<H: TextHasher, B: Backend<Symbol = S>>(&mut self, hasher: &H, backend: &B)
         requires distinct { IsDistinct (B.texts backend.now) }
         requires room { rule.holds (slots self.old) (length (B.texts backend.now)) }
-        ensures whole { indexes self.new (entry_text B.numbering (B.texts backend.now)) (H.code hasher.now) }
+        ensures whole { indexes self.new (entry_text B.numbering (B.texts backend.now))
+            (H.code hasher.now) }
         ensures count { entries self.new ≡ length (B.texts backend.now) }
         ensures slots { slots self.new ≡ slots self.old };
 

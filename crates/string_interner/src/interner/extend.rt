@@ -20,9 +20,10 @@ impl<B: Backend, H: TextHasher, I: TextIndex<B::Symbol>> StringInterner<B, H, I>
         &mut self,
         iter: T,
     ) -> Result<(), InternError>
-        requires { IsFiniteIterable T.into_iter_gives T.IntoIter.can_next T.IntoIter.remaining iter }
-        ensures { Extends B.numbering I.rule (YieldedBy T.into_iter_gives T.IntoIter.next_gives iter)
-            self.old result self.new }
+        requires { IsFiniteIterable T.into_iter_gives T.IntoIter.can_next
+            T.IntoIter.remaining iter }
+        ensures { Extends B.numbering I.rule
+            (YieldedBy T.into_iter_gives T.IntoIter.next_gives iter) self.old result self.new }
     {
         // For the proof: states the load factor before the first text.
         let _ = self.len();
@@ -47,9 +48,10 @@ impl<
         alloc: Global,
         iter: T,
     ) -> Result<Self, InternError>
-        requires { IsFiniteIterable T.into_iter_gives T.IntoIter.can_next T.IntoIter.remaining iter }
-        ensures { Collects B.numbering I.rule (YieldedBy T.into_iter_gives T.IntoIter.next_gives iter)
-            result }
+        requires { IsFiniteIterable T.into_iter_gives T.IntoIter.can_next
+            T.IntoIter.remaining iter }
+        ensures { Collects B.numbering I.rule
+            (YieldedBy T.into_iter_gives T.IntoIter.next_gives iter) result }
     {
         let mut interner = StringInterner::new(alloc);
         interner.extend(iter)?;

@@ -26,8 +26,10 @@ impl<B: Backend, H: TextHasher, I: TextIndex<B::Symbol>> StringInterner<B, H, I>
         texts: T,
         symbols: &mut Vec<B::Symbol>,
     ) -> Result<(), InternError>
-        requires { IsFiniteIterable T.into_iter_gives T.IntoIter.can_next T.IntoIter.remaining texts }
-        ensures { InternsEach B.numbering I.rule (YieldedBy T.into_iter_gives T.IntoIter.next_gives texts)
+        requires { IsFiniteIterable T.into_iter_gives T.IntoIter.can_next
+            T.IntoIter.remaining texts }
+        ensures { InternsEach B.numbering I.rule
+            (YieldedBy T.into_iter_gives T.IntoIter.next_gives texts)
             (self.old, symbols.old) result (self.new, symbols.new) }
     {
         // For the proof: states the load factor before the first text.

@@ -47,7 +47,8 @@ pub fn interned_text<'a>(
 /// allocation fails or that capacity does not fit a `usize`.
 pub fn new_head(alloc: Global, before: usize, text: &str) -> Result<(FixedString, Span), AllocError>
     ensures bytes { IfOk result (λ made. made.0.bytes ≡ text.now) }
-    ensures capacity { IfOk result (λ made. IsNextPowerOfTwo (max before (length text.now) + 1) made.0.capacity) }
+    ensures capacity { IfOk result (λ made. IsNextPowerOfTwo (max before (length text.now) + 1)
+        made.0.capacity) }
     ensures span { IfOk result (λ made. made.1 ≡ record { from = 0; to = length text.now }) }
 {
     let least = before.max(text.len()).checked_add(1).ok_or(AllocError)?;

@@ -32,7 +32,8 @@ fn copy_of(
 ) -> Result<InternedStr, AllocError>
     requires entry { IsEntry (buckets_of full.now head.now) interned }
     requires room { length bucket.old.bytes + interned_len interned ≤ bucket.old.capacity }
-    ensures { IfOk result (IsBucketCopy (buckets_of full.now head.now) interned bucket.old bucket.new) }
+    ensures { IfOk result (IsBucketCopy (buckets_of full.now head.now) interned
+        bucket.old bucket.new) }
 {
     match interned {
         InternedStr::InBucket { .. } => {
@@ -56,7 +57,8 @@ pub fn copies_of(
     requires utf8 { All IsUtf8 (map (interned_text (buckets_of full.now head.now)) entries.now) }
     requires room { sum_by interned_len entries.now ≤ capacity }
     ensures capacity { IfOk result (λ made. made.1.capacity ≡ capacity) }
-    ensures copies { IfOk result (λ made. AreCopies (buckets_of full.now head.now) entries.now made.0.items made.1) }
+    ensures copies { IfOk result (λ made. AreCopies (buckets_of full.now head.now) entries.now
+        made.0.items made.1) }
 {
     let mut copies = Vec::with_capacity(alloc, entries.len())?;
     let mut bucket = FixedString::with_capacity(alloc, capacity)?;

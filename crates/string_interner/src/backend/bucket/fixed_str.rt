@@ -96,7 +96,10 @@ impl FixedString {
         ensures too_long { self.old.capacity < length self.old.bytes + length text.now
             → (result ≡ Ok None) × (self.new ≡ self.old) }
         ensures fits { length self.old.bytes + length text.now ≤ self.old.capacity
-            → (result ≡ Ok (Some (record { from = length self.old.bytes; to = length self.old.bytes + length text.now })))
+            → (result ≡ Ok (Some (record {
+              from = length self.old.bytes;
+              to = length self.old.bytes + length text.now;
+            })))
             × (self.new ≡ record self.old { bytes = self.old.bytes ++ text.now }) }
     {
         let from = self.contents.len();

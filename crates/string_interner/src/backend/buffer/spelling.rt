@@ -47,7 +47,8 @@ pub(super) fn push_number(buffer: &mut Vec<u8>, mut number: usize)
 /// Decodes the number at the front: `None` unless there is one, of at most ten digits, that fits a `usize`.
 #[inline]
 pub(super) fn number_at(bytes: &[u8]) -> Option<Spelled>
-    ensures { SomeIff result (IsTrue (has_front bytes.now)) (record { number = front_value bytes.now; len = front_len bytes.now }) }
+    ensures { SomeIff result (IsTrue (has_front bytes.now))
+        (record { number = front_value bytes.now; len = front_len bytes.now }) }
 {
     let first = *bytes.first()?;
     if first < 128 {
@@ -62,7 +63,8 @@ pub(super) fn number_at(bytes: &[u8]) -> Option<Spelled>
 
 /// The same, digit by digit.
 fn long_number_at(bytes: &[u8]) -> Option<Spelled>
-    ensures { SomeIff result (IsTrue (has_front bytes.now)) (record { number = front_value bytes.now; len = front_len bytes.now }) }
+    ensures { SomeIff result (IsTrue (has_front bytes.now))
+        (record { number = front_value bytes.now; len = front_len bytes.now }) }
 {
     let mut number = 0;
     let mut unit = 1;

@@ -50,13 +50,16 @@ fn code_for<S: Symbol, H: TextHasher, B: Backend<Symbol = S>>(
     requires within { at < length slots.now.slots }
     requires slot { slice_index_or slots.now.slots at None ≡ Some symbol }
     requires is_entry { IsSome (entry_text B.numbering (B.texts backend.now) symbol) }
-    requires coded { IsCoded (entry_text B.numbering (B.texts backend.now)) (H.code hasher.now) slots.now }
+    requires coded { IsCoded (entry_text B.numbering (B.texts backend.now))
+        (H.code hasher.now) slots.now }
     requires some { 0 < count }
     requires count { IsSlotCount count }
     ensures home { result % count
-        ≡ H.code hasher.now (text_of (entry_text B.numbering (B.texts backend.now)) symbol) % count }
+        ≡ H.code hasher.now (text_of (entry_text B.numbering (B.texts backend.now))
+        symbol) % count }
     ensures stored { stored_code result
-        ≡ stored_code (H.code hasher.now (text_of (entry_text B.numbering (B.texts backend.now)) symbol)) }
+        ≡ stored_code (H.code hasher.now (text_of (entry_text B.numbering (B.texts backend.now))
+        symbol)) }
 {
     if count <= MOST_SLOTS_BY_STORED_CODE {
         u64::from(slots.code_at(at))
@@ -75,8 +78,10 @@ pub fn rehash<S: Symbol, H: TextHasher, B: Backend<Symbol = S>>(
     backend: &B,
     alloc: Global,
 ) -> Result<CodedSlots<S>, AllocError>
-    requires fits { Fits (entry_text B.numbering (B.texts backend.now)) (H.code hasher.now) slots.now.slots }
-    requires coded { IsCoded (entry_text B.numbering (B.texts backend.now)) (H.code hasher.now) slots.now }
+    requires fits { Fits (entry_text B.numbering (B.texts backend.now))
+        (H.code hasher.now) slots.now.slots }
+    requires coded { IsCoded (entry_text B.numbering (B.texts backend.now))
+        (H.code hasher.now) slots.now }
     requires more { length slots.now.slots < count }
     requires count { IsSlotCount count }
     ensures made { IfOk result (λ bigger. Rebuilt (entry_text B.numbering (B.texts backend.now))
@@ -106,7 +111,8 @@ pub fn put_all<S: Symbol, H: TextHasher, B: Backend<Symbol = S>>(
     requires empty { symbols slots.old.slots ≡ [] }
     requires room { HoldsInWindow (length slots.old.slots) (length (B.texts backend.now)) }
     requires count { IsSlotCount (length slots.old.slots) }
-    ensures whole { IsWindow (entry_text B.numbering (B.texts backend.now)) (H.code hasher.now) slots.new }
+    ensures whole { IsWindow (entry_text B.numbering (B.texts backend.now))
+        (H.code hasher.now) slots.new }
     ensures entries { length (symbols slots.new.slots) ≡ length (B.texts backend.now) }
     ensures count { length slots.new.slots ≡ length slots.old.slots }
 {

@@ -35,7 +35,8 @@ pub fn probe<S: Symbol, B: Backend<Symbol = S>>(
     text: &str,
 ) -> Entry<S, Vacancy>
     requires free { HasFreeSlot slots.now.slots }
-    requires tag { TagTells (has_text (entry_text B.numbering (B.texts backend.now)) text.now) slots.now
+    requires tag { TagTells (has_text (entry_text B.numbering (B.texts backend.now)) text.now)
+        slots.now
         (tag_of (stored_code code)) }
     requires entries { (s : S) → Contains slots.now.slots (Some s)
         → IsSome (entry_text B.numbering (B.texts backend.now) s) }
@@ -85,7 +86,8 @@ pub fn put_by_code<S: Symbol>(slots: &mut CodedSlots<S>, code: u64, symbol: S)
 pub fn occupy<S: Symbol>(slots: &mut CodedSlots<S>, vacancy: Vacancy, symbol: S)
     requires free { HasFreeSlot slots.old.slots }
     requires vacant { IsVacant slots.old.slots vacancy.code vacancy }
-    ensures puts { FillsCoded slots.old slots.new (vacancy.code % length slots.old.slots) symbol vacancy.code }
+    ensures puts { FillsCoded slots.old slots.new (vacancy.code % length slots.old.slots)
+        symbol vacancy.code }
     ensures small { length slots.old.slots < 2 ^ 64 }
 {
     if vacancy.slot_count == slots.len() {

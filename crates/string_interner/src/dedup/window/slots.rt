@@ -35,7 +35,8 @@ impl<S: Symbol> Model for CodedSlots<S> {
 
     ghost view = { λ s. contents_of s.items.items s.codes.items s.tags.items };
 
-    ghost invariant = { λ s. IsTagged s.items.items s.codes.items s.tags.items (vec_capacity s.items) };
+    ghost invariant = { λ s. IsTagged s.items.items s.codes.items s.tags.items
+        (vec_capacity s.items) };
 }
 
 /// Fills an empty list up to `count` with this item. Allocates nothing, since the capacity is there.
