@@ -3,7 +3,6 @@
 mod extend;
 mod given;
 mod intern_all;
-mod law;
 
 ghost use Rattle.std.specs.Prelude.{◌≡◌, ℕ, ◌≤◌, ◌&&◌, ◌↔◌, List, [], ◌∷◌, length, take, slice_get, Some, IsTrue, IsSome, IfOk};
 ghost use Rattle.std.specs.Option.{option_copied};
@@ -11,8 +10,8 @@ ghost use Rattle.std.specs.Cmp.{partial_equiv_from_equiv, on_equiv};
 ghost use Rattle.string_interner.specs.Text.{Text, first, texts_eq, texts_eq-IsEquivalence};
 ghost use Rattle.string_interner.specs.Iter.{iter_over};
 ghost use Rattle.string_interner.specs.Backend.{BeginsAt, IsPlace};
-ghost use Rattle.string_interner.specs.Interner.{IsDistinctList, Finds, HasLeastSlots, InternerContents, InternsInto, IsMadeFor, IsNew, KeepsMemory, Resolves};
-ghost use Rattle.string_interner.specs.StandsFor.{KeepsSymbols};
+ghost use Rattle.string_interner.specs.Interner.{IsDistinctList, Finds, HasLeastSlots, InternerContents, InternsInto, IsCopyOf, IsMadeFor, IsNew, KeepsMemory, Resolves};
+ghost use Rattle.string_interner.specs.StandsFor.{KeepsSymbols, TellsApart, NumbersInOrder};
 ghost use Rattle.string_interner.specs.Given.{given_text};
 ghost use Rattle.string_interner.specs.SlotRule.{IsLoaded, IsLeastSlotCount};
 
@@ -122,11 +121,15 @@ impl<B: Backend, H: TextHasher, I: TextIndex<B::Symbol>> StringInterner<B, H, I>
     }
 
     /// Returns the number of texts.
+    ///
+    /// Its other clauses are what holds of every interner: the texts are distinct, symbols that stand for texts are
+    /// equal exactly if the texts are, a later entry has a greater number, and the slots are within the load factor. A
+    /// proof that needs one of them calls `let _ = interner.len();`.
     pub fn len(&self) -> usize
         ensures value { result ≡ length self.now.texts }
-
-        // What holds of every interner.
         ensures texts { IsDistinctList B.numbering self.now.texts }
+        ensures equal { TellsApart B.numbering B.Symbol.eq self.now.texts }
+        ensures order { NumbersInOrder B.numbering self.now.texts }
         ensures loaded { IsLoaded I.rule self.now.slot_count (length self.now.texts) }
     {
         self.index.len()
@@ -290,11 +293,8 @@ impl<
     /// [`try_copy`](StringInterner::try_copy) hashes none. Returns `Err` only if an allocation fails or a size does not
     /// fit a `usize`.
     pub fn clone(&self) -> Result<Self, AllocError>
-        ensures texts { IfOk result (λ copy. copy.texts ≡ self.now.texts) }
-        ensures buckets { IfOk result (λ copy. B.copies self.now.texts self.now.buckets
-            copy.buckets) }
+        ensures copy { IfOk result (IsCopyOf B.numbering B.copies self.now) }
         ensures slots { IfOk result (HasLeastSlots I.rule) }
-        ensures keeps { IfOk result (λ copy. KeepsSymbols B.numbering self.now.texts copy.texts) }
     {
         let hasher = self.hasher.clone()?;
         let mut index = I::with_capacity(self.index.allocator(), self.len())?;
@@ -319,11 +319,8 @@ impl<B: CopyBackend + Drop, H: TextHasher + Copy, I: CopyIndex<B::Symbol> + Drop
     /// Hashes no text, and reads none to find where it goes. Returns `Err` only if an allocation fails or a size does
     /// not fit a `usize`.
     pub fn try_copy(&self) -> Result<Self, AllocError>
-        ensures texts { IfOk result (λ copy. copy.texts ≡ self.now.texts) }
-        ensures buckets { IfOk result (λ copy. B.copies self.now.texts self.now.buckets
-            copy.buckets) }
+        ensures copy { IfOk result (IsCopyOf B.numbering B.copies self.now) }
         ensures slots { IfOk result (λ copy. copy.slot_count ≡ self.now.slot_count) }
-        ensures keeps { IfOk result (λ copy. KeepsSymbols B.numbering self.now.texts copy.texts) }
     {
         let index = self.index.try_copy(&self.backend)?;
         Ok(StringInterner {
