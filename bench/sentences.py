@@ -54,8 +54,8 @@ def chosen(results):
         return short(ratio * last / before)
 
     kinds = {
-        "in an `Index` under `FixedState`": DEFAULT["string"],
-        "in a `WindowIndex` under `FixedState`": WINDOW,
+        "in an `Index` under `Fnv1a`": DEFAULT["string"],
+        "in a `WindowIndex` under `Fnv1a`": WINDOW,
         "in the original under FNV": FNV["string"],
         "in a `WindowIndex` under `RandomState`": KEYED,
     }

@@ -15,8 +15,8 @@ MEASURES = (*PHASES, "live", "peak")
 CALLS = ("fill", "known", "unknown")
 TEXTS = ("identifiers", "words", "long")
 PAIRS = [
-    *((f"`Index`, `FixedState`, {name}", DEFAULT[name], FNV[name]) for name in BACKENDS),
-    ("`WindowIndex`, `FixedState`, string", WINDOW, FNV["string"]),
+    *((f"`Index`, `Fnv1a`, {name}", DEFAULT[name], FNV[name]) for name in BACKENDS),
+    ("`WindowIndex`, `Fnv1a`, string", WINDOW, FNV["string"]),
     *((f"`WindowIndex`, `FoldState`, {name}", FAST[name], ORIGINAL[name]) for name in BACKENDS),
 ]
 

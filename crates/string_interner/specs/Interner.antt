@@ -48,6 +48,11 @@ pub record KeepsMemory (old new : InternerContents) : Type 0 where
   pub room : old.room ≤ new.room
   pub slots : new.slot_count ≡ old.slot_count
 
+-- the copy has the same texts, each with its symbol, and the buckets that a backend's copy has by this relation
+pub record IsCopyOf (copies : List Text → List Bucket → List Bucket → Type 0) (old copy : InternerContents) : Type 0 where
+  pub texts : copy.texts ≡ old.texts
+  pub buckets : copies old.texts old.buckets copy.buckets
+
 module _ {S : Type 0} (numbering : Numbering S) where
   -- the symbol of the entry `i`
   abbrev pub entry_symbol : List Text → ℕ → Option S
@@ -61,12 +66,6 @@ module _ {S : Type 0} (numbering : Numbering S) where
   pub record IsDistinctList (texts : List Text) : Type 0 where
     pub distinct : IsDistinct texts
     pub valid : IsValidList numbering.symbol_of numbering.place texts
-
-  -- the copy has the same texts, each with its symbol, and the buckets that a backend's copy has by this relation
-  pub record IsCopyOf (copies : List Text → List Bucket → List Bucket → Type 0) (old copy : InternerContents) : Type 0 where
-    pub texts : copy.texts ≡ old.texts
-    pub buckets : copies old.texts old.buckets copy.buckets
-    pub keeps : KeepsSymbols numbering old.texts copy.texts
 
   -- Looking up a text finds this.
   pub record Finds (texts : List Text) (text : Text) (found : Option S) : Type 0 where

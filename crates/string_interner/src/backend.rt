@@ -175,8 +175,7 @@ pub trait CopyBackend: Backend {
 
     /// What the buckets of a copy are, by the texts and the buckets that are copied: none, unless the backend has
     /// buckets.
-    ghost copies: { List Text → List Bucket → List Bucket → Type 0 }
-        = { λ _ _ buckets. buckets ≡ [] };
+    ghost copies: { List Text → List Bucket → List Bucket → Type 0 } = { λ _ _ copy. copy ≡ [] };
 
     /// Returns a backend with an equal list, and so with the same symbols.
     ///

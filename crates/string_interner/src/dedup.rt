@@ -22,7 +22,8 @@ use crate::backend::Backend;
 use crate::symbol::Symbol;
 use growing::{least_slot_count, next_slot_count, put_all, rehash};
 pub use hasher::{
-    DefaultHashBuilder, FixedState, FoldState, KeyedHasher, KeyedState, StdHasher, TextHasher,
+    DefaultHashBuilder, FixedState, Fnv1a, FoldState, KeyedHasher, KeyedState, StdHasher,
+    TextHasher,
 };
 use probe::{Vacancy, occupy, probe};
 pub use slots::Looks;

@@ -11,7 +11,7 @@ ghost use Rattle.string_interner.specs.Text.{Text, first, texts_eq, texts_eq-IsE
 ghost use Rattle.string_interner.specs.Iter.{iter_over};
 ghost use Rattle.string_interner.specs.Backend.{BeginsAt, IsPlace};
 ghost use Rattle.string_interner.specs.Interner.{IsDistinctList, Finds, HasLeastSlots, InternerContents, InternsInto, IsCopyOf, IsMadeFor, IsNew, KeepsMemory, Resolves};
-ghost use Rattle.string_interner.specs.StandsFor.{KeepsSymbols, TellsApart, NumbersInOrder};
+ghost use Rattle.string_interner.specs.StandsFor.{TellsApart, NumbersInOrder};
 ghost use Rattle.string_interner.specs.Given.{given_text};
 ghost use Rattle.string_interner.specs.SlotRule.{IsLoaded, IsLeastSlotCount};
 
@@ -209,12 +209,12 @@ impl<B: Backend, H: TextHasher, I: TextIndex<B::Symbol>> StringInterner<B, H, I>
         Ok(symbol)
     }
 
-    /// Releases memory of the backend that no text needs, if it can. The slot count is unchanged.
+    /// Releases memory of the backend that no text needs, if it can. Texts, symbols, buckets and slot count are
+    /// unchanged.
     pub fn shrink_to_fit(&mut self)
         ensures texts { self.new.texts ≡ self.old.texts }
         ensures buckets { self.new.buckets ≡ self.old.buckets }
         ensures slots { self.new.slot_count ≡ self.old.slot_count }
-        ensures keeps { KeepsSymbols B.numbering self.old.texts self.new.texts }
     {
         self.backend.shrink_to_fit();
     }
@@ -227,7 +227,6 @@ impl<B: Backend, H: TextHasher, I: TextIndex<B::Symbol>> StringInterner<B, H, I>
         ensures texts { self.new.texts ≡ take len self.old.texts }
         ensures same { length self.old.texts ≤ len → self.new ≡ self.old }
         ensures memory { KeepsMemory self.old self.new }
-        ensures keeps { KeepsSymbols B.numbering (take len self.old.texts) self.new.texts }
     {
         if len < self.index.len() {
             self.backend.truncate(len);
@@ -293,7 +292,7 @@ impl<
     /// [`try_copy`](StringInterner::try_copy) hashes none. Returns `Err` only if an allocation fails or a size does not
     /// fit a `usize`.
     pub fn clone(&self) -> Result<Self, AllocError>
-        ensures copy { IfOk result (IsCopyOf B.numbering B.copies self.now) }
+        ensures copy { IfOk result (IsCopyOf B.copies self.now) }
         ensures slots { IfOk result (HasLeastSlots I.rule) }
     {
         let hasher = self.hasher.clone()?;
@@ -319,7 +318,7 @@ impl<B: CopyBackend + Drop, H: TextHasher + Copy, I: CopyIndex<B::Symbol> + Drop
     /// Hashes no text, and reads none to find where it goes. Returns `Err` only if an allocation fails or a size does
     /// not fit a `usize`.
     pub fn try_copy(&self) -> Result<Self, AllocError>
-        ensures copy { IfOk result (IsCopyOf B.numbering B.copies self.now) }
+        ensures copy { IfOk result (IsCopyOf B.copies self.now) }
         ensures slots { IfOk result (λ copy. copy.slot_count ≡ self.now.slot_count) }
     {
         let index = self.index.try_copy(&self.backend)?;

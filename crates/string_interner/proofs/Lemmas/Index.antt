@@ -11,4 +11,4 @@ pub mod SlotRule
 pub mod Slots
 pub mod Steps
 pub mod Vacancy
-pub mod Walked
+pub mod ProbeLoop

@@ -1,6 +1,5 @@
 pub mod IsCoded
 pub mod IsTagged
 pub mod IsWindow
-pub mod KeptCode
-pub mod Stands
+pub mod StoredCode
 pub mod Tags

@@ -60,7 +60,7 @@ impl<S: Symbol> Model for BucketBackend<S> {
       full = b.full.items;
       head = b.head;
       room = min (b.head.capacity - length b.head.bytes)
-        (vec_capacity b.entries - vec_len b.entries);
+          (vec_capacity b.entries - vec_len b.entries);
     } };
 
     ghost invariant = { λ b. IsInBuckets S.symbol_of b.full.items b.head b.entries.items };

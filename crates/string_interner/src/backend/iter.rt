@@ -34,7 +34,7 @@ impl<'a, B: Backend> Model for Iter<'a, B> {
 
     ghost invariant = { λ s. (s.left ≤ length (B.texts s.backend.now))
         × (B.numbering.place (take (length (B.texts s.backend.now) - s.left)
-            (B.texts s.backend.now)) ≡ s.next) };
+        (B.texts s.backend.now)) ≡ s.next) };
 }
 
 impl<'a, B: Backend> Iter<'a, B> {

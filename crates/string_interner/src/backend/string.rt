@@ -38,7 +38,7 @@ impl<S: Symbol> Model for StringBackend<S> {
     ghost view = { λ b. record {
       texts = cut 0 (string_bytes b.joined) b.ends.items;
       room = min (string_capacity b.joined - string_len b.joined)
-        (5 * (vec_capacity b.ends - vec_len b.ends));
+          (5 * (vec_capacity b.ends - vec_len b.ends));
     } };
 
     ghost invariant = { λ b. IsJoined S.symbol_of (string_bytes b.joined) b.ends.items

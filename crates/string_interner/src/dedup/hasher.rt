@@ -11,7 +11,10 @@ use std::fmt::{Debug, Formatter};
 use std::hash::{BuildHasher, BuildHasherDefault, DefaultHasher, FoldHasher, Hasher};
 
 /// The default hasher of an interner.
-pub type DefaultHashBuilder = FixedState;
+pub type DefaultHashBuilder = Fnv1a;
+
+/// [`FixedState`] under the name of the hash that it computes.
+pub type Fnv1a = FixedState;
 
 /// Hashes texts: gives each text a 64-bit code.
 ///
@@ -20,7 +23,7 @@ pub type DefaultHashBuilder = FixedState;
 /// | Hasher | Codes | Take it when |
 /// |---|---|---|
 /// | [`FoldState`] | the same in each run | you trust where the texts come from: it is the fastest |
-/// | [`FixedState`] | the same in each run | the same, and texts are short, or you want the codes of 64-bit FNV-1a |
+/// | [`Fnv1a`] | the same in each run | the same, and texts are short, or you want the codes of 64-bit FNV-1a |
 /// | [`KeyedHasher`] | those of two keys | an attacker may choose the texts, and you have 128 random bits |
 /// | [`StdHasher`] over `RandomState` | other ones in each run | the same, and you have a `HostRuntime`, which draws the keys |
 pub trait TextHasher {

@@ -4,7 +4,7 @@ use Rattle.std.proofs.Math.Nat.{mod-eq_of_lt, mod-eq-sub-mod}
 use Rattle.std.proofs.lemmas.Bool.{cases_lt}
 use Rattle.std.specs.Option.{IsSome, IsNone}
 use Rattle.string_interner.specs.Slots.{probed, filled_run, IsFilledRun}
-use Rattle.string_interner.proofs.Lemmas.Index.Walked.{length-probe, get_or-probe}
+use Rattle.string_interner.proofs.Lemmas.Index.ProbeLoop.{length-probe, get_or-probe}
 
 module _ {S : Type 0} where
   some_not_none : (o : Option S) → IsSome o → IsNone o → ⊥

@@ -9,7 +9,7 @@ use Rattle.std.specs.Str.{bytes_eq}
 use Rattle.string_interner.specs.Slots.{probed, symbols, filled_run, first_passing}
 use Rattle.string_interner.specs.Index.{Fits, has_text, look_up, filled_run_of, text_in}
 use Rattle.string_interner.specs.Probe.{FillsSlot}
-use Rattle.string_interner.proofs.Lemmas.Index.Walked.{get_or-probe}
+use Rattle.string_interner.proofs.Lemmas.Index.ProbeLoop.{get_or-probe}
 use Rattle.string_interner.specs.Text.{Text}
 use Rattle.string_interner.proofs.Lemmas.Index.Slots.{here, there, none, head_or_tail, set_cases, set_here, set_there, Contains-symbols, symbols-in, run-in, run-set, symbols-set, probe-set, Contains-turned}
 

@@ -4,7 +4,7 @@ use Rattle.std.specs.List.{Contains}
 use Rattle.std.proofs.lemmas.List.Elements.{Contains-get_or}
 use Rattle.string_interner.specs.Index.{has_text}
 use Rattle.string_interner.specs.Probe.{Follows}
-use Rattle.string_interner.proofs.Lemmas.Index.Walked.{free_at, Walked-start, Walked-empty, Walked-hit, Walked-more}
+use Rattle.string_interner.proofs.Lemmas.Index.ProbeLoop.{free_at, Walked-start, Walked-empty, Walked-hit, Walked-more}
 use Rattle.string_interner.proofs.Lemmas.Index.Vacancy.{by_code_IsVacant, mod_less}
 use Rattle.string_interner.proofs.dedup.probe.probe.Goals as goal
 

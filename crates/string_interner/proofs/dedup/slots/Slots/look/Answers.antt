@@ -3,7 +3,7 @@ use Rattle.std.specs.Option.{IsSome}
 use Rattle.string_interner.specs.Entry.{entry_text}
 use Rattle.string_interner.specs.EntryLaws.{entry_text-IsPlace}
 use Rattle.string_interner.proofs.Lemmas.Index.EntryText.{has_text-resolved}
-use Rattle.string_interner.proofs.Lemmas.Index.Walked.{slot_is}
+use Rattle.string_interner.proofs.Lemmas.Index.ProbeLoop.{slot_is}
 use Rattle.string_interner.proofs.dedup.slots.Slots.look.Goals as goal
 use Rattle.string_interner.proofs.dedup.slots.Slots.look.Goals.{In_ok-symbol}
 use Rattle.string_interner.proofs.dedup.slots.Slots.look.Given.{Over}

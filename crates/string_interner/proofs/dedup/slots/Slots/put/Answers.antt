@@ -1,7 +1,7 @@
 use Rattle.std.proofs.Common.{sym, subst, ◌≡◌, None, true, length, get_or, arith, ap, ◌∙◌}
 use Rattle.std.specs.Option.{is_some}
 use Rattle.string_interner.specs.Probe.{Follows}
-use Rattle.string_interner.proofs.Lemmas.Index.Walked.{puts_at, passes, comes_to_empty, empty_from}
+use Rattle.string_interner.proofs.Lemmas.Index.ProbeLoop.{puts_at, passes, comes_to_empty, empty_from}
 use Rattle.string_interner.proofs.dedup.slots.Slots.put.Goals as goal
 
 pub returns-then-is_none : goal.returns-then-is_none

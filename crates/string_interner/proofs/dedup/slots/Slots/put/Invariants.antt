@@ -1,5 +1,5 @@
 use Rattle.std.proofs.Common.{◌≡◌, false}
-use Rattle.string_interner.proofs.Lemmas.Index.Walked.{Walked}
+use Rattle.string_interner.proofs.Lemmas.Index.ProbeLoop.{Walked}
 use Rattle.string_interner.proofs.dedup.slots.Slots.put.Given as goal
 
 abbrev pub invariant-loop-step : goal.invariant-loop-step

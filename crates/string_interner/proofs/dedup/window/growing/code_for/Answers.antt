@@ -5,7 +5,7 @@ use Rattle.string_interner.specs.Window.{stored_code}
 use Rattle.string_interner.specs.EntryLaws.{entry_text-IsPlace}
 use Rattle.string_interner.proofs.Lemmas.Index.EntryText.{text_of-resolved}
 use Rattle.string_interner.proofs.Lemmas.Index.Inserts.{text_of_is}
-use Rattle.string_interner.proofs.Lemmas.WindowIndex.KeptCode.{stored_code-home}
+use Rattle.string_interner.proofs.Lemmas.WindowIndex.StoredCode.{stored_code-home}
 use Rattle.string_interner.proofs.dedup.window.growing.code_for.Goals as goal
 
 pub resolve_unchecked-requires : goal.resolve_unchecked-requires

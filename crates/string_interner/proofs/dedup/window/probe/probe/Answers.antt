@@ -6,8 +6,8 @@ use Rattle.string_interner.specs.Index.{has_text}
 use Rattle.string_interner.specs.Probe.{Follows}
 use Rattle.string_interner.specs.Window.{TagTells, tag_of}
 use Rattle.string_interner.proofs.Lemmas.Index.Vacancy.{by_code_IsVacant, mod_less}
-use Rattle.string_interner.proofs.Lemmas.Index.Walked.{Walked-start}
-use Rattle.string_interner.proofs.Lemmas.WindowIndex.Stands.{Stands-reached, Stands-on, Stands-round, Stands-missed, Stands-hit, Stands-empty, Stands-free, Stands-ends}
+use Rattle.string_interner.proofs.Lemmas.Index.ProbeLoop.{Walked-start}
+use Rattle.string_interner.proofs.Lemmas.Index.ProbeLoop.{Stands-reached, Stands-on, Stands-round, Stands-missed, Stands-hit, Stands-empty, Stands-free, Stands-ends}
 use Rattle.string_interner.proofs.dedup.window.probe.probe.Goals as goal
 use Rattle.string_interner.proofs.dedup.window.probe.probe.Goals.{then-reached-count, else-reached-count+then-reached-at-eq-LANES, else-reached-count+else-reached-at-eq-LANES+in-Some+else-has_text}
 

@@ -1,7 +1,7 @@
 use Rattle.std.proofs.Common.{◌%◌, length}
 use Rattle.string_interner.specs.Entry.{entry_text}
 use Rattle.string_interner.specs.Index.{has_text}
-use Rattle.string_interner.proofs.Lemmas.WindowIndex.Stands.{Stands}
+use Rattle.string_interner.proofs.Lemmas.Index.ProbeLoop.{Stands}
 use Rattle.string_interner.proofs.dedup.window.probe.probe.Given as goal
 
 abbrev pub invariant-loop-step : goal.invariant-loop-step

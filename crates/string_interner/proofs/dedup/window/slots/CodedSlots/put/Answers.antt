@@ -1,9 +1,9 @@
 use Rattle.std.proofs.Common.{◌≡◌, None, Some, refl, sym, subst, length, get_or, set, arith, ap, ◌∙◌}
 use Rattle.string_interner.specs.Probe.{Follows}
 use Rattle.string_interner.specs.Window.{stored_code}
-use Rattle.string_interner.proofs.Lemmas.Index.Walked.{Walked-start, empty_from, some_from}
+use Rattle.string_interner.proofs.Lemmas.Index.ProbeLoop.{Walked-start, empty_from, some_from}
 use Rattle.string_interner.proofs.Lemmas.WindowIndex.IsCoded.{FillsCoded-free}
-use Rattle.string_interner.proofs.Lemmas.WindowIndex.Stands.{none_tells, Stands-ends, Stands-free, Stands-missed, Stands-reached, Stands-round}
+use Rattle.string_interner.proofs.Lemmas.Index.ProbeLoop.{none_tells, Stands-ends, Stands-free, Stands-missed, Stands-reached, Stands-round}
 use Rattle.string_interner.proofs.dedup.window.slots.CodedSlots.put.Goals as goal
 use Rattle.string_interner.proofs.dedup.window.slots.CodedSlots.put.Goals.{then-reached-count, else-reached-count+else-is_none}
 

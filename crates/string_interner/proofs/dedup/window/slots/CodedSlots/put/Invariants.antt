@@ -1,5 +1,5 @@
 use Rattle.std.proofs.Common.{◌≡◌, false}
-use Rattle.string_interner.proofs.Lemmas.WindowIndex.Stands.{Stands}
+use Rattle.string_interner.proofs.Lemmas.Index.ProbeLoop.{Stands}
 use Rattle.string_interner.proofs.dedup.window.slots.CodedSlots.put.Given as goal
 
 abbrev pub invariant-loop-step : goal.invariant-loop-step
