@@ -4,7 +4,7 @@
 - a link that leads to no file, or to no heading of its page;
 - a file in a code span or a command that is not there;
 - an identifier in a code span that no file of the repository has, if it has a capital or two words. docs/DIFFERENCES.md may name what the original has;
-- a block of Rattle that stands in no crate to the word, so that nothing proves it.
+- a block of Rattle that stands in no crate to the word, at the margin or indented as a method, so that nothing proves it.
 """
 
 import re
@@ -12,6 +12,7 @@ import subprocess
 import sys
 from functools import cached_property
 from pathlib import PurePosixPath
+from textwrap import indent
 
 from edits import TOP
 
@@ -110,7 +111,7 @@ def unproved_blocks(page, text, repository):
     if not blocks:
         yield "no block of Rattle"
     for block in blocks:
-        if not any(block in source for source in repository.sources):
+        if not any(block in source or indent(block, "    ") in source for source in repository.sources):
             yield f"in no crate: {block.splitlines()[0]}"
 
 

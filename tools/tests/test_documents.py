@@ -64,3 +64,9 @@ class DocumentsTest(SmallRepository):
     def test_blocks(self):
         self.assertEqual(self.faults_after("fn half(", "fn third("), ["README.md: in no crate: fn third(number: u32) -> u32"])
         self.assertEqual(self.faults_after("```rattle", "```rust"), ["README.md: no block of Rattle"])
+
+    def test_block_of_a_method(self):
+        half = "fn half(number: u32) -> u32\n    ensures { IsHalf number result }\n"
+        area = "fn area(&self) -> u32\n    ensures { AreaOf self.now result };\n"
+        self.assertEqual(self.faults_after(half, area), [])
+        self.assertEqual(self.faults_after(half, area.replace("    ensures", "ensures")), ["README.md: in no crate: fn area(&self) -> u32"])

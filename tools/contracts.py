@@ -1,0 +1,174 @@
+#!/usr/bin/env python3
+"""Prints what is wrong with the contracts and their quotes in docs/CALLING.md, and fails if anything is:
+
+- a call that a user makes first and that the page does not quote;
+- a quote that is not the signature and the clauses of its call as they stand in the library. It is the fenced block
+  behind a line like <!-- contract: interner::StringInterner::get -->;
+- a line of a clause with more than 100 columns;
+- more than 6 % of clause text that is repeated.
+
+A clause is a `requires`, an `ensures`, or a ghost member of a trait or an impl, among them laws, views and invariants. Its
+text is what its braces hold, with white space made one blank. Of the text of all clauses in crates/*/src, what is
+repeated is the text of each clause of more than 40 characters that an earlier clause has, too.
+
+    tools/contracts.py           also prints how much text is repeated, and what is repeated most
+    tools/contracts.py --write   first writes the quotes anew
+"""
+
+import argparse
+import re
+import sys
+from collections import Counter
+from dataclasses import dataclass
+from itertools import zip_longest
+from pathlib import Path
+from textwrap import dedent
+
+from edits import TOP
+from source import block_around, functions
+
+PAGE = "docs/CALLING.md"
+LIBRARY = "crates/string_interner/src"
+METHODS = "new with_capacity len get get_or_intern resolve iter truncate extend intern_all"
+CALLS = [*(f"interner::StringInterner::{name}" for name in METHODS.split()), "run::run"]
+MOST_COLUMNS = 100
+LEAST_CHARACTERS = 40
+MOST_REPEATED = 6
+QUOTE = re.compile(r"^<!-- contract: (?P<call>\S+) -->$(?:\n```rattle\n(?P<text>.*?)^```$)?", re.M | re.S)
+# What a clause begins with, up to its first brace, and what leads from one brace of a ghost member to the next.
+CLAUSE = re.compile(r"^ *(?:pub )?(?:requires|ensures|ghost (?!use\b)\w+)\b[^{;]*\{", re.M)
+MORE = re.compile(r"\s*(?:=|by)\s*\{")
+BRACE = re.compile(r"[{}]")
+# The type of an `impl` that is of no trait.
+OWNER = re.compile(r"impl(?:<.*>)? (\w+)(?:<[^{]*>)? \{", re.S)
+
+
+def sources(folder):
+    """The sources in a folder, in order."""
+    return sorted((TOP / folder).glob("**/*.rt"))
+
+
+def owner_of(text, function):
+    """The type that a function belongs to, as the only name of a list, which is empty for a free function."""
+    block = block_around(text, function)
+    owner = block and OWNER.fullmatch(block[0])
+    return [owner[1]] if owner else [block[0]] if block else []
+
+
+def contract_of(call):
+    """The signature and the clauses of a call, by its path in the library, or None."""
+    module, *owner, name = call.split("::")
+    for file in [TOP / LIBRARY / f"{module}.rt", *sources(f"{LIBRARY}/{module}")]:
+        text = file.read_text(encoding="utf-8") if file.exists() else ""
+        for function in functions(text):
+            if function.name == name and owner_of(text, function) == owner:
+                return dedent(function.contract)
+    return None
+
+
+def written_anew(page):
+    """The page with each quote as its call has it now."""
+
+    def quoted(quote):
+        contract = contract_of(quote["call"])
+        return quote[0] if contract is None else f"<!-- contract: {quote['call']} -->\n```rattle\n{contract}```"
+
+    return QUOTE.sub(quoted, page)
+
+
+def stale_quotes(page):
+    """What is wrong with the quotes of the page."""
+    quotes = list(QUOTE.finditer(page))
+    for call in CALLS:
+        if call not in [quote["call"] for quote in quotes]:
+            yield f"no quote of {call}"
+    for quote in quotes:
+        call, contract = quote["call"], contract_of(quote["call"])
+        if contract is None:
+            yield f"no {call} in the library"
+        elif quote["text"] is None:
+            yield f"no block of Rattle behind the mark of {call}"
+        elif quote["text"] != contract:
+            lines = zip_longest(quote["text"].splitlines(), contract.splitlines(), fillvalue="")
+            old, new = next(pair for pair in lines if pair[0] != pair[1])
+            yield f"the quote of {call} is stale: it has `{old.strip()}` for `{new.strip()}`"
+
+
+@dataclass(frozen=True)
+class Clause:
+    """A clause of a source, with the number of its first line and its lines as they stand."""
+
+    file: Path
+    number: int
+    lines: list[str]
+    text: str
+
+    @property
+    def long_lines(self):
+        """Where its lines are too long."""
+        name = self.file.relative_to(TOP)
+        return [f"{name}:{number}: {len(line)} columns in a clause" for number, line in enumerate(self.lines, self.number) if len(line) > MOST_COLUMNS]
+
+
+def closing_brace(text, opening):
+    """The offset behind the brace that closes the one at an offset."""
+    depth = 0
+    for brace in BRACE.finditer(text, opening):
+        depth += 1 if brace[0] == "{" else -1
+        if not depth:
+            return brace.end()
+    return len(text)
+
+
+def clauses(file):
+    """The clauses of a source, in order."""
+    text = file.read_text(encoding="utf-8")
+    for head in CLAUSE.finditer(text):
+        end = closing_brace(text, head.end() - 1)
+        while more := MORE.match(text, end):
+            end = closing_brace(text, more.end() - 1)
+        lines = text[head.start() : max(text.find("\n", end), end)].splitlines()
+        yield Clause(file, text.count("\n", 0, head.start()) + 1, lines, " ".join(text[head.end() : end - 1].split()))
+
+
+def all_clauses():
+    """The clauses of all crates."""
+    return [clause for folder in sorted((TOP / "crates").glob("*/src")) for file in sources(folder) for clause in clauses(file)]
+
+
+def repeated(found):
+    """The texts that clauses repeat, each with its count, the most characters first, and their share of all text in percent."""
+    counts = Counter(clause.text for clause in found)
+    again = {text: count for text, count in counts.items() if count > 1 and len(text) > LEAST_CHARACTERS}
+    again = sorted(again.items(), key=lambda it: -len(it[0]) * (it[1] - 1))
+    characters = sum(len(text) * (count - 1) for text, count in again)
+    return again, 100 * characters / max(1, sum(len(clause.text) for clause in found))
+
+
+def faults():
+    """What is wrong with the contracts and their quotes."""
+    yield from (f"{PAGE}: {it}" for it in stale_quotes((TOP / PAGE).read_text(encoding="utf-8")))
+    found = all_clauses()
+    yield from (it for clause in found for it in clause.long_lines)
+    share = repeated(found)[1]
+    if share > MOST_REPEATED:
+        yield f"{share:.1f} % of the clauses' text is repeated, and {MOST_REPEATED} % at most may be: tools/contracts.py lists it"
+
+
+def main():
+    parser = argparse.ArgumentParser(description=__doc__.partition("\n")[0])
+    parser.add_argument("--write", action="store_true", help="write the quotes anew first")
+    if parser.parse_args().write:
+        page = TOP / PAGE
+        page.write_text(written_anew(page.read_text(encoding="utf-8")), encoding="utf-8")
+    again, share = repeated(all_clauses())
+    print(f"repeated clause text: {share:.1f} %")
+    for text, count in again[:10]:
+        print(f"{count} times: {text}")
+    found = list(faults())
+    print(*found, sep="\n", end="\n" if found else "")
+    return 1 if found else 0
+
+
+if __name__ == "__main__":
+    sys.exit(main())
