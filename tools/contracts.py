@@ -32,15 +32,13 @@ LIBRARY = "crates/string_interner/src"
 METHODS = "new with_capacity len get get_or_intern resolve iter truncate extend intern_all"
 CALLS = [*(f"interner::StringInterner::{name}" for name in METHODS.split()), "run::run"]
 MOST_COLUMNS = 100
-LEAST_CHARACTERS = 40
+LENGTH_THAT_COUNTS = 40
 MOST_REPEATED = 6
 QUOTE = re.compile(r"^<!-- contract: (?P<call>\S+) -->$(?:\n```rattle\n(?P<text>.*?)^```$)?", re.M | re.S)
 # What a clause begins with, up to its first brace, and what leads from one brace of a ghost member to the next.
 CLAUSE = re.compile(r"^ *(?:pub )?(?:requires|ensures|ghost (?!use\b)\w+)\b[^{;]*\{", re.M)
 MORE = re.compile(r"\s*(?:=|by)\s*\{")
 BRACE = re.compile(r"[{}]")
-# The type of an `impl` that is of no trait.
-OWNER = re.compile(r"impl(?:<.*>)? (\w+)(?:<[^{]*>)? \{", re.S)
 
 
 def sources(folder):
@@ -48,21 +46,22 @@ def sources(folder):
     return sorted((TOP / folder).glob("**/*.rt"))
 
 
-def owner_of(text, function):
-    """The type that a function belongs to, as the only name of a list, which is empty for a free function."""
+def belongs_to(text, function, owner):
+    """Whether a function is a method of this type, and of no trait; without a type, whether it is no method."""
     block = block_around(text, function)
-    owner = block and OWNER.fullmatch(block[0])
-    return [owner[1]] if owner else [block[0]] if block else []
+    if not owner or not block:
+        return not owner and not block
+    return " for " not in block[0] and bool(re.match(rf"impl(?:<.*>)? {owner}\b", block[0], re.S))
 
 
 def contract_of(call):
     """The signature and the clauses of a call, by its path in the library, or None."""
     module, *owner, name = call.split("::")
-    for file in [TOP / LIBRARY / f"{module}.rt", *sources(f"{LIBRARY}/{module}")]:
-        text = file.read_text(encoding="utf-8") if file.exists() else ""
+    for file in [*(TOP / LIBRARY).glob(f"{module}.rt"), *sources(f"{LIBRARY}/{module}")]:
+        text = file.read_text(encoding="utf-8")
         for function in functions(text):
-            if function.name == name and owner_of(text, function) == owner:
-                return dedent(function.contract)
+            if function.name == name and belongs_to(text, function, "".join(owner)):
+                return f"{dedent(function.contract).rstrip()}\n"
     return None
 
 
@@ -91,7 +90,7 @@ def stale_quotes(page):
         elif quote["text"] != contract:
             lines = zip_longest(quote["text"].splitlines(), contract.splitlines(), fillvalue="")
             old, new = next(pair for pair in lines if pair[0] != pair[1])
-            yield f"the quote of {call} is stale: it has `{old.strip()}` for `{new.strip()}`"
+            yield f"the quote of {call} is stale: it has `{old}` for `{new}`"
 
 
 @dataclass(frozen=True)
@@ -106,8 +105,8 @@ class Clause:
     @property
     def long_lines(self):
         """Where its lines are too long."""
-        name = self.file.relative_to(TOP)
-        return [f"{name}:{number}: {len(line)} columns in a clause" for number, line in enumerate(self.lines, self.number) if len(line) > MOST_COLUMNS]
+        long = [(number, len(line)) for number, line in enumerate(self.lines, self.number) if len(line) > MOST_COLUMNS]
+        return [f"{self.file.relative_to(TOP)}:{number}: {columns} columns in a clause" for number, columns in long]
 
 
 def closing_brace(text, opening):
@@ -128,19 +127,20 @@ def clauses(file):
         while more := MORE.match(text, end):
             end = closing_brace(text, more.end() - 1)
         lines = text[head.start() : max(text.find("\n", end), end)].splitlines()
-        yield Clause(file, text.count("\n", 0, head.start()) + 1, lines, " ".join(text[head.end() : end - 1].split()))
+        inside = " ".join(text[head.end() : end - 1].split())
+        yield Clause(file, text.count("\n", 0, head.start()) + 1, lines, inside)
 
 
 def all_clauses():
     """The clauses of all crates."""
-    return [clause for folder in sorted((TOP / "crates").glob("*/src")) for file in sources(folder) for clause in clauses(file)]
+    return [clause for file in sorted(TOP.glob("crates/*/src/**/*.rt")) for clause in clauses(file)]
 
 
 def repeated(found):
-    """The texts that clauses repeat, each with its count, the most characters first, and their share of all text in percent."""
+    """The texts that clauses repeat, each with its count, most characters first; and their share of all text, in percent."""
     counts = Counter(clause.text for clause in found)
-    again = {text: count for text, count in counts.items() if count > 1 and len(text) > LEAST_CHARACTERS}
-    again = sorted(again.items(), key=lambda it: -len(it[0]) * (it[1] - 1))
+    again = [(text, count) for text, count in counts.items() if count > 1 and len(text) > LENGTH_THAT_COUNTS]
+    again.sort(key=lambda it: -len(it[0]) * (it[1] - 1))
     characters = sum(len(text) * (count - 1) for text, count in again)
     return again, 100 * characters / max(1, sum(len(clause.text) for clause in found))
 
@@ -152,7 +152,7 @@ def faults():
     yield from (it for clause in found for it in clause.long_lines)
     share = repeated(found)[1]
     if share > MOST_REPEATED:
-        yield f"{share:.1f} % of the clauses' text is repeated, and {MOST_REPEATED} % at most may be: tools/contracts.py lists it"
+        yield f"{share:.1f} % of the clauses' text is repeated, and {MOST_REPEATED} % may be: tools/contracts.py lists it"
 
 
 def main():

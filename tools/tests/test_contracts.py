@@ -96,22 +96,33 @@ class ContractsTest(SmallRepository):
         self.assertEqual(list(contracts.faults()), [])
 
     def test_stale_quote(self):
-        fault = "docs/CALLING.md: the quote of rooms::half is stale: it has `requires { IsOdd number }` for `requires { IsEven number }`"
+        fault = "docs/CALLING.md: the quote of rooms::half is stale: it has `    requires { IsOdd number }` for `    requires { IsEven number }`"
         self.assertEqual(self.faults_of(PAGE.replace("IsEven", "IsOdd")), [fault])
 
     def test_quote_without_its_last_lines(self):
-        fault = "docs/CALLING.md: the quote of rooms::Room::double is stale: it has `` for `ensures { IsRoom self.now }`"
+        fault = "docs/CALLING.md: the quote of rooms::Room::double is stale: it has `` for `    ensures { IsRoom self.now }`"
         self.assertEqual(self.faults_of(PAGE.replace("    ensures { IsRoom self.now }\n", "")), [fault])
 
     def test_new_clause(self):
         self.write(f"{LIBRARY}/rooms/half.rt", HALF.replace("    requires", "    requires { IsSmall number }\n    requires"))
-        fault = "docs/CALLING.md: the quote of rooms::half is stale: it has `requires { IsEven number }` for `requires { IsSmall number }`"
+        fault = "docs/CALLING.md: the quote of rooms::half is stale: it has `    requires { IsEven number }` for `    requires { IsSmall number }`"
         self.assertEqual(list(contracts.faults()), [fault])
 
     def test_clause_over_several_lines(self):
         page = PAGE.replace("        result }", "        number }")
-        fault = "docs/CALLING.md: the quote of rooms::Room::double is stale: it has `number }` for `result }`"
+        fault = "docs/CALLING.md: the quote of rooms::Room::double is stale: it has `        number }` for `        result }`"
         self.assertEqual(self.faults_of(page), [fault])
+
+    def test_other_margin(self):
+        page = PAGE.replace("    requires", "  requires")
+        fault = "docs/CALLING.md: the quote of rooms::half is stale: it has `  requires { IsEven number }` for `    requires { IsEven number }`"
+        self.assertEqual(self.faults_of(page), [fault])
+
+    def test_call_of_a_trait(self):
+        declared = "pub trait Hall {\n    fn area(&self) -> u32\n        ensures { AreaOf self.now result };\n}\n"
+        self.write(f"{LIBRARY}/halls.rt", declared + HALF)
+        self.assertEqual(contracts.contract_of("halls::half"), PAGE[PAGE.index("pub fn half") : PAGE.index("```\nIt halves.")])
+        self.assertIsNone(contracts.contract_of("halls::area"))
 
     def test_attribute_and_comment(self):
         page = PAGE.replace("pub fn half", "#[must_use]\npub fn half")
@@ -123,6 +134,8 @@ class ContractsTest(SmallRepository):
         self.assertEqual(self.faults_of(PAGE.replace("rooms::half", "rooms::third")), faults)
         self.assertEqual(self.faults_of(PAGE.replace("rooms::half", "rooms::Room::half"))[1:], ["docs/CALLING.md: no rooms::Room::half in the library"])
         self.assertEqual(self.faults_of(PAGE.replace("rooms::half", "halls::half"))[1:], ["docs/CALLING.md: no halls::half in the library"])
+        self.assertEqual(self.faults_of(PAGE.replace("rooms::Room::", "rooms::Shape::"))[1:], ["docs/CALLING.md: no rooms::Shape::double in the library"])
+        self.assertEqual(self.faults_of(PAGE.replace("rooms::Room::", "rooms::"))[1:], ["docs/CALLING.md: no rooms::double in the library"])
 
     def test_block_without_a_fence(self):
         faults = ["docs/CALLING.md: no block of Rattle behind the mark of rooms::half"]
