@@ -2,6 +2,7 @@
 -- Cited by `AnyInterner`, by the calls on handles, and by exports.
 use Rattle.std.specs.Prelude.{◌≡◌, ℕ, ◌&&◌, Bool, true, false, List, take, Option, Result, Ok, Err, option_and_then}
 use Rattle.string_interner.specs.Text.{Text, texts_eq}
+use Rattle.string_interner.specs.Numbering.{Numbering}
 use Rattle.string_interner.specs.StandsFor.{KeepsSymbols}
 use Rattle.string_interner.specs.Interner.{InternerContents, InternsInto, Finds, IsMadeFor, IsNew, KeepsMemory}
 use Rattle.string_interner.specs.Window.{seven_eighths}
@@ -9,7 +10,7 @@ use Rattle.string_interner.specs.Json.{json_of_texts, ReadsArray, ReadsArrayExac
 use Rattle.serde_json.specs.Data.{Data}
 use Rattle.string_interner.specs.declared.backend.InternError.{InternError}
 use Rattle.string_interner.specs.declared.json.JsonError.{JsonError}
-use Rattle.handles.specs.Kind.{numbered, place_in, read_in, cost_in, grant_in, copies_in}
+use Rattle.handles.specs.Kind.{numbered, numbering_in, grant_in, copies_in}
 use Rattle.handles.specs.declared.kind.Kind.{Kind}
 use Rattle.handles.specs.declared.kind.Kind.TheVariants as kind
 use Rattle.handles.specs.declared.any.AnyInterner.{AnyInterner}
@@ -29,22 +30,22 @@ contents (Buffer interner) = interner
 abbrev pub texts_in : AnyInterner → List Text
 texts_in any = (contents any).texts
 
--- the number of the next text behind a list
-abbrev pub place : AnyInterner → List Text → ℕ
-place any = place_in (kind_of any)
+-- how it numbers its texts
+abbrev pub numbering_of : AnyInterner → Numbering ℕ
+numbering_of any = numbering_in (kind_of any)
 
 -- the text that is read at a number, if one is
 abbrev pub text_at : AnyInterner → ℕ → Option Text
-text_at any number = option_and_then (read_in (kind_of any) (texts_in any)) (numbered number)
+text_at any number = option_and_then ((numbering_of any).read (texts_in any)) (numbered number)
 
 -- A text is looked for, and this is found.
 abbrev pub FindsNumber : AnyInterner → Text → Option ℕ → Type 0
-FindsNumber any text found = Finds numbered (place any) (texts_in any) text found
+FindsNumber any text found = Finds (numbering_of any) (texts_in any) text found
 
 -- Interning a text has this outcome: that of the library.
 pub record Interned (old : AnyInterner) (text : Text) (outcome : Result ℕ InternError) (new : AnyInterner) : Type 0 where
   pub kind : kind_of new ≡ kind_of old
-  pub interned : InternsInto numbered (place old) (cost_in (kind_of old)) seven_eighths (contents old) text outcome (contents new)
+  pub interned : InternsInto (numbering_of old) seven_eighths (contents old) text outcome (contents new)
 
 -- a new interner of this kind
 pub record IsEmpty (kind : Kind) (made : AnyInterner) : Type 0 where
@@ -61,7 +62,7 @@ pub record KeepsFirst (len : ℕ) (old new : AnyInterner) : Type 0 where
   pub kind : kind_of new ≡ kind_of old
   pub first : texts_in new ≡ take len (texts_in old)
   pub memory : KeepsMemory (contents old) (contents new)
-  pub keeps : KeepsSymbols numbered (place old) (take len (texts_in old)) (texts_in new)
+  pub keeps : KeepsSymbols (numbering_of old) (take len (texts_in old)) (texts_in new)
 
 -- the texts stay, with their numbers, and so do buckets and slots
 pub record IsShrunk (old new : AnyInterner) : Type 0 where
@@ -69,7 +70,7 @@ pub record IsShrunk (old new : AnyInterner) : Type 0 where
   pub texts : texts_in new ≡ texts_in old
   pub buckets : (contents new).buckets ≡ (contents old).buckets
   pub slots : (contents new).slot_count ≡ (contents old).slot_count
-  pub keeps : KeepsSymbols numbered (place old) (texts_in old) (texts_in new)
+  pub keeps : KeepsSymbols (numbering_of old) (texts_in old) (texts_in new)
 
 -- the copy has the same kind and the same texts, each with its number, as many slots, and the buckets of a copy
 pub record IsCopy (any copy : AnyInterner) : Type 0 where
@@ -77,7 +78,7 @@ pub record IsCopy (any copy : AnyInterner) : Type 0 where
   pub texts : texts_in copy ≡ texts_in any
   pub buckets : copies_in (kind_of any) (texts_in any) (contents any).buckets (contents copy).buckets
   pub slots : (contents copy).slot_count ≡ (contents any).slot_count
-  pub keeps : KeepsSymbols numbered (place any) (texts_in any) (texts_in copy)
+  pub keeps : KeepsSymbols (numbering_of any) (texts_in any) (texts_in copy)
 
 abbrev pub same_kind : Kind → Kind → Bool
 same_kind kind.String kind.String = true
@@ -91,10 +92,10 @@ any_eq any other = same_kind (kind_of any) (kind_of other) && texts_eq (texts_in
 
 -- A JSON value is read into an interner of this kind, as the library reads it.
 abbrev pub ReadsAs : Kind → Data → Result AnyInterner JsonError → Type 0
-ReadsAs kind value (Ok any) = (kind_of any ≡ kind) × ReadsArray numbered (place_in kind) value (Ok (contents any))
-ReadsAs kind value (Err error) = ReadsArray numbered (place_in kind) value (Err error)
+ReadsAs kind value (Ok any) = (kind_of any ≡ kind) × ReadsArray (numbering_in kind) value (Ok (contents any))
+ReadsAs kind value (Err error) = ReadsArray (numbering_in kind) value (Err error)
 
 -- The same where no string may be equal to an earlier one. The value is then the JSON form of the texts.
 abbrev pub ReadsAsExactly : Kind → Data → Result AnyInterner JsonError → Type 0
-ReadsAsExactly kind value (Ok any) = (kind_of any ≡ kind) × (value ≡ json_of_texts (texts_in any)) × ReadsArrayExactly numbered (place_in kind) value (Ok (contents any))
-ReadsAsExactly kind value (Err error) = ReadsArrayExactly numbered (place_in kind) value (Err error)
+ReadsAsExactly kind value (Ok any) = (kind_of any ≡ kind) × (value ≡ json_of_texts (texts_in any)) × ReadsArrayExactly (numbering_in kind) value (Ok (contents any))
+ReadsAsExactly kind value (Err error) = ReadsArrayExactly (numbering_in kind) value (Err error)

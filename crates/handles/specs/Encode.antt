@@ -8,8 +8,7 @@ use Rattle.string_interner.specs.StandsFor.{StandInOrder}
 use Rattle.string_interner.specs.StringBackend.{start_at}
 use Rattle.string_interner.specs.Extend.{TakesIn}
 use Rattle.string_interner.specs.Iter.{entries}
-use Rattle.handles.specs.Kind.{numbered, cost_in}
-use Rattle.handles.specs.Any.{contents, kind_of, place, texts_in}
+use Rattle.handles.specs.Any.{contents, kind_of, numbering_of, texts_in}
 use Rattle.handles.specs.Calls.{InternsBytes}
 use Rattle.handles.specs.declared.any.AnyInterner.{AnyInterner}
 use Rattle.handles.specs.declared.text.Entry.{Entry}
@@ -43,8 +42,8 @@ pub record Encoded (bytes ends before : List ℕ) (old : AnyInterner) (done : �
   pub fits : length ends ≤ length before
   pub kind : kind_of new ≡ kind_of old
   pub ends_are : (i : ℕ) → i < done → IsEnd bytes ends i
-  pub taken : TakesIn numbered (place old) (cost_in (kind_of old)) (contents old) (parts bytes ends done) (contents new)
-  pub stand : StandInOrder numbered (place old) (texts_in new) (take done after) (parts bytes ends done)
+  pub taken : TakesIn (numbering_of old) (contents old) (parts bytes ends done) (contents new)
+  pub stand : StandInOrder (numbering_of old) (texts_in new) (take done after) (parts bytes ends done)
   pub rest : drop done after ≡ drop done before
   pub same_length : length after ≡ length before
 
@@ -70,7 +69,7 @@ told entry = (Some entry.number, entry.text.bytes.now)
 
 -- All texts stand at the front of a list, each with its number, in their order, and the rest stays.
 pub record Lists (any : AnyInterner) (before after : List Entry) : Type 0 where
-  pub front : map told (take (length (texts_in any)) after) ≡ entries numbered (place any) [] (texts_in any)
+  pub front : map told (take (length (texts_in any)) after) ≡ entries (numbering_of any) [] (texts_in any)
   pub rest : drop (length (texts_in any)) after ≡ drop (length (texts_in any)) before
 
 -- All texts are listed, or the room is too short for them and stays as it is. Their count is told in both cases.

@@ -1,11 +1,12 @@
 -- The kinds of interner: their codes in C, and what each means for the numbers of texts.
 -- Cited by `Kind` and by all that speaks of an interner of any kind.
-use Rattle.std.specs.Prelude.{◌≡◌, ℕ, ◌-◌, ◌*◌, ◌^◌, List, [], length, slice_get, max, Option}
+use Rattle.std.specs.Prelude.{◌≡◌, ℕ, ◌-◌, ◌*◌, ◌^◌, List, [], length, max, Option}
 use Rattle.string_interner.specs.Text.{Text}
 use Rattle.string_interner.specs.Backend.{Bucket as BucketOfBytes}
 use Rattle.string_interner.specs.BucketBackend.{CopiesBuckets}
 use Rattle.string_interner.specs.Symbol.{number_below}
-use Rattle.string_interner.specs.BufferBackend.{entry_len, place_of, read_at}
+use Rattle.string_interner.specs.Numbering.{Numbering, by_index}
+use Rattle.string_interner.specs.BufferBackend.{by_byte}
 use Rattle.handles.specs.declared.kind.Kind.{Kind}
 use Rattle.handles.specs.declared.kind.Kind.TheVariants.{String, Bucket, Buffer}
 
@@ -19,23 +20,11 @@ code_of_kind Buffer = 2
 abbrev pub numbered : ℕ → Option ℕ
 numbered = number_below (2 ^ 32 - 1)
 
--- the number of the text behind a list
-abbrev pub place_in : Kind → List Text → ℕ
-place_in String = length
-place_in Bucket = length
-place_in Buffer = place_of
-
--- what is read at a number
-abbrev pub read_in : Kind → List Text → ℕ → Option Text
-read_in String = slice_get
-read_in Bucket = slice_get
-read_in Buffer = read_at
-
--- the most that a text takes of the room
-abbrev pub cost_in : Kind → Text → ℕ
-cost_in String text = max 5 (length text)
-cost_in Bucket text = max 1 (length text)
-cost_in Buffer text = entry_len text
+-- how an interner of a kind numbers its texts, where a symbol is its number
+abbrev pub numbering_in : Kind → Numbering ℕ
+numbering_in String = by_index numbered (λ n. n) (λ text. max 5 (length text))
+numbering_in Bucket = by_index numbered (λ n. n) (λ text. max 1 (length text))
+numbering_in Buffer = by_byte numbered (λ n. n)
 
 -- the room that a capacity grants
 abbrev pub grant_in : Kind → ℕ → ℕ

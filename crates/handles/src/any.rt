@@ -8,7 +8,6 @@ ghost use Rattle.string_interner.specs.Json.{json_of_texts};
 ghost use Rattle.handles.specs.Any.{FindsNumber, Interned, IsCopy, IsEmpty, IsMade, IsShrunk, KeepsFirst, ReadsAs, ReadsAsExactly, any_eq, text_at, texts_in};
 ghost use Rattle.string_interner.specs.Interner.{InternsInto};
 ghost use Rattle.string_interner.specs.Window.{seven_eighths};
-ghost use Rattle.handles.specs.Kind.{numbered};
 ghost use Rattle.handles.specs.Status.{TellsInterned, outcome_of};
 
 mod encode;
@@ -99,7 +98,7 @@ fn write_number<B: Backend<Symbol = SymbolU32>>(
     text: &str,
     number: &mut usize,
 ) -> u32
-    ensures { TellsInterned (λ outcome. InternsInto numbered B.place B.cost seven_eighths interner.old text.now outcome interner.new) result number.old number.new }
+    ensures { TellsInterned (λ outcome. InternsInto B.numbering seven_eighths interner.old text.now outcome interner.new) result number.old number.new }
 {
     tell(status_given(interner.get_or_intern(text)), number)
 }

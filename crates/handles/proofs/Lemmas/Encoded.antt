@@ -7,12 +7,13 @@ use Rattle.std.proofs.lemmas.Bool.{cases_lt}
 use Rattle.std.proofs.lemmas.List.{append_assoc, map_push, take_more_set, drop-set-lt, length-set}
 use Rattle.std.proofs.lemmas.Grind.{drop_more_same}
 use Rattle.string_interner.specs.Text.{Text}
+use Rattle.string_interner.specs.Numbering.{Numbering}
 use Rattle.string_interner.specs.StandsFor.{StandsFor, KeepsSymbols, StandInOrder, none, next}
 use Rattle.string_interner.specs.Interner.{InternsInto}
 use Rattle.string_interner.specs.Window.{seven_eighths}
 use Rattle.string_interner.proofs.Lemmas.Interner.Extends.{taken-more}
-use Rattle.handles.specs.Kind.{numbered, cost_in, place_in}
-use Rattle.handles.specs.Any.{Interned, contents, kind_of, place, texts_in}
+use Rattle.handles.specs.Kind.{numbering_in}
+use Rattle.handles.specs.Any.{Interned, contents, numbering_of, texts_in}
 use Rattle.handles.specs.Encode.{Encoded, InternsParts, IsEnd, IsTextBetween, part, parts, told}
 use Rattle.handles.specs.Status.{status_of}
 use Rattle.handles.specs.declared.status.Status.{Status}
@@ -24,10 +25,10 @@ use Rattle.string_interner.specs.declared.backend.InternError.TheVariants.{NoSym
 use Rattle.handles.specs.declared.any.AnyInterner.{AnyInterner}
 use Rattle.handles.specs.declared.kind.Kind.{Kind}
 
-module _ {S : Type 0} (symbol_of : ℕ → Option S) (place : List Text → ℕ) where
+module _ {S : Type 0} (numbering : Numbering S) where
   -- symbols that stand for texts still do where another is interned, and so does its own after them
-  stand-more : (old new : List Text) → KeepsSymbols symbol_of place old new → (symbols : List S) (texts : List Text) (symbol : S) (text : Text)
-      → StandInOrder symbol_of place old symbols texts → StandsFor symbol_of place new symbol text → StandInOrder symbol_of place new (symbols ++ symbol ∷ []) (texts ++ text ∷ [])
+  stand-more : (old new : List Text) → KeepsSymbols numbering old new → (symbols : List S) (texts : List Text) (symbol : S) (text : Text)
+      → StandInOrder numbering old symbols texts → StandsFor numbering new symbol text → StandInOrder numbering new (symbols ++ symbol ∷ []) (texts ++ text ∷ [])
   stand-more old new keeps _ _ symbol text none is = next is none
   stand-more old new keeps _ _ symbol text (next {symbol = s} {text = t} {symbols = symbols} {rest = rest} first more) is = next (keeps s t first) (stand-more old new keeps symbols rest symbol text more is)
 
@@ -54,12 +55,12 @@ encoded-none bytes ends before old fits = record {
 pub encoded-more : (bytes ends before : List ℕ) (old mid new : AnyInterner) (done number : ℕ) (so_far after : List ℕ) → Encoded bytes ends before old done mid so_far → done < length before
     → IsEnd bytes ends done → (text : Text) → text ≡ part bytes ends done → Interned mid text (Ok number) new → after ≡ set so_far done number → Encoded bytes ends before old (done + 1) new after
 encoded-more bytes ends before old mid new done number so_far after encoded fits is_end text is call now =
-    let call_is = subst (λ (k : Kind). InternsInto numbered (place_in k) (cost_in k) seven_eighths (contents mid) text (Ok number) (contents new)) encoded.kind call.interned in
+    let call_is = subst (λ (k : Kind). InternsInto (numbering_in k) seven_eighths (contents mid) text (Ok number) (contents new)) encoded.kind call.interned in
     let lt : done < length so_far = omega (arith, fits, encoded.same_length) in
     let front : take (done + 1) after ≡ take done so_far ++ number ∷ [] = ap (λ (xs : List ℕ). take (done + 1) xs) now ∙ take_more_set so_far done number lt in
     let texts_are : parts bytes ends (done + 1) ≡ parts bytes ends done ++ text ∷ [] = parts-more bytes ends done ∙ ap (λ (t : Text). parts bytes ends done ++ t ∷ []) (sym is) in
-    let taken = taken-more numbered (place old) (cost_in (kind_of old)) seven_eighths (contents old) (contents mid) (contents new) (parts bytes ends done) text number encoded.taken call_is in
-    let stand = stand-more numbered (place old) (texts_in mid) (texts_in new) call_is.keeps (take done so_far) (parts bytes ends done) number text encoded.stand call_is.stands in
+    let taken = taken-more (numbering_of old) seven_eighths (contents old) (contents mid) (contents new) (parts bytes ends done) text number encoded.taken call_is in
+    let stand = stand-more (numbering_of old) (texts_in mid) (texts_in new) call_is.keeps (take done so_far) (parts bytes ends done) number text encoded.stand call_is.stands in
     record {
       fits = encoded.fits;
       kind = call.kind ∙ encoded.kind;

@@ -3,7 +3,6 @@
 ghost use Rattle.std.specs.Prelude.{◌≡◌, ◌≤◌, [], length, map, take, drop, Some};
 ghost use Rattle.string_interner.specs.Iter.{entries};
 ghost use Rattle.handles.specs.Encode.{ListsEntries, told};
-ghost use Rattle.handles.specs.Kind.{numbered};
 
 use super::AnyInterner;
 use crate::status::Status;
@@ -26,7 +25,7 @@ fn entry_of<'a>(symbol: SymbolU32, text: &'a str) -> Entry<'a>
 /// Writes each entry to the front of a room that is long enough.
 fn list<'a, B: Backend<Symbol = SymbolU32>>(walk: Iter<'a, B>, room: &mut [Entry<'a>])
     requires { (walk.behind ≡ []) × (length walk.ahead ≤ length room.old) }
-    ensures front { map told (take (length walk.entry.ahead) room.new) ≡ entries numbered B.place [] walk.entry.ahead }
+    ensures front { map told (take (length walk.entry.ahead) room.new) ≡ entries B.numbering [] walk.entry.ahead }
     ensures rest { drop (length walk.entry.ahead) room.new ≡ drop (length walk.entry.ahead) room.old }
 {
     let mut index = 0;
