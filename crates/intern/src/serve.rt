@@ -8,7 +8,7 @@ ghost use Rattle.intern.specs.Arguments.{Names};
 ghost use Rattle.intern.specs.Fault.{IsReadFault, IsLineFault};
 ghost use Rattle.intern.specs.Line.{States, reply_line};
 ghost use Rattle.intern.specs.Lines.{IsFirstBad, IsFirstBadLine, IsStated, lines_of};
-ghost use Rattle.intern.specs.Served.{Answers, RunOver};
+ghost use Rattle.intern.specs.Served.{WritesReplies, numbering_over};
 ghost use Rattle.intern.specs.declared.serve.Choice.{Choice};
 ghost use Rattle.string_interner.specs.Run.{Run};
 ghost use Rattle.string_interner.specs.Text.{Text};
@@ -106,8 +106,7 @@ fn replies_over<B: Backend + Drop>(
     alloc: Global,
     commands: &[Command<'_>],
 ) -> Result<Vec<Reply>, Fault>
-    ensures ran { IfOk result (λ replies. (texts : List Text) × Run B.numbering [] []
-        commands.now replies.items texts) }
+    ensures ran { IfOk result (λ replies. (texts : List Text) × Run B.numbering [] [] commands.now replies.items texts) }
     ensures fault { IsOkUnless result Fault.Memory }
 {
     let mut interner = StringInterner::<B>::new(alloc);
@@ -116,7 +115,7 @@ fn replies_over<B: Backend + Drop>(
 
 /// Runs the commands on an empty interner over the chosen backend, and returns the replies.
 fn replies_of(alloc: Global, choice: Choice, commands: &[Command<'_>]) -> Result<Vec<Reply>, Fault>
-    ensures ran { IfOk result (λ replies. (texts : List Text) × RunOver choice commands.now replies.items texts) }
+    ensures ran { IfOk result (λ replies. (texts : List Text) × Run (numbering_over choice) [] [] commands.now replies.items texts) }
     ensures fault { IsOkUnless result Fault.Memory }
 {
     match choice {
@@ -162,7 +161,7 @@ pub fn serve<R: Read, W: Write>(
     // Of a reader whose bytes are known: what a bad line and a whole answer say of them.
     ensures bad_line { (n : ℕ) → IsErrOf result (Fault.BadLine n) → IfSome (R.remaining input.old) (λ bytes. IsFirstBadLine (lines_of bytes) n) }
     ensures answered { OnOk result (IfSome (R.remaining input.old) (λ bytes. (choice : Choice) × Names arguments.now choice
-        × Answers choice bytes (W.contents output.old) (W.contents output.new))) }
+        × WritesReplies choice bytes (W.contents output.old) (W.contents output.new))) }
 
     ensures output { IsErrOf result Fault.Output → IfSome (R.remaining input.old) (λ bytes. All IsStated (lines_of bytes)) }
 

@@ -6,7 +6,7 @@ use Rattle.intern.specs.Fault.{IsLineFault}
 use Rattle.intern.specs.declared.serve.Choice.{Choice}
 use Rattle.intern.specs.Line.{States}
 use Rattle.intern.specs.Lines.{IsFirstBadLine, IsStated, lines_of}
-use Rattle.intern.specs.Served.{Answers}
+use Rattle.intern.specs.Served.{WritesReplies}
 use Rattle.intern.specs.declared.fault.Fault.{Fault}
 use Rattle.intern.specs.declared.fault.Fault.TheVariants.{BadLine}
 use Rattle.string_interner.specs.declared.run.Command.{Command}
@@ -43,7 +43,7 @@ returns-clause-answered g c =
     let ran = c.in_ok-replies.ensures.ran in
     let ran_on = rw c.deref-2.ensures.value at ran.1 in
     OnOk-map c.write_replies.result
-    (λ told. IfSome-input (λ bytes. (choice : Choice) × Names c.args.arguments.now choice × Answers choice bytes (g.W.Write.contents c.args.output.now) (g.W.Write.contents c.write_replies.new.output))
+    (λ told. IfSome-input (λ bytes. (choice : Choice) × Names c.args.arguments.now choice × WritesReplies choice bytes (g.W.Write.contents c.args.output.now) (g.W.Write.contents c.write_replies.new.output))
     (g.R.Read.remaining c.args.input.now) (string_bytes c.in_ok-text.text) c.in_ok-text.ensures.whole
     (c.in_ok-choice.choice, search rules, record { commands = c.in_ok-commands.commands.items; replies = c.in_ok-replies.replies.items; texts = ran.0; stated = stated; ran = ran_on; written = rw c.deref-3.ensures.value at told }))
     c.write_replies.ensures.written
