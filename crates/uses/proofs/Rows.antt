@@ -1,7 +1,8 @@
 -- The rows of a column: what its symbols read, and what they are once more are encoded.
-use Rattle.std.proofs.Common.{◌≡◌, ℕ, ◌<◌, ◌^◌, ◌⊎◌, List, [], ◌∷◌, ◌++◌, take, length, Option, Some, None, Result, Ok, Err, sym, ap, subst, ◌∙◌, refl, zero, suc, inl, inr, Bor}
+use Rattle.std.proofs.Common.{◌≡◌, ℕ, ◌<◌, ◌^◌, ◌⊎◌, List, [], ◌∷◌, ◌++◌, take, length, Option, Some, None, Result, Ok, Err, sym, ap, subst, ◌∙◌, refl, zero, suc, inl, inr, Bor, Vec, vec_capacity}
 use Rattle.std.specs.Prelude.{slice_get, MatchOption, MatchResult}
 use Rattle.std.specs.Option.{option_map_or}
+use Rattle.std.specs.declared.alloc.Global.{Global}
 use Rattle.std.proofs.lemmas.List.{append_assoc, append-nil}
 use Rattle.std.proofs.lemmas.Option.{slice_get_within, none-some, same_Some}
 use Rattle.string_interner.specs.Text.{Text, first}
@@ -22,7 +23,7 @@ module _ {S : Type 0} (numbering : Numbering S) where
   all-fresh old [] new h = h ∙ sym (append-nil old)
   all-fresh old (text ∷ texts) new h = of (first old text) h.1.1 (all-fresh h.0 texts new h.2)
     where
-      of : (o : Option ℕ) → MatchOption o (Appends numbering.symbol_of numbering.place old text (Ok h.1.0) h.0) (λ i. (entry_symbol numbering.symbol_of numbering.place old i ≡ Some h.1.0) × (h.0 ≡ old))
+      of : (o : Option ℕ) → MatchOption o (Appends numbering.symbol_of numbering.place old text (Ok h.1.0) h.0) (λ i. (entry_symbol numbering old i ≡ Some h.1.0) × (h.0 ≡ old))
           → new ≡ h.0 ++ fresh h.0 texts → new ≡ old ++ option_map_or (λ _. fresh old texts) o (text ∷ fresh (old ++ text ∷ []) texts)
       of (Some i) known is = is ∙ ap (λ mid. mid ++ fresh mid texts) known.1
       of None put is = is ∙ ap (λ mid. mid ++ fresh mid texts) put.1 ∙ append_assoc old (text ∷ []) _
@@ -74,15 +75,15 @@ module _ {S : Type 0} (numbering : Numbering S) where
         let is : numbering.read texts (numbering.number s) ≡ Some t = ap (numbering.read texts) ((numbered _ s stands.symbol_is).0) ∙ reads texts stands.index kept (slice_get_within texts stands.index t stands.entry) ∙ stands.entry in
         rw (is, decoded-rows texts symbols rest kept more) refl
 
-    pub encodes-rows : (yields : List (Bor Text) → Option (Bor Text) → Type 0) (rule : SlotRule) (old new : InternerContents) (codes longer : List S) (capacity : ℕ) (outcome : Result (Unit {0}) InternError) (rows : List Text)
-        → InternsEach numbering rule yields old codes capacity outcome new longer → IsValidList numbering.symbol_of numbering.place new.texts → IsColumn numbering old.texts codes rows
-        → let after = decoded numbering new.texts longer in IsColumn numbering new.texts longer after × AppendsRows yields rows outcome after
-    encodes-rows yields rule old new codes longer capacity outcome rows h kept column =
-        let end = ends rule yields old h.1 new longer capacity h.0 outcome h.3 in
+    pub encodes-rows : (yields : List (Bor Text) → Option (Bor Text) → Type 0) (rule : SlotRule) (old new : InternerContents) (codes longer : Vec S Global) (outcome : Result (Unit {0}) InternError) (rows : List Text)
+        → InternsEach numbering rule yields (old, codes) outcome (new, longer) → IsValidList numbering.symbol_of numbering.place new.texts → IsColumn numbering old.texts codes.items rows
+        → let after = decoded numbering new.texts longer.items in IsColumn numbering new.texts longer.items after × AppendsRows yields rows outcome after
+    encodes-rows yields rule old new codes longer outcome rows h kept column =
+        let end = ends rule yields old h.1 new longer.items (vec_capacity codes) h.0 outcome h.3 in
         let more = texts_of h.0 in
         let keeps : KeepsSymbols numbering old.texts new.texts = subst (λ texts. KeepsSymbols numbering old.texts texts) (sym end.0) h.2.taken.keeps in
         let added = subst (λ texts. StandInOrder numbering texts h.2.added more) (sym end.0) h.2.stand in
-        let stand = subst (λ all. StandInOrder numbering new.texts all (rows ++ more)) (sym h.2.appended) (stand-append old.texts new.texts keeps codes h.2.added rows more column.stand added) in
+        let stand = subst (λ all. StandInOrder numbering new.texts all (rows ++ more)) (sym h.2.appended) (stand-append old.texts new.texts keeps codes.items h.2.added rows more column.stand added) in
         let dictionary = subst (λ texts. InternsAll numbering [] (rows ++ more) texts) (sym end.0) (interns-append [] rows old.texts more h.1.texts column.dictionary h.2.taken.interned) in
-        let is = decoded-rows new.texts longer (rows ++ more) kept stand in
-        (subst (λ all. IsColumn numbering new.texts longer all) (sym is) (record { stand = stand; dictionary = dictionary }), (h.0, is, end.1))
+        let is = decoded-rows new.texts longer.items (rows ++ more) kept stand in
+        (subst (λ all. IsColumn numbering new.texts longer.items all) (sym is) (record { stand = stand; dictionary = dictionary }), (h.0, is, end.1))

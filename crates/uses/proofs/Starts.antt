@@ -9,7 +9,7 @@ use Rattle.std.proofs.lemmas.Slice.Zip.{all_zipped_more}
 use Rattle.string_interner.specs.Text.{Text}
 use Rattle.string_interner.specs.StandsFor.{StandsFor, NumbersInOrder}
 use Rattle.string_interner.specs.Iter.{entries}
-use Rattle.uses.specs.Column.{AreNumbersOf, AreStarts}
+use Rattle.uses.specs.Column.{AreNumbersOf, AreSymbolNumbers}
 use Rattle.string_interner.specs.Numbering.{Numbering}
 
 -- the number of one more row
@@ -30,7 +30,7 @@ module _ {S : Type 0} (numbering : Numbering S) where
   known (Some s) n e = (s, refl, same_Some _ _ e)
 
   -- the number at an index is that of the entry's symbol
-  start-at : (front texts : List Text) (starts : List ℕ) → AreStarts numbering.number (entries numbering.symbol_of numbering.place front texts) starts → (i : ℕ) → i < length texts
+  start-at : (front texts : List Text) (starts : List ℕ) → AreSymbolNumbers numbering (entries numbering front texts) starts → (i : ℕ) → i < length texts
       → (s : S) × (numbering.symbol_of (numbering.place (front ++ take i texts)) ≡ Some s) × (slice_get starts i ≡ Some (numbering.number s))
   start-at front [] starts h i l = absurd (omega arith)
   start-at front (t ∷ ts) [] h i l = absurd h
@@ -41,13 +41,13 @@ module _ {S : Type 0} (numbering : Numbering S) where
       let r = start-at (front ++ t ∷ []) ts ns h.1 i (omega arith) in
       (r.0, ap (λ f. numbering.symbol_of (numbering.place f)) (sym (append_assoc front (t ∷ []) (take i ts))) ∙ r.1, r.2)
 
-  start-count : (front texts : List Text) (starts : List ℕ) → AreStarts numbering.number (entries numbering.symbol_of numbering.place front texts) starts → length starts ≡ length texts
+  start-count : (front texts : List Text) (starts : List ℕ) → AreSymbolNumbers numbering (entries numbering front texts) starts → length starts ≡ length texts
   start-count front [] [] h = refl
   start-count front [] (n ∷ ns) h = absurd h
   start-count front (t ∷ ts) [] h = absurd h
   start-count front (t ∷ ts) (n ∷ ns) h = ap suc (start-count (front ++ t ∷ []) ts ns h.1)
 
-  module _ (texts : List Text) (starts : List ℕ) (are : AreStarts numbering.number (entries numbering.symbol_of numbering.place [] texts) starts) (order : NumbersInOrder numbering texts) where
+  module _ (texts : List Text) (starts : List ℕ) (are : AreSymbolNumbers numbering (entries numbering [] texts) starts) (order : NumbersInOrder numbering texts) where
     rises : (i j d : ℕ) → i < j → j < length starts → get_or starts i d < get_or starts j d
     rises i j d lt l =
         let all = start-count [] texts starts are in

@@ -26,4 +26,4 @@ opened block outer = record { innermost = block.texts; outer = map (λ names. na
 abbrev pub meant : {S : Type 0} → Numbering S → List (List Text) → Text → Option (ℕ × S)
 meant numbering [] name = None
 meant numbering (block ∷ outer) name =
-    option_map_or (λ symbol. Some (length outer, symbol)) (known_symbol numbering.symbol_of numbering.place block name) (meant numbering outer name)
+    option_map_or (λ symbol. Some (length outer, symbol)) (known_symbol numbering block name) (meant numbering outer name)

@@ -30,5 +30,5 @@ abbrev pub AreNumbersOf : List Text → List ℕ → List Text → Type 0
 AreNumbersOf dictionary numbers rows = AllZip (λ number row. slice_get dictionary number ≡ Some row) numbers rows
 
 -- the numbers of the symbols of entries
-abbrev pub AreStarts : {S : Type 0} → (S → ℕ) → List (Option S × Text) → List ℕ → Type 0
-AreStarts number entries starts = AllZip (λ entry start. option_map number entry.0 ≡ Some start) entries starts
+abbrev pub AreSymbolNumbers : {S : Type 0} → Numbering S → List (Option S × Text) → List ℕ → Type 0
+AreSymbolNumbers numbering entries numbers = AllZip (λ entry number. option_map numbering.number entry.0 ≡ Some number) entries numbers

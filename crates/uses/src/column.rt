@@ -5,7 +5,7 @@ ghost use Rattle.std.specs.Option.{option_copied};
 ghost use Rattle.std.specs.Iterator.{IsFiniteIterable};
 ghost use Rattle.string_interner.specs.Extend.{fresh, YieldedBy};
 ghost use Rattle.string_interner.specs.Iter.{entries};
-ghost use Rattle.uses.specs.Column.{AppendsRows, AreNumbersOf, AreStarts};
+ghost use Rattle.uses.specs.Column.{AppendsRows, AreNumbersOf, AreSymbolNumbers};
 
 use std::alloc::{AllocError, Global};
 use std::marker::Model;
@@ -130,7 +130,8 @@ fn starts<B: Backend, H: TextHasher, I: TextIndex<B::Symbol>>(
     alloc: Global,
     dictionary: &StringInterner<B, H, I>,
 ) -> Result<Vec<usize>, AllocError>
-    ensures { IfOk result (λ starts. AreStarts B.Symbol.number (entries B.Symbol.symbol_of B.place [] dictionary.now.texts) starts.items) }
+    ensures { IfOk result (λ starts. AreSymbolNumbers B.numbering
+        (entries B.numbering [] dictionary.now.texts) starts.items) }
 {
     let mut starts = Vec::with_capacity(alloc, dictionary.len())?;
     for (symbol, _) in dictionary {

@@ -1,11 +1,11 @@
 use Rattle.std.proofs.Common.{[]}
 use Rattle.std.proofs.lemmas.List.{append-nil}
-use Rattle.uses.specs.Column.{AreStarts}
+use Rattle.uses.specs.Column.{AreSymbolNumbers}
 use Rattle.string_interner.specs.Iter.{entries}
 use Rattle.std.proofs.Common.{subst}
 use Rattle.uses.proofs.column.starts.Goals as goal
 
 pub returns : goal.returns
 returns g c =
-    subst (AreStarts g.B.Symbol.Symbol.number (entries g.B.Symbol.Symbol.symbol_of g.B.Backend.place [] c.args.dictionary.now.texts)) (append-nil _)
+    subst (AreSymbolNumbers g.B.Backend.numbering (entries g.B.Backend.numbering [] c.args.dictionary.now.texts)) (append-nil _)
     (c.loop-symbol.invariant.so_far [] (rw c.in-None.ensures.steps.0 tt))
