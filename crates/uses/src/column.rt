@@ -114,7 +114,7 @@ impl<B: Backend, H: TextHasher, I: TextIndex<B::Symbol>> Column<B, H, I> {
         ensures { IfOk result (λ numbers. AreNumbersOf (fresh [] self.now) numbers.items self.now) }
     {
         // For the proof: states that a later text has the greater number.
-        self.dictionary.symbol_law();
+        let _ = self.dictionary.len();
         let starts = starts(alloc, &self.dictionary)?;
         let mut numbers = Vec::with_capacity(alloc, self.codes.len())?;
         for code in &self.codes {
