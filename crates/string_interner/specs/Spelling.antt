@@ -1,7 +1,8 @@
 -- Numbers in unsigned LEB128: how one is encoded in bytes, and what the bytes at the front of a list decode as.
 -- Cited by the definitions of the byte buffer, and by what reads and writes a length.
-use Rattle.std.specs.Prelude.{ℕ, zero, suc, Bool, ◌+◌, ◌*◌, ◌/◌, ◌%◌, ◌^◌, ◌<◌, ◌≤◌, ◌&&◌, List, [], ◌∷◌, length, take, drop, nat_lt, nat_le, if◌then◌else◌}
+use Rattle.std.specs.Prelude.{ℕ, zero, suc, Bool, ◌+◌, ◌*◌, ◌/◌, ◌%◌, ◌^◌, ◌<◌, ◌≤◌, ◌&&◌, List, [], ◌∷◌, length, take, drop, nat_lt, nat_le, if◌then◌else◌, Option, IsTrue, SomeIff}
 use Rattle.std.specs.List.{prefix_len}
+use Rattle.string_interner.specs.declared.backend.buffer.spelling.Spelled.{Spelled}
 
 -- A number in base 128, its lowest digit first. 128 is added to every digit but the last. There are at most `more`
 -- digits after the first, which only bounds the recursion.
@@ -49,3 +50,7 @@ after_front bytes = drop (front_len bytes) bytes
 -- the front is complete, has at most ten bytes, and its number fits a `usize`
 abbrev pub has_front : List ℕ → Bool
 has_front bytes = nat_le (front_len bytes) (length bytes) && (nat_le (front_len bytes) 10 && nat_lt (front_value bytes) (2 ^ 64))
+
+-- the number at the front is decoded, with the front's length, exactly if `has_front`
+abbrev pub DecodesFront : List ℕ → Option Spelled → Type 0
+DecodesFront bytes decoded = SomeIff decoded (IsTrue (has_front bytes)) (record { number = front_value bytes; len = front_len bytes })

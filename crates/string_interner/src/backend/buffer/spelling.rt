@@ -3,8 +3,8 @@
 //! The lowest digit comes first, and bit 7 is set on every byte but the last. A number is written in the fewest digits,
 //! and at least one; what is read may have more, up to ten.
 
-ghost use Rattle.std.specs.Prelude.{◌≡◌, ◌+◌, ◌≤◌, ◌++◌, IsTrue, SomeIff, vec_len, vec_capacity};
-ghost use Rattle.string_interner.specs.Spelling.{spell, digits, front_len, front_value, has_front};
+ghost use Rattle.std.specs.Prelude.{◌≡◌, ◌+◌, ◌≤◌, ◌++◌, vec_len, vec_capacity};
+ghost use Rattle.string_interner.specs.Spelling.{spell, digits, DecodesFront};
 
 /// The index of the last digit that a `usize` may have. Its unit is 2^63, so that digit is at most 1.
 const LAST: usize = 9;
@@ -47,8 +47,7 @@ pub(super) fn push_number(buffer: &mut Vec<u8>, mut number: usize)
 /// Decodes the number at the front: `None` unless there is one, of at most ten digits, that fits a `usize`.
 #[inline]
 pub(super) fn number_at(bytes: &[u8]) -> Option<Spelled>
-    ensures { SomeIff result (IsTrue (has_front bytes.now))
-        (record { number = front_value bytes.now; len = front_len bytes.now }) }
+    ensures { DecodesFront bytes.now result }
 {
     let first = *bytes.first()?;
     if first < 128 {
@@ -63,8 +62,7 @@ pub(super) fn number_at(bytes: &[u8]) -> Option<Spelled>
 
 /// The same, digit by digit.
 fn long_number_at(bytes: &[u8]) -> Option<Spelled>
-    ensures { SomeIff result (IsTrue (has_front bytes.now))
-        (record { number = front_value bytes.now; len = front_len bytes.now }) }
+    ensures { DecodesFront bytes.now result }
 {
     let mut number = 0;
     let mut unit = 1;
