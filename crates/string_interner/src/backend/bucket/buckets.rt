@@ -59,7 +59,7 @@ pub fn new_head(alloc: Global, before: usize, text: &str) -> Result<(FixedString
 }
 
 /// Returns the number of the head, which comes after the older buckets.
-#[tactic(auto, using(crate::proofs::Lemmas::BucketBackend::Buckets::few_below))]
+#[tactic(auto, using(crate::proofs::Lemmas::BucketBackend::IsTight::few_below))]
 fn head_number(full: &[FullBucket], head: &FixedString) -> u8
     requires { AreFew full.now head.now }
     ensures { result ≡ length full.now }
@@ -72,7 +72,7 @@ fn head_number(full: &[FullBucket], head: &FixedString) -> u8
 /// Appends a text to the head if it fits the head's capacity, else to a new head, and returns its entry.
 ///
 /// Allocates before it stores anything, so that nothing changes on `Err`.
-#[tactic(auto, using(crate::proofs::Lemmas::BucketBackend::Buckets::few_begins))]
+#[tactic(auto, using(crate::proofs::Lemmas::BucketBackend::IsTight::few_begins))]
 pub fn store(
     full: &mut Vec<FullBucket>,
     head: &mut FixedString,

@@ -1,5 +1,5 @@
 use Rattle.std.proofs.Common.{rules}
-use Rattle.string_interner.proofs.Lemmas.BucketBackend.Buckets.{stored-copies}
+use Rattle.string_interner.proofs.Lemmas.BucketBackend.AreCopies.{stored-copies}
 use Rattle.string_interner.proofs.backend.bucket.BucketBackend.clone.Goals as goal
 
 pub copies_of-requires-clause-utf8 : goal.copies_of-requires-clause-utf8

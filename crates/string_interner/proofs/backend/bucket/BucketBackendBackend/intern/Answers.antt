@@ -2,7 +2,9 @@ use Rattle.std.proofs.Common.{◌≡◌, List, false, ◌+◌, ◌-◌, ◌≤�
 use Rattle.std.proofs.lemmas.List.{map_push}
 use Rattle.string_interner.specs.BucketBackend.{BucketContents, Puts, buckets_of, interned_text, is_static, IsLast, IsInBuckets}
 use Rattle.string_interner.specs.declared.backend.bucket.interned_str.InternedStr.{InternedStr}
-use Rattle.string_interner.proofs.Lemmas.BucketBackend.Buckets.{stored-puts, spent-puts, Stays-puts, Stays-same}
+use Rattle.string_interner.proofs.Lemmas.BucketBackend.IsInBuckets.{stored-puts}
+use Rattle.string_interner.proofs.Lemmas.BucketBackend.AreCopies.{spent-puts}
+use Rattle.string_interner.proofs.Lemmas.BucketBackend.Stays.{Stays-puts, Stays-same}
 use Rattle.string_interner.proofs.Lemmas.Results.{OnOk-passed, OnErr-failed, OnErr-always}
 use Rattle.string_interner.proofs.backend.bucket.BucketBackendBackend.intern.Goals as goal
 use Rattle.string_interner.proofs.backend.bucket.BucketBackendBackend.intern.Goals.{After-push_reserved, After-from_residual-in_err-interned}

@@ -3,7 +3,7 @@ use Rattle.std.proofs.lemmas.List.{map_push}
 use Rattle.string_interner.specs.declared.backend.bucket.interned_str.InternedStr.{InternedStr}
 use Rattle.string_interner.specs.declared.backend.bucket.interned_str.InternedStr.TheVariants.{Static}
 use Rattle.string_interner.specs.BucketBackend.{BucketContents, buckets_of, interned_text, IsInBuckets}
-use Rattle.string_interner.proofs.Lemmas.BucketBackend.Buckets.{stored-static}
+use Rattle.string_interner.proofs.Lemmas.BucketBackend.IsInBuckets.{stored-static}
 use Rattle.string_interner.proofs.backend.bucket.BucketBackendBackend.intern_static.Goals as goal
 use Rattle.string_interner.proofs.backend.bucket.BucketBackendBackend.intern_static.Goals.{After-push_reserved}
 use Rattle.string_interner.proofs.backend.bucket.BucketBackendBackend.intern_static.Given.{Over}

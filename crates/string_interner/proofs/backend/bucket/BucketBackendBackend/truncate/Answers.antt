@@ -1,7 +1,7 @@
 use Rattle.std.proofs.Common.{map, take, sym, ap, ◌∙◌}
 use Rattle.std.proofs.lemmas.List.{take-map}
 use Rattle.string_interner.specs.BucketBackend.{BucketContents, buckets_of, interned_text, is_static}
-use Rattle.string_interner.proofs.Lemmas.BucketBackend.Buckets.{stored-take}
+use Rattle.string_interner.proofs.Lemmas.BucketBackend.IsInBuckets.{stored-take}
 use Rattle.string_interner.proofs.backend.bucket.BucketBackendBackend.truncate.Goals as goal
 
 pub invariant_of-self : goal.invariant_of-self

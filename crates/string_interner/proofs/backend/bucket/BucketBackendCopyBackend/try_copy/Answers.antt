@@ -1,5 +1,5 @@
 use Rattle.std.proofs.Common.{◌∙◌}
-use Rattle.string_interner.proofs.Lemmas.BucketBackend.Buckets.{copies-joined}
+use Rattle.string_interner.proofs.Lemmas.BucketBackend.AreCopies.{copies-joined}
 use Rattle.string_interner.proofs.backend.bucket.BucketBackendCopyBackend.try_copy.Goals as goal
 
 pub returns-clause-buckets : goal.returns-clause-buckets

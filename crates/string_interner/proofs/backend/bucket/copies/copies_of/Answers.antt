@@ -2,7 +2,7 @@ use Rattle.std.proofs.Common.{◌∙◌, arith}
 use Rattle.std.proofs.lemmas.List.Sums.{sum_by_more_le}
 use Rattle.string_interner.specs.BucketBackend.{buckets_of, interned_len}
 use Rattle.string_interner.specs.declared.backend.bucket.interned_str.InternedStr.TheVariants.{InBucket}
-use Rattle.string_interner.proofs.Lemmas.BucketBackend.Buckets.{AreCopies-step}
+use Rattle.string_interner.proofs.Lemmas.BucketBackend.AreCopies.{AreCopies-step}
 use Rattle.string_interner.proofs.backend.bucket.copies.copies_of.Goals as goal
 
 pub copy_of-requires-clause-room : goal.copy_of-requires-clause-room
