@@ -1,5 +1,5 @@
 pub mod Loose
 pub mod Handle
 pub mod Address
-pub mod Encoded
+pub mod Parts
 pub mod Json

@@ -10,7 +10,7 @@ use Rattle.string_interner.specs.Json.{json_of_texts, ReadsArray, ReadsArrayExac
 use Rattle.serde_json.specs.Data.{Data}
 use Rattle.string_interner.specs.declared.backend.InternError.{InternError}
 use Rattle.string_interner.specs.declared.json.JsonError.{JsonError}
-use Rattle.handles.specs.Kind.{numbered, numbering_in, grant_in, copies_in}
+use Rattle.handles.specs.Kind.{symbol_of, numbering_in, grant_in, copies_in}
 use Rattle.handles.specs.declared.kind.Kind.{Kind}
 use Rattle.handles.specs.declared.kind.Kind.TheVariants as kind
 use Rattle.handles.specs.declared.any.AnyInterner.{AnyInterner}
@@ -36,14 +36,14 @@ numbering_of any = numbering_in (kind_of any)
 
 -- the text that is read at a number, if one is
 abbrev pub text_at : AnyInterner → ℕ → Option Text
-text_at any number = option_and_then ((numbering_of any).read (texts_in any)) (numbered number)
+text_at any number = option_and_then ((numbering_of any).read (texts_in any)) (symbol_of number)
 
 -- A text is looked for, and this is found.
 abbrev pub FindsNumber : AnyInterner → Text → Option ℕ → Type 0
 FindsNumber any text found = Finds (numbering_of any) (texts_in any) text found
 
 -- Interning a text has this outcome: that of the library.
-pub record Interned (old : AnyInterner) (text : Text) (outcome : Result ℕ InternError) (new : AnyInterner) : Type 0 where
+pub record InternsAny (old : AnyInterner) (text : Text) (outcome : Result ℕ InternError) (new : AnyInterner) : Type 0 where
   pub kind : kind_of new ≡ kind_of old
   pub interned : InternsInto (numbering_of old) seven_eighths (contents old) text outcome (contents new)
 
@@ -73,7 +73,7 @@ pub record IsShrunk (old new : AnyInterner) : Type 0 where
   pub keeps : KeepsSymbols (numbering_of old) (texts_in old) (texts_in new)
 
 -- the copy has the same kind and the same texts, each with its number, as many slots, and the buckets of a copy
-pub record IsCopy (any copy : AnyInterner) : Type 0 where
+pub record IsAnyCopy (any copy : AnyInterner) : Type 0 where
   pub kind : kind_of copy ≡ kind_of any
   pub texts : texts_in copy ≡ texts_in any
   pub buckets : copies_in (kind_of any) (texts_in any) (contents any).buckets (contents copy).buckets

@@ -14,7 +14,7 @@ use Rattle.string_interner.specs.Text.{Text}
 use Rattle.string_interner.specs.Json.{json_of_texts}
 use Rattle.string_interner.specs.declared.backend.InternError.TheVariants.{NoSymbol as InternNoSymbol, Memory}
 use Rattle.string_interner.specs.declared.json.JsonError.{JsonError}
-use Rattle.handles.specs.Any.{FindsNumber, Interned, IsCopy, IsEmpty, IsMade, kind_of, text_at, texts_in}
+use Rattle.handles.specs.Any.{FindsNumber, InternsAny, IsAnyCopy, IsEmpty, IsMade, kind_of, text_at, texts_in}
 use Rattle.handles.specs.Kind.{code_of_kind}
 use Rattle.handles.specs.Status.{Tells, code_of_done, status_of_json}
 use Rattle.handles.specs.declared.kind.Kind.{Kind}
@@ -39,15 +39,31 @@ pub record TellsDone (holds : Result (Unit {0}) Status → Type 0) (code : ℕ) 
   pub told : code ≡ code_of_done outcome
   pub outcome_holds : holds outcome
 
+-- A call changes what a handle holds as this says of its outcome. Its code tells the outcome, and a value is written.
+abbrev pub Changes : {T : Type 0} → (AnyInterner → Result T Status → AnyInterner → Type 0) → Handle → Handle → ℕ → T → T → Type 0
+Changes changes old new = Answers (λ outcome. changes old.value outcome new.value)
+
+-- A call asks what a handle holds. Its code tells the outcome, and a value is written.
+abbrev pub Queries : {T : Type 0} → (AnyInterner → Result T Status → Type 0) → Handle → ℕ → T → T → Type 0
+Queries asks h = Answers (asks h.value)
+
+-- A call writes to what it is handed as this says of its outcome, which its code tells.
+abbrev pub Writes : {W : Type 0} → (W → Result (Unit {0}) Status → W → Type 0) → W → W → ℕ → Type 0
+Writes writes before after = TellsDone (λ outcome. writes before outcome after)
+
 -- A slot holds the address of a handle on what was made. It stays as it is where nothing was made, which is told, or where
 -- there is no memory to hold what was made.
-abbrev pub Fills : Result AnyInterner Status → Slot → Result (Unit {0}) Status → Slot → Type 0
-Fills made old (Ok _) new = (handle : Handle) × (new.held ≡ Some handle) × (made ≡ Ok handle.value)
-Fills made old (Err status) new = ((made ≡ Err status) ⊎ (IsOk made × (status ≡ NoMemory))) × (new ≡ old)
+abbrev pub FillsWith : Result AnyInterner Status → Slot → Result (Unit {0}) Status → Slot → Type 0
+FillsWith made old (Ok _) new = (handle : Handle) × (new.held ≡ Some handle) × (made ≡ Ok handle.value)
+FillsWith made old (Err status) new = ((made ≡ Err status) ⊎ (IsOk made × (status ≡ NoMemory))) × (new ≡ old)
 
 -- A slot is filled with what may be made so.
-abbrev pub FillsMade : (Result AnyInterner Status → Type 0) → Slot → Result (Unit {0}) Status → Slot → Type 0
-FillsMade making old outcome new = (made : Result AnyInterner Status) × making made × Fills made old outcome new
+abbrev pub Fills : (Result AnyInterner Status → Type 0) → Slot → Result (Unit {0}) Status → Slot → Type 0
+Fills making old outcome new = (made : Result AnyInterner Status) × making made × FillsWith made old outcome new
+
+-- A call opens a handle on what may be made so: it fills a slot, and its code tells the outcome.
+abbrev pub Opens : (Result AnyInterner Status → Type 0) → Slot → Slot → ℕ → Type 0
+Opens making = Writes (Fills making)
 
 -- ---- making an interner
 
@@ -66,7 +82,7 @@ MakesRoom code capacity (Err _) = ⊥
 
 -- A copy is made, or memory is refused.
 abbrev pub Copies : AnyInterner → Result AnyInterner Status → Type 0
-Copies any (Ok copy) = IsCopy any copy
+Copies any (Ok copy) = IsAnyCopy any copy
 Copies any (Err NoMemory) = ⊤
 Copies any (Err _) = ⊥
 
@@ -80,9 +96,9 @@ IsTextOf bytes (Err _) = ⊥
 
 -- A text is interned.
 abbrev pub InternsText : Text → AnyInterner → Result ℕ Status → AnyInterner → Type 0
-InternsText text old (Ok number) new = Interned old text (Ok number) new
-InternsText text old (Err NoSymbol) new = Interned old text (Err InternNoSymbol) new
-InternsText text old (Err NoMemory) new = Interned old text (Err (Memory alloc_error)) new
+InternsText text old (Ok number) new = InternsAny old text (Ok number) new
+InternsText text old (Err NoSymbol) new = InternsAny old text (Err InternNoSymbol) new
+InternsText text old (Err NoMemory) new = InternsAny old text (Err (Memory alloc_error)) new
 InternsText text old (Err _) new = ⊥
 
 -- Bytes are interned: as a text is, or they are none.
@@ -117,19 +133,19 @@ CopiesOut bytes (Err NoRoom) room after told = (length room < length bytes) × (
 CopiesOut bytes (Err _) room after told = ⊥
 
 -- The text at a number is copied out, or there is none, and nothing changes.
-abbrev pub CopiesText : ℕ → AnyInterner → Result (Unit {0}) Status → List ℕ → List ℕ → ℕ → ℕ → Type 0
-CopiesText number any outcome room after len told = MatchOption (text_at any number)
+abbrev pub CopiesText : ℕ → AnyInterner → List ℕ × ℕ → Result (Unit {0}) Status → List ℕ × ℕ → Type 0
+CopiesText number any (room, len) outcome (after, told) = MatchOption (text_at any number)
     ((outcome ≡ Err Nothing) × (after ≡ room) × (told ≡ len))
     (λ text. CopiesOut text outcome room after told)
 
 -- ---- JSON
 
 -- The JSON form of the texts is copied out, or memory is refused, and nothing changes.
-abbrev pub WritesJson : AnyInterner → Result (Unit {0}) Status → List ℕ → List ℕ → ℕ → ℕ → Type 0
-WritesJson any (Ok _) room after len told = CopiesOut (compact_text (json_of_texts (texts_in any))) (Ok tt) room after told
-WritesJson any (Err NoRoom) room after len told = CopiesOut (compact_text (json_of_texts (texts_in any))) (Err NoRoom) room after told
-WritesJson any (Err NoMemory) room after len told = (after ≡ room) × (told ≡ len)
-WritesJson any (Err _) room after len told = ⊥
+abbrev pub CopiesJson : AnyInterner → List ℕ × ℕ → Result (Unit {0}) Status → List ℕ × ℕ → Type 0
+CopiesJson any (room, len) (Ok _) (after, told) = CopiesOut (compact_text (json_of_texts (texts_in any))) (Ok tt) room after told
+CopiesJson any (room, len) (Err NoRoom) (after, told) = CopiesOut (compact_text (json_of_texts (texts_in any))) (Err NoRoom) room after told
+CopiesJson any (room, len) (Err NoMemory) (after, told) = (after ≡ room) × (told ≡ len)
+CopiesJson any (room, len) (Err _) (after, told) = ⊥
 
 -- Bytes are the JSON form of the texts, or memory is refused.
 abbrev pub IsJsonOf : AnyInterner → Result (Vec ℕ Global) Status → Type 0

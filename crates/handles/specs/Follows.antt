@@ -3,7 +3,7 @@
 use base.Fml.{Fml}
 use denote.Ref.{MutBor}
 use denote.Follow.{follows}
-use Rattle.handles.specs.Holds.{Inner}
+use Rattle.handles.specs.Owns.{Inner}
 use Rattle.handles.specs.declared.any.AnyInterner.{AnyInterner}
 use Rattle.handles.specs.declared.handle.Handle.{Handle}
 use Rattle.handles.specs.contracts.handle.Handle.{the_row as handle-row}

@@ -16,15 +16,15 @@ code_of_kind String = 0
 code_of_kind Bucket = 1
 code_of_kind Buffer = 2
 
--- a number, where a symbol has it: those below 2 ^ 32 - 1 have one
-abbrev pub numbered : ℕ → Option ℕ
-numbered = number_below (2 ^ 32 - 1)
+-- the symbol with a number, which is that number: those below 2 ^ 32 - 1 have one
+abbrev pub symbol_of : ℕ → Option ℕ
+symbol_of = number_below (2 ^ 32 - 1)
 
--- how an interner of a kind numbers its texts, where a symbol is its number
+-- how an interner of a kind numbers its texts: a symbol is its number
 abbrev pub numbering_in : Kind → Numbering ℕ
-numbering_in String = by_index numbered (λ n. n) (λ text. max 5 (length text))
-numbering_in Bucket = by_index numbered (λ n. n) (λ text. max 1 (length text))
-numbering_in Buffer = by_byte numbered (λ n. n)
+numbering_in String = by_index symbol_of (λ n. n) (λ text. max 5 (length text))
+numbering_in Bucket = by_index symbol_of (λ n. n) (λ text. max 1 (length text))
+numbering_in Buffer = by_byte symbol_of (λ n. n)
 
 -- the room that a capacity grants
 abbrev pub grant_in : Kind → ℕ → ℕ

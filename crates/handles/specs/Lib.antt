@@ -2,9 +2,9 @@ pub mod Kind
 pub mod Status
 pub mod Hasher
 pub mod Any
-pub mod Holds
+pub mod Owns
 pub mod Address
 pub mod Follows
 pub mod Calls
-pub mod Encode
+pub mod InternAll
 pub mod Part

@@ -44,11 +44,11 @@ abbrev pub outcome_of : {T : Type 0} → Result T InternError → Result T Statu
 outcome_of (Ok value) = Ok value
 outcome_of (Err error) = Err (status_of error)
 
--- Interning a text has an outcome, which a code tells, and what is written.
-pub record TellsInterned {T : Type 0} (holds : Result T InternError → Type 0) (code : ℕ) (before after : T) : Type 0 where
+-- Interning a text has an outcome and leaves this interner. A code tells the outcome, and its number is written.
+pub record TellsInterned {I T : Type 0} (interns : Result T InternError → I → Type 0) (new : I) (code : ℕ) (before after : T) : Type 0 where
   pub outcome : Result T InternError
   pub tells : Tells (outcome_of outcome) code before after
-  pub outcome_holds : holds outcome
+  pub interned : interns outcome new
 
 -- the code of an outcome that holds nothing
 abbrev pub code_of_done : Result (Unit {0}) Status → ℕ

@@ -4,7 +4,7 @@ ghost use Rattle.std.specs.Prelude.{◌≡◌, Some, Option};
 ghost use Rattle.std.specs.Coded.{coded_option};
 ghost use Rattle.std.specs.Ptr.{if_non_null};
 ghost use Rattle.std.specs.Box.Ownership.{box_owns};
-ghost use Rattle.handles.specs.Holds.{freed};
+ghost use Rattle.handles.specs.Owns.{freed};
 ghost use Rattle.handles.specs.Address.{Behind, leads};
 ghost use Rattle.handles.specs.declared.handle.Handle.{Handle};
 

@@ -5,13 +5,13 @@ ghost use Rattle.std.specs.Option.{option_copied};
 ghost use Rattle.serde_json.specs.View.{view};
 ghost use Rattle.string_interner.specs.Text.{first};
 ghost use Rattle.string_interner.specs.Json.{json_of_texts};
-ghost use Rattle.handles.specs.Any.{FindsNumber, Interned, IsCopy, IsEmpty, IsMade, IsShrunk, KeepsFirst, ReadsAs, ReadsAsExactly, any_eq, text_at, texts_in};
+ghost use Rattle.handles.specs.Any.{FindsNumber, InternsAny, IsAnyCopy, IsEmpty, IsMade, IsShrunk, KeepsFirst, ReadsAs, ReadsAsExactly, any_eq, text_at, texts_in};
 ghost use Rattle.string_interner.specs.Interner.{InternsInto};
 ghost use Rattle.string_interner.specs.Window.{seven_eighths};
 ghost use Rattle.handles.specs.Status.{TellsInterned, outcome_of};
 
-mod encode;
 mod entries;
+mod intern_all;
 mod part;
 
 use crate::hasher::ChosenHasher;
@@ -48,7 +48,7 @@ macro_rules! each {
 }
 
 /// An interner of this kind, from an expression for the interner in it.
-macro_rules! made {
+macro_rules! make {
     ($kind:expr, $value:expr) => {
         match $kind {
             Kind::String => AnyInterner::String($value),
@@ -98,7 +98,8 @@ fn write_number<B: Backend<Symbol = SymbolU32>>(
     text: &str,
     number: &mut usize,
 ) -> u32
-    ensures { TellsInterned (λ outcome. InternsInto B.numbering seven_eighths interner.old text.now outcome interner.new) result number.old number.new }
+    ensures { TellsInterned (InternsInto B.numbering seven_eighths interner.old text.now) interner.new
+        result number.old number.new }
 {
     tell(status_given(interner.get_or_intern(text)), number)
 }
@@ -108,7 +109,7 @@ impl AnyInterner {
     pub fn new(alloc: Global, kind: Kind, hasher: ChosenHasher) -> AnyInterner
         ensures { IsEmpty kind result }
     {
-        made!(kind, StringInterner::with_hasher(alloc, hasher))
+        make!(kind, StringInterner::with_hasher(alloc, hasher))
     }
 
     /// Makes an empty interner of this kind under this hasher, with room for `capacity` texts.
@@ -120,7 +121,7 @@ impl AnyInterner {
     ) -> Result<AnyInterner, AllocError>
         ensures { IfOk result (IsMade kind capacity) }
     {
-        Ok(made!(
+        Ok(make!(
             kind,
             StringInterner::with_capacity_and_hasher(alloc, capacity, hasher)?
         ))
@@ -151,21 +152,21 @@ impl AnyInterner {
     /// Writes the number of a text, and returns the code of the outcome. A new text is appended.
     #[inline(always)]
     pub fn write_number(&mut self, text: &str, number: &mut usize) -> u32
-        ensures { TellsInterned (λ outcome. Interned self.old text.now outcome self.new) result number.old number.new }
+        ensures { TellsInterned (InternsAny self.old text.now) self.new result number.old number.new }
     {
         each!(self, interner => write_number(interner, text, number))
     }
 
     /// Returns the number of a text. A new text is appended.
     pub fn get_or_intern(&mut self, text: &str) -> Result<usize, InternError>
-        ensures { Interned self.old text.now result self.new }
+        ensures { InternsAny self.old text.now result self.new }
     {
         number_given(each!(self, interner => interner.get_or_intern(text)))
     }
 
     /// Returns the number of a text, as `get_or_intern` does. A new one may stay where it is, uncopied.
     pub fn get_or_intern_static(&mut self, text: &'static str) -> Result<usize, InternError>
-        ensures { Interned self.old text.now result self.new }
+        ensures { InternsAny self.old text.now result self.new }
     {
         number_given(each!(self, interner => interner.get_or_intern_static(text)))
     }
@@ -198,8 +199,8 @@ impl AnyInterner {
 
     /// Makes a copy: an interner of the same kind under the same hasher, with the same texts under the same numbers, and as
     /// many slots.
-    pub fn try_clone(&self) -> Result<AnyInterner, AllocError>
-        ensures { IfOk result (IsCopy self.now) }
+    pub fn try_copy(&self) -> Result<AnyInterner, AllocError>
+        ensures { IfOk result (IsAnyCopy self.now) }
     {
         Ok(match self {
             AnyInterner::String(interner) => AnyInterner::String(interner.try_copy()?),
@@ -236,7 +237,7 @@ impl AnyInterner {
     ) -> Result<AnyInterner, JsonError>
         ensures { ReadsAs kind (view value.now) result }
     {
-        Ok(made!(
+        Ok(make!(
             kind,
             StringInterner::from_json_with_hasher(alloc, value, hasher)?
         ))
@@ -251,7 +252,7 @@ impl AnyInterner {
     ) -> Result<AnyInterner, JsonError>
         ensures { ReadsAsExactly kind (view value.now) result }
     {
-        Ok(made!(
+        Ok(make!(
             kind,
             StringInterner::from_json_exact_with_hasher(alloc, value, hasher)?
         ))

@@ -4,8 +4,8 @@ ghost use Rattle.std.specs.Prelude.{◌≡◌, ◌↔◌, IsSome, IsTrue, length
 ghost use Rattle.std.specs.Str.{IsUtf8};
 ghost use Rattle.string_interner.specs.Text.{first};
 ghost use Rattle.handles.specs.Any.{IsShrunk, KeepsFirst, any_eq, texts_in};
-ghost use Rattle.handles.specs.Calls.{Answers, Copies, CopiesOut, CopiesText, Fills, FillsMade, FindsBytes, FindsText, InternsBytes, InternsText, MakesNew, MakesRoom, ResolvesNumber};
-ghost use Rattle.handles.specs.Encode.{InternsParts, ListsEntries};
+ghost use Rattle.handles.specs.Calls.{Changes, Copies, CopiesOut, CopiesText, FillsWith, Fills, FindsBytes, FindsText, InternsBytes, InternsText, MakesNew, MakesRoom, ResolvesNumber};
+ghost use Rattle.handles.specs.InternAll.{InternsParts, ListsEntries};
 ghost use Rattle.handles.specs.Part.{InternsPart};
 
 pub mod json;
@@ -29,14 +29,14 @@ pub fn len(h: &mut Handle) -> usize
 
 /// Writes the number of a text, and appends the text if it is new. Returns the code of the outcome.
 pub fn get_or_intern(h: &mut Handle, text: &str, number: &mut usize) -> u32
-    ensures { Answers (λ outcome. InternsText text.now h.old.value outcome h.new.value) result number.old number.new }
+    ensures { Changes (InternsText text.now) h.old h.new result number.old number.new }
 {
     h.interner().write_number(text, number)
 }
 
 /// Writes the number of the bytes, and appends them if they are a new text. Returns the code of the outcome.
 pub fn get_or_intern_bytes(h: &mut Handle, bytes: &[u8], number: &mut usize) -> u32
-    ensures { Answers (λ outcome. InternsBytes bytes.now h.old.value outcome h.new.value) result number.old number.new }
+    ensures { Changes (InternsBytes bytes.now) h.old h.new result number.old number.new }
 {
     match text_of(bytes) {
         Ok(text) => h.interner().write_number(text, number),
@@ -140,7 +140,7 @@ fn copy_out(bytes: &[u8], room: &mut [u8], len: &mut usize) -> Result<(), Status
 
 /// Copies the text at a number to a room.
 pub fn copy(h: &mut Handle, number: usize, room: &mut [u8], len: &mut usize) -> Result<(), Status>
-    ensures copies { CopiesText number h.old.value result room.old room.new len.old len.new }
+    ensures copies { CopiesText number h.old.value (room.old, len.old) result (room.new, len.new) }
     ensures same { h.new.value ≡ h.old.value }
 {
     match h.interner().resolve(number) {
@@ -151,7 +151,7 @@ pub fn copy(h: &mut Handle, number: usize, room: &mut [u8], len: &mut usize) -> 
 
 /// Makes a handle on an interner that was made, and puts its address into a slot.
 fn fill(alloc: Global, slot: &mut Slot, made: Result<AnyInterner, Status>) -> Result<(), Status>
-    ensures { Fills made slot.old result slot.new }
+    ensures { FillsWith made slot.old result slot.new }
 {
     let Ok(interner) = Box::new(alloc, made?) else {
         return Err(Status::NoMemory);
@@ -175,7 +175,7 @@ fn made(alloc: Global, kind: u32, hasher: ChosenHasher) -> Result<AnyInterner, S
 
 /// Makes a handle on an empty interner of the kind with this code, under this hasher.
 pub fn make(alloc: Global, slot: &mut Slot, kind: u32, hasher: ChosenHasher) -> Result<(), Status>
-    ensures { FillsMade (MakesNew kind) slot.old result slot.new }
+    ensures { Fills (MakesNew kind) slot.old result slot.new }
 {
     fill(alloc, slot, made(alloc, kind, hasher))
 }
@@ -206,7 +206,7 @@ pub fn make_with_capacity(
     capacity: usize,
     hasher: ChosenHasher,
 ) -> Result<(), Status>
-    ensures { FillsMade (MakesRoom kind capacity) slot.old result slot.new }
+    ensures { Fills (MakesRoom kind capacity) slot.old result slot.new }
 {
     fill(
         alloc,
@@ -220,7 +220,7 @@ fn cloned(h: &mut Handle) -> Result<AnyInterner, Status>
     ensures copies { Copies h.old.value result }
     ensures same { h.new.value ≡ h.old.value }
 {
-    match h.interner().try_clone() {
+    match h.interner().try_copy() {
         Ok(copy) => Ok(copy),
         Err(_) => Err(Status::NoMemory),
     }
@@ -228,7 +228,7 @@ fn cloned(h: &mut Handle) -> Result<AnyInterner, Status>
 
 /// Makes a second handle, on a copy.
 pub fn clone(alloc: Global, h: &mut Handle, slot: &mut Slot) -> Result<(), Status>
-    ensures copies { FillsMade (Copies h.old.value) slot.old result slot.new }
+    ensures copies { Fills (Copies h.old.value) slot.old result slot.new }
     ensures same { h.new.value ≡ h.old.value }
 {
     fill(alloc, slot, cloned(h))
@@ -251,7 +251,8 @@ pub fn intern_all(
     numbers: &mut [usize],
     done: &mut usize,
 ) -> Result<(), Status>
-    ensures { InternsParts bytes.now ends.now numbers.old h.old.value result h.new.value numbers.new done.new }
+    ensures { InternsParts bytes.now ends.now
+        (h.old.value, numbers.old, done.old) result (h.new.value, numbers.new, done.new) }
 {
     h.interner().intern_all(bytes, ends, numbers, done)
 }
@@ -262,7 +263,7 @@ pub fn entries<'a>(
     room: &mut [Entry<'a>],
     count: &mut usize,
 ) -> Result<(), Status>
-    ensures { ListsEntries h.old.value result room.old room.new count.new }
+    ensures { ListsEntries h.old.value (room.old, count.old) result (room.new, count.new) }
 {
     h.interner().entries(room, count)
 }

@@ -2,7 +2,7 @@
 
 ghost use Rattle.std.specs.Prelude.{◌≡◌};
 ghost use Rattle.std.specs.Box.Ownership.{box_owns};
-ghost use Rattle.handles.specs.Holds.{Inner, freed};
+ghost use Rattle.handles.specs.Owns.{Inner, freed};
 ghost use Rattle.handles.specs.declared.any.AnyInterner.{AnyInterner};
 
 mod lends;

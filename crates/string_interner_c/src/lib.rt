@@ -5,8 +5,8 @@ ghost use Rattle.std.specs.Prelude.{◌≡◌, ◌↔◌, IsTrue, IsSome, length
 ghost use Rattle.std.specs.Str.{IsUtf8};
 ghost use Rattle.string_interner.specs.Text.{first};
 ghost use Rattle.handles.specs.Any.{IsShrunk, KeepsFirst, ReadsAs, ReadsAsExactly, any_eq, texts_in};
-ghost use Rattle.handles.specs.Calls.{Answers, Copies, CopiesText, FillsMade, FindsBytes, FindsText, InternsBytes, InternsText, MakesNew, MakesRoom, ReadsJson, ResolvesNumber, TellsDone, WritesJson};
-ghost use Rattle.handles.specs.Encode.{InternsParts, ListsEntries};
+ghost use Rattle.handles.specs.Calls.{Changes, Copies, CopiesJson, CopiesText, FindsBytes, FindsText, InternsBytes, InternsText, MakesNew, MakesRoom, Opens, Queries, ReadsJson, ResolvesNumber, Writes};
+ghost use Rattle.handles.specs.InternAll.{InternsParts, ListsEntries};
 ghost use Rattle.handles.specs.Part.{InternsPart};
 
 use handles::address::{Returned, Slot};
@@ -31,7 +31,7 @@ pub extern "C" fn si_version() -> u32
 /// Makes a handle on an empty interner of a kind, and writes its address.
 #[unsafe(no_mangle)]
 pub extern "C" fn si_new(alloc: Global, out: &mut Slot, kind: u32) -> u32
-    ensures { TellsDone (λ outcome. FillsMade (MakesNew kind) out.old outcome out.new) result }
+    ensures { Opens (MakesNew kind) out.old out.new result }
 {
     finish(calls::make(alloc, out, kind, ChosenHasher::fixed()))
 }
@@ -45,7 +45,7 @@ pub extern "C" fn si_new_keyed(
     key0: u64,
     key1: u64,
 ) -> u32
-    ensures { TellsDone (λ outcome. FillsMade (MakesNew kind) out.old outcome out.new) result }
+    ensures { Opens (MakesNew kind) out.old out.new result }
 {
     finish(calls::make(alloc, out, kind, ChosenHasher::keyed(key0, key1)))
 }
@@ -53,7 +53,7 @@ pub extern "C" fn si_new_keyed(
 /// The same as `si_new`, with room for `capacity` texts.
 #[unsafe(no_mangle)]
 pub extern "C" fn si_with_capacity(alloc: Global, out: &mut Slot, kind: u32, capacity: usize) -> u32
-    ensures { TellsDone (λ outcome. FillsMade (MakesRoom kind capacity) out.old outcome out.new) result }
+    ensures { Opens (MakesRoom kind capacity) out.old out.new result }
 {
     finish(calls::make_with_capacity(alloc, out, kind, capacity, ChosenHasher::fixed()))
 }
@@ -68,7 +68,7 @@ pub extern "C" fn si_with_capacity_keyed(
     key0: u64,
     key1: u64,
 ) -> u32
-    ensures { TellsDone (λ outcome. FillsMade (MakesRoom kind capacity) out.old outcome out.new) result }
+    ensures { Opens (MakesRoom kind capacity) out.old out.new result }
 {
     finish(calls::make_with_capacity(alloc, out, kind, capacity, ChosenHasher::keyed(key0, key1)))
 }
@@ -91,7 +91,7 @@ pub extern "C" fn si_len(h: &mut Handle) -> usize
 /// Tells the number of a text, and appends the text if it is new.
 #[unsafe(no_mangle)]
 pub extern "C" fn si_get_or_intern(h: &mut Handle, text: &[u8], number: &mut usize) -> u32
-    ensures { Answers (λ outcome. InternsBytes text.now h.old.value outcome h.new.value) result number.old number.new }
+    ensures { Changes (InternsBytes text.now) h.old h.new result number.old number.new }
 {
     calls::get_or_intern_bytes(h, text, number)
 }
@@ -104,7 +104,7 @@ pub unsafe extern "C" fn si_get_or_intern_utf8(
     number: &mut usize,
 ) -> u32
     requires { IsUtf8 text.now }
-    ensures { Answers (λ outcome. InternsText text.now h.old.value outcome h.new.value) result number.old number.new }
+    ensures { Changes (InternsText text.now) h.old h.new result number.old number.new }
 {
     let text = unsafe { std::str::from_utf8_unchecked(text) };
     calls::get_or_intern(h, text, number)
@@ -117,7 +117,7 @@ pub extern "C" fn si_get_or_intern_static(
     text: &'static [u8],
     number: &mut usize,
 ) -> u32
-    ensures { Answers (λ outcome. InternsBytes text.now h.old.value outcome h.new.value) result number.old number.new }
+    ensures { Changes (InternsBytes text.now) h.old h.new result number.old number.new }
 {
     tell(calls::get_or_intern_static(h, text), number)
 }
@@ -132,7 +132,7 @@ pub extern "C" fn si_get_or_intern_part(
     to: usize,
     part: &mut usize,
 ) -> u32
-    ensures { Answers (λ outcome. InternsPart number from to h.old.value outcome h.new.value) result part.old part.new }
+    ensures { Changes (InternsPart number from to) h.old h.new result part.old part.new }
 {
     tell(calls::get_or_intern_part(alloc, h, number, from, to), part)
 }
@@ -140,7 +140,7 @@ pub extern "C" fn si_get_or_intern_part(
 /// Tells the number of a known text.
 #[unsafe(no_mangle)]
 pub extern "C" fn si_get(h: &mut Handle, text: &[u8], number: &mut usize) -> u32
-    ensures found { Answers (FindsBytes text.now h.old.value) result number.old number.new }
+    ensures found { Queries (FindsBytes text.now) h.old result number.old number.new }
     ensures same { h.new.value ≡ h.old.value }
 {
     tell(calls::get_bytes(h, text), number)
@@ -150,7 +150,7 @@ pub extern "C" fn si_get(h: &mut Handle, text: &[u8], number: &mut usize) -> u32
 #[unsafe(no_mangle)]
 pub unsafe extern "C" fn si_get_utf8(h: &mut Handle, text: &[u8], number: &mut usize) -> u32
     requires { IsUtf8 text.now }
-    ensures found { Answers (FindsText text.now h.old.value) result number.old number.new }
+    ensures found { Queries (FindsText text.now) h.old result number.old number.new }
     ensures same { h.new.value ≡ h.old.value }
 {
     let text = unsafe { std::str::from_utf8_unchecked(text) };
@@ -169,7 +169,7 @@ pub extern "C" fn si_contains(h: &mut Handle, text: &[u8]) -> bool
 /// Lends the text at a number.
 #[unsafe(no_mangle)]
 pub extern "C" fn si_resolve<'a>(h: &'a mut Handle, number: usize, text: &mut Text<'a>) -> u32
-    ensures { Answers (ResolvesNumber number h.old.value) result text.old text.new }
+    ensures { Queries (ResolvesNumber number) h.old result text.old text.new }
 {
     tell(calls::resolve(h, number), text)
 }
@@ -177,7 +177,7 @@ pub extern "C" fn si_resolve<'a>(h: &'a mut Handle, number: usize, text: &mut Te
 /// Copies the text at a number to a room, if that is long enough, and tells how long the text is.
 #[unsafe(no_mangle)]
 pub extern "C" fn si_copy(h: &mut Handle, number: usize, room: &mut [u8], len: &mut usize) -> u32
-    ensures copies { TellsDone (λ outcome. CopiesText number h.old.value outcome room.old room.new len.old len.new) result }
+    ensures copies { Writes (CopiesText number h.old.value) (room.old, len.old) (room.new, len.new) result }
     ensures same { h.new.value ≡ h.old.value }
 {
     finish(calls::copy(h, number, room, len))
@@ -202,7 +202,7 @@ pub extern "C" fn si_shrink(h: &mut Handle)
 /// Makes a second handle, on a copy of what the first holds, and writes its address.
 #[unsafe(no_mangle)]
 pub extern "C" fn si_clone(alloc: Global, h: &mut Handle, copy: &mut Slot) -> u32
-    ensures copies { TellsDone (λ outcome. FillsMade (Copies h.old.value) copy.old outcome copy.new) result }
+    ensures copies { Opens (Copies h.old.value) copy.old copy.new result }
     ensures same { h.new.value ≡ h.old.value }
 {
     finish(calls::clone(alloc, h, copy))
@@ -221,7 +221,7 @@ pub extern "C" fn si_equal(h: &mut Handle, other: &mut Handle) -> bool
 /// Copies the JSON array of the texts to a room, if that is long enough, and tells how long it is.
 #[unsafe(no_mangle)]
 pub extern "C" fn si_to_json(alloc: Global, h: &mut Handle, room: &mut [u8], len: &mut usize) -> u32
-    ensures writes { TellsDone (λ outcome. WritesJson h.old.value outcome room.old room.new len.old len.new) result }
+    ensures writes { Writes (CopiesJson h.old.value) (room.old, len.old) (room.new, len.new) result }
     ensures same { h.new.value ≡ h.old.value }
 {
     finish(calls::json::to_json(alloc, h, room, len))
@@ -230,7 +230,7 @@ pub extern "C" fn si_to_json(alloc: Global, h: &mut Handle, room: &mut [u8], len
 /// Makes a handle on an interner of the texts of a JSON array, and writes its address. Repeats add no text.
 #[unsafe(no_mangle)]
 pub extern "C" fn si_from_json(alloc: Global, out: &mut Slot, kind: u32, json: &[u8]) -> u32
-    ensures { TellsDone (λ outcome. FillsMade (ReadsJson ReadsAs kind json.now) out.old outcome out.new) result }
+    ensures { Opens (ReadsJson ReadsAs kind json.now) out.old out.new result }
 {
     finish(calls::json::from_json(alloc, out, kind, json, ChosenHasher::fixed()))
 }
@@ -245,7 +245,7 @@ pub extern "C" fn si_from_json_keyed(
     key0: u64,
     key1: u64,
 ) -> u32
-    ensures { TellsDone (λ outcome. FillsMade (ReadsJson ReadsAs kind json.now) out.old outcome out.new) result }
+    ensures { Opens (ReadsJson ReadsAs kind json.now) out.old out.new result }
 {
     finish(calls::json::from_json(alloc, out, kind, json, ChosenHasher::keyed(key0, key1)))
 }
@@ -253,7 +253,7 @@ pub extern "C" fn si_from_json_keyed(
 /// The same as `si_from_json`, of an array in which all texts differ.
 #[unsafe(no_mangle)]
 pub extern "C" fn si_from_json_exact(alloc: Global, out: &mut Slot, kind: u32, json: &[u8]) -> u32
-    ensures { TellsDone (λ outcome. FillsMade (ReadsJson ReadsAsExactly kind json.now) out.old outcome out.new) result }
+    ensures { Opens (ReadsJson ReadsAsExactly kind json.now) out.old out.new result }
 {
     finish(calls::json::from_json_exact(alloc, out, kind, json, ChosenHasher::fixed()))
 }
@@ -268,7 +268,7 @@ pub extern "C" fn si_from_json_exact_keyed(
     key0: u64,
     key1: u64,
 ) -> u32
-    ensures { TellsDone (λ outcome. FillsMade (ReadsJson ReadsAsExactly kind json.now) out.old outcome out.new) result }
+    ensures { Opens (ReadsJson ReadsAsExactly kind json.now) out.old out.new result }
 {
     finish(calls::json::from_json_exact(alloc, out, kind, json, ChosenHasher::keyed(key0, key1)))
 }
@@ -282,7 +282,8 @@ pub extern "C" fn si_intern_all(
     numbers: &mut [usize],
     done: &mut usize,
 ) -> u32
-    ensures { TellsDone (λ outcome. InternsParts bytes.now ends.now numbers.old h.old.value outcome h.new.value numbers.new done.new) result }
+    ensures { Writes (InternsParts bytes.now ends.now)
+        (h.old.value, numbers.old, done.old) (h.new.value, numbers.new, done.new) result }
 {
     finish(calls::intern_all(h, bytes, ends, numbers, done))
 }
@@ -294,7 +295,8 @@ pub extern "C" fn si_entries<'a>(
     entries: &mut [Entry<'a>],
     count: &mut usize,
 ) -> u32
-    ensures { TellsDone (λ outcome. ListsEntries h.old.value outcome entries.old entries.new count.new) result }
+    ensures { Writes (ListsEntries h.old.value)
+        (entries.old, count.old) (entries.new, count.new) result }
 {
     finish(calls::entries(h, entries, count))
 }

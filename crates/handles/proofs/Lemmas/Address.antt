@@ -23,7 +23,7 @@ use Rattle.std.specs.contracts.alloc.Global as heap
 use Rattle.std.proofs.alloc.Global.TheLaws as heap_laws
 use Rattle.std.specs.contracts.impls.GlobalAllocator.TheImpl.{ghosts}
 use Rattle.handles.proofs.Lemmas.Loose.{both, pair_in, pair_out}
-use Rattle.handles.specs.Holds.{freed}
+use Rattle.handles.specs.Owns.{freed}
 use Rattle.handles.specs.Address.{Behind, leads}
 use Rattle.handles.specs.declared.address.Slot.{Slot}
 use Rattle.handles.specs.declared.address.Returned.{Returned}

@@ -14,7 +14,7 @@ use Rattle.std.specs.contracts.alloc.Global as heap
 use Rattle.std.proofs.alloc.Global.TheLaws as heap_laws
 use Rattle.std.specs.contracts.impls.GlobalAllocator.TheImpl.{ghosts}
 use Rattle.handles.proofs.Lemmas.Loose.{both, box_out, pair_in}
-use Rattle.handles.specs.Holds.{Inner, freed}
+use Rattle.handles.specs.Owns.{Inner, freed}
 use Rattle.handles.specs.declared.handle.Handle.{Handle}
 use Rattle.handles.specs.contracts.handle.Handle.{the_row as R, the_type}
 

@@ -2,7 +2,7 @@
 
 ghost use Rattle.std.specs.Prelude.{◌≡◌, ◌≤◌, [], length, map, take, drop, Some};
 ghost use Rattle.string_interner.specs.Iter.{entries};
-ghost use Rattle.handles.specs.Encode.{ListsEntries, told};
+ghost use Rattle.handles.specs.InternAll.{ListsEntries, number_and_text};
 
 use super::AnyInterner;
 use crate::status::Status;
@@ -12,7 +12,7 @@ use string_interner::symbol::{Symbol, SymbolU32};
 
 /// Returns the entry of a text and its symbol.
 fn entry_of<'a>(symbol: SymbolU32, text: &'a str) -> Entry<'a>
-    ensures { told result ≡ (Some symbol, text.now) }
+    ensures { number_and_text result ≡ (Some symbol, text.now) }
 {
     Entry {
         number: symbol.to_usize(),
@@ -25,7 +25,8 @@ fn entry_of<'a>(symbol: SymbolU32, text: &'a str) -> Entry<'a>
 /// Writes each entry to the front of a room that is long enough.
 fn list<'a, B: Backend<Symbol = SymbolU32>>(walk: Iter<'a, B>, room: &mut [Entry<'a>])
     requires { (walk.behind ≡ []) × (length walk.ahead ≤ length room.old) }
-    ensures front { map told (take (length walk.entry.ahead) room.new) ≡ entries B.numbering [] walk.entry.ahead }
+    ensures front { map number_and_text (take (length walk.entry.ahead) room.new)
+        ≡ entries B.numbering [] walk.entry.ahead }
     ensures rest { drop (length walk.entry.ahead) room.new ≡ drop (length walk.entry.ahead) room.old }
 {
     let mut index = 0;
@@ -38,7 +39,7 @@ fn list<'a, B: Backend<Symbol = SymbolU32>>(walk: Iter<'a, B>, room: &mut [Entry
 impl AnyInterner {
     /// Writes all texts, each with its number, to the front of a room, if it is long enough, and tells how many there are.
     pub fn entries<'a>(&'a self, room: &mut [Entry<'a>], count: &mut usize) -> Result<(), Status>
-        ensures { ListsEntries self.now result room.old room.new count.new }
+        ensures { ListsEntries self.now (room.old, count.old) result (room.new, count.new) }
     {
         *count = self.len();
         if room.len() < *count {

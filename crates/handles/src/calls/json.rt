@@ -2,7 +2,7 @@
 
 ghost use Rattle.std.specs.Prelude.{◌≡◌, Result};
 ghost use Rattle.handles.specs.Any.{ReadsAs, ReadsAsExactly};
-ghost use Rattle.handles.specs.Calls.{FillsMade, IsJsonOf, IsValueOf, ReadsJson, WritesJson};
+ghost use Rattle.handles.specs.Calls.{Fills, IsJsonOf, IsValueOf, ReadsJson, CopiesJson};
 
 use super::{copy_out, fill};
 use crate::address::Slot;
@@ -35,7 +35,7 @@ pub fn to_json(
     room: &mut [u8],
     len: &mut usize,
 ) -> Result<(), Status>
-    ensures writes { WritesJson h.old.value result room.old room.new len.old len.new }
+    ensures writes { CopiesJson h.old.value (room.old, len.old) result (room.new, len.new) }
     ensures same { h.new.value ≡ h.old.value }
 {
     match json_of(alloc, h) {
@@ -83,7 +83,7 @@ pub fn from_json(
     bytes: &[u8],
     hasher: ChosenHasher,
 ) -> Result<(), Status>
-    ensures { FillsMade (ReadsJson ReadsAs kind bytes.now) slot.old result slot.new }
+    ensures { Fills (ReadsJson ReadsAs kind bytes.now) slot.old result slot.new }
 {
     fill(alloc, slot, read(alloc, kind, bytes, hasher))
 }
@@ -116,7 +116,7 @@ pub fn from_json_exact(
     bytes: &[u8],
     hasher: ChosenHasher,
 ) -> Result<(), Status>
-    ensures { FillsMade (ReadsJson ReadsAsExactly kind bytes.now) slot.old result slot.new }
+    ensures { Fills (ReadsJson ReadsAsExactly kind bytes.now) slot.old result slot.new }
 {
     fill(alloc, slot, read_exact(alloc, kind, bytes, hasher))
 }

@@ -3,8 +3,8 @@ use Rattle.std.proofs.lemmas.List.{append-nil, length-set}
 use Rattle.string_interner.specs.Text.{Text}
 use Rattle.string_interner.proofs.Lemmas.Backend.Entries.{first_entry, no_entry}
 use Rattle.string_interner.specs.Iter.{entries}
-use Rattle.handles.specs.Encode.{told}
-use Rattle.handles.proofs.Lemmas.Encoded.{listed-more, rest-more}
+use Rattle.handles.specs.InternAll.{number_and_text}
+use Rattle.handles.proofs.Lemmas.Parts.{listed-more, rest-more}
 use Rattle.handles.proofs.any.entries.list.Goals as goal
 
 pub loop-entry-preserved : goal.loop-entry-preserved
@@ -23,7 +23,7 @@ returns-clause-front g c =
     let so_far = c.loop-entry.invariant in
     let none = ap length (no_entry g.B.Backend.numbering c.loop-entry.entry-iterator.behind c.loop-entry.entry-iterator.ahead c.in-None.ensures.steps.0) in
     let count : c.loop-entry.index ≡ length c.args.walk.ahead = omega (arith, so_far.count, none) in
-    rw (← count) (sym (append-nil (map told (take c.loop-entry.index c.loop-entry.room))) ∙ ap (λ (es : List (Option ℕ × Text)). map told (take c.loop-entry.index c.loop-entry.room) ++ es) (sym c.in-None.ensures.steps.0) ∙ so_far.so_far)
+    rw (← count) (sym (append-nil (map number_and_text (take c.loop-entry.index c.loop-entry.room))) ∙ ap (λ (es : List (Option ℕ × Text)). map number_and_text (take c.loop-entry.index c.loop-entry.room) ++ es) (sym c.in-None.ensures.steps.0) ∙ so_far.so_far)
 
 pub returns-clause-rest : goal.returns-clause-rest
 returns-clause-rest g c =

@@ -14,7 +14,7 @@ use Rattle.std.proofs.Crossing as crossing
 use Rattle.std.proofs.Crossing.{crosses}
 use Rattle.std.specs.contracts.alloc.Global as heap
 use Rattle.std.specs.Box.Ownership.{box_owns}
-use Rattle.handles.specs.Holds.{Inner, freed}
+use Rattle.handles.specs.Owns.{Inner, freed}
 use Rattle.handles.specs.contracts.any.AnyInterner as any
 use Rattle.handles.specs.contracts.handle.Handle.{the_row, the_type}
 

@@ -28,7 +28,7 @@ use denote.Triple.Walked.{Stays, walk_of, says, stay_dropped, Goes-spent_ref, en
 use Rattle.std.proofs.VecSteps.Shapes.{after}
 use Rattle.std.proofs.raw_atomic.Walks.{proved}
 use Rattle.std.specs.Box.Ownership.{box_owns}
-use Rattle.handles.specs.Holds.{Inner, freed}
+use Rattle.handles.specs.Owns.{Inner, freed}
 use Rattle.handles.specs.Follows.{with_value}
 use Rattle.handles.specs.declared.handle.Handle.{Handle}
 use Rattle.handles.specs.contracts.handle.Handle.{the_row as R, the_type}

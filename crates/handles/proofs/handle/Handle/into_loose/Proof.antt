@@ -22,7 +22,7 @@ use Rattle.std.proofs.alloc.Global.TheLaws as heap_laws
 use Rattle.std.specs.contracts.impls.GlobalAllocator.TheImpl.{ghosts}
 use Rattle.handles.proofs.Lemmas.Loose.{both, loose_good, loose_in}
 use Rattle.handles.proofs.Lemmas.Handle.{handle_out}
-use Rattle.handles.specs.Holds.{Inner}
+use Rattle.handles.specs.Owns.{Inner}
 use Rattle.handles.specs.contracts.handle.Handle.{the_row as R}
 use Rattle.handles.specs.contracts.handle.Handle.into_loose as f
 use Rattle.handles.proofs.handle.Handle.into_loose.Statement.{statement}

@@ -22,7 +22,7 @@ use Rattle.std.proofs.alloc.Global.TheLaws as heap_laws
 use Rattle.std.specs.contracts.impls.GlobalAllocator.TheImpl.{ghosts}
 use Rattle.handles.proofs.Lemmas.Loose.{both, Loose, loose_good, loose_out}
 use Rattle.handles.proofs.Lemmas.Handle.{handle_in}
-use Rattle.handles.specs.Holds.{Inner}
+use Rattle.handles.specs.Owns.{Inner}
 use Rattle.handles.specs.declared.handle.Handle.{Handle}
 use Rattle.handles.specs.contracts.handle.Handle.of_loose as f
 use Rattle.handles.proofs.handle.Handle.of_loose.Statement.{statement}

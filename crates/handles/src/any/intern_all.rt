@@ -1,7 +1,7 @@
 //! Many texts in one call.
 
 ghost use Rattle.std.specs.Prelude.{◌≡◌, ◌<◌};
-ghost use Rattle.handles.specs.Encode.{InternsParts, IsTextBetween};
+ghost use Rattle.handles.specs.InternAll.{InternsParts, IsTextBetween};
 
 use super::AnyInterner;
 use crate::status::Status;
@@ -27,7 +27,8 @@ impl AnyInterner {
         numbers: &mut [usize],
         done: &mut usize,
     ) -> Result<(), Status>
-        ensures { InternsParts bytes.now ends.now numbers.old self.old result self.new numbers.new done.new }
+        ensures { InternsParts bytes.now ends.now
+            (self.old, numbers.old, done.old) result (self.new, numbers.new, done.new) }
     {
         *done = 0;
         if numbers.len() < ends.len() {

@@ -13,8 +13,8 @@ use Rattle.string_interner.specs.Interner.{InternsInto}
 use Rattle.string_interner.specs.Window.{seven_eighths}
 use Rattle.string_interner.proofs.Lemmas.Interner.Extends.{taken-more}
 use Rattle.handles.specs.Kind.{numbering_in}
-use Rattle.handles.specs.Any.{Interned, contents, numbering_of, texts_in}
-use Rattle.handles.specs.Encode.{Encoded, InternsParts, IsEnd, IsTextBetween, part, parts, told}
+use Rattle.handles.specs.Any.{InternsAny, contents, numbering_of, texts_in}
+use Rattle.handles.specs.InternAll.{TakesParts, InternsParts, IsEnd, IsTextBetween, part, parts, number_and_text}
 use Rattle.handles.specs.Status.{status_of}
 use Rattle.handles.specs.declared.status.Status.{Status}
 use Rattle.handles.specs.declared.status.Status.TheVariants.{BadText, NoSymbol, NoMemory, Nothing, NoRoom, BadKind, BadEnds, NotAList, NotAText, Repeated}
@@ -40,8 +40,8 @@ pub start-more : (ends : List ℕ) (done : ℕ) → start_at ends (done + 1) ≡
 start-more ends done = let is : done + 1 ≡ suc done = omega arith in ap (λ (n : ℕ). start_at ends n) is
 
 -- before the first part
-pub encoded-none : (bytes ends before : List ℕ) (old : AnyInterner) → length ends ≤ length before → Encoded bytes ends before old 0 old before
-encoded-none bytes ends before old fits = record {
+pub no-parts : (bytes ends before : List ℕ) (old : AnyInterner) → length ends ≤ length before → TakesParts bytes ends (old, before) 0 (old, before)
+no-parts bytes ends before old fits = record {
   fits = fits;
   kind = refl;
   ends_are = λ i lt. absurd (omega (arith, lt));
@@ -52,9 +52,9 @@ encoded-none bytes ends before old fits = record {
 }
 
 -- one more part goes in
-pub encoded-more : (bytes ends before : List ℕ) (old mid new : AnyInterner) (done number : ℕ) (so_far after : List ℕ) → Encoded bytes ends before old done mid so_far → done < length before
-    → IsEnd bytes ends done → (text : Text) → text ≡ part bytes ends done → Interned mid text (Ok number) new → after ≡ set so_far done number → Encoded bytes ends before old (done + 1) new after
-encoded-more bytes ends before old mid new done number so_far after encoded fits is_end text is call now =
+pub more-parts : (bytes ends before : List ℕ) (old mid new : AnyInterner) (done number : ℕ) (so_far after : List ℕ) → TakesParts bytes ends (old, before) done (mid, so_far) → done < length before
+    → IsEnd bytes ends done → (text : Text) → text ≡ part bytes ends done → InternsAny mid text (Ok number) new → after ≡ set so_far done number → TakesParts bytes ends (old, before) (done + 1) (new, after)
+more-parts bytes ends before old mid new done number so_far after encoded fits is_end text is call now =
     let call_is = subst (λ (k : Kind). InternsInto (numbering_in k) seven_eighths (contents mid) text (Ok number) (contents new)) encoded.kind call.interned in
     let lt : done < length so_far = omega (arith, fits, encoded.same_length) in
     let front : take (done + 1) after ≡ take done so_far ++ number ∷ [] = ap (λ (xs : List ℕ). take (done + 1) xs) now ∙ take_more_set so_far done number lt in
@@ -74,7 +74,7 @@ encoded-more bytes ends before old mid new done number so_far after encoded fits
       same_length = ap length now ∙ length-set so_far done number ∙ encoded.same_length;
     }
 
-module _ (bytes ends before : List ℕ) (old mid : AnyInterner) (done : ℕ) (so_far : List ℕ) (encoded : Encoded bytes ends before old done mid so_far) (more : done < length ends) (from end : ℕ) (from_is : from ≡ start_at ends done) (end_is : end ≡ slice_index ends done) where
+module _ (bytes ends before : List ℕ) (old mid : AnyInterner) (done : ℕ) (so_far : List ℕ) (encoded : TakesParts bytes ends (old, before) done (mid, so_far)) (more : done < length ends) (from end : ℕ) (from_is : from ≡ start_at ends done) (end_is : end ≡ slice_index ends done) where
   pub is_end : from ≤ end → end ≤ length bytes → IsEnd bytes ends done
   is_end rises within = record { rises = rw (← from_is, ← end_is) rises; within = rw (← end_is) within }
 
@@ -82,40 +82,40 @@ module _ (bytes ends before : List ℕ) (old mid : AnyInterner) (done : ℕ) (so
   part_is text h = h.3 ∙ (λ i. slice_range bytes (from_is i) (end_is i))
 
   -- where the next part is no text, or these are no ends
-  pub part_refused : (status : Status) (outcome : Result (Unit {0}) Status) → outcome ≡ Err status → IsTextBetween bytes from end (Err status) → InternsParts bytes ends before old outcome mid so_far done
-  part_refused BadText outcome is h = rw is (mid, encoded, more, is_end h.0 h.1, (rw (← from_is, ← end_is) h.2, refl))
-  part_refused BadEnds outcome is h = rw is (more, (λ e. h (rw (from_is, end_is) e.rises, rw end_is e.within)), encoded)
-  part_refused NoMemory outcome is h = absurd h
-  part_refused NoSymbol outcome is h = absurd h
-  part_refused Nothing outcome is h = absurd h
-  part_refused NoRoom outcome is h = absurd h
-  part_refused BadKind outcome is h = absurd h
-  part_refused NotAList outcome is h = absurd h
-  part_refused NotAText outcome is h = absurd h
-  part_refused Repeated outcome is h = absurd h
+  pub part_refused : (started : ℕ) (status : Status) (outcome : Result (Unit {0}) Status) → outcome ≡ Err status → IsTextBetween bytes from end (Err status) → InternsParts bytes ends (old, before, started) outcome (mid, so_far, done)
+  part_refused started BadText outcome is h = rw is (mid, encoded, more, is_end h.0 h.1, (rw (← from_is, ← end_is) h.2, refl))
+  part_refused started BadEnds outcome is h = rw is (more, (λ e. h (rw (from_is, end_is) e.rises, rw end_is e.within)), encoded)
+  part_refused started NoMemory outcome is h = absurd h
+  part_refused started NoSymbol outcome is h = absurd h
+  part_refused started Nothing outcome is h = absurd h
+  part_refused started NoRoom outcome is h = absurd h
+  part_refused started BadKind outcome is h = absurd h
+  part_refused started NotAList outcome is h = absurd h
+  part_refused started NotAText outcome is h = absurd h
+  part_refused started Repeated outcome is h = absurd h
 
   -- where the next part is a text that is refused
-  pub text_refused : (text : Bor Text) → IsTextBetween bytes from end (Ok text) → (new : AnyInterner) (error : InternError) (status : Status) (outcome : Result (Unit {0}) Status) → outcome ≡ Err status → status ≡ status_of error
-      → Interned mid text.now (Err error) new → InternsParts bytes ends before old outcome new so_far done
-  text_refused text h new error status outcome is told call =
+  pub text_refused : (started : ℕ) (text : Bor Text) → IsTextBetween bytes from end (Ok text) → (new : AnyInterner) (error : InternError) (status : Status) (outcome : Result (Unit {0}) Status) → outcome ≡ Err status → status ≡ status_of error
+      → InternsAny mid text.now (Err error) new → InternsParts bytes ends (old, before, started) outcome (new, so_far, done)
+  text_refused started text h new error status outcome is told call =
       let same : text.now ≡ part bytes ends done = part_is text h in
       let utf8 = subst IsUtf8 same h.2 in
-      let part_call = subst (λ (t : Text). Interned mid t (Err error) new) same call in
+      let part_call = subst (λ (t : Text). InternsAny mid t (Err error) new) same call in
       rw (is, told) (of error utf8 part_call)
     where
-      of : (error : InternError) → IsUtf8 (part bytes ends done) → Interned mid (part bytes ends done) (Err error) new → InternsParts bytes ends before old (Err (status_of error)) new so_far done
+      of : (error : InternError) → IsUtf8 (part bytes ends done) → InternsAny mid (part bytes ends done) (Err error) new → InternsParts bytes ends (old, before, started) (Err (status_of error)) (new, so_far, done)
       of InternNoSymbol utf8 part_call = (mid, encoded, more, is_end h.0 h.1, (utf8, part_call))
       of (Memory e) utf8 part_call = (mid, encoded, more, is_end h.0 h.1, (utf8, part_call))
 
 -- one more entry is listed
-pub listed-more : (all ahead rest : List (Option ℕ × Text)) (room after : List Entry) (index : ℕ) (entry : Entry) → map told (take index room) ++ ahead ≡ all → ahead ≡ told entry ∷ rest → index < length room → after ≡ set room index entry
-    → map told (take (index + 1) after) ++ rest ≡ all
+pub listed-more : (all ahead rest : List (Option ℕ × Text)) (room after : List Entry) (index : ℕ) (entry : Entry) → map number_and_text (take index room) ++ ahead ≡ all → ahead ≡ number_and_text entry ∷ rest → index < length room → after ≡ set room index entry
+    → map number_and_text (take (index + 1) after) ++ rest ≡ all
 listed-more all ahead rest room after index entry before first fits now =
     let front : take (index + 1) after ≡ take index room ++ entry ∷ [] = ap (λ (es : List Entry). take (index + 1) es) now ∙ take_more_set room index entry fits in
-    ap (λ (es : List Entry). map told es ++ rest) front
-    ∙ ap (λ (es : List (Option ℕ × Text)). es ++ rest) (map_push told (take index room) entry)
-    ∙ append_assoc (map told (take index room)) (told entry ∷ []) rest
-    ∙ ap (λ (es : List (Option ℕ × Text)). map told (take index room) ++ es) (sym first)
+    ap (λ (es : List Entry). map number_and_text es ++ rest) front
+    ∙ ap (λ (es : List (Option ℕ × Text)). es ++ rest) (map_push number_and_text (take index room) entry)
+    ∙ append_assoc (map number_and_text (take index room)) (number_and_text entry ∷ []) rest
+    ∙ ap (λ (es : List (Option ℕ × Text)). map number_and_text (take index room) ++ es) (sym first)
     ∙ before
 
 -- and the rest of the room stays
