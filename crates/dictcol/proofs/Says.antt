@@ -1,6 +1,6 @@
 -- What a file says: at most one list of lines, and the file of some lines says these.
-use Rattle.std.proofs.Common.{◌≡◌, ◌≢◌, ℕ, zero, suc, ◌+◌, ◌≤◌, lit≤, Bool, true, false, List, [], ◌∷◌, ◌++◌, map, codes, Option, Some, None, Result, Ok, Err, MatchResult, IfErr, Bor, option_map, option_and_then, refl, sym, ap, subst, ◌∙◌}
-use Rattle.std.specs.Prelude.{slice_get, ⊤}
+use Rattle.std.proofs.Common.{◌≡◌, ◌≢◌, ℕ, zero, suc, ◌+◌, ◌-◌, ◌^◌, ◌≤◌, lit≤, length, Bool, true, false, List, [], ◌∷◌, ◌++◌, map, codes, Option, Some, None, Result, Ok, Err, MatchResult, IfErr, Bor, option_map, option_and_then, refl, sym, ap, subst, ◌∙◌}
+use Rattle.std.specs.Prelude.{max, slice_get, ⊤}
 use Rattle.std.specs.List.{list_any}
 use Rattle.std.proofs.lemmas.List.{append_assoc}
 use Rattle.std.proofs.lemmas.Option.{same_Some}
@@ -12,6 +12,8 @@ use Rattle.serde_json.proofs.OnLiterals.{serde_json_on_literals}
 use Rattle.string_interner.specs.Text.{Text, IsDistinct}
 use Rattle.string_interner.specs.Extend.{fresh, texts_of}
 use Rattle.string_interner.specs.Backend.{Appends}
+use Rattle.string_interner.specs.Numbering.{Numbering, by_index}
+use Rattle.string_interner.specs.Symbol.{number_below}
 use Rattle.string_interner.specs.Interner.{InternerContents}
 use Rattle.string_interner.specs.Json.{json_of_texts, json_of_number, refused, ReadsElementsExactly, ReadsArrayExactly}
 use Rattle.string_interner.specs.declared.backend.InternError.{InternError}
@@ -108,9 +110,13 @@ refused-read : (error : InternError) → IsRead (Err (refused error))
 refused-read InternNoSymbol = tt
 refused-read (InternMemory _) = tt
 
-module _ {S : Type 0} (symbol_of : ℕ → Option S) (place : List Text → ℕ) where
+-- how the dictionary of a file numbers its texts
+abbrev pub dictionary_numbering : Numbering ℕ
+dictionary_numbering = by_index (number_below (2 ^ 32 - 1)) (λ symbol. symbol) (λ text. max 5 (length text))
+
+module _ {S : Type 0} (numbering : Numbering S) where
   reads-rest : (front texts : List Text) (i : ℕ) (outcome : Result InternerContents JsonError) → IsDistinct (front ++ texts)
-      → ReadsElementsExactly symbol_of place front i (items_of (map string texts)) outcome → IsRead outcome
+      → ReadsElementsExactly numbering front i (items_of (map string texts)) outcome → IsRead outcome
   reads-rest front [] i (Ok _) distinct read = tt
   reads-rest front [] i (Err _) distinct read = absurd read
   reads-rest front (text ∷ texts) i outcome distinct read =
@@ -118,15 +124,15 @@ module _ {S : Type 0} (symbol_of : ℕ → Option S) (place : List Text → ℕ)
       let behind : (front ++ text ∷ []) ++ texts ≡ front ++ text ∷ texts = append_assoc front (text ∷ []) texts in
       of now.0 now.1 now.2 now.3 (λ more. reads-rest (front ++ text ∷ []) texts (i + 1) outcome (subst IsDistinct (sym behind) distinct) more)
     where
-      of : (interned : Result S InternError) (mid : List Text) → Appends symbol_of place front text interned mid
-          → MatchResult interned (λ _. ReadsElementsExactly symbol_of place mid (i + 1) (items_of (map string texts)) outcome) (λ error. outcome ≡ Err (refused error))
-          → (ReadsElementsExactly symbol_of place (front ++ text ∷ []) (i + 1) (items_of (map string texts)) outcome → IsRead outcome)
+      of : (interned : Result S InternError) (mid : List Text) → Appends numbering.symbol_of numbering.place front text interned mid
+          → MatchResult interned (λ _. ReadsElementsExactly numbering mid (i + 1) (items_of (map string texts)) outcome) (λ error. outcome ≡ Err (refused error))
+          → (ReadsElementsExactly numbering (front ++ text ∷ []) (i + 1) (items_of (map string texts)) outcome → IsRead outcome)
           → IsRead outcome
       of (Err error) mid put e on = subst IsRead (sym e) (refused-read error)
       of (Ok symbol) mid put more on = on (rw put.1 at more)
 
   -- what comes of reading the JSON form of distinct texts
-  pub distinct-read : (texts : List Text) (value : Data) (outcome : Result InternerContents JsonError) → IsDistinct texts → value ≡ json_of_texts texts → ReadsArrayExactly symbol_of place value outcome → IsRead outcome
+  pub distinct-read : (texts : List Text) (value : Data) (outcome : Result InternerContents JsonError) → IsDistinct texts → value ≡ json_of_texts texts → ReadsArrayExactly numbering value outcome → IsRead outcome
   distinct-read texts value outcome distinct is read = reads-rest [] texts 0 outcome distinct (rw is at read)
 
 -- Decoding what was encoded gives the same text: all that the file of a text's lines can say is the text.

@@ -7,7 +7,8 @@ use Rattle.dictcol.proofs.answer.column_of.Goals as goal
 pub returns-in-Ok : goal.returns-in-Ok
 returns-in-Ok g c =
     let h = c.in-Ok.ensures in
-    let drains = rw h.2 at h.4 in
+    let yielded = h.2 in
+    let then = rw yielded.1 at yielded.3 in
     let split = YieldsList-from_str_split {s = c.split.result} 10 c.args.body.now (lit< tt) c.split.ensures.text c.split.ensures.has_more c.split.ensures.pattern in
-    let lines = items_from_drains h.1 (drains.1.0, drains.1.1, λ _. (drains.0, drains.1.2)) split in
-    h.3 ∙ ap (λ old. old ++ texts_of h.1) c.with_hasher-lines.ensures ∙ lines
+    let lines = items_from_drains h.0 (then.0, then.1, λ _. (yielded.2, then.2)) split in
+    h.1 ∙ ap (λ old. old ++ texts_of h.0) c.with_hasher-lines.ensures ∙ lines
