@@ -1,4 +1,4 @@
--- The lines of the input and of the output. `number`, `command` and `write_reply` cite it.
+-- The lines of the input and of the output. `parse_number`, `parse_command` and `write_reply` cite it.
 use Rattle.std.specs.Prelude.{◌≡◌, ℕ, ◌^◌, ◌<◌, List, [], ◌∷◌, ◌++◌, codes}
 use Rattle.std.specs.Fmt.{decimal}
 use Rattle.std.specs.Str.Parse.{IsNumeral, digits_value}

@@ -15,14 +15,14 @@ use Rattle.string_interner.specs.Symbol.{number_below}
 use Rattle.string_interner.specs.Run.{Run}
 use Rattle.string_interner.specs.Text.{Text}
 
--- how the chosen backend numbers texts: by how many stand before, or by how many bytes these take in its buffer
+-- how the parse_backend backend numbers texts: by how many stand before, or by how many bytes these take in its buffer
 abbrev pub numbering_over : Choice → Numbering ℕ
 numbering_over StringChoice = by_index (number_below (2 ^ 32 - 1)) (λ symbol. symbol) (λ text. max 5 (length text))
 numbering_over Bucket = by_index (number_below (2 ^ 32 - 1)) (λ symbol. symbol) (λ text. max 1 (length text))
 numbering_over Buffer = by_byte (number_below (2 ^ 32 - 1)) (λ symbol. symbol)
 
 -- For the bytes of an input, the known bytes of the output grow by the lines of the replies of an empty interner over
--- the chosen backend to the commands that the input's lines state.
+-- the parse_backend backend to the commands that the input's lines state.
 pub record WritesReplies (choice : Choice) (bytes : List ℕ) (old new : Option (List ℕ)) : Type 0 where
   pub commands : List Command
   pub replies : List Reply

@@ -12,7 +12,7 @@ use std::{fmt, io};
 use string_interner::run::{Command, Reply};
 
 /// Parses decimal digits. A leading plus, which `parse` accepts, is no digit.
-fn number(digits: &str) -> Option<usize>
+fn parse_number(digits: &str) -> Option<usize>
     ensures { SomeIff result (IsNumber digits.now) (digits_value 10 digits.now) }
 {
     if digits.starts_with('+') {
@@ -22,15 +22,15 @@ fn number(digits: &str) -> Option<usize>
 }
 
 /// Parses a line as a command, which borrows the line's text. Returns `None` exactly if the line states no command.
-pub fn command(line: &str) -> Option<Command<'_>>
+pub fn parse_command(line: &str) -> Option<Command<'_>>
     ensures stated { IfSome result (λ command. States command line.now) }
     ensures bad { IsNone result → (command : Command) → ¬ (States command line.now) }
 {
     match line.split_once(' ') {
         Some(("i", text)) => Some(Command::Intern(text)),
         Some(("g", text)) => Some(Command::Get(text)),
-        Some(("r", digits)) => Some(Command::Resolve(number(digits)?)),
-        Some(("n", digits)) => Some(Command::Number(number(digits)?)),
+        Some(("r", digits)) => Some(Command::Resolve(parse_number(digits)?)),
+        Some(("n", digits)) => Some(Command::Number(parse_number(digits)?)),
         None if line == "len" => Some(Command::Len),
         None if line == "shrink" => Some(Command::Shrink),
         _ => None,
@@ -63,7 +63,8 @@ impl fmt::Display for Line<'_> {
 
 /// Writes the line of a reply, with its newline.
 pub fn write_reply<W: Write>(output: &mut W, reply: &Reply) -> io::Result<()>
-    ensures { OnOk result (Appends (W.contents output.old) (W.contents output.new) (reply_line reply.now)) }
+    ensures { OnOk result (Appends (W.contents output.old) (W.contents output.new)
+        (reply_line reply.now)) }
 {
     writeln!(output, "{}", Line(reply))
 }

@@ -31,7 +31,7 @@ enum Choice {
 }
 
 /// Returns the backend that the arguments name, if they are one known word.
-fn chosen(arguments: &[String]) -> Option<Choice>
+fn parse_backend(arguments: &[String]) -> Option<Choice>
     ensures named { IfSome result (Names arguments.now) }
     ensures unnamed { IsNone result → (choice : Choice) → ¬ (Names arguments.now choice) }
 {
@@ -45,7 +45,8 @@ fn chosen(arguments: &[String]) -> Option<Choice>
 
 /// Reads the whole input, which must be UTF-8. A failed allocation is a kind of read error, and reported as `Memory`.
 fn read_text<R: Read>(alloc: Global, input: &mut R) -> Result<String, Fault>
-    ensures whole { IfOk result (λ text. IfSome (R.remaining input.old) (λ bytes. string_bytes text ≡ bytes)) }
+    ensures whole { IfOk result (λ text.
+        IfSome (R.remaining input.old) (λ bytes. string_bytes text ≡ bytes)) }
     ensures end { OnOk result (IsAtEnd (R.remaining input.new)) }
     ensures fault { IfErr result IsReadFault }
 {
@@ -58,7 +59,7 @@ fn read_text<R: Read>(alloc: Global, input: &mut R) -> Result<String, Fault>
 }
 
 /// Splits a text into lines. A newline at the very end ends the last one, and begins no further one.
-fn lines(text: &str) -> SplitTerminator<'_, char>
+fn split_lines(text: &str) -> SplitTerminator<'_, char>
     ensures pattern { split_terminator_pattern result ≡ 10 }
     ensures text { split_text (split_terminator_parts result) ≡ text.now }
     ensures has_more { split_has_more (split_terminator_parts result) ≡ true }
@@ -67,33 +68,34 @@ fn lines(text: &str) -> SplitTerminator<'_, char>
 }
 
 /// Returns the index of the first bad line, if there is one.
-fn first_bad(text: &str) -> Option<usize>
-    ensures first { MatchOption result (All IsStated (lines_of text.now)) (IsFirstBad (lines_of text.now)) }
+fn find_bad_line(text: &str) -> Option<usize>
+    ensures first { MatchOption result (All IsStated (lines_of text.now))
+        (IsFirstBad (lines_of text.now)) }
     ensures room { IfSome result (λ index. index + 1 < 2 ^ 64) }
 {
-    lines(text).position(|line| line::command(line).is_none())
+    split_lines(text).position(|line| line::parse_command(line).is_none())
 }
 
 /// Returns the fault where the commands cannot be allocated: the first bad line, if there is one, and else `Memory`.
-fn fault_without_memory(text: &str) -> Fault
+fn find_line_fault(text: &str) -> Fault
     ensures { IsLineFault (lines_of text.now) result }
 {
-    match first_bad(text) {
+    match find_bad_line(text) {
         Some(index) => Fault::BadLine(index + 1),
         None => Fault::Memory,
     }
 }
 
 /// Parses each line. A bad line is reported even where the commands cannot be allocated.
-fn commands_of(alloc: Global, text: &str) -> Result<Vec<Command<'_>>, Fault>
+fn parse_commands(alloc: Global, text: &str) -> Result<Vec<Command<'_>>, Fault>
     ensures stated { IfOk result (λ commands. AllZip States commands.items (lines_of text.now)) }
     ensures fault { IfErr result (IsLineFault (lines_of text.now)) }
 {
-    let Ok(mut commands) = Vec::with_capacity(alloc, lines(text).count()) else {
-        return Err(fault_without_memory(text));
+    let Ok(mut commands) = Vec::with_capacity(alloc, split_lines(text).count()) else {
+        return Err(find_line_fault(text));
     };
-    for line in lines(text) {
-        let Some(command) = line::command(line) else {
+    for line in split_lines(text) {
+        let Some(command) = line::parse_command(line) else {
             return Err(Fault::BadLine(commands.len() + 1));
         };
         commands.push_reserved(command);
@@ -102,32 +104,36 @@ fn commands_of(alloc: Global, text: &str) -> Result<Vec<Command<'_>>, Fault>
 }
 
 /// Runs the commands on an empty interner over the backend `B`, and returns the replies.
-fn replies_over<B: Backend + Drop>(
-    alloc: Global,
-    commands: &[Command<'_>],
-) -> Result<Vec<Reply>, Fault>
-    ensures ran { IfOk result (λ replies. (texts : List Text) × Run B.numbering [] [] commands.now replies.items texts) }
+fn run_over<B: Backend + Drop>(alloc: Global, commands: &[Command<'_>]) -> Result<Vec<Reply>, Fault>
+    ensures ran { IfOk result (λ replies. (texts : List Text)
+        × Run B.numbering [] [] commands.now replies.items texts) }
     ensures fault { IsOkUnless result Fault.Memory }
 {
     let mut interner = StringInterner::<B>::new(alloc);
     run(alloc, &mut interner, commands).map_err(|_| Fault::Memory)
 }
 
-/// Runs the commands on an empty interner over the chosen backend, and returns the replies.
-fn replies_of(alloc: Global, choice: Choice, commands: &[Command<'_>]) -> Result<Vec<Reply>, Fault>
-    ensures ran { IfOk result (λ replies. (texts : List Text) × Run (numbering_over choice) [] [] commands.now replies.items texts) }
+/// Runs the commands on an empty interner over the parse_backend backend, and returns the replies.
+fn run_commands(
+    alloc: Global,
+    choice: Choice,
+    commands: &[Command<'_>],
+) -> Result<Vec<Reply>, Fault>
+    ensures ran { IfOk result (λ replies. (texts : List Text)
+        × Run (numbering_over choice) [] [] commands.now replies.items texts) }
     ensures fault { IsOkUnless result Fault.Memory }
 {
     match choice {
-        Choice::String => replies_over::<StringBackend>(alloc, commands),
-        Choice::Bucket => replies_over::<BucketBackend>(alloc, commands),
-        Choice::Buffer => replies_over::<BufferBackend>(alloc, commands),
+        Choice::String => run_over::<StringBackend>(alloc, commands),
+        Choice::Bucket => run_over::<BucketBackend>(alloc, commands),
+        Choice::Buffer => run_over::<BufferBackend>(alloc, commands),
     }
 }
 
 /// Writes a line for each reply.
 fn write_replies<W: Write>(output: &mut W, replies: &[Reply]) -> Result<(), Fault>
-    ensures written { OnOk result (Appends (W.contents output.old) (W.contents output.new) (flat_map reply_line replies.now)) }
+    ensures written { OnOk result (Appends (W.contents output.old) (W.contents output.new)
+        (flat_map reply_line replies.now)) }
     ensures fault { IsOkUnless result Fault.Output }
 {
     for reply in replies {
@@ -149,28 +155,32 @@ pub fn serve<R: Read, W: Write>(
     input: &mut R,
     output: &mut W,
 ) -> Result<(), Fault>
-    ensures usage { IsErrOf result Fault.Usage ↔ ((choice : Choice) → ¬ (Names arguments.now choice)) }
+    ensures usage { IsErrOf result Fault.Usage
+        ↔ ((choice : Choice) → ¬ (Names arguments.now choice)) }
 
     // Wrong arguments are told before any input is read.
     ensures untouched { IsErrOf result Fault.Usage → input.new ≡ input.old }
 
     // A bad line and writing are blamed only where the input was read to its end.
-    ensures read { IsErrOf result Fault.Usage ⊎ (IsErrOf result Fault.Input ⊎ (IsErrOf result Fault.Memory
-        ⊎ IsAtEnd (R.remaining input.new))) }
+    ensures read { IsErrOf result Fault.Usage ⊎ (IsErrOf result Fault.Input
+        ⊎ (IsErrOf result Fault.Memory ⊎ IsAtEnd (R.remaining input.new))) }
 
     // Of a reader whose bytes are known: what a bad line and a whole answer say of them.
-    ensures bad_line { (n : ℕ) → IsErrOf result (Fault.BadLine n) → IfSome (R.remaining input.old) (λ bytes. IsFirstBadLine (lines_of bytes) n) }
-    ensures answered { OnOk result (IfSome (R.remaining input.old) (λ bytes. (choice : Choice) × Names arguments.now choice
+    ensures bad_line { (n : ℕ) → IsErrOf result (Fault.BadLine n)
+        → IfSome (R.remaining input.old) (λ bytes. IsFirstBadLine (lines_of bytes) n) }
+    ensures answered { OnOk result (IfSome (R.remaining input.old) (λ bytes. (choice : Choice)
+        × Names arguments.now choice
         × WritesReplies choice bytes (W.contents output.old) (W.contents output.new))) }
 
-    ensures output { IsErrOf result Fault.Output → IfSome (R.remaining input.old) (λ bytes. All IsStated (lines_of bytes)) }
+    ensures output { IsErrOf result Fault.Output
+        → IfSome (R.remaining input.old) (λ bytes. All IsStated (lines_of bytes)) }
 
     // Unless all went well or a write failed, the output was not touched.
     ensures silent { IsOk result ⊎ (IsErrOf result Fault.Output ⊎ (output.new ≡ output.old)) }
 {
-    let choice = chosen(arguments).ok_or(Fault::Usage)?;
+    let choice = parse_backend(arguments).ok_or(Fault::Usage)?;
     let text = read_text(alloc, input)?;
-    let commands = commands_of(alloc, &text)?;
-    let replies = replies_of(alloc, choice, &commands)?;
+    let commands = parse_commands(alloc, &text)?;
+    let replies = run_commands(alloc, choice, &commands)?;
     write_replies(output, &replies)
 }

@@ -5,7 +5,7 @@ use Rattle.std.specs.List.{AllWithin, HoldsAt}
 use borrow.Author.Tests.{tests}
 use Rattle.intern.specs.Lines.{IsBad, IsFirstBad, IsStated, lines_of}
 use Rattle.intern.proofs.Cut.{YieldsList-from_lines_of}
-use Rattle.intern.proofs.serve.first_bad.Goals as goal
+use Rattle.intern.proofs.serve.find_bad_line.Goals as goal
 
 found : (lines : List (List ℕ)) (r : Option ℕ)
     → MatchOption r (AllWithin IsStated lines 0 (length lines)) (λ i. (i < length lines) × HoldsAt IsBad lines i × AllWithin IsStated lines 0 i)
@@ -15,6 +15,6 @@ found lines (Some i) h = h
 
 pub returns-clause-first : goal.returns-clause-first
 returns-clause-first c =
-    let given = YieldsList-from_lines_of c.args.text.now c.lines.ensures.text c.lines.ensures.has_more c.lines.ensures.pattern in
+    let given = YieldsList-from_lines_of c.args.text.now c.split_lines.ensures.text c.split_lines.ensures.has_more c.split_lines.ensures.pattern in
     found (lines_of c.args.text.now) c.position.result
     (IsFirst-from_position c.position.new.self _ c.position.result IsBad IsStated c.position.ensures.ran given (λ x q k. search (rules, tests)) (λ x q k. search (rules, tests)))

@@ -2,7 +2,7 @@ use Rattle.std.proofs.Common.{◌≡◌, ◌≤◌, length, map, vec_len, vec_ca
 use Rattle.std.specs.List.{AllWithin, AllZip}
 use Rattle.intern.specs.Line.{States}
 use Rattle.intern.specs.Lines.{IsStated, lines_of}
-use Rattle.intern.proofs.serve.commands_of.Given as goal
+use Rattle.intern.proofs.serve.parse_commands.Given as goal
 
 -- the commands so far are what the lines so far state, none of which is bad, and there is room for all
 abbrev pub invariant-loop-line : goal.invariant-loop-line

@@ -8,13 +8,13 @@ use Rattle.std.specs.List.{AllWithin, AllZip}
 use Rattle.intern.specs.Line.{States}
 use Rattle.intern.specs.Lines.{IsBad, IsStated, lines_of}
 use Rattle.intern.proofs.Cut.{YieldsList-from_lines_of}
-use Rattle.intern.proofs.serve.commands_of.Goals as goal
+use Rattle.intern.proofs.serve.parse_commands.Goals as goal
 
-pub returns-in_default-command-clause-fault : goal.returns-in_default-command-clause-fault
-returns-in_default-command-clause-fault c =
+pub returns-in_default-parse_command-clause-fault : goal.returns-in_default-parse_command-clause-fault
+returns-in_default-parse_command-clause-fault c =
     let given = YieldsList-from_lines_of c.args.text.now (cc) (cc) (cc) in
     let turn = YieldsList-turn given c.loop-line.yielded _ c.loop-line.yielded_by _ c.next.new.self c.in-Some.line c.in-Some.is c.next.ensures.steps in
-    let bad : IsBad c.in-Some.line.now = c.command.ensures.bad (search rules) in (
+    let bad : IsBad c.in-Some.line.now = c.parse_command.ensures.bad (search rules) in (
       length c.loop-line.yielded,
       omega (arith, c.len.ensures, c.loop-line.invariant.count),
       (turn.0, at_read (lines_of c.args.text.now) IsBad _ _ turn.0 turn.1 bad, c.loop-line.invariant.good),
@@ -29,7 +29,7 @@ push_reserved-requires c =
 
 pub loop-line-init : goal.loop-line-init
 loop-line-init c =
-    let given = YieldsList-from_lines_of c.args.text.now c.lines.ensures.text c.lines.ensures.has_more c.lines.ensures.pattern in
+    let given = YieldsList-from_lines_of c.args.text.now c.split_lines.ensures.text c.split_lines.ensures.has_more c.split_lines.ensures.pattern in
     let all = count_from_yields_List _ _ c.count.ensures.ran given in
     let fits : c.count.result ≤ vec_capacity c.in-Ok.commands = search rules in
     let none : c.in-Ok.commands.items ≡ [] = search rules in
@@ -39,10 +39,10 @@ pub loop-line-preserved : goal.loop-line-preserved
 loop-line-preserved c =
     let given = YieldsList-from_lines_of c.args.text.now (cc) (cc) (cc) in
     let turn = YieldsList-turn given c.loop-line.yielded _ c.loop-line.yielded_by _ c.next.new.self c.in-Some.line c.in-Some.is c.next.ensures.steps in
-    let stated : States c.in-Some-command.command c.in-Some.line.now = search rules in
+    let stated : States c.in-Some-parse_command.command c.in-Some.line.now = search rules in
     let good = AllWithin-more IsStated (lines_of c.args.text.now) 0 (length c.loop-line.yielded) c.loop-line.invariant.good
-    (at_read (lines_of c.args.text.now) IsStated _ _ turn.0 turn.1 (c.in-Some-command.command, stated)) in
-    let more = all_zipped_more States c.loop-line.commands.items (map (λ x. x.now) c.loop-line.yielded) c.in-Some-command.command c.in-Some.line.now c.loop-line.invariant.stated stated in
+    (at_read (lines_of c.args.text.now) IsStated _ _ turn.0 turn.1 (c.in-Some-parse_command.command, stated)) in
+    let more = all_zipped_more States c.loop-line.commands.items (map (λ x. x.now) c.loop-line.yielded) c.in-Some-parse_command.command c.in-Some.line.now c.loop-line.invariant.stated stated in
     record {
       stated = grind (arith, common_steps, more);
       count = grind (arith, common_steps);
