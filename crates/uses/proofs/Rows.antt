@@ -14,7 +14,7 @@ use Rattle.string_interner.specs.SlotRule.{SlotRule}
 use Rattle.string_interner.specs.StandsFor.{StandsFor, KeepsSymbols, StandInOrder, none, next}
 use Rattle.string_interner.specs.declared.backend.InternError.{InternError}
 use Rattle.string_interner.specs.declared.backend.InternError.TheVariants.{NoSymbol, Memory}
-use Rattle.uses.specs.Column.{decoded, IsColumn, AppendsRows}
+use Rattle.uses.specs.Column.{row_texts, IsColumn, AppendsRows}
 use Rattle.string_interner.specs.Numbering.{Numbering}
 
 module _ {S : Type 0} (numbering : Numbering S) where
@@ -68,8 +68,8 @@ module _ {S : Type 0} (numbering : Numbering S) where
 
   module _ (numbered : (i : ℕ) (s : S) → numbering.symbol_of i ≡ Some s → (numbering.number s ≡ i) × (i < 2 ^ 64))
       (reads : (texts : List Text) (i : ℕ) → IsValidList numbering.symbol_of numbering.place texts → i < length texts → numbering.read texts (numbering.place (take i texts)) ≡ slice_get texts i) where
-    -- symbols that stand for rows are decoded to them
-    decoded-rows : (texts : List Text) (codes : List S) (rows : List Text) → IsValidList numbering.symbol_of numbering.place texts → StandInOrder numbering texts codes rows → decoded numbering texts codes ≡ rows
+    -- symbols that stand for rows are row_texts to them
+    decoded-rows : (texts : List Text) (codes : List S) (rows : List Text) → IsValidList numbering.symbol_of numbering.place texts → StandInOrder numbering texts codes rows → row_texts numbering texts codes ≡ rows
     decoded-rows texts _ _ kept none = refl
     decoded-rows texts _ _ kept (next {symbol = s} {text = t} {symbols = symbols} {rest = rest} stands more) =
         let is : numbering.read texts (numbering.number s) ≡ Some t = ap (numbering.read texts) ((numbered _ s stands.symbol_is).0) ∙ reads texts stands.index kept (slice_get_within texts stands.index t stands.entry) ∙ stands.entry in
@@ -77,7 +77,7 @@ module _ {S : Type 0} (numbering : Numbering S) where
 
     pub encodes-rows : (yields : List (Bor Text) → Option (Bor Text) → Type 0) (rule : SlotRule) (old new : InternerContents) (codes longer : Vec S Global) (outcome : Result (Unit {0}) InternError) (rows : List Text)
         → InternsEach numbering rule yields (old, codes) outcome (new, longer) → IsValidList numbering.symbol_of numbering.place new.texts → IsColumn numbering old.texts codes.items rows
-        → let after = decoded numbering new.texts longer.items in IsColumn numbering new.texts longer.items after × AppendsRows yields rows outcome after
+        → let after = row_texts numbering new.texts longer.items in IsColumn numbering new.texts longer.items after × AppendsRows yields rows outcome after
     encodes-rows yields rule old new codes longer outcome rows h kept column =
         let end = ends rule yields old h.1 new longer.items (vec_capacity codes) h.0 outcome h.3 in
         let more = texts_of h.0 in

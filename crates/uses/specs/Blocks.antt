@@ -18,12 +18,12 @@ abbrev pub blocks : Open → List (List Text)
 blocks b = b.innermost ∷ b.outer
 
 -- a block and those around it, which stand the outermost first
-abbrev pub opened : InternerContents → List InternerContents → Open
-opened block outer = record { innermost = block.texts; outer = map (λ names. names.texts) (reverse outer) }
+abbrev pub open_blocks : InternerContents → List InternerContents → Open
+open_blocks block outer = record { innermost = block.texts; outer = map (λ names. names.texts) (reverse outer) }
 
 -- What a use of a name means: the declaration in the innermost block that has the name, by how many blocks there are
 -- around that one, and by the symbol that the name has there.
-abbrev pub meant : {S : Type 0} → Numbering S → List (List Text) → Text → Option (ℕ × S)
-meant numbering [] name = None
-meant numbering (block ∷ outer) name =
-    option_map_or (λ symbol. Some (length outer, symbol)) (known_symbol numbering block name) (meant numbering outer name)
+abbrev pub declaration_of : {S : Type 0} → Numbering S → List (List Text) → Text → Option (ℕ × S)
+declaration_of numbering [] name = None
+declaration_of numbering (block ∷ outer) name =
+    option_map_or (λ symbol. Some (length outer, symbol)) (known_symbol numbering block name) (declaration_of numbering outer name)

@@ -10,8 +10,8 @@ use Rattle.string_interner.specs.Extend.{texts_of, InternsAll}
 use Rattle.string_interner.specs.declared.backend.InternError.{InternError}
 
 -- the texts that are read at the symbols
-abbrev pub decoded : {S : Type 0} → Numbering S → List Text → List S → List Text
-decoded numbering texts codes = map (λ code. unwrap_or (numbering.read texts (numbering.number code)) []) codes
+abbrev pub row_texts : {S : Type 0} → Numbering S → List Text → List S → List Text
+row_texts numbering texts codes = map (λ code. unwrap_or (numbering.read texts (numbering.number code)) []) codes
 
 -- The symbols stand for the rows, and the dictionary has the rows interned in their order.
 pub record IsColumn {S : Type 0} (numbering : Numbering S) (texts : List Text) (codes : List S) (rows : List Text) : Type 0 where

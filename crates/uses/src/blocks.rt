@@ -4,7 +4,7 @@ ghost use Rattle.std.specs.Prelude.{◌≡◌, [], ◌∷◌, IfOk, OnOk, OnErr}
 ghost use Rattle.string_interner.specs.Interner.{Interns};
 ghost use Rattle.string_interner.specs.StandsFor.{StandsFor, KeepsSymbols};
 ghost use Rattle.string_interner.specs.Scopes.{Leaves};
-ghost use Rattle.uses.specs.Blocks.{blocks, opened, meant};
+ghost use Rattle.uses.specs.Blocks.{blocks, open_blocks, declaration_of};
 
 use std::alloc::{AllocError, Global};
 use std::marker::Model;
@@ -24,11 +24,11 @@ pub struct Blocks<B: Backend = DefaultBackend, H: TextHasher = DefaultHashBuilde
 
 /// Contracts see the names of each block.
 impl<B: Backend, H: TextHasher> Model for Blocks<B, H> {
-    ghost use Rattle.uses.specs.Blocks.{Open, opened};
+    ghost use Rattle.uses.specs.Blocks.{Open, open_blocks};
 
     ghost Value = { Open };
 
-    ghost view = { λ b. opened b.innermost b.outer.items };
+    ghost view = { λ b. open_blocks b.innermost b.outer.items };
 }
 
 impl<B: Backend, H: TextHasher + Default> Blocks<B, H> {
@@ -76,8 +76,10 @@ impl<B: Backend, H: TextHasher> Blocks<B, H> {
     ///
     /// Fails as `get_or_intern` does. No block changes then.
     pub fn declare(&mut self, name: &str) -> Result<B::Symbol, InternError>
-        ensures interns { Interns B.numbering self.old.innermost name.now result self.new.innermost }
-        ensures stands { IfOk result (λ symbol. StandsFor B.numbering self.new.innermost symbol name.now) }
+        ensures interns { Interns B.numbering self.old.innermost name.now result
+            self.new.innermost }
+        ensures stands { IfOk result (λ symbol.
+            StandsFor B.numbering self.new.innermost symbol name.now) }
         ensures keeps { KeepsSymbols B.numbering self.old.innermost self.new.innermost }
         ensures outer { self.new.outer ≡ self.old.outer }
     {
@@ -87,7 +89,7 @@ impl<B: Backend, H: TextHasher> Blocks<B, H> {
     /// Returns which declaration a use of a name means, if any: that of the innermost block which has the name, as the
     /// number of blocks around that one and the name's symbol there.
     pub fn resolve(&self, name: &str) -> Option<(usize, B::Symbol)>
-        ensures { result ≡ meant B.numbering (blocks self.now) name.now }
+        ensures { result ≡ declaration_of B.numbering (blocks self.now) name.now }
     {
         resolve_in(&self.innermost, &self.outer, name)
     }
@@ -99,7 +101,8 @@ fn resolve_in<B: Backend, H: TextHasher>(
     outer: &[StringInterner<B, H>],
     name: &str,
 ) -> Option<(usize, B::Symbol)>
-    ensures { result ≡ meant B.numbering (blocks (opened block.now outer.now)) name.now }
+    ensures { result
+        ≡ declaration_of B.numbering (blocks (open_blocks block.now outer.now)) name.now }
 {
     if let Some(symbol) = block.get(name) {
         return Some((outer.len(), symbol));

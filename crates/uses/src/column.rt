@@ -30,14 +30,14 @@ pub struct Column<
 impl<B: Backend, H: TextHasher, I: TextIndex<B::Symbol>> Model for Column<B, H, I> {
     ghost use Rattle.std.specs.Prelude.{List};
     ghost use Rattle.string_interner.specs.Text.{Text};
-    ghost use Rattle.uses.specs.Column.{decoded, IsColumn};
+    ghost use Rattle.uses.specs.Column.{row_texts, IsColumn};
 
     ghost Value = { List Text };
 
-    ghost view = { λ c. decoded B.numbering c.dictionary.texts c.codes.items };
+    ghost view = { λ c. row_texts B.numbering c.dictionary.texts c.codes.items };
 
     ghost invariant = { λ c. IsColumn B.numbering c.dictionary.texts c.codes.items
-        (decoded B.numbering c.dictionary.texts c.codes.items) };
+        (row_texts B.numbering c.dictionary.texts c.codes.items) };
 }
 
 impl<B: Backend, H: TextHasher + Default, I: TextIndex<B::Symbol>> Column<B, H, I> {
@@ -66,8 +66,10 @@ impl<B: Backend, H: TextHasher, I: TextIndex<B::Symbol>> Column<B, H, I> {
         &mut self,
         texts: T,
     ) -> Result<(), InternError>
-        requires { IsFiniteIterable T.into_iter_gives T.IntoIter.can_next T.IntoIter.remaining texts }
-        ensures { AppendsRows (YieldedBy T.into_iter_gives T.IntoIter.next_gives texts) self.old result self.new }
+        requires { IsFiniteIterable T.into_iter_gives T.IntoIter.can_next T.IntoIter.remaining
+            texts }
+        ensures { AppendsRows (YieldedBy T.into_iter_gives T.IntoIter.next_gives texts)
+            self.old result self.new }
     {
         let outcome = self.dictionary.intern_all(texts, &mut self.codes);
         // For the proof: states what holds of every interner.
@@ -115,27 +117,27 @@ impl<B: Backend, H: TextHasher, I: TextIndex<B::Symbol>> Column<B, H, I> {
     {
         // For the proof: states that a later text has the greater number.
         let _ = self.dictionary.len();
-        let starts = starts(alloc, &self.dictionary)?;
+        let symbol_numbers = collect_symbol_numbers(alloc, &self.dictionary)?;
         let mut numbers = Vec::with_capacity(alloc, self.codes.len())?;
         for code in &self.codes {
-            let start = code.to_usize();
-            numbers.push_reserved(starts.partition_point(|other| *other < start));
+            let symbol_number = code.to_usize();
+            numbers.push_reserved(symbol_numbers.partition_point(|other| *other < symbol_number));
         }
         Ok(numbers)
     }
 }
 
 /// Returns the number of each text's symbol, in the order of the texts.
-fn starts<B: Backend, H: TextHasher, I: TextIndex<B::Symbol>>(
+fn collect_symbol_numbers<B: Backend, H: TextHasher, I: TextIndex<B::Symbol>>(
     alloc: Global,
     dictionary: &StringInterner<B, H, I>,
 ) -> Result<Vec<usize>, AllocError>
-    ensures { IfOk result (λ starts. AreSymbolNumbers B.numbering
-        (entries B.numbering [] dictionary.now.texts) starts.items) }
+    ensures { IfOk result (λ symbol_numbers. AreSymbolNumbers B.numbering
+        (entries B.numbering [] dictionary.now.texts) symbol_numbers.items) }
 {
-    let mut starts = Vec::with_capacity(alloc, dictionary.len())?;
+    let mut symbol_numbers = Vec::with_capacity(alloc, dictionary.len())?;
     for (symbol, _) in dictionary {
-        starts.push_reserved(symbol.to_usize());
+        symbol_numbers.push_reserved(symbol.to_usize());
     }
-    Ok(starts)
+    Ok(symbol_numbers)
 }

@@ -36,7 +36,8 @@ pub fn is_keyword<B: Backend, H: TextHasher>(
     token: B::Symbol,
 ) -> bool
     ensures { (keyword word : Text) (end : StandsFor B.numbering words.now.texts last keyword)
-        (at : StandsFor B.numbering words.now.texts token word) → IsTrue result ↔ (at.index ≤ end.index) }
+        (at : StandsFor B.numbering words.now.texts token word)
+        → IsTrue result ↔ (at.index ≤ end.index) }
 {
     // For the proof: states that of two texts the later has the greater number.
     let _ = words.len();

@@ -13,7 +13,7 @@ use uses::lines::{
 use uses::same_text::same_text;
 
 /// Passes a test whose calls were not refused, and answered as they should.
-fn passed(answered: Result<bool, InternError>) -> Result<(), Fail> {
+fn check_answer(answered: Result<bool, InternError>) -> Result<(), Fail> {
     match answered {
         Ok(true) => Ok(()),
         Ok(false) => Err("it answered otherwise".into()),
@@ -30,7 +30,7 @@ fn compares(alloc: Global) -> Result<bool, InternError> {
 
 #[test]
 fn equal_texts_have_one_symbol(rt: HostRuntime) -> Result<(), Fail> {
-    passed(compares(rt.alloc()))
+    check_answer(compares(rt.alloc()))
 }
 
 fn decodes(alloc: Global) -> Result<bool, InternError> {
@@ -44,7 +44,7 @@ fn decodes(alloc: Global) -> Result<bool, InternError> {
 
 #[test]
 fn rows_are_decoded(rt: HostRuntime) -> Result<(), Fail> {
-    passed(decodes(rt.alloc()))
+    check_answer(decodes(rt.alloc()))
 }
 
 fn lexes(alloc: Global) -> Result<bool, InternError> {
@@ -66,7 +66,7 @@ fn lexes(alloc: Global) -> Result<bool, InternError> {
 
 #[test]
 fn keywords_have_the_least_numbers(rt: HostRuntime) -> Result<(), Fail> {
-    passed(lexes(rt.alloc()))
+    check_answer(lexes(rt.alloc()))
 }
 
 /// `let x; { let y; let x; x } x y`
@@ -84,7 +84,7 @@ fn hides(alloc: Global) -> Result<bool, InternError> {
 
 #[test]
 fn an_inner_name_hides_an_outer_one(rt: HostRuntime) -> Result<(), Fail> {
-    passed(hides(rt.alloc()))
+    check_answer(hides(rt.alloc()))
 }
 
 fn reads_back(alloc: Global) -> Result<bool, InternError> {
@@ -104,8 +104,8 @@ fn lines_answer(alloc: Global) -> Result<bool, InternError> {
 
 #[test]
 fn lines_answer_as_they_say(rt: HostRuntime) -> Result<(), Fail> {
-    passed(lines_answer(rt.alloc()))?;
-    passed(reads_back(rt.alloc()))
+    check_answer(lines_answer(rt.alloc()))?;
+    check_answer(reads_back(rt.alloc()))
 }
 
 fn shows_no_key(alloc: Global) -> Result<bool, InternError> {
@@ -115,5 +115,5 @@ fn shows_no_key(alloc: Global) -> Result<bool, InternError> {
 
 #[test]
 fn a_keyed_state_shows_no_key(rt: HostRuntime) -> Result<(), Fail> {
-    passed(shows_no_key(rt.alloc()))
+    check_answer(shows_no_key(rt.alloc()))
 }

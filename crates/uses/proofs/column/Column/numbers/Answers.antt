@@ -7,7 +7,7 @@ use Rattle.std.proofs.lemmas.Option.{slice_get_read}
 use Rattle.string_interner.specs.Extend.{fresh}
 use Rattle.uses.specs.Column.{AreNumbersOf}
 use Rattle.uses.proofs.Rows.{stands-at, all-fresh}
-use Rattle.uses.proofs.Starts.{number-found, one-more}
+use Rattle.uses.proofs.SymbolNumbers.{number-found, one-more}
 use Rattle.uses.proofs.column.Column.numbers.Goals as goal
 
 pub loop-code-preserved : goal.loop-code-preserved
@@ -15,9 +15,9 @@ loop-code-preserved g c =
     let read : slice_get c.self.inside.codes.items c.loop-code.code-index ≡ Some c.code-item.result = search (rules, slice_get_read) in
     let at = stands-at g.B.Backend.numbering _ c.self.inside.codes.items _ c.self.invariant.stand c.loop-code.code-index _ read in
     let row = subst (λ rows. slice_get rows c.loop-code.code-index ≡ Some at.0) c.self.view_is at.1 in
-    let found = number-found g.B.Backend.numbering c.self.inside.dictionary.texts c.in_ok-starts.starts.items c.in_ok-starts.ensures c.len.ensures.order
-    c.code-item.result at.0 at.2 c.to_usize-start.result c.partition_point.result (rw g.met.B.Backend.symbols.1 c.to_usize-start.ensures.value)
-    (λ parted. IsPartitionPoint-from_clause (λ n. ltb n c.to_usize-start.result) c.in_ok-starts.starts.items c.partition_point.result (rw c.deref.ensures.value at c.partition_point.ensures.partitioned) parted (λ a r q k. search rules)) in
+    let found = number-found g.B.Backend.numbering c.self.inside.dictionary.texts c.in_ok-symbol_numbers.symbol_numbers.items c.in_ok-symbol_numbers.ensures c.len.ensures.order
+    c.code-item.result at.0 at.2 c.to_usize-symbol_number.result c.partition_point.result (rw g.met.B.Backend.symbols.1 c.to_usize-symbol_number.ensures.value)
+    (λ parted. IsPartitionPoint-from_clause (λ n. ltb n c.to_usize-symbol_number.result) c.in_ok-symbol_numbers.symbol_numbers.items c.partition_point.result (rw c.deref.ensures.value at c.partition_point.ensures.partitioned) parted (λ a r q k. search rules)) in
     let listed = rw c.self.view_is at (all-fresh g.B.Backend.numbering _ _ _ c.self.invariant.dictionary) in
     record {
       so_far = rw c.push_reserved.ensures.items

@@ -3,7 +3,7 @@ use Rattle.std.proofs.lemmas.List.{append-nil}
 use Rattle.uses.specs.Column.{AreSymbolNumbers}
 use Rattle.string_interner.specs.Iter.{entries}
 use Rattle.std.proofs.Common.{subst}
-use Rattle.uses.proofs.column.starts.Goals as goal
+use Rattle.uses.proofs.column.collect_symbol_numbers.Goals as goal
 
 pub returns : goal.returns
 returns g c =
