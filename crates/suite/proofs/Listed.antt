@@ -10,6 +10,7 @@ use Rattle.std.proofs.lemmas.List.Elements.{Contains-append_left, Contains-push,
 use Rattle.std.proofs.lemmas.Option.{slice_get_read, same_Some}
 use Rattle.std.proofs.lemmas.Slice.Eq.{bytes_eq-Decides}
 use Rattle.string_interner.specs.Text.{Text}
+use Rattle.string_interner.specs.Numbering.{Numbering}
 use Rattle.string_interner.specs.Backend.{BeginsAt, IsPlace}
 use Rattle.string_interner.specs.Entry.{entry_text}
 use Rattle.string_interner.specs.TextIndex.{IsNewText}
@@ -56,19 +57,19 @@ module _ {S : Type 0} (old more : S → Option Text) (symbols : List S) (symbol 
       still s None e h = absurd (let d : false ≡ true = h in cc)
 
 -- where a walk over the texts stands: the symbols of these are in the list, and those are ahead
-pub record IsPut {S : Type 0} (symbol_of : ℕ → Option S) (number : S → ℕ) (place : List Text → ℕ) (texts behind ahead : List Text) (symbols : List S) : Type 0 where
+pub record IsPut {S : Type 0} (numbering : Numbering S) (texts behind ahead : List Text) (symbols : List S) : Type 0 where
   pub done : List Text
   pub todo : List Text
   pub all : texts ≡ done ++ todo
-  pub listed : IsListed (entry_text number place done) symbols
+  pub listed : IsListed (entry_text numbering done) symbols
   pub count : length symbols ≡ length done
-  pub same : entries symbol_of place behind ahead ≡ entries symbol_of place done todo
+  pub same : entries numbering behind ahead ≡ entries numbering done todo
 
-module _ {S : Type 0} (symbol_of : ℕ → Option S) (number : S → ℕ) (place : List Text → ℕ)
-    (numbered : (i : ℕ) (s : S) → symbol_of i ≡ Some s → (number s ≡ i) × (i < 2 ^ 64))
-    (injective : (a b : S) → number a ≡ number b → a ≡ b)
-    (grows : (texts : List Text) (text : Text) → place texts < place (texts ++ text ∷ [])) (texts : List Text) where
-  pub put-start : IsPut symbol_of number place texts [] texts []
+module _ {S : Type 0} (numbering : Numbering S)
+    (numbered : (i : ℕ) (s : S) → numbering.symbol_of i ≡ Some s → (numbering.number s ≡ i) × (i < 2 ^ 64))
+    (injective : (a b : S) → numbering.number a ≡ numbering.number b → a ≡ b)
+    (grows : (texts : List Text) (text : Text) → numbering.place texts < numbering.place (texts ++ text ∷ [])) (texts : List Text) where
+  pub put-start : IsPut numbering texts [] texts []
   put-start = record {
     done = [];
     todo = texts;
@@ -78,15 +79,15 @@ module _ {S : Type 0} (symbol_of : ℕ → Option S) (number : S → ℕ) (place
     same = refl;
   }
 
-  step : (done todo behind ahead : List Text) (symbols : List S) (s : S) (t : Text) → texts ≡ done ++ todo → IsListed (entry_text number place done) symbols
-      → length symbols ≡ length done → entries symbol_of place done todo ≡ (Some s, t) ∷ entries symbol_of place behind ahead
-      → (length symbols < length texts) × IsPut symbol_of number place texts behind ahead (symbols ++ s ∷ [])
+  step : (done todo behind ahead : List Text) (symbols : List S) (s : S) (t : Text) → texts ≡ done ++ todo → IsListed (entry_text numbering done) symbols
+      → length symbols ≡ length done → entries numbering done todo ≡ (Some s, t) ∷ entries numbering behind ahead
+      → (length symbols < length texts) × IsPut numbering texts behind ahead (symbols ++ s ∷ [])
   step done [] behind ahead symbols s t all listed count e = absurd (cc)
   step done (u ∷ us) behind ahead symbols s t all listed count e =
       let more = done ++ u ∷ [] in
-      let head : ◌≡◌ {A = Option S × Text} (symbol_of (place done), u) (Some s, t) = cc in
-      let rest : entries symbol_of place more us ≡ entries symbol_of place behind ahead = cc in
-      let adds = entry_text-adds symbol_of number place numbered injective grows done u s (ap (λ p. p.0) head) in
+      let head : ◌≡◌ {A = Option S × Text} (numbering.symbol_of (numbering.place done), u) (Some s, t) = cc in
+      let rest : entries numbering more us ≡ entries numbering behind ahead = cc in
+      let adds = entry_text-adds numbering numbered injective grows done u s (ap (λ p. p.0) head) in
       let long : length texts ≡ length (done ++ u ∷ us) = ap length all in let sum = length-append done (u ∷ us) in
       let one = length_push symbols s in let other = length_push done u in (
         omega arith,
@@ -94,46 +95,46 @@ module _ {S : Type 0} (symbol_of : ℕ → Option S) (number : S → ℕ) (place
           done = more;
           todo = us;
           all = all ∙ sym (append_assoc done (u ∷ []) us);
-          listed = IsListed-more (entry_text number place done) (entry_text number place more) symbols s u adds.added adds.kept adds.only listed;
+          listed = IsListed-more (entry_text numbering done) (entry_text numbering more) symbols s u adds.added adds.kept adds.only listed;
           count = omega arith;
           same = sym rest;
         },
       )
 
   -- one more symbol is put, for which there is room where there is room for all
-  pub put-next : (behind ahead behind' ahead' : List Text) (symbols : List S) (s : S) (t : Text) → IsPut symbol_of number place texts behind ahead symbols
-      → entries symbol_of place behind ahead ≡ (Some s, t) ∷ entries symbol_of place behind' ahead'
-      → (length symbols < length texts) × IsPut symbol_of number place texts behind' ahead' (symbols ++ s ∷ [])
+  pub put-next : (behind ahead behind' ahead' : List Text) (symbols : List S) (s : S) (t : Text) → IsPut numbering texts behind ahead symbols
+      → entries numbering behind ahead ≡ (Some s, t) ∷ entries numbering behind' ahead'
+      → (length symbols < length texts) × IsPut numbering texts behind' ahead' (symbols ++ s ∷ [])
   put-next behind ahead behind' ahead' symbols s t p e = step p.done p.todo behind' ahead' symbols s t p.all p.listed p.count (sym p.same ∙ e)
 
-  finished : (done todo : List Text) (symbols : List S) → texts ≡ done ++ todo → IsListed (entry_text number place done) symbols → length symbols ≡ length done
-      → entries symbol_of place done todo ≡ [] → IsListed (entry_text number place texts) symbols × (length symbols ≡ length texts)
+  finished : (done todo : List Text) (symbols : List S) → texts ≡ done ++ todo → IsListed (entry_text numbering done) symbols → length symbols ≡ length done
+      → entries numbering done todo ≡ [] → IsListed (entry_text numbering texts) symbols × (length symbols ≡ length texts)
   finished done [] symbols all listed count e = rw (all ∙ append-nil done) (listed, count)
   finished done (u ∷ us) symbols all listed count e = absurd (cc)
 
   -- once none is ahead, all are
-  pub put-end : (behind ahead : List Text) (symbols : List S) → IsPut symbol_of number place texts behind ahead symbols → entries symbol_of place behind ahead ≡ []
-      → IsListed (entry_text number place texts) symbols × (length symbols ≡ length texts)
+  pub put-end : (behind ahead : List Text) (symbols : List S) → IsPut numbering texts behind ahead symbols → entries numbering behind ahead ≡ []
+      → IsListed (entry_text numbering texts) symbols × (length symbols ≡ length texts)
   put-end behind ahead symbols p e = finished p.done p.todo symbols p.all p.listed p.count (sym p.same ∙ e)
 
 -- a symbol that stands in the list at `i`, whose entry is asked for its text
-module _ {S : Type 0} (number : S → ℕ) (place : List Text → ℕ) (texts : List Text) (symbols : List S) (listed : IsListed (entry_text number place texts) symbols)
+module _ {S : Type 0} (numbering : Numbering S) (texts : List Text) (symbols : List S) (listed : IsListed (entry_text numbering texts) symbols)
     (i : ℕ) (symbol : S) (within : i < length symbols) (at : symbol ≡ get_or symbols i symbol) where
-  is_entry : IsSome (entry_text number place texts symbol)
+  is_entry : IsSome (entry_text numbering texts symbol)
   is_entry = listed.entries symbol (i, within, sym at)
 
   -- its number is a place
-  pub listed-place : IsPlace place texts (number symbol)
-  listed-place = entry_text-IsPlace number place texts symbol is_entry
+  pub listed-place : IsPlace numbering.place texts (numbering.number symbol)
+  listed-place = entry_text-IsPlace numbering texts symbol is_entry
 
-  module _ (found text : Text) (each : (k : ℕ) → BeginsAt place texts (number symbol) k → slice_get texts k ≡ Some found) where
-    has : entry_text number place texts symbol ≡ Some found
-    has = entry_text-resolved number place texts symbol found is_entry each
+  module _ (found text : Text) (each : (k : ℕ) → BeginsAt numbering.place texts (numbering.number symbol) k → slice_get texts k ≡ Some found) where
+    has : entry_text numbering texts symbol ≡ Some found
+    has = entry_text-resolved numbering texts symbol found is_entry each
 
-    pub listed-hit : bytes_eq found text ≡ true → entry_text number place texts symbol ≡ Some text
+    pub listed-hit : bytes_eq found text ≡ true → entry_text numbering texts symbol ≡ Some text
     listed-hit same = has ∙ ap Some ((bytes_eq-Decides found text).0 same)
 
-    pub listed-miss : bytes_eq found text ≡ false → entry_text number place texts symbol ≡ Some text → ⊥
+    pub listed-miss : bytes_eq found text ≡ false → entry_text numbering texts symbol ≡ Some text → ⊥
     listed-miss other e =
         let same : bytes_eq found text ≡ true = (bytes_eq-Decides found text).1 (same_Some found text (sym has ∙ e)) in
         let d : true ≡ false = sym same ∙ other in absurd (cc)

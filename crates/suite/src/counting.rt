@@ -4,8 +4,10 @@
 //! shared by all. So the backend tells its count by what any caller sees, which texts are refused: between two times that
 //! `SIGNAL` is resolved it counts nothing, and refuses two texts for each one that it was asked for.
 
-ghost use Rattle.std.specs.Prelude.{◌≡◌, length, slice_get};
+ghost use Rattle.std.specs.Prelude.{◌≡◌, ◌^◌, ◌-◌};
 ghost use Rattle.std.proofs.Common.{rules, refl};
+ghost use Rattle.string_interner.specs.Numbering.{by_index};
+ghost use Rattle.string_interner.specs.Symbol.{number_below};
 ghost use Rattle.string_interner.specs.ByIndexLaws.{length_grows, reads_at_length};
 
 use crate::own::Shown;
@@ -76,13 +78,9 @@ impl Backend for Counting {
 
     ghost texts = { λ b. b.inner.texts };
 
-    ghost place = { length };
-
-    ghost read = { slice_get };
+    ghost numbering = { by_index (number_below (2 ^ 32 - 1)) (λ symbol. symbol) (λ _. 1) };
 
     ghost room = { λ _. 0 };
-
-    ghost cost = { λ _. 1 };
 
     ghost grant = { λ _. 0 };
 
@@ -137,6 +135,8 @@ impl Backend for Counting {
     fn truncate(&mut self, len: usize) {
         self.inner.truncate(len);
     }
+
+    ghost symbols = { (refl, refl) };
 
     ghost starts = { refl };
 

@@ -30,10 +30,10 @@ impl<S: Symbol> Model for LinearIndex<S> {
 
 /// The first symbol whose text this is.
 fn find<S: Symbol, B: Backend<Symbol = S>>(symbols: &[S], backend: &B, text: &str) -> Option<S>
-    requires { IsListed (entry_text S.number B.place (B.texts backend.now)) symbols.now }
+    requires { IsListed (entry_text B.numbering (B.texts backend.now)) symbols.now }
     ensures some { IfSome result
-        (λ symbol. entry_text S.number B.place (B.texts backend.now) symbol ≡ Some text.now) }
-    ensures none { IfNone result (IsNewText (entry_text S.number B.place (B.texts backend.now)) text.now) }
+        (λ symbol. entry_text B.numbering (B.texts backend.now) symbol ≡ Some text.now) }
+    ensures none { IfNone result (IsNewText (entry_text B.numbering (B.texts backend.now)) text.now) }
 {
     for symbol in symbols {
         if backend.resolve_unchecked(*symbol) == text {
@@ -47,7 +47,7 @@ fn find<S: Symbol, B: Backend<Symbol = S>>(symbols: &[S], backend: &B, text: &st
 fn put_all<S: Symbol, B: Backend<Symbol = S>>(symbols: &mut Vec<S>, backend: &B)
     requires empty { symbols.old.items ≡ [] }
     requires room { length (B.texts backend.now) ≤ vec_capacity symbols.old }
-    ensures listed { IsListed (entry_text S.number B.place (B.texts backend.now)) symbols.new.items }
+    ensures listed { IsListed (entry_text B.numbering (B.texts backend.now)) symbols.new.items }
     ensures count { length symbols.new.items ≡ length (B.texts backend.now) }
     ensures capacity { vec_capacity symbols.new ≡ vec_capacity symbols.old }
 {

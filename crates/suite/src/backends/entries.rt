@@ -20,7 +20,7 @@ impl<'a, B: Backend> Model for Entries<'a, B> {
     ghost view = { λ s. s.left };
 
     ghost invariant = { λ s. (s.left ≤ length (B.texts s.backend.now))
-        × (B.place (take (length (B.texts s.backend.now) - s.left) (B.texts s.backend.now)) ≡ s.at) };
+        × (B.numbering.place (take (length (B.texts s.backend.now) - s.left) (B.texts s.backend.now)) ≡ s.at) };
 }
 
 impl<'a, B: Backend> Entries<'a, B> {

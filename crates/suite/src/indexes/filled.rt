@@ -27,7 +27,7 @@ impl<B: Backend, H: TextHasher> Model for Filled<B, H> {
 
     ghost view = { λ f. B.texts f.backend };
 
-    ghost invariant = { λ f. IsSoundInterner B.Symbol.symbol_of B.place B.Symbol.number
+    ghost invariant = { λ f. IsSoundInterner B.numbering
         (λ entry. IsWhole entry (H.code f.hasher) f.index.slots) (entry_count f.index) (B.texts f.backend) };
 }
 
@@ -65,7 +65,7 @@ impl<B: Backend, H: TextHasher> Filled<B, H> {
 
     /// Calls `find`.
     pub fn find(&self, text: &str) -> Option<B::Symbol>
-        ensures { result ≡ known_symbol B.Symbol.symbol_of B.place self.now text.now }
+        ensures { result ≡ known_symbol B.numbering self.now text.now }
     {
         let mut looks = Looks::new(&self.backend);
         self.index.find(&self.hasher, &mut looks, text)
