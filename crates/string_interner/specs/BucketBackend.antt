@@ -5,7 +5,7 @@ use Rattle.std.specs.Prelude.{◌≡◌, ℕ, ◌+◌, ◌-◌, ◌*◌, ◌^◌
 use Rattle.std.specs.Str.{IsCharBoundary}
 use Rattle.std.specs.Int.{IsNextPowerOfTwo}
 use Rattle.string_interner.specs.Text.{Text}
-use Rattle.string_interner.specs.Numbering.{by_index}
+use Rattle.string_interner.specs.Numbering.{Numbering, by_index}
 use Rattle.string_interner.specs.Backend.{AppendsInto, Bucket, IsValidList}
 use Rattle.string_interner.specs.declared.backend.InternError.{InternError}
 use Rattle.string_interner.specs.declared.backend.bucket.interned_str.InternedStr.{InternedStr}
@@ -46,10 +46,14 @@ byte_count buckets = sum_by (λ bucket. length bucket.bytes) buckets
 abbrev pub AreBounded : List Bucket → Type 0
 AreBounded buckets = total_capacity buckets ≤ max (bucket_at buckets 0).capacity (4 * byte_count buckets)
 
--- A text is appended. Its cost is its length in bytes, and at least one.
+-- How a `BucketBackend` numbers texts: by their index. A text costs its length in bytes, and at least one.
+abbrev pub bucket_numbering : {S : Type 0} → (ℕ → Option S) → (S → ℕ) → Numbering S
+bucket_numbering symbol_of number = by_index symbol_of number (λ text. max 1 (length text))
+
+-- a text is appended
 abbrev pub AppendsText : {S : Type 0} → (ℕ → Option S) → (S → ℕ) → BucketContents → Text → Result S InternError → BucketContents → Type 0
 AppendsText symbol_of number =
-    AppendsInto (by_index symbol_of number (λ text. max 1 (length text))) (λ b. b.texts) (λ b. buckets_of b.full b.head) (λ b. b.room)
+    AppendsInto (bucket_numbering symbol_of number) (λ b. b.texts) (λ b. buckets_of b.full b.head) (λ b. b.room)
 
 -- A text is stored in the buckets: appended to the head, if it fits the head's capacity. Else the head joins the older
 -- buckets, and the text begins a new head, whose capacity is the least power of two above both the old head's capacity

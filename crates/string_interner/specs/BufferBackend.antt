@@ -45,9 +45,9 @@ read_front bytes =
 abbrev pub read_at : List Text → ℕ → Option Text
 read_at texts n = read_front (drop n (bytes_of texts))
 
--- Texts numbered by the byte at which their entries begin: the numbering of `BufferBackend`.
-abbrev pub by_byte : {S : Type 0} → (ℕ → Option S) → (S → ℕ) → Numbering S
-by_byte symbol_of number = record {
+-- How a `BufferBackend` numbers texts: by the byte at which their entries begin. A text costs the length of its entry.
+abbrev pub buffer_numbering : {S : Type 0} → (ℕ → Option S) → (S → ℕ) → Numbering S
+buffer_numbering symbol_of number = record {
   symbol_of = symbol_of;
   number = number;
   place = place_of;

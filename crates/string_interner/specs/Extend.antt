@@ -64,8 +64,8 @@ module _ {S : Type 0} (numbering : Numbering S) where
       pub refuses : InternsInto numbering rule mid refused (Err error) new
       pub beyond : IsMemory error → ¬ HasRoomFor old (texts ++ refused ∷ [])
 
-    -- Items that are yielded are interned, and the slots grow for them: all that are, or those before the first
-    -- that fails, after which none is asked for.
+    -- Items that are yielded are interned, and the slots grow for them: all that are yielded, or those before the first
+    -- that fails.
     abbrev pub Extends : (List (Bor Text) → Option (Bor Text) → Type 0) → InternerContents → Result (Unit {0}) InternError → InternerContents → Type 0
     Extends yields old outcome new =
         (items : List (Bor Text)) × (mid : InternerContents) × TakesIn old (texts_of items) mid

@@ -27,8 +27,8 @@ module _ {S : Type 0} (numbering : Numbering S) (rule : SlotRule) where
     pub stand : StandInOrder numbering new.texts added texts
     pub appended : longer ≡ symbols ++ added
 
-  -- Items that are yielded are interned into an interner, and their symbols appended to a list: all that are, or those
-  -- before the first that fails, after which none is asked for. That one fails as interning it does, or the list is full.
+  -- Items that are yielded are interned into an interner, and their symbols appended to a list: all that are yielded, or
+  -- those before the first that fails. That one fails as interning it does, or the list is full.
   abbrev pub InternsEach : (List (Bor Text) → Option (Bor Text) → Type 0) → InternerContents × Vec S Global
       → Result (Unit {0}) InternError → InternerContents × Vec S Global → Type 0
   InternsEach yields old outcome new =

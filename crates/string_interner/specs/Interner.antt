@@ -34,13 +34,13 @@ pub record IsMadeFor (rule : SlotRule) (capacity grant : ℕ) (interner : Intern
   pub grant_fits : grant < 2 ^ 64
   pub slots_fit : interner.slot_count < 2 ^ 64
 
--- its index has the least slot count for its texts
+-- the interner's index has the least slot count for its texts
 abbrev pub HasLeastSlots : SlotRule → InternerContents → Type 0
 HasLeastSlots rule interner = IsLeastSlotCount rule (length interner.texts) interner.slot_count
 
 -- buckets and slot count are unchanged
-abbrev pub KeepsLayout : InternerContents → InternerContents → Type 0
-KeepsLayout old new = (new.buckets ≡ old.buckets) × (new.slot_count ≡ old.slot_count)
+abbrev pub KeepsBucketsAndSlots : InternerContents → InternerContents → Type 0
+KeepsBucketsAndSlots old new = (new.buckets ≡ old.buckets) × (new.slot_count ≡ old.slot_count)
 
 -- no memory is released: buckets and slot count are unchanged, and there is no less spare capacity
 pub record KeepsMemory (old new : InternerContents) : Type 0 where
@@ -48,7 +48,7 @@ pub record KeepsMemory (old new : InternerContents) : Type 0 where
   pub room : old.room ≤ new.room
   pub slots : new.slot_count ≡ old.slot_count
 
--- the copy has the same texts, each with its symbol, and the buckets that a backend's copy has by this relation
+-- the same texts, and so the same symbols; `copies` says which buckets a copy has
 pub record IsCopyOf (copies : List Text → List Bucket → List Bucket → Type 0) (old copy : InternerContents) : Type 0 where
   pub texts : copy.texts ≡ old.texts
   pub buckets : copies old.texts old.buckets copy.buckets
@@ -62,7 +62,7 @@ module _ {S : Type 0} (numbering : Numbering S) where
   abbrev pub known_symbol : List Text → Text → Option S
   known_symbol texts text = option_and_then (entry_symbol texts) (first texts text)
 
-  -- what the texts of every interner satisfy: they are distinct, and its backend may have them
+  -- what the texts of every interner satisfy: they are distinct, and a valid list of its backend, so each has a symbol
   pub record IsDistinctList (texts : List Text) : Type 0 where
     pub distinct : IsDistinct texts
     pub valid : IsValidList numbering.symbol_of numbering.place texts
@@ -101,8 +101,8 @@ module _ {S : Type 0} (numbering : Numbering S) where
     pub room : UsesRoom (IsSome (numbering.symbol_of (numbering.place old.texts)) × rule.holds old.slot_count (length old.texts + 1)) (numbering.cost text) old.room new.room outcome
     pub slots : GrowsIfFull rule (length old.texts) old.slot_count new.slot_count
 
-  -- The invariant of an interner: its texts, and an index of so many entries, which are these texts with their symbols.
-  pub record IsSoundInterner (indexes : (S → Option Text) → Type 0) (entries : ℕ) (texts : List Text) : Type 0 where
-    pub are : IsDistinctList texts
-    pub whole : indexes (entry_text numbering texts)
-    pub count : entries ≡ length texts
+  -- The invariant of an interner: the texts are an interner's, and the index has exactly these, with their symbols.
+  pub record IsSoundInterner (indexes : (S → Option Text) → Type 0) (entries : ℕ) (list : List Text) : Type 0 where
+    pub texts : IsDistinctList list
+    pub whole : indexes (entry_text numbering list)
+    pub count : entries ≡ length list

@@ -1,7 +1,7 @@
 -- The JSON forms of a list of texts and of a symbol, and reading them.
 -- Cited by `to_json`, by `from_json` and `from_json_exact` and the calls that read elements for them, and by `symbol_to_json` and
 -- `symbol_from_json`.
-use Rattle.std.specs.Prelude.{◌≡◌, ℕ, ◌+◌, List, [], map, Option, MatchOption, MatchResult, option_and_then, Result, Ok, Err, IfOk, IsOkAnd, ⊤}
+use Rattle.std.specs.Prelude.{◌≡◌, ℕ, ◌+◌, List, [], map, Option, MatchOption, MatchResult, option_and_then, Result, Ok, Err, IsOkAnd, ⊤}
 use Rattle.std.specs.Option.{ok_or, option_map_or}
 use Rattle.serde_json.specs.Data.{Data, number, unsigned, string, array, Items, no_items, item}
 use Rattle.serde_json.specs.Find.{as_array, as_number, as_str, as_u64}
@@ -10,7 +10,6 @@ use Rattle.string_interner.specs.Text.{Text, first}
 use Rattle.string_interner.specs.Numbering.{Numbering}
 use Rattle.string_interner.specs.Backend.{Appends}
 use Rattle.string_interner.specs.SlotRule.{SlotRule}
-use Rattle.string_interner.specs.StandsFor.{KeepsSymbols}
 use Rattle.string_interner.specs.Interner.{IsDistinctList, InternerContents, Interns, HasLeastSlots}
 use Rattle.string_interner.specs.declared.backend.InternError.{InternError}
 use Rattle.string_interner.specs.declared.backend.InternError.TheVariants.{NoSymbol as InternNoSymbol, Memory as InternMemory}
@@ -78,22 +77,10 @@ GivesBack texts (Ok interner) = interner.texts ≡ texts
 GivesBack texts (Err (Memory _)) = ⊤
 GivesBack texts (Err _) = ⊥
 
-module _ {S : Type 0} (numbering : Numbering S) where
-  -- if the value is what `to_json` returns for a list that an interner may have, reading it gives that list back, and
-  -- each symbol stands for what it stood for
-  abbrev pub ReadsBack : Data → Result InternerContents JsonError → Type 0
-  ReadsBack value outcome = (texts : List Text) → IsDistinctList numbering texts → value ≡ json_of_texts texts
-      → GivesBack texts outcome × IfOk outcome (λ interner. KeepsSymbols numbering texts interner.texts)
+-- if the value is what `to_json` returns for a list that an interner may have, reading it gives that list back
+abbrev pub ReadsBack : {S : Type 0} → Numbering S → Data → Result InternerContents JsonError → Type 0
+ReadsBack numbering value outcome = (texts : List Text) → IsDistinctList numbering texts → value ≡ json_of_texts texts → GivesBack texts outcome
 
-  -- A JSON value is read into a new interner, which has the least slot count for its texts.
-  pub record ReadsTexts (rule : SlotRule) (value : Data) (outcome : Result InternerContents JsonError) : Type 0 where
-    pub reads : ReadsArray numbering value outcome
-    pub slots : IfOk outcome (HasLeastSlots rule)
-    pub gives_back : ReadsBack value outcome
-
-  -- The same, where no string may be equal to an earlier one. The value is then what `to_json` returns.
-  pub record ReadsTextsExactly (rule : SlotRule) (value : Data) (outcome : Result InternerContents JsonError) : Type 0 where
-    pub reads : ReadsArrayExactly numbering value outcome
-    pub form : IfOk outcome (λ interner. value ≡ json_of_texts interner.texts)
-    pub slots : IfOk outcome (HasLeastSlots rule)
-    pub gives_back : ReadsBack value outcome
+-- the value is what `to_json` returns for the texts of the interner
+abbrev pub HasJsonForm : Data → InternerContents → Type 0
+HasJsonForm value interner = value ≡ json_of_texts interner.texts

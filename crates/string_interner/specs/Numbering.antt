@@ -14,7 +14,7 @@ pub record Numbering (S : Type 0) : Type 0 where
   -- the most that appending a text takes of the spare capacity
   pub cost : Text → ℕ
 
--- Texts numbered by their index, where a text has this cost: the numbering of `StringBackend` and of `BucketBackend`.
+-- texts numbered by their index, where a text has this cost
 abbrev pub by_index : {S : Type 0} → (ℕ → Option S) → (S → ℕ) → (Text → ℕ) → Numbering S
 by_index symbol_of number cost = record {
   symbol_of = symbol_of;

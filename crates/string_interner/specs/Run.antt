@@ -1,6 +1,7 @@
 -- The possible replies to a list of commands: a step for each command, and a run of steps.
 -- Cited by `run`.
-use Rattle.std.specs.Prelude.{◌≡◌, ℕ, List, [], ◌∷◌, ◌++◌, length, take, slice_get, Option, Some, None, MatchOption, option_and_then, Result, Ok, Err, ⊤}
+use Rattle.std.specs.Prelude.{◌≡◌, ℕ, List, [], ◌∷◌, ◌++◌, length, take, slice_get, Option, Some, None, MatchOption, option_and_then, Result, Ok, Err, ⊤, IfOk, Vec}
+use Rattle.std.specs.declared.alloc.Global.{Global}
 use Rattle.std.specs.Option.{option_map_or}
 use Rattle.std.specs.String.{string_bytes}
 use Rattle.string_interner.specs.Text.{Text, first}
@@ -85,3 +86,7 @@ module _ {S : Type 0} (numbering : Numbering S) where
   Run old earlier (command ∷ commands) (reply ∷ replies) new =
       (mid : List Text) × Step old earlier command reply mid × Run mid (earlier ++ reply ∷ []) commands replies new
   Run old earlier _ _ new = ⊥
+
+  -- From the old list all commands have these replies and leave the new list, unless the call fails.
+  abbrev pub RunsAll : {E : Type 0} → List Text → List Command → Result (Vec Reply Global) E → List Text → Type 0
+  RunsAll old commands result new = IfOk result (λ replies. Run old [] commands replies.items new)

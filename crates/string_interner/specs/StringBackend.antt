@@ -1,9 +1,14 @@
 -- How texts lie in one string: joined, with a list of their ends.
 -- Cited by the model of `StringBackend`.
-use Rattle.std.specs.Prelude.{◌≡◌, ℕ, zero, suc, ◌+◌, ◌-◌, List, [], ◌∷◌, ◌++◌, length, take, drop, slice_index, Option, All}
+use Rattle.std.specs.Prelude.{◌≡◌, ℕ, zero, suc, ◌+◌, ◌-◌, List, [], ◌∷◌, ◌++◌, length, take, drop, slice_index, Option, All, max}
 use Rattle.std.specs.Str.{IsUtf8}
 use Rattle.string_interner.specs.Text.{Text}
 use Rattle.string_interner.specs.Backend.{IsValidList}
+use Rattle.string_interner.specs.Numbering.{Numbering, by_index}
+
+-- How a `StringBackend` numbers texts: by their index. A text costs its length in bytes, and at least five.
+abbrev pub string_numbering : {S : Type 0} → (ℕ → Option S) → (S → ℕ) → Numbering S
+string_numbering symbol_of number = by_index symbol_of number (λ text. max 5 (length text))
 
 -- the texts between the ends, the first text beginning at `from`
 abbrev pub cut : ℕ → List ℕ → List ℕ → List Text

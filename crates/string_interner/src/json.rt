@@ -3,7 +3,8 @@
 ghost use Rattle.std.specs.Prelude.{◌≡◌, length, Ok, IfOk, IsOkAnd};
 ghost use Rattle.serde_json.specs.View.{view, items_view};
 ghost use Rattle.string_interner.specs.SlotRule.{IsLeastSlotCount};
-ghost use Rattle.string_interner.specs.Json.{json_of_texts, json_of_number, read_into, refused, KeepsLeastSlots, ReadsTexts, ReadsTextsExactly, ReadsElements, ReadsElementsExactly, symbol_read};
+ghost use Rattle.string_interner.specs.Interner.{HasLeastSlots};
+ghost use Rattle.string_interner.specs.Json.{json_of_texts, json_of_number, read_into, refused, KeepsLeastSlots, HasJsonForm, ReadsArray, ReadsArrayExactly, ReadsBack, ReadsElements, ReadsElementsExactly, symbol_read};
 
 use crate::backend::{Backend, InternError};
 use crate::dedup::{TextHasher, TextIndex};
@@ -107,12 +108,16 @@ impl<
     /// Makes an interner from a JSON array of strings, under the hasher's default.
     ///
     /// It interns the elements in order, so a repeat adds no text: `["a", "b", "a"]` gives the texts a and b. The index
-    /// has the least slot count for its texts.
+    /// has the least slot count for its texts. What `to_json` returned gives the same texts with the same symbols.
     ///
     /// Returns `NotAList` if the value is not an array. Else the first element that fails decides: it returns
     /// `NotAText` if it is not a string, and fails as in `get_or_intern` if it is.
     pub fn from_json(alloc: Global, value: &Value) -> Result<Self, JsonError>
-        ensures { ReadsTexts B.numbering I.rule (view value.now) result }
+        ensures reads { ReadsArray B.numbering (view value.now) result }
+        ensures slots { IfOk result (HasLeastSlots I.rule) }
+
+        // What `to_json` returned is read back.
+        ensures gives_back { ReadsBack B.numbering (view value.now) result }
     {
         StringInterner::from_json_with_hasher(alloc, value, H::default())
     }
@@ -123,7 +128,12 @@ impl<
     /// Reads and fails as `from_json` does, but accepts no repeats: a string equal to an earlier element returns
     /// `Repeated`, before a symbol or memory is asked for it. `["a", "b", "a"]` fails at index 2.
     pub fn from_json_exact(alloc: Global, value: &Value) -> Result<Self, JsonError>
-        ensures { ReadsTextsExactly B.numbering I.rule (view value.now) result }
+        ensures reads { ReadsArrayExactly B.numbering (view value.now) result }
+        ensures form { IfOk result (HasJsonForm (view value.now)) }
+        ensures slots { IfOk result (HasLeastSlots I.rule) }
+
+        // What `to_json` returned is read back.
+        ensures gives_back { ReadsBack B.numbering (view value.now) result }
     {
         StringInterner::from_json_exact_with_hasher(alloc, value, H::default())
     }
@@ -136,7 +146,11 @@ impl<B: Backend + Drop, H: TextHasher + Drop, I: TextIndex<B::Symbol> + Drop> St
 > {
     /// Makes an interner from a JSON array of strings as `from_json` does, under this hasher.
     pub fn from_json_with_hasher(alloc: Global, value: &Value, hasher: H) -> Result<Self, JsonError>
-        ensures { ReadsTexts B.numbering I.rule (view value.now) result }
+        ensures reads { ReadsArray B.numbering (view value.now) result }
+        ensures slots { IfOk result (HasLeastSlots I.rule) }
+
+        // What `to_json` returned is read back.
+        ensures gives_back { ReadsBack B.numbering (view value.now) result }
     {
         let elements = value.as_array().ok_or(JsonError::NotAList)?;
         let mut interner = StringInterner::with_hasher(alloc, hasher);
@@ -150,7 +164,12 @@ impl<B: Backend + Drop, H: TextHasher + Drop, I: TextIndex<B::Symbol> + Drop> St
         value: &Value,
         hasher: H,
     ) -> Result<Self, JsonError>
-        ensures { ReadsTextsExactly B.numbering I.rule (view value.now) result }
+        ensures reads { ReadsArrayExactly B.numbering (view value.now) result }
+        ensures form { IfOk result (HasJsonForm (view value.now)) }
+        ensures slots { IfOk result (HasLeastSlots I.rule) }
+
+        // What `to_json` returned is read back.
+        ensures gives_back { ReadsBack B.numbering (view value.now) result }
     {
         let Some(elements) = value.as_array() else {
             return Err(JsonError::NotAList);

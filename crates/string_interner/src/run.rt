@@ -3,9 +3,9 @@
 ghost use Rattle.std.specs.Prelude.{◌≡◌, [], All, slice_get, Option, Some, None, IfOk, OnErr};
 ghost use Rattle.std.specs.Option.{option_copied};
 ghost use Rattle.string_interner.specs.Extend.{texts_of};
-ghost use Rattle.string_interner.specs.Interner.{KeepsLayout};
+ghost use Rattle.string_interner.specs.Interner.{KeepsBucketsAndSlots};
 ghost use Rattle.string_interner.specs.ListAnswers.{AnswersAsAList};
-ghost use Rattle.string_interner.specs.Run.{refusal, intern_reply, reply_number, CopyReply, text_at_number, NumberReply, ExtendReply, InternsNone, Step, Run};
+ghost use Rattle.string_interner.specs.Run.{refusal, intern_reply, reply_number, CopyReply, text_at_number, NumberReply, ExtendReply, InternsNone, Step, RunsAll};
 
 use crate::backend::{Backend, InternError};
 use crate::dedup::{TextHasher, TextIndex};
@@ -144,7 +144,7 @@ fn step<B: Backend, H: TextHasher, I: TextIndex<B::Symbol>>(
 ) -> Reply
     ensures step { Step B.numbering interner.old.texts earlier.now command.now
         result interner.new.texts }
-    ensures stays { InternsNone command.now → KeepsLayout interner.old interner.new }
+    ensures stays { InternsNone command.now → KeepsBucketsAndSlots interner.old interner.new }
 {
     match command {
         Command::Intern(text) => intern_reply(interner.get_or_intern(text)),
@@ -191,14 +191,15 @@ pub fn run<B: Backend, H: TextHasher, I: TextIndex<B::Symbol>>(
     interner: &mut StringInterner<B, H, I>,
     commands: &[Command<'_>],
 ) -> Result<Vec<Reply>, AllocError>
-    ensures run { IfOk result (λ replies. Run B.numbering interner.old.texts [] commands.now
-        replies.items interner.new.texts) }
+    ensures run { RunsAll B.numbering interner.old.texts commands.now result interner.new.texts }
+
+    // If no command fails, names a number or drops texts, the replies are those of a list, by a function.
     ensures as_a_list { IfOk result (λ replies. AnswersAsAList B.numbering.place
         interner.old.texts commands.now replies.items interner.new.texts) }
     ensures err { OnErr result (interner.new ≡ interner.old) }
 
     // If no command interns a text, buckets and slots are unchanged.
-    ensures stays { All InternsNone commands.now → KeepsLayout interner.old interner.new }
+    ensures stays { All InternsNone commands.now → KeepsBucketsAndSlots interner.old interner.new }
 {
     let mut replies = Vec::with_capacity(alloc, commands.len())?;
     for command in commands {

@@ -12,9 +12,8 @@ ghost use Rattle.std.proofs.Common.{rules};
 ghost use Rattle.string_interner.specs.Backend.{IsValidList};
 ghost use Rattle.string_interner.specs.Text.{texts_eq, texts_eq-IsEquivalence};
 ghost use Rattle.string_interner.specs.Iter.{iter_over};
-ghost use Rattle.string_interner.specs.Numbering.{by_index};
 ghost use Rattle.string_interner.specs.ByIndexLaws.{length_grows, reads_at_length};
-ghost use Rattle.string_interner.specs.BucketBackend.{BucketContents, empty_contents, buckets_of, AppendsText, AreBounded, CopiesBuckets, JoinsBuckets, KeepsBuckets, Puts, Stays, interned_text};
+ghost use Rattle.string_interner.specs.BucketBackend.{BucketContents, bucket_numbering, empty_contents, buckets_of, AppendsText, AreBounded, CopiesBuckets, JoinsBuckets, KeepsBuckets, Puts, Stays, interned_text};
 
 use crate::backend::{Backend, CopyBackend, InternError, Iter};
 use crate::symbol::{DefaultSymbol, Symbol};
@@ -85,7 +84,7 @@ impl<S: Symbol> Backend for BucketBackend<S> {
 
     ghost room = { λ b. b.room };
 
-    ghost numbering = { by_index S.symbol_of S.number (λ text. max 1 (length text)) };
+    ghost numbering = { bucket_numbering S.symbol_of S.number };
 
     ghost grant = { λ capacity. capacity };
 

@@ -9,7 +9,7 @@ ghost use Rattle.string_interner.specs.Text.{Text, texts_eq, texts_eq-IsEquivale
 ghost use Rattle.string_interner.specs.Iter.{iter_over};
 ghost use Rattle.string_interner.specs.Backend.{Contents, Shrinks, BeginsAt, IsValidList};
 ghost use Rattle.string_interner.specs.Spelling.{digits, IsLeastDigitCount};
-ghost use Rattle.string_interner.specs.BufferBackend.{by_byte, entry_of, bytes_of, entry_len, place_of, Reads, read_front, read_at, HasEntryAt};
+ghost use Rattle.string_interner.specs.BufferBackend.{buffer_numbering, entry_of, bytes_of, entry_len, place_of, Reads, read_front, read_at, HasEntryAt};
 ghost use Rattle.string_interner.specs.BufferLaws.{entry_len-positive, place_grows, reads_at_place};
 
 use crate::backend::{Backend, CopyBackend, InternError, Iter};
@@ -122,7 +122,7 @@ impl<S: Symbol> Backend for BufferBackend<S> {
 
     ghost room = { λ b. b.room };
 
-    ghost numbering = { by_byte S.symbol_of S.number };
+    ghost numbering = { buffer_numbering S.symbol_of S.number };
 
     ghost grant = { λ capacity. 13 * capacity };
 

@@ -6,8 +6,7 @@ ghost use Rattle.std.proofs.Common.{rules};
 ghost use Rattle.string_interner.specs.Backend.{Contents, Shrinks};
 ghost use Rattle.string_interner.specs.Text.{texts_eq, texts_eq-IsEquivalence};
 ghost use Rattle.string_interner.specs.Iter.{iter_over};
-ghost use Rattle.string_interner.specs.StringBackend.{cut, start_at, IsCut};
-ghost use Rattle.string_interner.specs.Numbering.{by_index};
+ghost use Rattle.string_interner.specs.StringBackend.{cut, start_at, string_numbering, IsCut};
 ghost use Rattle.string_interner.specs.ByIndexLaws.{length_grows, reads_at_length};
 
 use crate::backend::{Backend, CopyBackend, InternError, Iter};
@@ -72,7 +71,7 @@ impl<S: Symbol> Backend for StringBackend<S> {
 
     ghost room = { λ b. b.room };
 
-    ghost numbering = { by_index S.symbol_of S.number (λ text. max 5 (length text)) };
+    ghost numbering = { string_numbering S.symbol_of S.number };
 
     ghost grant = { λ capacity. 5 * capacity };
 

@@ -61,7 +61,7 @@ module _ {S : Type 0} (numbering : Numbering S)
     todo = texts;
     all = refl;
     interned = record {
-      are = record { distinct = λ i j d l m. absurd (omega arith); valid = valid-front numbering.symbol_of numbering.place grows [] texts valid };
+      texts = record { distinct = λ i j d l m. absurd (omega arith); valid = valid-front numbering.symbol_of numbering.place grows [] texts valid };
       whole = record { fits = Fits-none (entry_text numbering []) code slots e; whole = λ s t q. absurd (cc) };
       count = ap length e;
     };

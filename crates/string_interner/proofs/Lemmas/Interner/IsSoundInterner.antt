@@ -43,7 +43,7 @@ module _ {S : Type 0} (numbering : Numbering S) where
   pub interned-none : (indexes : (S → Option Text) → Type 0) (entries : ℕ) (texts : List Text) → texts ≡ [] → numbering.place [] ≡ 0 → entries ≡ 0 → indexes (λ _. None)
       → IsSoundInterner numbering indexes entries texts
   interned-none indexes entries texts none starts zero whole = rw none (record {
-    are = record { distinct = λ i j d l m. absurd (omega arith); valid = record { utf8 = λ k d within. absurd (omega arith); has_symbols = λ i within. absurd (omega arith); fits = omega arith } };
+    texts = record { distinct = λ i j d l m. absurd (omega arith); valid = record { utf8 = λ k d within. absurd (omega arith); has_symbols = λ i within. absurd (omega arith); fits = omega arith } };
     whole = whole;
     count = zero;
   })
@@ -110,7 +110,7 @@ module _ {S : Type 0} (numbering : Numbering S)
       → Appends numbering.symbol_of numbering.place texts t (Ok s) more → IsValidList numbering.symbol_of numbering.place more → more_entries ≡ entries + 1 → (AddsEntry entry (entry_text numbering more) s t → old entry → new (entry_text numbering more))
       → IsSoundInterner numbering new more_entries more
   interned-added old new entries more_entries t s more count whole is_new put more_kept one_more adds = record {
-    are = record { distinct = rw put.1 (all_pairs_push (λ a b. a ≢ b) texts t distinct (first_none texts t is_new)); valid = more_kept };
+    texts = record { distinct = rw put.1 (all_pairs_push (λ a b. a ≢ b) texts t distinct (first_none texts t is_new)); valid = more_kept };
     whole = adds (adds-entry t s more is_new put) whole;
     count = (let long = ap length put.1 ∙ length_push texts t in omega arith);
   }
@@ -129,7 +129,7 @@ module _ {S : Type 0} (numbering : Numbering S)
 
   -- what is found under a text is its known symbol
   look_up-finds : (t : Text) → look_up (entries texts) slots t ≡ known_symbol numbering texts t
-  look_up-finds = look_up-known numbering numbered grows code texts slots is.are.valid is.whole
+  look_up-finds = look_up-known numbering numbered grows code texts slots is.texts.valid is.whole
 
   -- the same of a list that is known by an equation
   pub sought : (lent : List Text) (found : Option S) (t : Text) → found ≡ look_up (entries lent) slots t → lent ≡ texts → known_symbol numbering texts t ≡ found
@@ -137,11 +137,11 @@ module _ {S : Type 0} (numbering : Numbering S)
 
   -- and something is found exactly if the text is known
   pub sought_known : (lent : List Text) (found : Option S) (t : Text) → found ≡ look_up (entries lent) slots t → lent ≡ texts → IsSome found ↔ IsSome (first texts t)
-  sought_known lent found t e same = subst (λ o. IsSome o ↔ IsSome (first texts t)) (sought lent found t e same) (known-symbol numbering texts t is.are.valid)
+  sought_known lent found t e same = subst (λ o. IsSome o ↔ IsSome (first texts t)) (sought lent found t e same) (known-symbol numbering texts t is.texts.valid)
 
   -- and where nothing is found, the text is new
   pub sought_none : (lent : List Text) (found : Option S) (t : Text) → found ≡ look_up (entries lent) slots t → lent ≡ texts → found ≡ None → first texts t ≡ None
-  sought_none lent found t e same none = known_none numbering texts t is.are.valid (sought lent found t e same ∙ none)
+  sought_none lent found t e same none = known_none numbering texts t is.texts.valid (sought lent found t e same ∙ none)
 
   -- the same of a text that is known by an equation
   pub not_found : (lent : List Text) (t u : Text) → None ≡ look_up (entries lent) slots t → lent ≡ texts → t ≡ u → first texts u ≡ None
@@ -151,7 +151,7 @@ module _ {S : Type 0} (numbering : Numbering S)
   pub interned-same : (bigger : List (Option S)) → Fits (entries texts) code bigger → SameMap (entries texts) slots bigger
       → length (symbols bigger) ≡ length (symbols slots) → IsFilled numbering code texts bigger
   interned-same bigger fits same count = record {
-    are = record { distinct = is.are.distinct; valid = is.are.valid };
+    texts = record { distinct = is.texts.distinct; valid = is.texts.valid };
     whole = record { fits = fits; whole = λ s u e. same u ∙ is.whole.whole s u e };
     count = count ∙ is.count;
   }
@@ -180,7 +180,7 @@ module _ {S : Type 0} (numbering : Numbering S)
     pub interned-more : (old new : IndexContents S) → IsValidList numbering.symbol_of numbering.place more → old.slots ≡ slots → Inserts (entries more) code old new s
         → IsFilled numbering code more new.slots
     interned-more old new valid here i = record {
-      are = record { distinct = rw put.1 (all_pairs_push (λ a b. a ≢ b) texts t is.are.distinct (first_none texts t new_text)); valid = valid };
+      texts = record { distinct = rw put.1 (all_pairs_push (λ a b. a ≢ b) texts t is.texts.distinct (first_none texts t new_text)); valid = valid };
       whole = IsWhole-added (entries texts) (entries more) code slots slots s t is.whole is.whole.fits (λ u. refl) adds absent new.slots i.fits
           (subst (λ (xs : List (Option S)). AddsPair (entries more) xs new.slots s) here i.pair);
       count = (let a = ap (λ xs. length (symbols xs)) here in let b = i.count in let d = is.count in let e = ap length put.1 ∙ length_push texts t in omega arith);

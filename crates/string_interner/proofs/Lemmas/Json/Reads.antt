@@ -1,6 +1,6 @@
 -- Writing a list element after element, and reading one.
 use Rattle.std.proofs.Common.{◌≡◌, ℕ, ◌+◌, ◌<◌, List, [], ◌∷◌, ◌++◌, length, drop, get_or, map, refl, sym, ap, subst, ◌∙◌, arith, Bool, true, false, Some, None, Result, Ok, Err, IsSome}
-use Rattle.std.specs.Prelude.{◌≢◌, IfOk, MatchResult}
+use Rattle.std.specs.Prelude.{◌≢◌, MatchResult}
 use Rattle.std.specs.Str.{bytes_eq}
 use Rattle.std.proofs.Math.Seq.{take-append_seam, get_or-append_seam}
 use Rattle.std.proofs.lemmas.Grind.{common_steps}
@@ -13,9 +13,7 @@ use Rattle.serde_json.specs.declared.value.Value.{Value}
 use Rattle.string_interner.specs.Text.{Text, IsDistinct, first}
 use Rattle.string_interner.specs.Backend.{IsValidList}
 use Rattle.string_interner.specs.Interner.{InternerContents, Interns}
-use Rattle.string_interner.specs.StandsFor.{KeepsSymbols}
 use Rattle.string_interner.specs.Json.{json_of_texts, refused, ReadsElements, ReadsArray, GivesBack, ReadsBack}
-use Rattle.string_interner.proofs.Lemmas.Interner.StandsFor.{keeps-same}
 use Rattle.string_interner.proofs.Lemmas.Texts.First.{first_new}
 use Rattle.string_interner.specs.declared.backend.InternError.{InternError}
 use Rattle.string_interner.specs.declared.backend.InternError.TheVariants.{NoSymbol as InternNoSymbol, Memory as InternMemory}
@@ -94,10 +92,5 @@ module _ {S : Type 0} (numbering : Numbering S) where
       → (texts : List Text) → IsDistinct texts → IsValidList numbering.symbol_of numbering.place texts → value ≡ json_of_texts texts → GivesBack texts outcome
   gives_back value outcome reads texts distinct kept is = let read = rw is at reads in gives_rest [] texts 0 outcome distinct kept read
 
-  -- and with the list the symbols are given back
-  pub with_symbols : (texts : List Text) (outcome : Result InternerContents JsonError) → GivesBack texts outcome → GivesBack texts outcome × IfOk outcome (λ interner. KeepsSymbols numbering texts interner.texts)
-  with_symbols texts (Ok interner) same = (same, keeps-same numbering texts interner.texts same)
-  with_symbols texts (Err error) given = (given, tt)
-
   pub reads_back : (value : Data) (outcome : Result InternerContents JsonError) → ReadsArray numbering value outcome → ReadsBack numbering value outcome
-  reads_back value outcome reads texts are is = with_symbols texts outcome (gives_back value outcome reads texts are.distinct are.valid is)
+  reads_back value outcome reads texts are is = gives_back value outcome reads texts are.distinct are.valid is

@@ -12,7 +12,7 @@ use Rattle.string_interner.specs.Json.{json_of_texts, refused, ReadsElements, Re
 use Rattle.string_interner.specs.declared.backend.InternError.{InternError}
 use Rattle.string_interner.specs.declared.json.JsonError.{JsonError}
 use Rattle.string_interner.specs.declared.json.JsonError.TheVariants.{NotAText, Repeated}
-use Rattle.string_interner.proofs.Lemmas.Json.Reads.{new_text, gives_back, with_symbols}
+use Rattle.string_interner.proofs.Lemmas.Json.Reads.{new_text, gives_back}
 use Rattle.string_interner.specs.Numbering.{Numbering}
 
 module _ {S : Type 0} (numbering : Numbering S) where
@@ -109,4 +109,4 @@ module _ {S : Type 0} (numbering : Numbering S) where
   pub exact_reads_back : (value : Data) (outcome : Result InternerContents JsonError) → ReadsArrayExactly numbering value outcome → ReadsBack numbering value outcome
   exact_reads_back value outcome reads texts are is =
       let read = rw is at reads in
-      with_symbols numbering texts outcome (gives_back numbering (json_of_texts texts) outcome (exact_reads [] texts 0 outcome are.distinct read) texts are.distinct are.valid refl)
+      gives_back numbering (json_of_texts texts) outcome (exact_reads [] texts 0 outcome are.distinct read) texts are.distinct are.valid refl

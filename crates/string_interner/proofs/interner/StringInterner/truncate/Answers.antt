@@ -12,9 +12,9 @@ refill-requires-clause-room g c =
 
 pub invariant_of-self : goal.invariant_of-self
 invariant_of-self g c = record {
-  are = record {
-    distinct = subst IsDistinct (sym c.truncate.ensures.texts) (distinct-take c.args.len (g.B.Backend.texts c.self.inside.backend) c.self.invariant.are.distinct);
-    valid = subst (IsValidList g.B.Backend.numbering.symbol_of g.B.Backend.numbering.place) (sym c.truncate.ensures.texts) (valid-take g.B.Backend.numbering.symbol_of g.B.Backend.numbering.place g.met.B.Backend.grows c.args.len (g.B.Backend.texts c.self.inside.backend) c.self.invariant.are.valid);
+  texts = record {
+    distinct = subst IsDistinct (sym c.truncate.ensures.texts) (distinct-take c.args.len (g.B.Backend.texts c.self.inside.backend) c.self.invariant.texts.distinct);
+    valid = subst (IsValidList g.B.Backend.numbering.symbol_of g.B.Backend.numbering.place) (sym c.truncate.ensures.texts) (valid-take g.B.Backend.numbering.symbol_of g.B.Backend.numbering.place g.met.B.Backend.grows c.args.len (g.B.Backend.texts c.self.inside.backend) c.self.invariant.texts.valid);
   };
   whole = c.refill.ensures.whole;
   count = c.refill.ensures.count;

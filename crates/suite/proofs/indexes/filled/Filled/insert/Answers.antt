@@ -5,12 +5,12 @@ use Rattle.suite.proofs.indexes.filled.Filled.insert.Goals as goal
 
 pub insert-requires-clause-fits : goal.insert-requires-clause-fits
 insert-requires-clause-fits g c = fits-more g.B.Backend.numbering (numbered g.B.Backend.numbering g.met.B.Backend.symbols g.met.B.Symbol.Symbol.numbered) (injective g.B.Backend.numbering g.met.B.Backend.symbols g.met.B.Symbol.Symbol.injective) g.met.B.Backend.grows _ _ _ (interned-same g.B.Backend.numbering (numbered g.B.Backend.numbering g.met.B.Backend.symbols g.met.B.Symbol.Symbol.numbered) (injective g.B.Backend.numbering g.met.B.Backend.symbols g.met.B.Symbol.Symbol.injective) g.met.B.Backend.grows _ _ _ c.self.invariant _ c.reserve_one.ensures.fits c.reserve_one.ensures.same c.reserve_one.ensures.count)
-    c.args.text.now _ _ (known_none g.B.Backend.numbering _ _ c.self.invariant.are.valid (rw c.self.view_is (sym c.find.ensures ∙ c.in_default.is))) c.in_ok-symbol.ensures.appends
+    c.args.text.now _ _ (known_none g.B.Backend.numbering _ _ c.self.invariant.texts.valid (rw c.self.view_is (sym c.find.ensures ∙ c.in_default.is))) c.in_ok-symbol.ensures.appends
 
 pub insert-requires-clause-absent : goal.insert-requires-clause-absent
 insert-requires-clause-absent g c = absent-more g.B.Backend.numbering (numbered g.B.Backend.numbering g.met.B.Backend.symbols g.met.B.Symbol.Symbol.numbered) (injective g.B.Backend.numbering g.met.B.Backend.symbols g.met.B.Symbol.Symbol.injective) g.met.B.Backend.grows _ _ _ (interned-same g.B.Backend.numbering (numbered g.B.Backend.numbering g.met.B.Backend.symbols g.met.B.Symbol.Symbol.numbered) (injective g.B.Backend.numbering g.met.B.Backend.symbols g.met.B.Symbol.Symbol.injective) g.met.B.Backend.grows _ _ _ c.self.invariant _ c.reserve_one.ensures.fits c.reserve_one.ensures.same c.reserve_one.ensures.count)
-    c.args.text.now _ _ (known_none g.B.Backend.numbering _ _ c.self.invariant.are.valid (rw c.self.view_is (sym c.find.ensures ∙ c.in_default.is))) c.in_ok-symbol.ensures.appends
+    c.args.text.now _ _ (known_none g.B.Backend.numbering _ _ c.self.invariant.texts.valid (rw c.self.view_is (sym c.find.ensures ∙ c.in_default.is))) c.in_ok-symbol.ensures.appends
 
 pub invariant_of-self-2 : goal.invariant_of-self-2
 invariant_of-self-2 g c = interned-more g.B.Backend.numbering (numbered g.B.Backend.numbering g.met.B.Backend.symbols g.met.B.Symbol.Symbol.numbered) (injective g.B.Backend.numbering g.met.B.Backend.symbols g.met.B.Symbol.Symbol.injective) g.met.B.Backend.grows _ _ _ (interned-same g.B.Backend.numbering (numbered g.B.Backend.numbering g.met.B.Backend.symbols g.met.B.Symbol.Symbol.numbered) (injective g.B.Backend.numbering g.met.B.Backend.symbols g.met.B.Symbol.Symbol.injective) g.met.B.Backend.grows _ _ _ c.self.invariant _ c.reserve_one.ensures.fits c.reserve_one.ensures.same c.reserve_one.ensures.count)
-    c.args.text.now _ _ (known_none g.B.Backend.numbering _ _ c.self.invariant.are.valid (rw c.self.view_is (sym c.find.ensures ∙ c.in_default.is))) c.in_ok-symbol.ensures.appends _ _ c.in_ok-symbol.ensures.valid refl c.insert.ensures
+    c.args.text.now _ _ (known_none g.B.Backend.numbering _ _ c.self.invariant.texts.valid (rw c.self.view_is (sym c.find.ensures ∙ c.in_default.is))) c.in_ok-symbol.ensures.appends _ _ c.in_ok-symbol.ensures.valid refl c.insert.ensures
