@@ -60,7 +60,7 @@ abbrev pub front_texts : ℕ → List ℕ → List Text
 front_texts zero buffer = []
 front_texts (suc count) buffer = take (front_value buffer) (after_front buffer) ∷ front_texts count (drop (front_value buffer) (after_front buffer))
 
--- the invariant of a `BufferBackend`: the buffer is that of the texts, and a backend may have this list
+-- the invariant of a `BufferBackend`: the buffer is that of the texts, and they are a valid list
 pub record IsSpelled {S : Type 0} (symbol_of : ℕ → Option S) (buffer : List ℕ) (texts : List Text) : Type 0 where
   pub bytes_are : buffer ≡ bytes_of texts
   pub valid : IsValidList symbol_of place_of texts

@@ -179,7 +179,7 @@ from_place texts i h =
 
 -- reading at the place of an entry gives its text
 pub reads_at_place : {S : Type 0} (symbol_of : ℕ → Option S) (texts : List Text) (i : ℕ) → IsValidList symbol_of place_of texts → i < length texts → read_at texts (place_of (take i texts)) ≡ slice_get texts i
-reads_at_place symbol_of texts i kept h =
+reads_at_place symbol_of texts i valid h =
     let t : Text = get_or texts i [] in
-    let fits : length t < 2 ^ 64 = omega (arith, get_or-le-sum_by entry_len texts i [] h, kept.fits) in
-    ap read_front (from_place texts i h) ∙ read_front-entry t (bytes_of (drop (i + 1) texts)) fits (All-get_or IsUtf8 texts i [] h kept.utf8) ∙ sym (slice_get-get_or texts i [] h)
+    let fits : length t < 2 ^ 64 = omega (arith, get_or-le-sum_by entry_len texts i [] h, valid.fits) in
+    ap read_front (from_place texts i h) ∙ read_front-entry t (bytes_of (drop (i + 1) texts)) fits (All-get_or IsUtf8 texts i [] h valid.utf8) ∙ sym (slice_get-get_or texts i [] h)

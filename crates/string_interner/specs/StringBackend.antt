@@ -36,7 +36,7 @@ pub record IsCut (bytes ends : List ℕ) (texts : List Text) : Type 0 where
   pub ends_are : ends ≡ ends_of 0 texts
   pub utf8 : All IsUtf8 texts
 
--- and a backend whose places are counts may have this list
+-- and they are a valid list, where a place is an index
 pub record IsJoined {S : Type 0} (symbol_of : ℕ → Option S) (bytes ends : List ℕ) (texts : List Text) : Type 0 where
   pub parts : IsCut bytes ends texts
   pub valid : IsValidList symbol_of length texts

@@ -8,18 +8,18 @@ use Rattle.string_interner.specs.Slots.{symbols}
 use Rattle.string_interner.specs.Index.{GrowsTo, IsSlotCount, IsWhole}
 use Rattle.string_interner.specs.Probe.{FillsSlot}
 
--- what contracts see of a window index and of its slots: the slots, and what is kept of a code beside each
+-- what contracts see of a window index and of its slots: the slots, and the stored code beside each
 pub record WindowContents (S : Type 0) : Type 0 where
   pub slots : List (Option S)
   pub codes : List ℕ
 
--- what is kept of a code: its low 32 bits
+-- the stored code: the low 32 bits of a code
 abbrev pub stored_code : ℕ → ℕ
 stored_code code = code % 2 ^ 32
 
--- the tag of a kept code: 128 and its top seven bits, and so never 0
+-- the tag of a stored code: 128 and its top seven bits, and so never 0
 abbrev pub tag_of : ℕ → ℕ
-tag_of kept = 128 + kept / 2 ^ 25
+tag_of stored = 128 + stored / 2 ^ 25
 
 -- the tag of slot `k`, if it is filled
 abbrev pub tag_at : {S : Type 0} → WindowContents S → ℕ → ℕ
@@ -39,7 +39,7 @@ pub record IsCounted {S : Type 0} (window : WindowContents S) (len : ℕ) : Type
   pub loaded : IsLoaded seven_eighths (length window.slots) len
 
 module _ {S : Type 0} (entry : S → Option Text) (code : Text → ℕ) where
-  -- beside each symbol is what is kept of its text's code
+  -- beside each symbol is the stored code of its text
   abbrev pub IsCoded : WindowContents S → Type 0
   IsCoded window = (k : ℕ) (symbol : S) (text : Text) → k < length window.slots → slice_index_or window.slots k None ≡ Some symbol
       → entry symbol ≡ Some text → slice_index_or window.codes k 0 ≡ stored_code (code text)
@@ -59,7 +59,7 @@ abbrev pub TagTells : {S : Type 0} → (S → Bool) → WindowContents S → ℕ
 TagTells {S} test window tag = (k : ℕ) (symbol : S) → k < length window.slots → slice_index_or window.slots k None ≡ Some symbol → IsTrue (test symbol)
     → tag_at window k ≡ tag
 
--- The symbol is put into an empty slot, in the probe cluster from its home on, and beside it what is kept of the code.
+-- The symbol is put into an empty slot, in the probe cluster from its home on, and beside it the stored code.
 pub record FillsCoded {S : Type 0} (old new : WindowContents S) (home : ℕ) (symbol : S) (code : ℕ) : Type 0 where
   pub slot : FillsSlot old.slots new.slots home symbol
   pub counted : length old.codes ≡ length old.slots

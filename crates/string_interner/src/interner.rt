@@ -273,7 +273,7 @@ impl<B: Backend + Drop, H: TextHasher + Drop, I: TextIndex<B::Symbol> + Drop> St
         ensures texts { B.texts result ≡ self.texts }
         ensures buckets { B.buckets result ≡ self.buckets }
         ensures room { B.room result ≡ self.room }
-        ensures interned { IsDistinctList B.numbering (B.texts result) }
+        ensures distinct { IsDistinctList B.numbering (B.texts result) }
     {
         self.backend
     }
@@ -344,11 +344,11 @@ impl<'a, B: Backend, H: TextHasher, I: TextIndex<B::Symbol>> IntoIterator
 }
 
 /// Reports whether the next text of an iterator is this one, and advances past it.
-fn next_is<B: Backend>(walk: &mut Iter<'_, B>, text: &str) -> bool
-    ensures { (texts : List Text) → texts_eq (text.now ∷ texts) walk.old.ahead
-        ≡ (result && texts_eq texts walk.new.ahead) }
+fn next_is<B: Backend>(iter: &mut Iter<'_, B>, text: &str) -> bool
+    ensures { (texts : List Text) → texts_eq (text.now ∷ texts) iter.old.ahead
+        ≡ (result && texts_eq texts iter.new.ahead) }
 {
-    match walk.next() {
+    match iter.next() {
         Some((_, found)) => text == found,
         None => false,
     }

@@ -206,7 +206,7 @@ pub fn run<B: Backend, H: TextHasher, I: TextIndex<B::Symbol>>(
         let reply = step(alloc, interner, &replies, command);
         replies.push_reserved(reply);
     }
-    // For the proof: states that a backend may have this list.
+    // For the proof: states that the texts are a valid list.
     let _ = interner.len();
     Ok(replies)
 }

@@ -54,9 +54,9 @@ impl<'a, B: Backend> Iterator for Iter<'a, B> {
     type Item = (B::Symbol, &'a str);
 
     ghost next_gives = { YieldsFirstBy (λ item. (Some item.0, item.1.now))
-        (λ walk. entries B.numbering walk.behind walk.ahead) };
+        (λ iter. entries B.numbering iter.behind iter.ahead) };
 
-    ghost remaining = { item_count (λ walk. walk.ahead) };
+    ghost remaining = { item_count (λ iter. iter.ahead) };
 
     fn next(&mut self) -> Option<(B::Symbol, &'a str)> {
         if self.left == 0 {
@@ -70,8 +70,8 @@ impl<'a, B: Backend> Iterator for Iter<'a, B> {
 
     /// Returns the exact number of entries ahead, as both bounds.
     fn size_hint(&self) -> (usize, Option<usize>)
-        ensures lower { IsWithinCount result.0 (item_count (λ walk. walk.ahead) self.now) }
-        ensures upper { IfSome result.1 (UpTo (item_count (λ walk. walk.ahead) self.now)) }
+        ensures lower { IsWithinCount result.0 (item_count (λ iter. iter.ahead) self.now) }
+        ensures upper { IfSome result.1 (UpTo (item_count (λ iter. iter.ahead) self.now)) }
         ensures exact { result ≡ (length self.now.ahead, Some (length self.now.ahead)) }
     {
         (self.left, Some(self.left))

@@ -160,7 +160,7 @@ impl<S: Symbol> Backend for StringBackend<S> {
 
     ghost costs = { λ text. Prim.search rules };
 
-    ghost reads = { λ texts i kept within. reads_at_length texts i within };
+    ghost reads = { λ texts i valid within. reads_at_length texts i within };
 }
 
 impl<S: Symbol> StringBackend<S> {

@@ -28,7 +28,7 @@ use std::marker::Model;
 ///
 /// - A look-up compares the tags of sixteen slots at once, and the text of a symbol only where its tag is that of the
 ///   text looked for.
-/// - Growth moves symbols by the bits that are kept. It hashes no text as long as there are at most 2^32 slots.
+/// - Growth moves symbols by the stored codes. It hashes no text as long as there are at most 2^32 slots.
 ///
 /// The load factor is at most seven eighths. A slot takes the bytes of a symbol and five more.
 ///
@@ -45,7 +45,7 @@ pub struct WindowIndex<S: Symbol> {
     alloc: Global,
 }
 
-/// Contracts see the slots, and what is kept of a code beside each.
+/// Contracts see the slots, and the stored code beside each.
 impl<S: Symbol> Model for WindowIndex<S> {
     ghost use Rattle.string_interner.specs.Window.{IsCounted, WindowContents};
 

@@ -9,8 +9,8 @@ use crate::backend::{Backend, InternError};
 use crate::dedup::{TextHasher, TextIndex};
 
 impl<B: Backend, H: TextHasher, I: TextIndex<B::Symbol>> StringInterner<B, H, I> {
-    /// Interns the texts of a finite iterator in order, as `extend` does, and appends the symbol of each to a list: the
-    /// texts of a column become its codes. Stops at the first text that fails.
+    /// Interns the texts of a finite iterator in order, as `extend` does, and appends the symbol of each to a list: a
+    /// column becomes its symbols. Stops at the first text that fails.
     ///
     /// On `Err` the list has one symbol more for each text before that one, and these texts stay interned; so how much
     /// longer the list is tells how many were done. Memory for a symbol is asked for before its text is interned, so
@@ -18,8 +18,8 @@ impl<B: Backend, H: TextHasher, I: TextIndex<B::Symbol>> StringInterner<B, H, I>
     /// the list is full and cannot grow: never, if it has spare capacity for all texts.
     ///
     /// ```
-    /// let mut codes = Vec::new(alloc);
-    /// interner.intern_all(["red", "green", "red"].iter().copied(), &mut codes)?; // two texts, three symbols
+    /// let mut symbols = Vec::new(alloc);
+    /// interner.intern_all(["red", "green", "red"].iter().copied(), &mut symbols)?; // two texts, three symbols
     /// ```
     pub fn intern_all<'t, T: IntoIterator<Item = &'t str>>(
         &mut self,

@@ -24,8 +24,8 @@ module _ {S : Type 0} (numbering : Numbering S) where
 
   module _ (rule : SlotRule) (laws : IsSlotRule rule) where
     -- before the first text
-    pub encodes-none : (old : InternerContents) (symbols : List S) → IsLoaded rule old.slot_count (length old.texts) → AppendsSymbols numbering rule old symbols [] old symbols
-    encodes-none old symbols loaded = record {
+    pub each-none : (old : InternerContents) (symbols : List S) → IsLoaded rule old.slot_count (length old.texts) → AppendsSymbols numbering rule old symbols [] old symbols
+    each-none old symbols loaded = record {
       taken = record { interned = refl; keeps = λ symbol text stands. stands; spent = omega arith; known = λ none. refl };
       grown = record { allowed = λ h. refl; least = λ none. absurd (none loaded.load) };
       added = [];
@@ -34,11 +34,11 @@ module _ {S : Type 0} (numbering : Numbering S) where
     }
 
     -- after one more item of an iteration
-    pub encodes-more : (old : InternerContents) (symbols : List S) (items : List (Bor Text)) (mid new : InternerContents) (so_far longer : List S) (item : Bor Text) (symbol : S)
+    pub each-more : (old : InternerContents) (symbols : List S) (items : List (Bor Text)) (mid new : InternerContents) (so_far longer : List S) (item : Bor Text) (symbol : S)
         → IsLoaded rule mid.slot_count (length mid.texts) → IsLoaded rule new.slot_count (length new.texts)
         → AppendsSymbols numbering rule old symbols (texts_of items) mid so_far → InternsInto numbering rule mid item.now (Ok symbol) new
         → longer ≡ so_far ++ symbol ∷ [] → AppendsSymbols numbering rule old symbols (texts_of (items ++ item ∷ [])) new longer
-    encodes-more old symbols items mid new so_far longer item symbol was_loaded loaded before call is = record {
+    each-more old symbols items mid new so_far longer item symbol was_loaded loaded before call is = record {
       taken = item-taken numbering rule old mid new items item symbol before.taken call;
       grown = interned-slots numbering rule (λ len count. GrowsFor rule len old.slot_count count) mid new item.now symbol call loaded
           (grown-more rule laws _ _ _ _ was_loaded.allowed before.grown call.slots) before.grown;
@@ -48,10 +48,10 @@ module _ {S : Type 0} (numbering : Numbering S) where
     }
 
     -- where an item is refused
-    pub encodes-refused : {I W : Type 0} (becomes : I → W → Type 0) (steps : W → Option (Bor Text) → W → Type 0) (iter : I) (walk rest : W) (items : List (Bor Text)) (item : Bor Text) (old mid new : InternerContents) (was is : Vec S Global) (longer : List S) (error : InternError) (outcome : Result (Unit {0}) InternError)
+    pub each-refused : {I W : Type 0} (becomes : I → W → Type 0) (steps : W → Option (Bor Text) → W → Type 0) (iter : I) (walk rest : W) (items : List (Bor Text)) (item : Bor Text) (old mid new : InternerContents) (was is : Vec S Global) (longer : List S) (error : InternError) (outcome : Result (Unit {0}) InternError)
         → becomes iter walk → YieldsThen steps walk items (Some item) rest → outcome ≡ Err error → AppendsSymbols numbering rule old was.items (texts_of items) mid longer → InternsInto numbering rule mid item.now (Err error) new
         → is.items ≡ longer → InternsEach numbering rule (YieldedBy becomes steps iter) (old, was) outcome (new, is)
-    encodes-refused becomes steps iter walk rest items item old mid new was is longer error outcome b y e before call same = rw (e, same) (
+    each-refused becomes steps iter walk rest items item old mid new was is longer error outcome b y e before call same = rw (e, same) (
       items,
       mid,
       before,
@@ -59,10 +59,10 @@ module _ {S : Type 0} (numbering : Numbering S) where
     )
 
     -- where the list is full
-    pub encodes-full : {I W : Type 0} (becomes : I → W → Type 0) (steps : W → Option (Bor Text) → W → Type 0) (iter : I) (walk rest : W) (items : List (Bor Text)) (item : Bor Text) (old mid : InternerContents) (was is : Vec S Global) (longer : List S) (now : ℕ) (error : InternError) (outcome : Result (Unit {0}) InternError)
+    pub each-full : {I W : Type 0} (becomes : I → W → Type 0) (steps : W → Option (Bor Text) → W → Type 0) (iter : I) (walk rest : W) (items : List (Bor Text)) (item : Bor Text) (old mid : InternerContents) (was is : Vec S Global) (longer : List S) (now : ℕ) (error : InternError) (outcome : Result (Unit {0}) InternError)
         → becomes iter walk → YieldsThen steps walk items (Some item) rest → outcome ≡ Err error → IsMemory error → AppendsSymbols numbering rule old was.items (texts_of items) mid longer → is.items ≡ longer → vec_capacity was ≤ now → now < length longer + 1
         → InternsEach numbering rule (YieldedBy becomes steps iter) (old, was) outcome (mid, is)
-    encodes-full becomes steps iter walk rest items item old mid was is longer now error outcome b y e memory before same less full = rw (e, same) (
+    each-full becomes steps iter walk rest items item old mid was is longer now error outcome b y e memory before same less full = rw (e, same) (
       items,
       mid,
       before,

@@ -1,4 +1,4 @@
-//! How many slots a window index has, and moving its symbols into new ones, by what is kept of their codes.
+//! How many slots a window index has, and moving its symbols into new ones, by their stored codes.
 
 ghost use Rattle.std.specs.Prelude.{◌≡◌, ◌*◌, ◌%◌, ◌^◌, ◌<◌, ◌≤◌, length, slice_index_or, [], IfNone, IfOk, IfSome, IsSome, None, OnSome, Some};
 ghost use Rattle.string_interner.specs.Backend.{IsValidList};
@@ -17,7 +17,7 @@ use crate::dedup::window::slots::CodedSlots;
 use crate::symbol::Symbol;
 use std::alloc::{AllocError, Global};
 
-/// Up to this slot count a home is known by the 32 bits of a code that are kept.
+/// Up to this slot count a home is known by the 32 bits of a stored code.
 const MOST_SLOTS_BY_STORED_CODE: usize = 0x1_0000_0000;
 
 /// Returns the least slot count whose load factor allows `capacity` entries. `None` if it does not fit a `usize`.

@@ -26,7 +26,7 @@ pub struct CodedSlots<S: Symbol> {
     tags: Vec<u8>,
 }
 
-/// Contracts see the list of slots, and the list of what is kept of codes.
+/// Contracts see the list of slots, and the list of stored codes.
 impl<S: Symbol> Model for CodedSlots<S> {
     ghost use Rattle.std.specs.Prelude.{vec_capacity};
     ghost use Rattle.string_interner.specs.Window.{IsTagged, WindowContents, contents_of};
@@ -126,7 +126,7 @@ impl<S: Symbol> CodedSlots<S> {
         Some(self.items[at])
     }
 
-    /// Returns what is kept of a code beside a slot.
+    /// Returns the stored code beside a slot.
     #[inline(always)]
     pub fn code_at(&self, at: usize) -> u32
         requires { at < length self.now.slots }
@@ -157,10 +157,10 @@ impl<S: Symbol> CodedSlots<S> {
         ensures small { length self.old.slots < 2 ^ 64 }
     {
         fill_items(&mut self.items, self.codes.len(), symbol);
-        let kept = stored_code(code);
+        let stored = stored_code(code);
         self.items[at] = symbol;
-        self.codes[at] = kept;
-        self.tags[at] = tag_of(kept);
+        self.codes[at] = stored;
+        self.tags[at] = tag_of(stored);
     }
 
     /// Puts the symbol of a text with this code into the first empty slot from its home on, wrapping around at the end.

@@ -9,7 +9,7 @@ use std::simd::prelude::*;
 /// How many tags are compared at once.
 pub const LANES: usize = 16;
 
-/// Returns what is kept of a code: its low 32 bits.
+/// Returns the stored code of a code: its low 32 bits.
 #[inline(always)]
 pub fn stored_code(code: u64) -> u32
     ensures { result ≡ stored_code code }
@@ -17,12 +17,12 @@ pub fn stored_code(code: u64) -> u32
     (code % 0x1_0000_0000) as u32
 }
 
-/// Returns the tag of a kept code: 128 and its top seven bits, and so never 0, which is the tag of an empty slot.
+/// Returns the tag of a stored code: 128 and its top seven bits, and so never 0, which is the tag of an empty slot.
 #[inline(always)]
-pub fn tag_of(kept: u32) -> u8
-    ensures { result ≡ tag_of kept }
+pub fn tag_of(stored: u32) -> u8
+    ensures { result ≡ tag_of stored }
 {
-    128 + (kept / 0x200_0000) as u8
+    128 + (stored / 0x200_0000) as u8
 }
 
 /// Compares the sixteen bytes from `at` on with this one. Where bit `k` of the result is 0, byte `k` is another.

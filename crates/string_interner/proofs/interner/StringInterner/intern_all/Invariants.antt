@@ -8,7 +8,7 @@ use Rattle.string_interner.proofs.interner.StringInterner.intern_all.Given as go
 -- symbols holds no less than it did
 abbrev pub invariant-loop-text : goal.invariant-loop-text
 invariant-loop-text g l = record {
-  encodes : AppendsSymbols g.B.Backend.numbering g.I.TextIndex.rule l.fn.self l.fn.symbols.items (texts_of l.yielded) l.self l.symbols.items;
+  appended : AppendsSymbols g.B.Backend.numbering g.I.TextIndex.rule l.fn.self l.fn.symbols.items (texts_of l.yielded) l.self l.symbols.items;
   loaded : IsLoaded g.I.TextIndex.rule l.self.slot_count (length l.self.texts);
   capacity : vec_capacity l.fn.symbols ≤ vec_capacity l.symbols;
 }

@@ -7,14 +7,14 @@ use Rattle.string_interner.proofs.interner.StringInternerPartialEq.eq.Goals.{Aft
 use Rattle.string_interner.proofs.interner.StringInternerPartialEq.eq.Given.{Over}
 
 -- the texts are equal where the next ones are and the later ones
-step : (g : Over) (c : After-next_is g) → texts_eq c.args.self.now.texts c.args.other.now.texts ≡ (c.next_is.result && texts_eq c.next.new.self.ahead c.next_is.new.walk.ahead)
+step : (g : Over) (c : After-next_is g) → texts_eq c.args.self.now.texts c.args.other.now.texts ≡ (c.next_is.result && texts_eq c.next.new.self.ahead c.next_is.new.iter.ahead)
 step g c = c.loop-text.invariant ∙ (ap (λ xs. texts_eq xs c.loop-text.theirs.ahead) (first_entry g.B.Backend.numbering _ _ _ _ _ _ c.in-Some.ensures.steps) ∙ c.next_is.ensures c.next.new.self.ahead)
 
 pub returns-then-not-next_is : goal.returns-then-not-next_is
-returns-then-not-next_is g c = sym (step g (goal.at.returns-then-not-next_is g c).After-next_is ∙ ap (λ b. b && texts_eq c.next.new.self.ahead c.next_is.new.walk.ahead) c.if-not-next_is.true)
+returns-then-not-next_is g c = sym (step g (goal.at.returns-then-not-next_is g c).After-next_is ∙ ap (λ b. b && texts_eq c.next.new.self.ahead c.next_is.new.iter.ahead) c.if-not-next_is.true)
 
 pub loop-text-preserved : goal.loop-text-preserved
-loop-text-preserved g c = step g (goal.at.loop-text-preserved g c).After-next_is ∙ ap (λ b. b && texts_eq c.next.new.self.ahead c.next_is.new.walk.ahead) c.if-not-next_is.false
+loop-text-preserved g c = step g (goal.at.loop-text-preserved g c).After-next_is ∙ ap (λ b. b && texts_eq c.next.new.self.ahead c.next_is.new.iter.ahead) c.if-not-next_is.false
 
 pub returns : goal.returns
 returns g c =
