@@ -1,7 +1,7 @@
 -- An interner of any kind: its texts, and what its calls do to them.
 -- Cited by `AnyInterner`, by the calls on handles, and by exports.
-use Rattle.std.specs.Prelude.{◌≡◌, ℕ, ◌&&◌, Bool, true, false, List, take, Option, Result, Ok, Err, option_and_then}
-use Rattle.string_interner.specs.Text.{Text, texts_eq}
+use Rattle.std.specs.Prelude.{◌≡◌, ℕ, ◌&&◌, Bool, true, false, List, take, Option, IsSome, Result, Ok, Err, option_and_then}
+use Rattle.string_interner.specs.Text.{Text, first, texts_eq}
 use Rattle.string_interner.specs.Numbering.{Numbering}
 use Rattle.string_interner.specs.StandsFor.{KeepsSymbols}
 use Rattle.string_interner.specs.Interner.{InternerContents, InternsInto, Finds, IsMadeFor, IsNew, KeepsMemory}
@@ -37,6 +37,10 @@ numbering_of any = numbering_in (kind_of any)
 -- the text that is read at a number, if one is
 abbrev pub text_at : AnyInterner → ℕ → Option Text
 text_at any number = option_and_then ((numbering_of any).read (texts_in any)) (symbol_of number)
+
+-- whether a text is known
+abbrev pub Knows : AnyInterner → Text → Type 0
+Knows any text = IsSome (first (texts_in any) text)
 
 -- A text is looked for, and this is found.
 abbrev pub FindsNumber : AnyInterner → Text → Option ℕ → Type 0

@@ -14,7 +14,7 @@ use Rattle.string_interner.specs.Text.{Text}
 use Rattle.string_interner.specs.Json.{json_of_texts}
 use Rattle.string_interner.specs.declared.backend.InternError.TheVariants.{NoSymbol as InternNoSymbol, Memory}
 use Rattle.string_interner.specs.declared.json.JsonError.{JsonError}
-use Rattle.handles.specs.Any.{FindsNumber, InternsAny, IsAnyCopy, IsEmpty, IsMade, kind_of, text_at, texts_in}
+use Rattle.handles.specs.Any.{FindsNumber, InternsAny, IsAnyCopy, IsEmpty, IsMade, Knows, kind_of, text_at, texts_in}
 use Rattle.handles.specs.Kind.{code_of_kind}
 use Rattle.handles.specs.Status.{Tells, code_of_done, status_of_json}
 use Rattle.handles.specs.declared.kind.Kind.{Kind}
@@ -116,6 +116,10 @@ FindsText text any (Err _) = ⊥
 abbrev pub FindsBytes : List ℕ → AnyInterner → Result ℕ Status → Type 0
 FindsBytes bytes any (Err BadText) = ¬ IsUtf8 bytes
 FindsBytes bytes any outcome = IsUtf8 bytes × FindsText bytes any outcome
+
+-- Bytes are a text that is known.
+abbrev pub KnowsBytes : AnyInterner → List ℕ → Type 0
+KnowsBytes any bytes = IsUtf8 bytes × Knows any bytes
 
 -- A number is resolved: to the text that is read there, or to nothing.
 abbrev pub ResolvesNumber : ℕ → AnyInterner → Result LentText Status → Type 0

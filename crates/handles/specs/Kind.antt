@@ -1,6 +1,6 @@
 -- The kinds of interner: their codes in C, and what each means for the numbers of texts.
 -- Cited by `Kind` and by all that speaks of an interner of any kind.
-use Rattle.std.specs.Prelude.{◌≡◌, ℕ, ◌-◌, ◌*◌, ◌^◌, List, [], length, max, Option}
+use Rattle.std.specs.Prelude.{◌≡◌, ℕ, ◌-◌, ◌*◌, ◌^◌, List, [], length, max, Option, Result, Ok, Err}
 use Rattle.string_interner.specs.Text.{Text}
 use Rattle.string_interner.specs.Backend.{Bucket as BucketOfBytes}
 use Rattle.string_interner.specs.BucketBackend.{CopiesBuckets}
@@ -8,6 +8,8 @@ use Rattle.string_interner.specs.Symbol.{number_below}
 use Rattle.string_interner.specs.Numbering.{Numbering, by_index}
 use Rattle.string_interner.specs.BufferBackend.{by_byte}
 use Rattle.handles.specs.declared.kind.Kind.{Kind}
+use Rattle.handles.specs.declared.status.Status.{Status}
+use Rattle.handles.specs.declared.status.Status.TheVariants.{BadKind}
 use Rattle.handles.specs.declared.kind.Kind.TheVariants.{String, Bucket, Buffer}
 
 -- the code of a kind in C
@@ -15,6 +17,12 @@ abbrev pub code_of_kind : Kind → ℕ
 code_of_kind String = 0
 code_of_kind Bucket = 1
 code_of_kind Buffer = 2
+
+-- The kind has this code, or no kind has it.
+abbrev pub HasCode : ℕ → Result Kind Status → Type 0
+HasCode code (Ok kind) = code_of_kind kind ≡ code
+HasCode code (Err BadKind) = (kind : Kind) → ¬ (code_of_kind kind ≡ code)
+HasCode code (Err _) = ⊥
 
 -- the symbol with a number, which is that number: those below 2 ^ 32 - 1 have one
 abbrev pub symbol_of : ℕ → Option ℕ

@@ -5,7 +5,7 @@ ghost use Rattle.std.specs.Option.{option_copied};
 ghost use Rattle.serde_json.specs.View.{view};
 ghost use Rattle.string_interner.specs.Text.{first};
 ghost use Rattle.string_interner.specs.Json.{json_of_texts};
-ghost use Rattle.handles.specs.Any.{FindsNumber, InternsAny, IsAnyCopy, IsEmpty, IsMade, IsShrunk, KeepsFirst, ReadsAs, ReadsAsExactly, any_eq, text_at, texts_in};
+ghost use Rattle.handles.specs.Any.{FindsNumber, InternsAny, IsAnyCopy, IsEmpty, IsMade, IsShrunk, KeepsFirst, Knows, ReadsAs, ReadsAsExactly, any_eq, text_at, texts_in};
 ghost use Rattle.string_interner.specs.Interner.{InternsInto};
 ghost use Rattle.string_interner.specs.Window.{seven_eighths};
 ghost use Rattle.handles.specs.Status.{TellsInterned, outcome_of};
@@ -93,13 +93,13 @@ fn status_given(outcome: Result<SymbolU32, InternError>) -> Result<usize, Status
 /// One function for each kind, which a call of C jumps to. The library's own is inlined in it, and it calls nothing for a
 /// known text.
 #[inline(never)]
-fn write_number<B: Backend<Symbol = SymbolU32>>(
+fn write_number_in<B: Backend<Symbol = SymbolU32>>(
     interner: &mut HashedInterner<B>,
     text: &str,
     number: &mut usize,
 ) -> u32
-    ensures { TellsInterned (InternsInto B.numbering seven_eighths interner.old text.now) interner.new
-        result number.old number.new }
+    ensures { TellsInterned (InternsInto B.numbering seven_eighths interner.old text.now)
+        interner.new result number.old number.new }
 {
     tell(status_given(interner.get_or_intern(text)), number)
 }
@@ -144,7 +144,7 @@ impl AnyInterner {
 
     /// Reports whether a text is known.
     pub fn contains(&self, text: &str) -> bool
-        ensures { IsTrue result ↔ IsSome (first (texts_in self.now) text.now) }
+        ensures { IsTrue result ↔ Knows self.now text.now }
     {
         each!(self, interner => interner.contains(text))
     }
@@ -152,9 +152,10 @@ impl AnyInterner {
     /// Writes the number of a text, and returns the code of the outcome. A new text is appended.
     #[inline(always)]
     pub fn write_number(&mut self, text: &str, number: &mut usize) -> u32
-        ensures { TellsInterned (InternsAny self.old text.now) self.new result number.old number.new }
+        ensures { TellsInterned (InternsAny self.old text.now) self.new
+            result number.old number.new }
     {
-        each!(self, interner => write_number(interner, text, number))
+        each!(self, interner => write_number_in(interner, text, number))
     }
 
     /// Returns the number of a text. A new text is appended.

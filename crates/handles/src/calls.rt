@@ -4,7 +4,7 @@ ghost use Rattle.std.specs.Prelude.{◌≡◌, ◌↔◌, IsSome, IsTrue, length
 ghost use Rattle.std.specs.Str.{IsUtf8};
 ghost use Rattle.string_interner.specs.Text.{first};
 ghost use Rattle.handles.specs.Any.{IsShrunk, KeepsFirst, any_eq, texts_in};
-ghost use Rattle.handles.specs.Calls.{Changes, Copies, CopiesOut, CopiesText, FillsWith, Fills, FindsBytes, FindsText, InternsBytes, InternsText, MakesNew, MakesRoom, ResolvesNumber};
+ghost use Rattle.handles.specs.Calls.{Changes, Copies, CopiesOut, CopiesText, FillsWith, Fills, FindsBytes, FindsText, InternsBytes, InternsText, KnowsBytes, MakesNew, MakesRoom, ResolvesNumber};
 ghost use Rattle.handles.specs.InternAll.{InternsParts, ListsEntries};
 ghost use Rattle.handles.specs.Part.{InternsPart};
 
@@ -27,14 +27,16 @@ pub fn len(h: &mut Handle) -> usize
     h.interner().len()
 }
 
-/// Writes the number of a text, and appends the text if it is new. Returns the code of the outcome.
+/// Writes the number of a text, and appends the text if it is new. Returns the code of the outcome, because a `Result` that
+/// the export takes apart makes a known text slower.
 pub fn get_or_intern(h: &mut Handle, text: &str, number: &mut usize) -> u32
     ensures { Changes (InternsText text.now) h.old h.new result number.old number.new }
 {
     h.interner().write_number(text, number)
 }
 
-/// Writes the number of the bytes, and appends them if they are a new text. Returns the code of the outcome.
+/// Writes the number of the bytes, and appends them if they are a new text. Returns the code of the outcome, as
+/// `get_or_intern` does and for the same reason.
 pub fn get_or_intern_bytes(h: &mut Handle, bytes: &[u8], number: &mut usize) -> u32
     ensures { Changes (InternsBytes bytes.now) h.old h.new result number.old number.new }
 {
@@ -49,10 +51,7 @@ pub fn get(h: &mut Handle, text: &str) -> Result<usize, Status>
     ensures found { FindsText text.now h.old.value result }
     ensures same { h.new.value ≡ h.old.value }
 {
-    match h.interner().get(text) {
-        Some(number) => Ok(number),
-        None => Err(Status::Nothing),
-    }
+    h.interner().get(text).ok_or(Status::Nothing)
 }
 
 /// Returns the number of the bytes, if they are a known text.
@@ -60,11 +59,7 @@ pub fn get_bytes(h: &mut Handle, bytes: &[u8]) -> Result<usize, Status>
     ensures found { FindsBytes bytes.now h.old.value result }
     ensures same { h.new.value ≡ h.old.value }
 {
-    let text = text_of(bytes)?;
-    match h.interner().get(text) {
-        Some(number) => Ok(number),
-        None => Err(Status::Nothing),
-    }
+    h.interner().get(text_of(bytes)?).ok_or(Status::Nothing)
 }
 
 /// Returns the number of a static text, as `get_or_intern_bytes` does. A new one may stay where it is, uncopied.
@@ -91,7 +86,7 @@ pub fn get_or_intern_part(
 
 /// Reports whether the bytes are a known text.
 pub fn contains(h: &mut Handle, bytes: &[u8]) -> bool
-    ensures known { IsTrue result ↔ (IsUtf8 bytes.now × IsSome (first (texts_in h.old.value) bytes.now)) }
+    ensures known { IsTrue result ↔ KnowsBytes h.old.value bytes.now }
     ensures same { h.new.value ≡ h.old.value }
 {
     match text_of(bytes) {
@@ -164,24 +159,22 @@ fn fill(alloc: Global, slot: &mut Slot, made: Result<AnyInterner, Status>) -> Re
 }
 
 /// Makes an empty interner of the kind with this code, under this hasher.
-fn made(alloc: Global, kind: u32, hasher: ChosenHasher) -> Result<AnyInterner, Status>
+fn make_interner(alloc: Global, kind: u32, hasher: ChosenHasher) -> Result<AnyInterner, Status>
     ensures { MakesNew kind result }
 {
-    match Kind::from_code(kind) {
-        Some(kind) => Ok(AnyInterner::new(alloc, kind, hasher)),
-        None => Err(Status::BadKind),
-    }
+    let kind = Kind::from_code(kind)?;
+    Ok(AnyInterner::new(alloc, kind, hasher))
 }
 
 /// Makes a handle on an empty interner of the kind with this code, under this hasher.
 pub fn make(alloc: Global, slot: &mut Slot, kind: u32, hasher: ChosenHasher) -> Result<(), Status>
     ensures { Fills (MakesNew kind) slot.old result slot.new }
 {
-    fill(alloc, slot, made(alloc, kind, hasher))
+    fill(alloc, slot, make_interner(alloc, kind, hasher))
 }
 
 /// Makes an empty interner of the kind with this code, under this hasher, with room for `capacity` texts.
-fn made_with_capacity(
+fn make_interner_with_capacity(
     alloc: Global,
     kind: u32,
     capacity: usize,
@@ -189,13 +182,8 @@ fn made_with_capacity(
 ) -> Result<AnyInterner, Status>
     ensures { MakesRoom kind capacity result }
 {
-    let Some(kind) = Kind::from_code(kind) else {
-        return Err(Status::BadKind);
-    };
-    match AnyInterner::with_capacity(alloc, kind, capacity, hasher) {
-        Ok(interner) => Ok(interner),
-        Err(_) => Err(Status::NoMemory),
-    }
+    let kind = Kind::from_code(kind)?;
+    Ok(AnyInterner::with_capacity(alloc, kind, capacity, hasher)?)
 }
 
 /// Makes a handle on an empty interner of the kind with this code, under this hasher, with room for `capacity` texts.
@@ -211,19 +199,16 @@ pub fn make_with_capacity(
     fill(
         alloc,
         slot,
-        made_with_capacity(alloc, kind, capacity, hasher),
+        make_interner_with_capacity(alloc, kind, capacity, hasher),
     )
 }
 
 /// Makes a copy of what a handle holds.
-fn cloned(h: &mut Handle) -> Result<AnyInterner, Status>
+fn copy_interner(h: &mut Handle) -> Result<AnyInterner, Status>
     ensures copies { Copies h.old.value result }
     ensures same { h.new.value ≡ h.old.value }
 {
-    match h.interner().try_copy() {
-        Ok(copy) => Ok(copy),
-        Err(_) => Err(Status::NoMemory),
-    }
+    Ok(h.interner().try_copy()?)
 }
 
 /// Makes a second handle, on a copy.
@@ -231,7 +216,7 @@ pub fn clone(alloc: Global, h: &mut Handle, slot: &mut Slot) -> Result<(), Statu
     ensures copies { Fills (Copies h.old.value) slot.old result slot.new }
     ensures same { h.new.value ≡ h.old.value }
 {
-    fill(alloc, slot, cloned(h))
+    fill(alloc, slot, copy_interner(h))
 }
 
 /// Reports whether both handles hold interners of one kind with the same texts in the same order.

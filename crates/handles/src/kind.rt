@@ -1,8 +1,8 @@
 //! The kinds of interner that a handle can be opened on.
 
-ghost use Rattle.std.specs.Prelude.{◌≡◌, IfSome, IsNone};
-ghost use Rattle.handles.specs.Kind.{code_of_kind};
-ghost use Rattle.handles.specs.declared.kind.Kind.{Kind};
+ghost use Rattle.handles.specs.Kind.{HasCode};
+
+use crate::status::Status;
 
 /// How the texts of an interner lie in memory.
 #[derive(Clone, Copy)]
@@ -17,15 +17,14 @@ pub enum Kind {
 
 impl Kind {
     /// Returns the kind that has this code in C, if there is one.
-    pub fn from_code(code: u32) -> Option<Kind>
-        ensures named { IfSome result (λ kind. code_of_kind kind ≡ code) }
-        ensures unnamed { IsNone result → (kind : Kind) → ¬ (code_of_kind kind ≡ code) }
+    pub fn from_code(code: u32) -> Result<Kind, Status>
+        ensures { HasCode code result }
     {
         match code {
-            0 => Some(Kind::String),
-            1 => Some(Kind::Bucket),
-            2 => Some(Kind::Buffer),
-            _ => None,
+            0 => Ok(Kind::String),
+            1 => Ok(Kind::Bucket),
+            2 => Ok(Kind::Buffer),
+            _ => Err(Status::BadKind),
         }
     }
 }

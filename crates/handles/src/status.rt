@@ -3,6 +3,7 @@
 ghost use Rattle.std.specs.Prelude.{◌≡◌};
 ghost use Rattle.handles.specs.Status.{Tells, code_of_done, code_of, status_of, status_of_json};
 
+use std::alloc::AllocError;
 use string_interner::backend::InternError;
 use string_interner::json::JsonError;
 
@@ -51,6 +52,17 @@ impl Status {
             Status::NotAText => 9,
             Status::Repeated => 10,
         }
+    }
+}
+
+/// An allocation failed.
+impl From<AllocError> for Status {
+    ghost use Rattle.handles.specs.declared.status.Status.TheVariants.{NoMemory};
+
+    ghost from_gives = { λ error status. status ≡ NoMemory };
+
+    fn from(_: AllocError) -> Status {
+        Status::NoMemory
     }
 }
 

@@ -5,7 +5,7 @@ ghost use Rattle.std.specs.Prelude.{◌≡◌, ◌↔◌, IsTrue, IsSome, length
 ghost use Rattle.std.specs.Str.{IsUtf8};
 ghost use Rattle.string_interner.specs.Text.{first};
 ghost use Rattle.handles.specs.Any.{IsShrunk, KeepsFirst, ReadsAs, ReadsAsExactly, any_eq, texts_in};
-ghost use Rattle.handles.specs.Calls.{Changes, Copies, CopiesJson, CopiesText, FindsBytes, FindsText, InternsBytes, InternsText, MakesNew, MakesRoom, Opens, Queries, ReadsJson, ResolvesNumber, Writes};
+ghost use Rattle.handles.specs.Calls.{Changes, Copies, CopiesJson, CopiesText, FindsBytes, FindsText, InternsBytes, InternsText, KnowsBytes, MakesNew, MakesRoom, Opens, Queries, ReadsJson, ResolvesNumber, Writes};
 ghost use Rattle.handles.specs.InternAll.{InternsParts, ListsEntries};
 ghost use Rattle.handles.specs.Part.{InternsPart};
 
@@ -160,7 +160,7 @@ pub unsafe extern "C" fn si_get_utf8(h: &mut Handle, text: &[u8], number: &mut u
 /// Reports whether a text is known.
 #[unsafe(no_mangle)]
 pub extern "C" fn si_contains(h: &mut Handle, text: &[u8]) -> bool
-    ensures known { IsTrue result ↔ (IsUtf8 text.now × IsSome (first (texts_in h.old.value) text.now)) }
+    ensures known { IsTrue result ↔ KnowsBytes h.old.value text.now }
     ensures same { h.new.value ≡ h.old.value }
 {
     calls::contains(h, text)
@@ -177,7 +177,8 @@ pub extern "C" fn si_resolve<'a>(h: &'a mut Handle, number: usize, text: &mut Te
 /// Copies the text at a number to a room, if that is long enough, and tells how long the text is.
 #[unsafe(no_mangle)]
 pub extern "C" fn si_copy(h: &mut Handle, number: usize, room: &mut [u8], len: &mut usize) -> u32
-    ensures copies { Writes (CopiesText number h.old.value) (room.old, len.old) (room.new, len.new) result }
+    ensures copies { Writes (CopiesText number h.old.value)
+        (room.old, len.old) (room.new, len.new) result }
     ensures same { h.new.value ≡ h.old.value }
 {
     finish(calls::copy(h, number, room, len))
@@ -221,7 +222,8 @@ pub extern "C" fn si_equal(h: &mut Handle, other: &mut Handle) -> bool
 /// Copies the JSON array of the texts to a room, if that is long enough, and tells how long it is.
 #[unsafe(no_mangle)]
 pub extern "C" fn si_to_json(alloc: Global, h: &mut Handle, room: &mut [u8], len: &mut usize) -> u32
-    ensures writes { Writes (CopiesJson h.old.value) (room.old, len.old) (room.new, len.new) result }
+    ensures writes { Writes (CopiesJson h.old.value)
+        (room.old, len.old) (room.new, len.new) result }
     ensures same { h.new.value ≡ h.old.value }
 {
     finish(calls::json::to_json(alloc, h, room, len))

@@ -27,7 +27,8 @@ fn list<'a, B: Backend<Symbol = SymbolU32>>(walk: Iter<'a, B>, room: &mut [Entry
     requires { (walk.behind ≡ []) × (length walk.ahead ≤ length room.old) }
     ensures front { map number_and_text (take (length walk.entry.ahead) room.new)
         ≡ entries B.numbering [] walk.entry.ahead }
-    ensures rest { drop (length walk.entry.ahead) room.new ≡ drop (length walk.entry.ahead) room.old }
+    ensures rest { drop (length walk.entry.ahead) room.new
+        ≡ drop (length walk.entry.ahead) room.old }
 {
     let mut index = 0;
     for entry in walk {

@@ -19,9 +19,7 @@ fn json_of(alloc: Global, h: &mut Handle) -> Result<Vec<u8>, Status>
     ensures json { IsJsonOf h.old.value result }
     ensures same { h.new.value ≡ h.old.value }
 {
-    let Ok(value) = h.interner().to_json(alloc) else {
-        return Err(Status::NoMemory);
-    };
+    let value = h.interner().to_json(alloc)?;
     match value.to_vec(alloc) {
         Ok(bytes) => Ok(bytes),
         Err(_) => Err(Status::NoMemory),
@@ -65,14 +63,9 @@ fn value_of(alloc: Global, bytes: &[u8]) -> Result<Value, Status>
 fn read(alloc: Global, kind: u32, bytes: &[u8], hasher: ChosenHasher) -> Result<AnyInterner, Status>
     ensures { ReadsJson ReadsAs kind bytes.now result }
 {
-    let Some(kind) = Kind::from_code(kind) else {
-        return Err(Status::BadKind);
-    };
+    let kind = Kind::from_code(kind)?;
     let value = value_of(alloc, bytes)?;
-    match AnyInterner::from_json(alloc, kind, &value, hasher) {
-        Ok(interner) => Ok(interner),
-        Err(error) => Err(Status::from(error)),
-    }
+    Ok(AnyInterner::from_json(alloc, kind, &value, hasher)?)
 }
 
 /// Makes a handle on an interner, under this hasher, of the texts of a JSON array. Repeats add no text.
@@ -98,14 +91,9 @@ fn read_exact(
 ) -> Result<AnyInterner, Status>
     ensures { ReadsJson ReadsAsExactly kind bytes.now result }
 {
-    let Some(kind) = Kind::from_code(kind) else {
-        return Err(Status::BadKind);
-    };
+    let kind = Kind::from_code(kind)?;
     let value = value_of(alloc, bytes)?;
-    match AnyInterner::from_json_exact(alloc, kind, &value, hasher) {
-        Ok(interner) => Ok(interner),
-        Err(error) => Err(Status::from(error)),
-    }
+    Ok(AnyInterner::from_json_exact(alloc, kind, &value, hasher)?)
 }
 
 /// The same of an array in which all texts differ.

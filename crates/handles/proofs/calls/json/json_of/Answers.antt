@@ -5,5 +5,5 @@ use Rattle.handles.specs.declared.any.AnyInterner.{AnyInterner}
 use Rattle.handles.proofs.Lemmas.Json.{text_of_json}
 use Rattle.handles.proofs.calls.json.json_of.Goals as goal
 
-pub returns-in-Ok-to_vec-clause-json : goal.returns-in-Ok-to_vec-clause-json
-returns-in-Ok-to_vec-clause-json c = text_of_json _ _ _ (c.in-Ok.ensures ∙ ap (λ (any : AnyInterner). json_of_texts (texts_in any)) c.interner.ensures.value) c.in-Ok-to_vec.ensures.text
+pub returns-in-Ok-clause-json : goal.returns-in-Ok-clause-json
+returns-in-Ok-clause-json c = text_of_json _ _ _ (c.in_ok-value.ensures ∙ ap (λ (any : AnyInterner). json_of_texts (texts_in any)) c.interner.ensures.value) c.in-Ok.ensures.text

@@ -4,4 +4,4 @@ use Rattle.handles.proofs.Lemmas.Json.{unread}
 use Rattle.handles.proofs.calls.json.read_exact.Goals as goal
 
 pub returns-in_err-value : goal.returns-in_err-value
-returns-in_err-value c = unread ReadsAsExactly _ _ c.in-Some.kind _ c.from_residual.result (search rules) c.in-Some.ensures.named c.in_err-value.ensures
+returns-in_err-value c = unread ReadsAsExactly _ _ c.in_ok-kind.kind _ c.from_residual-in_err-value.result (search rules) c.in_ok-kind.ensures c.in_err-value.ensures
