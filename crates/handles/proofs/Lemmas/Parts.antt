@@ -54,27 +54,27 @@ no-parts bytes ends before old fits = record {
 -- one more part goes in
 pub more-parts : (bytes ends before : List ℕ) (old mid new : AnyInterner) (done number : ℕ) (so_far after : List ℕ) → TakesParts bytes ends (old, before) done (mid, so_far) → done < length before
     → IsEnd bytes ends done → (text : Text) → text ≡ part bytes ends done → InternsAny mid text (Ok number) new → after ≡ set so_far done number → TakesParts bytes ends (old, before) (done + 1) (new, after)
-more-parts bytes ends before old mid new done number so_far after encoded fits is_end text is call now =
-    let call_is = subst (λ (k : Kind). InternsInto (numbering_in k) seven_eighths (contents mid) text (Ok number) (contents new)) encoded.kind call.interned in
-    let lt : done < length so_far = omega (arith, fits, encoded.same_length) in
+more-parts bytes ends before old mid new done number so_far after takes fits is_end text is call now =
+    let call_is = subst (λ (k : Kind). InternsInto (numbering_in k) seven_eighths (contents mid) text (Ok number) (contents new)) takes.kind call.interned in
+    let lt : done < length so_far = omega (arith, fits, takes.same_length) in
     let front : take (done + 1) after ≡ take done so_far ++ number ∷ [] = ap (λ (xs : List ℕ). take (done + 1) xs) now ∙ take_more_set so_far done number lt in
     let texts_are : parts bytes ends (done + 1) ≡ parts bytes ends done ++ text ∷ [] = parts-more bytes ends done ∙ ap (λ (t : Text). parts bytes ends done ++ t ∷ []) (sym is) in
-    let taken = taken-more (numbering_of old) seven_eighths (contents old) (contents mid) (contents new) (parts bytes ends done) text number encoded.taken call_is in
-    let stand = stand-more (numbering_of old) (texts_in mid) (texts_in new) call_is.keeps (take done so_far) (parts bytes ends done) number text encoded.stand call_is.stands in
+    let taken = taken-more (numbering_of old) seven_eighths (contents old) (contents mid) (contents new) (parts bytes ends done) text number takes.taken call_is in
+    let stand = stand-more (numbering_of old) (texts_in mid) (texts_in new) call_is.keeps (take done so_far) (parts bytes ends done) number text takes.stand call_is.stands in
     record {
-      fits = encoded.fits;
-      kind = call.kind ∙ encoded.kind;
+      fits = takes.fits;
+      kind = call.kind ∙ takes.kind;
       ends_are = λ i below. elim (cases_lt i done) as (λ _. IsEnd bytes ends i) [
-        | inl lt ↦ encoded.ends_are i lt
+        | inl lt ↦ takes.ends_are i lt
         | inr not_lt ↦ let same : done ≡ i = omega (arith, below, not_lt) in subst (λ (k : ℕ). IsEnd bytes ends k) same is_end
       ];
       taken = rw texts_are taken;
       stand = rw (front, texts_are) stand;
-      rest = ap (λ (xs : List ℕ). drop (done + 1) xs) now ∙ drop-set-lt (done + 1) so_far done number (omega arith) ∙ drop_more_same so_far before done encoded.rest;
-      same_length = ap length now ∙ length-set so_far done number ∙ encoded.same_length;
+      rest = ap (λ (xs : List ℕ). drop (done + 1) xs) now ∙ drop-set-lt (done + 1) so_far done number (omega arith) ∙ drop_more_same so_far before done takes.rest;
+      same_length = ap length now ∙ length-set so_far done number ∙ takes.same_length;
     }
 
-module _ (bytes ends before : List ℕ) (old mid : AnyInterner) (done : ℕ) (so_far : List ℕ) (encoded : TakesParts bytes ends (old, before) done (mid, so_far)) (more : done < length ends) (from end : ℕ) (from_is : from ≡ start_at ends done) (end_is : end ≡ slice_index ends done) where
+module _ (bytes ends before : List ℕ) (old mid : AnyInterner) (done : ℕ) (so_far : List ℕ) (takes : TakesParts bytes ends (old, before) done (mid, so_far)) (more : done < length ends) (from end : ℕ) (from_is : from ≡ start_at ends done) (end_is : end ≡ slice_index ends done) where
   pub is_end : from ≤ end → end ≤ length bytes → IsEnd bytes ends done
   is_end rises within = record { rises = rw (← from_is, ← end_is) rises; within = rw (← end_is) within }
 
@@ -83,8 +83,8 @@ module _ (bytes ends before : List ℕ) (old mid : AnyInterner) (done : ℕ) (so
 
   -- where the next part is no text, or these are no ends
   pub part_refused : (started : ℕ) (status : Status) (outcome : Result (Unit {0}) Status) → outcome ≡ Err status → IsTextBetween bytes from end (Err status) → InternsParts bytes ends (old, before, started) outcome (mid, so_far, done)
-  part_refused started BadText outcome is h = rw is (mid, encoded, more, is_end h.0 h.1, (rw (← from_is, ← end_is) h.2, refl))
-  part_refused started BadEnds outcome is h = rw is (more, (λ e. h (rw (from_is, end_is) e.rises, rw end_is e.within)), encoded)
+  part_refused started BadText outcome is h = rw is (mid, takes, more, is_end h.0 h.1, (rw (← from_is, ← end_is) h.2, refl))
+  part_refused started BadEnds outcome is h = rw is (more, (λ e. h (rw (from_is, end_is) e.rises, rw end_is e.within)), takes)
   part_refused started NoMemory outcome is h = absurd h
   part_refused started NoSymbol outcome is h = absurd h
   part_refused started Nothing outcome is h = absurd h
@@ -104,8 +104,8 @@ module _ (bytes ends before : List ℕ) (old mid : AnyInterner) (done : ℕ) (so
       rw (is, told) (of error utf8 part_call)
     where
       of : (error : InternError) → IsUtf8 (part bytes ends done) → InternsAny mid (part bytes ends done) (Err error) new → InternsParts bytes ends (old, before, started) (Err (status_of error)) (new, so_far, done)
-      of InternNoSymbol utf8 part_call = (mid, encoded, more, is_end h.0 h.1, (utf8, part_call))
-      of (Memory e) utf8 part_call = (mid, encoded, more, is_end h.0 h.1, (utf8, part_call))
+      of InternNoSymbol utf8 part_call = (mid, takes, more, is_end h.0 h.1, (utf8, part_call))
+      of (Memory e) utf8 part_call = (mid, takes, more, is_end h.0 h.1, (utf8, part_call))
 
 -- one more entry is listed
 pub listed-more : (all ahead rest : List (Option ℕ × Text)) (room after : List Entry) (index : ℕ) (entry : Entry) → map number_and_text (take index room) ++ ahead ≡ all → ahead ≡ number_and_text entry ∷ rest → index < length room → after ≡ set room index entry

@@ -7,7 +7,7 @@ use Rattle.handles.proofs.any.AnyInterner.intern_all.Given as goal
 abbrev pub invariant-loop-end : goal.invariant-loop-end
 invariant-loop-end l = record {
   fits : length l.ends ≤ length l.numbers;
-  encoded : TakesParts l.bytes l.ends (l.fn.self, l.fn.numbers) l.done (l.self, l.numbers);
+  takes : TakesParts l.bytes l.ends (l.fn.self, l.fn.numbers) l.done (l.self, l.numbers);
   index : l.done ≡ l.end-index;
   from : l.from ≡ start_at l.ends l.done;
 }
