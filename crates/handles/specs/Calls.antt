@@ -15,7 +15,7 @@ use Rattle.string_interner.specs.Json.{json_of_texts}
 use Rattle.string_interner.specs.declared.backend.InternError.TheVariants.{NoSymbol as InternNoSymbol, Memory}
 use Rattle.string_interner.specs.declared.json.JsonError.{JsonError}
 use Rattle.handles.specs.Any.{FindsNumber, InternsAny, IsAnyCopy, IsEmpty, IsMade, Knows, kind_of, text_at, texts_in}
-use Rattle.handles.specs.Kind.{code_of_kind}
+use Rattle.handles.specs.Kind.{HasCode, code_of_kind}
 use Rattle.handles.specs.Status.{Tells, code_of_done, status_of_json}
 use Rattle.handles.specs.declared.kind.Kind.{Kind}
 use Rattle.handles.specs.declared.any.AnyInterner.{AnyInterner}
@@ -69,16 +69,14 @@ Opens making = Writes (Fills making)
 
 -- A new interner of the kind with this code.
 abbrev pub MakesNew : ℕ → Result AnyInterner Status → Type 0
-MakesNew code (Ok any) = (code_of_kind (kind_of any) ≡ code) × IsEmpty (kind_of any) any
-MakesNew code (Err BadKind) = (kind : Kind) → ¬ (code_of_kind kind ≡ code)
-MakesNew code (Err _) = ⊥
+MakesNew code (Ok any) = HasCode code (Ok (kind_of any)) × IsEmpty (kind_of any) any
+MakesNew code (Err status) = HasCode code (Err status)
 
 -- The same with room.
 abbrev pub MakesRoom : ℕ → ℕ → Result AnyInterner Status → Type 0
-MakesRoom code capacity (Ok any) = (code_of_kind (kind_of any) ≡ code) × IsMade (kind_of any) capacity any
-MakesRoom code capacity (Err BadKind) = (kind : Kind) → ¬ (code_of_kind kind ≡ code)
-MakesRoom code capacity (Err NoMemory) = (kind : Kind) × (code_of_kind kind ≡ code)
-MakesRoom code capacity (Err _) = ⊥
+MakesRoom code capacity (Ok any) = HasCode code (Ok (kind_of any)) × IsMade (kind_of any) capacity any
+MakesRoom code capacity (Err NoMemory) = (kind : Kind) × HasCode code (Ok kind)
+MakesRoom code capacity (Err status) = HasCode code (Err status)
 
 -- A copy is made, or memory is refused.
 abbrev pub Copies : AnyInterner → Result AnyInterner Status → Type 0

@@ -67,8 +67,7 @@ pub fn get_or_intern_static(h: &mut Handle, bytes: &'static [u8]) -> Result<usiz
     ensures { InternsBytes bytes.now h.old.value result h.new.value }
 {
     let text = text_of(bytes)?;
-    let number = h.interner().get_or_intern_static(text)?;
-    Ok(number)
+    Ok(h.interner().get_or_intern_static(text)?)
 }
 
 /// Returns the number of a part of the text at a number. A new part is appended.

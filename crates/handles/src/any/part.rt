@@ -30,7 +30,6 @@ impl AnyInterner {
             return Err(Status::NoMemory);
         };
         let part = text_of(&copy)?;
-        let number = self.get_or_intern(part)?;
-        Ok(number)
+        Ok(self.get_or_intern(part)?)
     }
 }
