@@ -1,3 +1,3 @@
 pub mod Lines
-pub mod Says
+pub mod HoldsLines
 pub mod Newline

@@ -3,6 +3,7 @@ use Rattle.std.specs.Prelude.{ℕ, ⊤}
 use Rattle.std.specs.declared.io.Error.{Error}
 use Rattle.std.specs.declared.io.ErrorKind.{ErrorKind}
 use Rattle.std.specs.declared.io.ErrorKind.TheVariants.{BrokenPipe, OutOfMemory}
+use Rattle.string_interner.specs.Text.{Text}
 use Rattle.dictcol.specs.declared.fault.Fault.{Fault}
 use Rattle.dictcol.specs.declared.fault.Fault.TheVariants.{Argument, Input, NotUtf8, NoKeys, TooMany, Memory, Output, ClosedOutput}
 
@@ -54,3 +55,11 @@ IsDamage Memory = ⊥
 IsDamage (Output _) = ⊥
 IsDamage ClosedOutput = ⊥
 IsDamage _ = ⊤
+
+-- the fault does not say that the file is damaged
+abbrev pub IsNoDamage : Fault → Type 0
+IsNoDamage fault = ¬ (IsDamage fault)
+
+-- if the fault says that the file is damaged, no text is one of these
+abbrev pub IsRightFault : (Text → Type 0) → Fault → Type 0
+IsRightFault Is fault = IsDamage fault → (text : Text) → ¬ (Is text)

@@ -1,4 +1,4 @@
--- The file that `encode` writes and `decode` reads: which value it is, and which lines it says.
+-- The file that `encode` writes and `decode` reads: which value it is, and which lines it holds.
 -- Cited by `file` and `answer`.
 use Rattle.std.specs.Prelude.{◌≡◌, ℕ, List, [], ◌∷◌, map, Bool, false, codes, Option, Some, option_map, option_and_then, slice_get}
 use Rattle.std.specs.List.{list_any}
@@ -10,29 +10,29 @@ use Rattle.string_interner.specs.Text.{Text, IsDistinct}
 use Rattle.string_interner.specs.Extend.{fresh}
 use Rattle.string_interner.specs.Json.{json_of_texts, json_of_number}
 use Rattle.uses.specs.Column.{AreNumbersOf}
-use Rattle.dictcol.specs.Lines.{has_newline, joined, AreLines}
+use Rattle.dictcol.specs.Lines.{has_newline, text_of_lines, AreLines}
 
 -- the object with these texts, numbers and truth value
-abbrev pub file_of : List Text → List ℕ → Bool → Data
-file_of dictionary numbers is_ended = object (member (codes "dictionary") (json_of_texts dictionary)
+abbrev pub column_file : List Text → List ℕ → Bool → Data
+column_file dictionary numbers is_ended = object (member (codes "dictionary") (json_of_texts dictionary)
     (member (codes "final_newline") (boolean is_ended) (member (codes "lines") (array (items_of (map json_of_number numbers))) no_members)))
 
 -- the value is the file of these lines: the distinct ones in the order of first appearance, for each line the index of
 -- its text among them, and whether the last one ends in a newline
 abbrev pub IsFileOf : List Text → Bool → Data → Type 0
-IsFileOf lines is_ended value = (numbers : List ℕ) × (value ≡ file_of (fresh [] lines) numbers is_ended) × AreNumbersOf (fresh [] lines) numbers lines
+IsFileOf lines is_ended value = (numbers : List ℕ) × (value ≡ column_file (fresh [] lines) numbers is_ended) × AreNumbersOf (fresh [] lines) numbers lines
 
 -- the text whose index this value is
-abbrev pub text_at : List Text → Data → Option Text
-text_at dictionary value = option_and_then (λ n. slice_get dictionary n) (option_and_then as_u64 (as_number value))
+abbrev pub indexed_text : List Text → Data → Option Text
+indexed_text dictionary value = option_and_then (λ n. slice_get dictionary n) (option_and_then as_u64 (as_number value))
 
 -- the texts whose indexes these are, if all are
-abbrev pub texts_at : List Text → Items → Option (List Text)
-texts_at dictionary no_items = Some []
-texts_at dictionary (item value rest) = option_and_then (λ text. option_map (λ texts. text ∷ texts) (texts_at dictionary rest)) (text_at dictionary value)
+abbrev pub indexed_texts : List Text → Items → Option (List Text)
+indexed_texts dictionary no_items = Some []
+indexed_texts dictionary (item value rest) = option_and_then (λ text. option_map (λ texts. text ∷ texts) (indexed_texts dictionary rest)) (indexed_text dictionary value)
 
--- A value says these lines, and whether the last one ends in a newline.
-pub record Says (value : Data) (lines : List Text) (is_ended : Bool) : Type 0 where
+-- A value holds these lines, and whether the last one ends in a newline.
+pub record HoldsLines (value : Data) (lines : List Text) (is_ended : Bool) : Type 0 where
   -- distinct texts, of one line each
   pub dictionary : List Text
   pub texts : get (codes "dictionary") value ≡ Some (json_of_texts dictionary)
@@ -41,18 +41,18 @@ pub record Says (value : Data) (lines : List Text) (is_ended : Bool) : Type 0 wh
   -- the lines are those at these indexes
   pub numbers : Items
   pub indexes : get (codes "lines") value ≡ Some (array numbers)
-  pub picked : texts_at dictionary numbers ≡ Some lines
+  pub picked : indexed_texts dictionary numbers ≡ Some lines
   pub end : get (codes "final_newline") value ≡ Some (boolean is_ended)
 
 -- the text is the file of the lines of the bytes
-abbrev pub Encodes : Text → Text → Type 0
-Encodes bytes text = (lines : List Text) × (is_ended : Bool) × (value : Data) × AreLines bytes lines is_ended
+abbrev pub IsColumnFile : Text → Text → Type 0
+IsColumnFile bytes text = (lines : List Text) × (is_ended : Bool) × (value : Data) × AreLines bytes lines is_ended
     × IsDistinct (fresh [] lines) × IsFileOf lines is_ended value × (read text ≡ Some value)
 
--- a value says the text of some lines
-abbrev pub SaysText : Data → Text → Type 0
-SaysText value text = (lines : List Text) × (is_ended : Bool) × Says value lines is_ended × (text ≡ joined lines is_ended)
+-- a value holds the text of some lines
+abbrev pub HoldsText : Data → Text → Type 0
+HoldsText value text = (lines : List Text) × (is_ended : Bool) × HoldsLines value lines is_ended × (text ≡ text_of_lines lines is_ended)
 
--- the bytes are a file, and the text is what it says
-abbrev pub Decodes : Text → Text → Type 0
-Decodes bytes text = (value : Data) × SaysText value text × (read bytes ≡ Some value)
+-- the bytes are a file, and the text is what it holds
+abbrev pub DecodesFile : Text → Text → Type 0
+DecodesFile bytes text = (value : Data) × HoldsText value text × (read bytes ≡ Some value)

@@ -1,7 +1,7 @@
 -- The lines of a text, and the text of lines.
 -- Cited by `answer` and `file`.
 use Rattle.std.specs.Prelude.{◌≡◌, ℕ, ◌==◌, List, [], ◌∷◌, ◌++◌, Bool, true, if◌then◌else◌}
-use Rattle.std.specs.List.{list_any, slice_split, join_with_byte}
+use Rattle.std.specs.List.{list_any, onto_first, join_with_byte}
 use Rattle.string_interner.specs.Text.{Text}
 
 abbrev pub is_newline : ℕ → Bool
@@ -15,22 +15,22 @@ abbrev pub behind_newline : Text → Text
 behind_newline line = 10 ∷ line
 
 -- the text of lines: they stand between newlines, and one more is at the end if it says so
-abbrev pub joined : List Text → Bool → Text
-joined lines is_ended = join_with_byte 10 lines ++ newline_if is_ended
+abbrev pub text_of_lines : List Text → Bool → Text
+text_of_lines lines is_ended = join_with_byte 10 lines ++ newline_if is_ended
 
 -- whether a text has a newline, and so is not one line
 abbrev pub has_newline : Text → Bool
 has_newline text = list_any is_newline text
 
--- the lines of a text, which is this body and perhaps a newline behind it: none of the empty text
-abbrev pub lines_of : Text → Text → List Text
-lines_of [] body = []
-lines_of (_ ∷ _) body = slice_split is_newline body
+-- The lines of a text. A newline at the very end ends the last line and begins no further one.
+abbrev pub lines_of : List ℕ → List (List ℕ)
+lines_of [] = []
+lines_of (b ∷ bs) = if b == 10 then [] ∷ lines_of bs else onto_first b (lines_of bs)
 
 -- A text has these lines, of which the last ends in a newline or not.
 pub record AreLines (text : Text) (lines : List Text) (is_ended : Bool) : Type 0 where
+  pub lines_are : lines ≡ lines_of text
   -- the text without the newline at its very end
   pub body : Text
   pub whole : text ≡ body ++ newline_if is_ended
   pub end : (front : Text) → text ≡ front ++ 10 ∷ [] → is_ended ≡ true
-  pub cut : lines ≡ lines_of text body

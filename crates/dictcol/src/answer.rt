@@ -2,12 +2,12 @@
 
 ghost use Rattle.std.specs.Prelude.{◌≡◌, ◌⊎◌, ℕ, List, [], ◌∷◌, ◌++◌, true, IfOk, IfErr, IfSome, IsErrAnd, IsOk, OnOk, IsUtf8, string_bytes};
 ghost use Rattle.std.specs.Io.KnownBytes.{Appends, IsAtEnd};
-ghost use Rattle.dictcol.specs.Fault.{IsReadFault, IsWriteFault};
+ghost use Rattle.dictcol.specs.Fault.{IsNoDamage, IsReadFault, IsRightFault, IsWriteFault};
 ghost use Rattle.dictcol.specs.Lines.{AreLines, is_newline, newline_if};
 ghost use Rattle.std.specs.List.{slice_split};
-ghost use Rattle.dictcol.specs.File.{Encodes};
+ghost use Rattle.dictcol.specs.File.{IsColumnFile};
 ghost use Rattle.dictcol.specs.Writes.{Writes};
-ghost use Rattle.dictcol.specs.Answer.{Tells, Does};
+ghost use Rattle.dictcol.specs.Answer.{IsFormOutput, IsTaskOutput};
 
 use crate::arguments::{Choice, Form, Task};
 use crate::fault::Fault;
@@ -20,7 +20,8 @@ use uses::column::Column;
 
 /// Reads the whole input.
 pub fn read<R: Read>(alloc: Global, input: &mut R) -> Result<Vec<u8>, Fault>
-    ensures whole { IfOk result (λ bytes. IfSome (R.remaining input.old) (λ all. bytes.items ≡ all)) }
+    ensures whole { IfOk result (λ bytes.
+        IfSome (R.remaining input.old) (λ all. bytes.items ≡ all)) }
     ensures end { OnOk result (IsAtEnd (R.remaining input.new)) }
     ensures fault { IfErr result IsReadFault }
 {
@@ -32,9 +33,10 @@ pub fn read<R: Read>(alloc: Global, input: &mut R) -> Result<Vec<u8>, Fault>
 }
 
 /// Checks that the bytes are UTF-8.
-fn text_of(bytes: &[u8]) -> Result<&str, Fault>
+fn check_utf8(bytes: &[u8]) -> Result<&str, Fault>
     ensures ok { IfOk result (λ text. text.now ≡ bytes.now) }
     ensures err { IfErr result (λ fault. ¬ (IsUtf8 bytes.now)) }
+    ensures fault { IfErr result IsNoDamage }
 {
     match str::from_utf8(bytes) {
         Ok(text) => Ok(text),
@@ -50,7 +52,7 @@ fn text_of(bytes: &[u8]) -> Result<&str, Fault>
 }
 
 /// Cuts the newline at the very end off, and returns whether there was one.
-fn without_end(bytes: &[u8]) -> (&[u8], bool)
+fn strip_final_newline(bytes: &[u8]) -> (&[u8], bool)
     ensures whole { bytes.now ≡ result.0.now ++ newline_if result.1 }
     ensures end { (front : List ℕ) → bytes.now ≡ front ++ 10 ∷ [] → result.1 ≡ true }
 {
@@ -61,12 +63,13 @@ fn without_end(bytes: &[u8]) -> (&[u8], bool)
 }
 
 /// Makes a column of the lines of a text without its newline at the very end.
-fn column_of<B: Backend + Drop>(
+fn make_column<B: Backend + Drop>(
     alloc: Global,
     hasher: LineHasher,
     body: &str,
 ) -> Result<Column<B, LineHasher>, Fault>
-    ensures { IfOk result (λ column. column ≡ slice_split is_newline body.now) }
+    ensures rows { IfOk result (λ column. column ≡ slice_split is_newline body.now) }
+    ensures fault { IfErr result IsNoDamage }
 {
     let mut lines = Column::with_hasher(alloc, hasher);
     match lines.encode(body.split('\n')) {
@@ -77,84 +80,92 @@ fn column_of<B: Backend + Drop>(
 }
 
 /// Returns a column of the lines, and whether the last one ends in a newline.
-fn lines_of<B: Backend + Drop>(
+fn split_lines<B: Backend + Drop>(
     alloc: Global,
     hasher: LineHasher,
     bytes: &[u8],
 ) -> Result<(Column<B, LineHasher>, bool), Fault>
-    ensures { IfOk result (λ lines. AreLines bytes.now lines.0 lines.1) }
+    ensures lines { IfOk result (λ lines. AreLines bytes.now lines.0 lines.1) }
+    ensures fault { IfErr result IsNoDamage }
 {
-    let (body, is_ended) = without_end(bytes);
-    let text = text_of(body)?;
+    let (body, is_ended) = strip_final_newline(bytes);
+    let text = check_utf8(body)?;
     if bytes.is_empty() {
         return Ok((Column::with_hasher(alloc, hasher), is_ended));
     }
-    Ok((column_of(alloc, hasher, text)?, is_ended))
+    Ok((make_column(alloc, hasher, text)?, is_ended))
 }
 
 /// Returns the file of the lines of the input, which are kept in the backend `B`.
-fn encoded<B: Backend + Drop>(
+fn encode<B: Backend + Drop>(
     alloc: Global,
     hasher: LineHasher,
     bytes: &[u8],
 ) -> Result<String, Fault>
-    ensures { IfOk result (λ text. Encodes bytes.now (string_bytes text)) }
+    ensures file { IfOk result (λ text. IsColumnFile bytes.now (string_bytes text)) }
+    ensures fault { IfErr result IsNoDamage }
 {
-    let (lines, is_ended) = lines_of::<B>(alloc, hasher, bytes)?;
-    match file::encoded(alloc, &lines, is_ended) {
+    let (lines, is_ended) = split_lines::<B>(alloc, hasher, bytes)?;
+    match file::format_file(alloc, &lines, is_ended) {
         Ok(text) => Ok(text),
         Err(_) => Err(Fault::Memory),
     }
 }
 
 /// Returns how often each line of the input comes, where lines are kept in the backend `B`.
-fn counted<B: Backend + Drop>(
+fn count_lines<B: Backend + Drop>(
     alloc: Global,
     hasher: LineHasher,
     bytes: &[u8],
     is_sorted: bool,
-) -> Result<String, Fault> {
-    let (lines, _) = lines_of::<B>(alloc, hasher, bytes)?;
-    count::text_of(alloc, &lines, is_sorted).map_err(|_| Fault::Memory)
+) -> Result<String, Fault>
+    ensures { IfErr result IsNoDamage }
+{
+    let (lines, _) = split_lines::<B>(alloc, hasher, bytes)?;
+    count::format_counts(alloc, &lines, is_sorted).map_err(|_| Fault::Memory)
 }
 
 /// Returns what is written for the lines of the input, which are kept in the backend `B`.
-fn written<B: Backend + Drop>(
+fn format_lines<B: Backend + Drop>(
     alloc: Global,
     hasher: LineHasher,
     form: Form,
     bytes: &[u8],
 ) -> Result<String, Fault>
-    ensures { IfOk result (λ text. Tells form bytes.now (string_bytes text)) }
+    ensures form { IfOk result (λ text. IsFormOutput form bytes.now (string_bytes text)) }
+    ensures fault { IfErr result IsNoDamage }
 {
     match form {
-        Form::File => encoded::<B>(alloc, hasher, bytes),
-        Form::Counts => counted::<B>(alloc, hasher, bytes, false),
-        Form::SortedCounts => counted::<B>(alloc, hasher, bytes, true),
+        Form::File => encode::<B>(alloc, hasher, bytes),
+        Form::Counts => count_lines::<B>(alloc, hasher, bytes, false),
+        Form::SortedCounts => count_lines::<B>(alloc, hasher, bytes, true),
     }
 }
 
 /// Returns what is written for the lines of the input, which are kept in the backend of this name.
-fn written_over(
+fn format_lines_over(
     alloc: Global,
     hasher: LineHasher,
     form: Form,
     choice: Choice,
     bytes: &[u8],
 ) -> Result<String, Fault>
-    ensures { IfOk result (λ text. Tells form bytes.now (string_bytes text)) }
+    ensures form { IfOk result (λ text. IsFormOutput form bytes.now (string_bytes text)) }
+    ensures fault { IfErr result IsNoDamage }
 {
     match choice {
-        Choice::String => written::<StringBackend>(alloc, hasher, form, bytes),
-        Choice::Bucket => written::<BucketBackend>(alloc, hasher, form, bytes),
-        Choice::Buffer => written::<BufferBackend>(alloc, hasher, form, bytes),
+        Choice::String => format_lines::<StringBackend>(alloc, hasher, form, bytes),
+        Choice::Bucket => format_lines::<BucketBackend>(alloc, hasher, form, bytes),
+        Choice::Buffer => format_lines::<BufferBackend>(alloc, hasher, form, bytes),
     }
 }
 
 /// Writes a text.
 fn write_text<W: Write>(output: &mut W, text: String) -> Result<(), Fault>
-    ensures written { OnOk result (Appends (W.contents output.old) (W.contents output.new) (string_bytes text)) }
+    ensures written { OnOk result
+        (Appends (W.contents output.old) (W.contents output.new) (string_bytes text)) }
     ensures fault { IfErr result IsWriteFault }
+    ensures sound { IfErr result IsNoDamage }
 {
     output.write_all(text.as_bytes()).map_err(Fault::of_write)?;
     output.flush().map_err(Fault::of_write)
@@ -169,10 +180,12 @@ fn write_form<W: Write>(
     bytes: &[u8],
     output: &mut W,
 ) -> Result<(), Fault>
-    ensures written { OnOk result (Writes (Tells form bytes.now) (W.contents output.old) (W.contents output.new)) }
+    ensures written { OnOk result
+        (Writes (IsFormOutput form bytes.now) (W.contents output.old) (W.contents output.new)) }
     ensures silent { IsOk result ⊎ (IsErrAnd result IsWriteFault ⊎ (output.new ≡ output.old)) }
+    ensures fault { IfErr result IsNoDamage }
 {
-    let text = written_over(alloc, hasher, form, choice, bytes)?;
+    let text = format_lines_over(alloc, hasher, form, choice, bytes)?;
     write_text(output, text)
 }
 
@@ -184,13 +197,17 @@ pub fn answer<W: Write>(
     bytes: &[u8],
     output: &mut W,
 ) -> Result<(), Fault>
-    ensures answered { OnOk result (Writes (Does task bytes.now) (W.contents output.old) (W.contents output.new)) }
+    ensures answered { OnOk result
+        (Writes (IsTaskOutput task bytes.now) (W.contents output.old) (W.contents output.new)) }
+
+    // A file that holds a text is never called damaged.
+    ensures err { IfErr result (IsRightFault (IsTaskOutput task bytes.now)) }
 
     // Unless all went well or a write failed, the output was not touched.
     ensures silent { IsOk result ⊎ (IsErrAnd result IsWriteFault ⊎ (output.new ≡ output.old)) }
 {
     match task {
-        Task::Decode => file::decode(alloc, hasher, text_of(bytes)?, output),
+        Task::Decode => file::decode(alloc, hasher, check_utf8(bytes)?, output),
         Task::Write(form, choice) => write_form(alloc, hasher, form, choice, bytes, output),
     }
 }

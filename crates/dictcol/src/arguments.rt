@@ -139,7 +139,7 @@ impl<'a> Given<'a> {
     }
 
     /// Returns what all the words ask for.
-    fn task(self) -> Result<Task, Misuse<'a>> {
+    fn decide_task(self) -> Result<Task, Misuse<'a>> {
         let choice = self.choice.unwrap_or(Choice::String);
         match self.command.ok_or(Misuse::NoCommand)? {
             Command::Encode if self.is_sorted => Err(Misuse::OptionOfAnother("encode", "--sorted")),
@@ -156,7 +156,7 @@ impl<'a> Given<'a> {
 }
 
 /// Returns what the arguments ask for, or the first thing that is wrong with them. Options may stand anywhere before `--`.
-pub fn request_of(arguments: &[String]) -> Result<Request<'_>, Misuse<'_>> {
+pub fn parse_arguments(arguments: &[String]) -> Result<Request<'_>, Misuse<'_>> {
     let mut given = Given {
         command: None,
         source: None,
@@ -191,6 +191,6 @@ pub fn request_of(arguments: &[String]) -> Result<Request<'_>, Misuse<'_>> {
     if let Next::Backend = next {
         return Err(Misuse::NoValue("--backend"));
     }
-    let task = given.task()?;
+    let task = given.decide_task()?;
     Ok(Request::Do(task, given.source.unwrap_or(Source::StandardInput)))
 }

@@ -7,7 +7,7 @@ use string_interner::backend::Backend;
 use uses::column::Column;
 
 /// Returns how often each number below `distinct` comes.
-fn occurrences(
+fn count_numbers(
     alloc: Global,
     numbers: &[usize],
     distinct: usize,
@@ -22,12 +22,12 @@ fn occurrences(
 }
 
 /// Returns each distinct line with how often it comes, in the order of first appearance.
-fn counts_of<B: Backend>(
+fn list_counts<B: Backend>(
     alloc: Global,
     lines: &Column<B, LineHasher>,
 ) -> Result<Vec<(usize, &str)>, AllocError> {
     let numbers = lines.numbers(alloc)?;
-    let counts = occurrences(alloc, &numbers, lines.count_distinct())?;
+    let counts = count_numbers(alloc, &numbers, lines.count_distinct())?;
     let mut rows = Vec::with_capacity(alloc, counts.len())?;
     for (count, (_, text)) in counts.iter().zip(lines.dictionary()) {
         rows.push((*count, text))?;
@@ -37,12 +37,12 @@ fn counts_of<B: Backend>(
 
 /// Returns a line for each distinct line of the input: how often it comes, a space, and the line. They stand in the
 /// order of first appearance, or the most frequent first, where equally frequent ones keep that order.
-pub fn text_of<B: Backend>(
+pub fn format_counts<B: Backend>(
     alloc: Global,
     lines: &Column<B, LineHasher>,
     is_sorted: bool,
 ) -> Result<String, AllocError> {
-    let mut rows = counts_of(alloc, lines)?;
+    let mut rows = list_counts(alloc, lines)?;
     if is_sorted {
         rows.sort_by(|a, b| b.0.cmp(&a.0))?;
     }

@@ -2,7 +2,7 @@
 
 ghost use Rattle.std.specs.Prelude.{◌≡◌};
 ghost use Rattle.std.specs.IoError.{error_kind};
-ghost use Rattle.dictcol.specs.Fault.{arguments_fault, read_fault, write_fault, status_of, IsReadFault, IsWriteFault};
+ghost use Rattle.dictcol.specs.Fault.{arguments_fault, read_fault, write_fault, status_of, IsNoDamage, IsReadFault, IsWriteFault};
 
 use std::io;
 use std::io::ErrorKind;
@@ -93,6 +93,7 @@ impl Fault {
     pub fn of_write(error: io::Error) -> Fault
         ensures value { result ≡ write_fault (error_kind error) error }
         ensures writing { IsWriteFault result }
+        ensures sound { IsNoDamage result }
     {
         match error.kind() {
             ErrorKind::BrokenPipe => Fault::ClosedOutput,

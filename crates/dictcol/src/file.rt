@@ -10,9 +10,9 @@ ghost use Rattle.serde_json.specs.View.{view, items_of, items_view};
 ghost use Rattle.string_interner.specs.Text.{Text, IsDistinct};
 ghost use Rattle.string_interner.specs.Extend.{fresh, texts_of};
 ghost use Rattle.string_interner.specs.Json.{json_of_texts, json_of_number};
-ghost use Rattle.dictcol.specs.Fault.{IsDamage, IsWriteFault};
-ghost use Rattle.dictcol.specs.File.{IsFileOf, texts_at, SaysText, Decodes};
-ghost use Rattle.dictcol.specs.Lines.{behind_newline, has_newline, joined};
+ghost use Rattle.dictcol.specs.Fault.{IsDamage, IsRightFault, IsWriteFault};
+ghost use Rattle.dictcol.specs.File.{IsFileOf, indexed_texts, HoldsText, DecodesFile};
+ghost use Rattle.dictcol.specs.Lines.{behind_newline, has_newline, text_of_lines};
 ghost use Rattle.dictcol.specs.Writes.{Writes};
 
 use crate::fault::Fault;
@@ -30,8 +30,9 @@ use uses::column::Column;
 type Dictionary = StringInterner<DefaultBackend, LineHasher, WindowIndex<DefaultSymbol>>;
 
 /// Returns the array of the numbers.
-fn array_of(alloc: Global, numbers: &[usize]) -> Result<Value, AllocError>
-    ensures { IfOk result (λ value. view value ≡ array (items_of (map json_of_number numbers.now))) }
+fn build_array(alloc: Global, numbers: &[usize]) -> Result<Value, AllocError>
+    ensures { IfOk result (λ value.
+        view value ≡ array (items_of (map json_of_number numbers.now))) }
 {
     let mut elements = Vec::with_capacity(alloc, numbers.len())?;
     for number in numbers {
@@ -41,7 +42,7 @@ fn array_of(alloc: Global, numbers: &[usize]) -> Result<Value, AllocError>
 }
 
 /// Returns the file of the lines.
-fn file_of<B: Backend>(
+fn build_file<B: Backend>(
     alloc: Global,
     lines: &Column<B, LineHasher>,
     is_ended: bool,
@@ -52,28 +53,30 @@ fn file_of<B: Backend>(
     // For the proof: states that the texts are distinct.
     let _ = lines.dictionary().len();
     let dictionary = lines.dictionary().to_json(alloc)?;
-    let numbers = array_of(alloc, &lines.numbers(alloc)?)?;
+    let numbers = build_array(alloc, &lines.numbers(alloc)?)?;
     json!(in alloc; {"dictionary": dictionary, "lines": numbers, "final_newline": is_ended})
 }
 
 /// Returns the text of the file of the lines.
-pub fn encoded<B: Backend>(
+pub fn format_file<B: Backend>(
     alloc: Global,
     lines: &Column<B, LineHasher>,
     is_ended: bool,
 ) -> Result<String, AllocError>
-    ensures file { IfOk result (λ text. (value : Data) × IsFileOf lines.now is_ended value × (read (string_bytes text) ≡ Some value)) }
+    ensures file { IfOk result (λ text. (value : Data) × IsFileOf lines.now is_ended value
+        × (read (string_bytes text) ≡ Some value)) }
     ensures distinct { OnOk result (IsDistinct (fresh [] lines.now)) }
 {
-    let file = file_of(alloc, lines, is_ended)?;
+    let file = build_file(alloc, lines, is_ended)?;
     let mut text = file.to_string(alloc)?;
     text.push('\n')?;
     Ok(text)
 }
 
 /// Reads the dictionary.
-fn dictionary_of(alloc: Global, hasher: LineHasher, file: &Value) -> Result<Dictionary, Fault>
-    ensures ok { IfOk result (λ dictionary. get (codes "dictionary") (view file.now) ≡ Some (json_of_texts dictionary.texts)) }
+fn read_dictionary(alloc: Global, hasher: LineHasher, file: &Value) -> Result<Dictionary, Fault>
+    ensures ok { IfOk result (λ dictionary.
+        get (codes "dictionary") (view file.now) ≡ Some (json_of_texts dictionary.texts)) }
     ensures err { IfErr result (λ fault. IsDamage fault → (texts : List Text) → IsDistinct texts
         → get (codes "dictionary") (view file.now) ≢ Some (json_of_texts texts)) }
 {
@@ -90,11 +93,12 @@ fn dictionary_of(alloc: Global, hasher: LineHasher, file: &Value) -> Result<Dict
 }
 
 /// Returns the texts of the dictionary, each of which must be one line.
-fn texts_of(alloc: Global, dictionary: &Dictionary) -> Result<Vec<&str>, Fault>
+fn collect_texts(alloc: Global, dictionary: &Dictionary) -> Result<Vec<&str>, Fault>
     ensures ok { IfOk result (λ texts. texts_of texts.items ≡ dictionary.now.texts) }
     ensures distinct { IsDistinct dictionary.now.texts }
     ensures each_a_line { IfOk result (λ texts. list_any has_newline dictionary.now.texts ≡ false) }
-    ensures err { IfErr result (λ fault. IsDamage fault → list_any has_newline dictionary.now.texts ≡ true) }
+    ensures err { IfErr result (λ fault. IsDamage fault
+        → list_any has_newline dictionary.now.texts ≡ true) }
 {
     let mut texts = Vec::with_capacity(alloc, dictionary.len()).map_err(|_| Fault::Memory)?;
     for (_, text) in dictionary {
@@ -107,9 +111,15 @@ fn texts_of(alloc: Global, dictionary: &Dictionary) -> Result<Vec<&str>, Fault>
 }
 
 /// Returns the text of each number.
-fn lines_of<'t>(alloc: Global, texts: &[&'t str], numbers: &[Value]) -> Result<Vec<&'t str>, Fault>
-    ensures ok { IfOk result (λ lines. texts_at (texts_of texts.now) (items_view numbers.now) ≡ Some (texts_of lines.items)) }
-    ensures err { IfErr result (λ fault. IsDamage fault → texts_at (texts_of texts.now) (items_view numbers.now) ≡ None) }
+fn look_up_lines<'t>(
+    alloc: Global,
+    texts: &[&'t str],
+    numbers: &[Value],
+) -> Result<Vec<&'t str>, Fault>
+    ensures ok { IfOk result (λ lines.
+        indexed_texts (texts_of texts.now) (items_view numbers.now) ≡ Some (texts_of lines.items)) }
+    ensures err { IfErr result (λ fault. IsDamage fault
+        → indexed_texts (texts_of texts.now) (items_view numbers.now) ≡ None) }
 {
     let mut lines = Vec::with_capacity(alloc, numbers.len()).map_err(|_| Fault::Memory)?;
     for number in numbers {
@@ -124,7 +134,8 @@ fn lines_of<'t>(alloc: Global, texts: &[&'t str], numbers: &[Value]) -> Result<V
 
 /// Writes some bytes.
 fn write<W: Write>(output: &mut W, bytes: &[u8]) -> Result<(), Fault>
-    ensures written { OnOk result (Appends (W.contents output.old) (W.contents output.new) bytes.now) }
+    ensures written { OnOk result
+        (Appends (W.contents output.old) (W.contents output.new) bytes.now) }
     ensures fault { IfErr result IsWriteFault }
 {
     output.write_all(bytes).map_err(Fault::of_write)
@@ -132,7 +143,8 @@ fn write<W: Write>(output: &mut W, bytes: &[u8]) -> Result<(), Fault>
 
 /// Writes a line behind a newline.
 fn write_further_line<W: Write>(output: &mut W, line: &str) -> Result<(), Fault>
-    ensures written { OnOk result (Appends (W.contents output.old) (W.contents output.new) (behind_newline line.now)) }
+    ensures written { OnOk result
+        (Appends (W.contents output.old) (W.contents output.new) (behind_newline line.now)) }
     ensures fault { IfErr result IsWriteFault }
 {
     write(output, b"\n")?;
@@ -141,7 +153,8 @@ fn write_further_line<W: Write>(output: &mut W, line: &str) -> Result<(), Fault>
 
 /// Writes lines with newlines between them.
 fn write_joined<W: Write>(output: &mut W, lines: &[&str]) -> Result<(), Fault>
-    ensures written { OnOk result (Appends (W.contents output.old) (W.contents output.new) (join_with_byte 10 (texts_of lines.now))) }
+    ensures written { OnOk result (Appends (W.contents output.old) (W.contents output.new)
+        (join_with_byte 10 (texts_of lines.now))) }
     ensures fault { IfErr result IsWriteFault }
 {
     let Some((first, rest)) = lines.split_first() else {
@@ -156,7 +169,8 @@ fn write_joined<W: Write>(output: &mut W, lines: &[&str]) -> Result<(), Fault>
 
 /// Writes the text of the lines.
 fn write_lines<W: Write>(output: &mut W, lines: &[&str], is_ended: bool) -> Result<(), Fault>
-    ensures written { OnOk result (Appends (W.contents output.old) (W.contents output.new) (joined (texts_of lines.now) is_ended)) }
+    ensures written { OnOk result (Appends (W.contents output.old) (W.contents output.new)
+        (text_of_lines (texts_of lines.now) is_ended)) }
     ensures fault { IfErr result IsWriteFault }
 {
     write_joined(output, lines)?;
@@ -167,9 +181,11 @@ fn write_lines<W: Write>(output: &mut W, lines: &[&str], is_ended: bool) -> Resu
 }
 
 /// Finds the numbers of the lines.
-fn numbers_of(file: &Value) -> Result<&Vec<Value>, Fault>
-    ensures ok { IfOk result (λ numbers. get (codes "lines") (view file.now) ≡ Some (array (items_view numbers.now.items))) }
-    ensures err { IfErr result (λ fault. (numbers : Items) → get (codes "lines") (view file.now) ≢ Some (array numbers)) }
+fn find_numbers(file: &Value) -> Result<&Vec<Value>, Fault>
+    ensures ok { IfOk result (λ numbers.
+        get (codes "lines") (view file.now) ≡ Some (array (items_view numbers.now.items))) }
+    ensures err { IfErr result (λ fault. (numbers : Items)
+        → get (codes "lines") (view file.now) ≢ Some (array numbers)) }
 {
     file.get("lines")
         .and_then(Value::as_array)
@@ -177,36 +193,39 @@ fn numbers_of(file: &Value) -> Result<&Vec<Value>, Fault>
 }
 
 /// Finds whether the last line ends in a newline.
-fn end_of(file: &Value) -> Result<bool, Fault>
-    ensures ok { IfOk result (λ is_ended. get (codes "final_newline") (view file.now) ≡ Some (boolean is_ended)) }
-    ensures err { IfErr result (λ fault. (is_ended : Bool) → get (codes "final_newline") (view file.now) ≢ Some (boolean is_ended)) }
+fn find_final_newline(file: &Value) -> Result<bool, Fault>
+    ensures ok { IfOk result (λ is_ended.
+        get (codes "final_newline") (view file.now) ≡ Some (boolean is_ended)) }
+    ensures err { IfErr result (λ fault. (is_ended : Bool)
+        → get (codes "final_newline") (view file.now) ≢ Some (boolean is_ended)) }
 {
     file.get("final_newline")
         .and_then(Value::as_bool)
         .ok_or(Fault::NoFinalNewline)
 }
 
-/// Writes the text that the file says. Faults are looked for in the order of its members, and nothing is written before all
+/// Writes the text that the file holds. Faults are looked for in the order of its members, and nothing is written before all
 /// members are known to be good.
-fn write_said<W: Write>(
+fn decode_value<W: Write>(
     alloc: Global,
     hasher: LineHasher,
     file: &Value,
     output: &mut W,
 ) -> Result<(), Fault>
-    ensures written { OnOk result (Writes (SaysText (view file.now)) (W.contents output.old) (W.contents output.new)) }
-    ensures err { IfErr result (λ fault. IsDamage fault → (text : Text) → ¬ (SaysText (view file.now) text)) }
+    ensures written { OnOk result
+        (Writes (HoldsText (view file.now)) (W.contents output.old) (W.contents output.new)) }
+    ensures err { IfErr result (IsRightFault (HoldsText (view file.now))) }
     ensures silent { IsOk result ⊎ (IsErrAnd result IsWriteFault ⊎ (output.new ≡ output.old)) }
 {
-    let dictionary = dictionary_of(alloc, hasher, file)?;
-    let texts = texts_of(alloc, &dictionary)?;
-    let lines = lines_of(alloc, &texts, numbers_of(file)?)?;
-    let is_ended = end_of(file)?;
+    let dictionary = read_dictionary(alloc, hasher, file)?;
+    let texts = collect_texts(alloc, &dictionary)?;
+    let lines = look_up_lines(alloc, &texts, find_numbers(file)?)?;
+    let is_ended = find_final_newline(file)?;
     write_lines(output, &lines, is_ended)
 }
 
 /// Returns the fault of a file that ends within its JSON.
-fn ends_early(file: &str) -> Fault
+fn locate_early_end(file: &str) -> Fault
     ensures { IsDamage result }
 {
     let newlines = file.bytes().filter(|byte| *byte == b'\n').count();
@@ -218,14 +237,14 @@ fn ends_early(file: &str) -> Fault
 }
 
 /// Reads the JSON of a file.
-fn parsed(alloc: Global, file: &str) -> Result<Value, Fault>
+fn parse(alloc: Global, file: &str) -> Result<Value, Fault>
     ensures ok { IfOk result (λ value. read file.now ≡ Some (view value)) }
     ensures err { IfErr result (λ fault. IsDamage fault → read file.now ≡ None) }
 {
     match Value::from_str(alloc, file) {
         Ok(value) => Ok(value),
         Err(error) if error.is_memory() => Err(Fault::Memory),
-        Err(error) if error.is_eof() => Err(ends_early(file)),
+        Err(error) if error.is_eof() => Err(locate_early_end(file)),
         Err(_) if file.starts_with('\u{feff}') => Err(Fault::ByteOrderMark),
         Err(error) => Err(Fault::NotJson(error)),
     }
@@ -239,14 +258,15 @@ pub fn decode<W: Write>(
     file: &str,
     output: &mut W,
 ) -> Result<(), Fault>
-    ensures written { OnOk result (Writes (Decodes file.now) (W.contents output.old) (W.contents output.new)) }
+    ensures written { OnOk result
+        (Writes (DecodesFile file.now) (W.contents output.old) (W.contents output.new)) }
 
-    // A file that says a text is never called damaged.
-    ensures err { IfErr result (λ fault. IsDamage fault → (text : Text) → ¬ (Decodes file.now text)) }
+    // A file that holds a text is never called damaged.
+    ensures err { IfErr result (IsRightFault (DecodesFile file.now)) }
 
     // Unless all went well or a write failed, the output was not touched.
     ensures silent { IsOk result ⊎ (IsErrAnd result IsWriteFault ⊎ (output.new ≡ output.old)) }
 {
-    let value = parsed(alloc, file)?;
-    write_said(alloc, hasher, &value, output)
+    let value = parse(alloc, file)?;
+    decode_value(alloc, hasher, &value, output)
 }

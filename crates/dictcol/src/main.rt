@@ -63,7 +63,7 @@ fn tell(rt: &HostRuntime, bytes: usize, what: &str) {
 }
 
 /// Returns the arguments behind the program's name.
-fn arguments_of(rt: &HostRuntime) -> Result<Vec<String>, Fault> {
+fn read_arguments(rt: &HostRuntime) -> Result<Vec<String>, Fault> {
     let words = env::args(rt).map_err(Fault::of_arguments)?;
     words.skip(1).collect(rt.alloc()).map_err(|_| Fault::Memory)
 }
@@ -109,18 +109,21 @@ fn end(rt: &HostRuntime, source: Source<'_>, outcome: Result<(), Fault>) -> Exit
     let _ = match (source, &fault) {
         // Who closed the output, as `head` does, wants no more, and no words about it.
         (_, Fault::ClosedOutput) => Ok(()),
-        (Source::StandardInput, _) | (_, Fault::Output(_)) => eprintln!(rt; "dictcol: {fault}"),
+        // The file has no part in these.
+        (Source::StandardInput, _) | (_, Fault::NoKeys(_) | Fault::Output(_)) => {
+            eprintln!(rt; "dictcol: {fault}")
+        }
         (Source::File(path), _) => eprintln!(rt; "dictcol: {path}: {fault}"),
     };
     ExitCode::from(fault.status())
 }
 
 fn main(rt: HostRuntime) -> ExitCode {
-    let arguments = match arguments_of(&rt) {
+    let arguments = match read_arguments(&rt) {
         Ok(arguments) => arguments,
         Err(fault) => return end(&rt, Source::StandardInput, Err(fault)),
     };
-    match arguments::request_of(&arguments) {
+    match arguments::parse_arguments(&arguments) {
         Ok(Request::Help) => end(&rt, Source::StandardInput, print(&rt, HELP)),
         Ok(Request::Version) => end(&rt, Source::StandardInput, print(&rt, VERSION)),
         Ok(Request::Do(task, source)) => end(&rt, source, work(&rt, task, source)),

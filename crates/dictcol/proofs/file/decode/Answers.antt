@@ -1,7 +1,7 @@
 use Rattle.std.proofs.lemmas.Result.{IfErr-weaker}
 use Rattle.serde_json.specs.View.{view}
-use Rattle.dictcol.proofs.Says.{reads-as}
+use Rattle.dictcol.proofs.HoldsLines.{reads-as}
 use Rattle.dictcol.proofs.file.decode.Goals as goal
 
 pub returns-clause-err : goal.returns-clause-err
-returns-clause-err g c = IfErr-weaker c.write_said.result _ _ (λ fault not damage text. reads-as c.args.file.now text (view c.in_ok-value.value) c.in_ok-value.ensures.ok (not damage text)) c.write_said.ensures.err
+returns-clause-err g c = IfErr-weaker c.decode_value.result _ _ (λ fault not damage text. reads-as c.args.file.now text (view c.in_ok-value.value) c.in_ok-value.ensures.ok (not damage text)) c.decode_value.ensures.err

@@ -3,10 +3,10 @@ use Rattle.std.specs.List.{list_any}
 use Rattle.std.proofs.lemmas.Result.{IfErr-weaker}
 use Rattle.serde_json.specs.View.{view, items_view}
 use Rattle.dictcol.specs.Fault.{IsDamage}
-use Rattle.dictcol.specs.File.{texts_at}
+use Rattle.dictcol.specs.File.{indexed_texts}
 use Rattle.dictcol.specs.Lines.{has_newline}
-use Rattle.dictcol.proofs.Says.{more-than-a-line, no-index}
-use Rattle.dictcol.proofs.file.write_said.Goals as goal
+use Rattle.dictcol.proofs.HoldsLines.{more-than-a-line, no-index}
+use Rattle.dictcol.proofs.file.decode_value.Goals as goal
 
 pub returns-in_err-texts-clause-err : goal.returns-in_err-texts-clause-err
 returns-in_err-texts-clause-err g c =
@@ -17,6 +17,6 @@ returns-in_err-texts-clause-err g c =
 pub returns-in_err-lines-clause-err : goal.returns-in_err-lines-clause-err
 returns-in_err-lines-clause-err g c =
     let dictionary = c.in_ok-dictionary.dictionary.texts in
-    let numbers = items_view c.in_ok-numbers_of.field-0.now.items in
-    let none : IfErr c.from_residual-in_err-lines.result (λ fault. IsDamage fault → texts_at c.in_ok-dictionary.dictionary.texts (items_view c.in_ok-numbers_of.field-0.now.items) ≡ None) = search rules in
-    IfErr-weaker c.from_residual-in_err-lines.result _ _ (λ fault is_none damage. no-index (view c.args.file.now) dictionary c.in_ok-dictionary.ensures.ok numbers c.in_ok-numbers_of.ensures.ok (is_none damage)) none
+    let numbers = items_view c.in_ok-find_numbers.field-0.now.items in
+    let none : IfErr c.from_residual-in_err-lines.result (λ fault. IsDamage fault → indexed_texts c.in_ok-dictionary.dictionary.texts (items_view c.in_ok-find_numbers.field-0.now.items) ≡ None) = search rules in
+    IfErr-weaker c.from_residual-in_err-lines.result _ _ (λ fault is_none damage. no-index (view c.args.file.now) dictionary c.in_ok-dictionary.ensures.ok numbers c.in_ok-find_numbers.ensures.ok (is_none damage)) none

@@ -5,8 +5,8 @@ use Rattle.std.proofs.lemmas.Option.{slice_get_past, slice_get_read}
 use Rattle.serde_json.specs.Find.{as_number, as_u64}
 use Rattle.serde_json.specs.View.{view}
 use Rattle.string_interner.proofs.Lemmas.Json.Reads.{next_element}
-use Rattle.dictcol.proofs.Says.{IfErr-all, no-text, one-text}
-use Rattle.dictcol.proofs.file.lines_of.Goals as goal
+use Rattle.dictcol.proofs.HoldsLines.{IfErr-all, no-text, one-text}
+use Rattle.dictcol.proofs.file.look_up_lines.Goals as goal
 
 pub returns-in_err-text-clause-err : goal.returns-in_err-text-clause-err
 returns-in_err-text-clause-err c =

@@ -2,7 +2,7 @@ use Rattle.std.proofs.Common.{◌≡◌, ◌≤◌, ◌+◌, ◌++◌, length, v
 use Rattle.std.specs.List.{list_any}
 use Rattle.string_interner.specs.Extend.{texts_of}
 use Rattle.dictcol.specs.Lines.{has_newline}
-use Rattle.dictcol.proofs.file.texts_of.Given as goal
+use Rattle.dictcol.proofs.file.collect_texts.Given as goal
 
 -- the texts so far and those ahead are the dictionary, a newline is only in those ahead, and there is room for them
 abbrev pub invariant-loop-text : goal.invariant-loop-text

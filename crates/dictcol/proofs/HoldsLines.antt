@@ -1,4 +1,4 @@
--- What a file says: at most one list of lines, and the file of some lines says these.
+-- What a file holds: at most one list of lines, and the file of some lines holds these.
 use Rattle.std.proofs.Common.{◌≡◌, ◌≢◌, ℕ, zero, suc, ◌+◌, ◌-◌, ◌^◌, ◌≤◌, lit≤, length, Bool, true, false, List, [], ◌∷◌, ◌++◌, map, codes, Option, Some, None, Result, Ok, Err, MatchResult, IfErr, Bor, option_map, option_and_then, refl, sym, ap, subst, ◌∙◌}
 use Rattle.std.specs.Prelude.{max, slice_get, ⊤}
 use Rattle.std.specs.List.{list_any}
@@ -22,9 +22,9 @@ use Rattle.string_interner.specs.declared.json.JsonError.{JsonError}
 use Rattle.string_interner.specs.declared.json.JsonError.TheVariants.{NoSymbol, Memory}
 use Rattle.string_interner.proofs.Lemmas.Json.Reads.{new_text}
 use Rattle.uses.specs.Column.{AreNumbersOf}
-use Rattle.dictcol.specs.File.{IsFileOf, texts_at, Says, SaysText, Encodes, Decodes}
-use Rattle.dictcol.specs.Lines.{has_newline, joined, AreLines}
-use Rattle.dictcol.proofs.Lines.{joined-lines, lines-plain, fresh-plain, texts_of-append}
+use Rattle.dictcol.specs.File.{IsFileOf, indexed_texts, HoldsLines, HoldsText, IsColumnFile, DecodesFile}
+use Rattle.dictcol.specs.Lines.{has_newline, text_of_lines, AreLines}
+use Rattle.dictcol.proofs.Lines.{text-of-lines, lines-plain, fresh-plain, texts_of-append}
 
 abbrev strings_in : Items → List Text
 strings_in no_items = []
@@ -57,25 +57,25 @@ truth_in _ = false
 pub same-truth : (a b : Bool) → Some (boolean a) ≡ Some (boolean b) → a ≡ b
 same-truth a b e = ap truth_in (same_Some _ _ e)
 
--- A file says one text.
-pub says-once : (value : Data) (lines lines' : List Text) (is_ended is_ended' : Bool) → Says value lines is_ended → Says value lines' is_ended' → joined lines is_ended ≡ joined lines' is_ended'
-says-once value lines lines' is_ended is_ended' says says' =
-    let texts = same-texts says.dictionary says'.dictionary (sym says.texts ∙ says'.texts) in
-    let items = same-items says.numbers says'.numbers (sym says.indexes ∙ says'.indexes) in
-    let truth = same-truth is_ended is_ended' (sym says.end ∙ says'.end) in
-    let same = same_Some lines lines' (sym says.picked ∙ ap (λ d. texts_at d says.numbers) texts ∙ ap (texts_at says'.dictionary) items ∙ says'.picked) in
-    ap (λ ls. joined ls is_ended) same ∙ ap (joined lines') truth
+-- A file holds one text.
+pub holds-once : (value : Data) (lines lines' : List Text) (is_ended is_ended' : Bool) → HoldsLines value lines is_ended → HoldsLines value lines' is_ended' → text_of_lines lines is_ended ≡ text_of_lines lines' is_ended'
+holds-once value lines lines' is_ended is_ended' holds holds' =
+    let texts = same-texts holds.dictionary holds'.dictionary (sym holds.texts ∙ holds'.texts) in
+    let items = same-items holds.numbers holds'.numbers (sym holds.indexes ∙ holds'.indexes) in
+    let truth = same-truth is_ended is_ended' (sym holds.end ∙ holds'.end) in
+    let same = same_Some lines lines' (sym holds.picked ∙ ap (λ d. indexed_texts d holds.numbers) texts ∙ ap (indexed_texts holds'.dictionary) items ∙ holds'.picked) in
+    ap (λ ls. text_of_lines ls is_ended) same ∙ ap (text_of_lines lines') truth
 
-texts_at-numbers : (dictionary : List Text) (numbers : List ℕ) (lines : List Text) → AreNumbersOf dictionary numbers lines → texts_at dictionary (items_of (map json_of_number numbers)) ≡ Some lines
+texts_at-numbers : (dictionary : List Text) (numbers : List ℕ) (lines : List Text) → AreNumbersOf dictionary numbers lines → indexed_texts dictionary (items_of (map json_of_number numbers)) ≡ Some lines
 texts_at-numbers dictionary [] [] are = refl
 texts_at-numbers dictionary [] (l ∷ ls) are = absurd are
 texts_at-numbers dictionary (n ∷ ns) [] are = absurd are
 texts_at-numbers dictionary (n ∷ ns) (l ∷ ls) are = rw (are.0, texts_at-numbers dictionary ns ls are.1) refl
 
--- The file of lines says them.
-pub says-file : (lines : List Text) (is_ended : Bool) (value : Data) → IsDistinct (fresh [] lines) → list_any has_newline lines ≡ false → IsFileOf lines is_ended value → Says value lines is_ended
+-- The file of lines holds them.
+pub file-holds : (lines : List Text) (is_ended : Bool) (value : Data) → IsDistinct (fresh [] lines) → list_any has_newline lines ≡ false → IsFileOf lines is_ended value → HoldsLines value lines is_ended
 unfolding serde_json_on_literals
-says-file lines is_ended value distinct plain is =
+file-holds lines is_ended value distinct plain is =
     let dictionary = fresh [] lines in record {
       dictionary = dictionary;
       texts = ap (get (codes "dictionary")) is.1;
@@ -135,57 +135,57 @@ module _ {S : Type 0} (numbering : Numbering S) where
   pub distinct-read : (texts : List Text) (value : Data) (outcome : Result InternerContents JsonError) → IsDistinct texts → value ≡ json_of_texts texts → ReadsArrayExactly numbering value outcome → IsRead outcome
   distinct-read texts value outcome distinct is read = reads-rest [] texts 0 outcome distinct (rw is at read)
 
--- Decoding what was encoded gives the same text: all that the file of a text's lines can say is the text.
-pub gives-back : (text : Text) (lines said : List Text) (is_ended said_ended : Bool) (value : Data) → AreLines text lines is_ended → IsDistinct (fresh [] lines) → IsFileOf lines is_ended value → Says value said said_ended
-    → joined said said_ended ≡ text
-gives-back text lines said is_ended said_ended value are distinct is says =
-    says-once value said lines said_ended is_ended says (says-file lines is_ended value distinct (lines-plain text lines is_ended are) is) ∙ joined-lines text lines is_ended are
+-- Decoding what was encoded gives the same text: all that the file of a text's lines can hold is the text.
+pub gives-back : (text : Text) (lines said : List Text) (is_ended said_ended : Bool) (value : Data) → AreLines text lines is_ended → IsDistinct (fresh [] lines) → IsFileOf lines is_ended value → HoldsLines value said said_ended
+    → text_of_lines said said_ended ≡ text
+gives-back text lines said is_ended said_ended value are distinct is holds =
+    holds-once value said lines said_ended is_ended holds (file-holds lines is_ended value distinct (lines-plain text lines is_ended are) is) ∙ text-of-lines text lines is_ended are
 
--- The file that was encoded says the text.
-pub is-decoded : (text file : Text) → Encodes text file → Decodes file text
+-- The file that was encoded holds the text.
+pub is-decoded : (text file : Text) → IsColumnFile text file → DecodesFile file text
 is-decoded text file e =
-    let says = says-file e.0 e.1 e.2 e.4 (lines-plain text e.0 e.1 e.3) e.5 in
-    (e.2, (e.0, e.1, says, sym (joined-lines text e.0 e.1 e.3)), e.6)
+    let holds = file-holds e.0 e.1 e.2 e.4 (lines-plain text e.0 e.1 e.3) e.5 in
+    (e.2, (e.0, e.1, holds, sym (text-of-lines text e.0 e.1 e.3)), e.6)
 
 -- What was encoded comes back: no other text is decoded.
-pub comes-back : (text file said : Text) → Encodes text file → Decodes file said → said ≡ text
+pub comes-back : (text file said : Text) → IsColumnFile text file → DecodesFile file said → said ≡ text
 comes-back text file said e d =
-    let says = subst (λ v. SaysText v said) (same_Some d.0 e.2 (sym d.2 ∙ e.6)) d.1 in
-    says.3 ∙ gives-back text e.0 says.0 e.1 says.1 e.2 e.3 e.4 e.5 says.2
+    let holds = subst (λ v. HoldsText v said) (same_Some d.0 e.2 (sym d.2 ∙ e.6)) d.1 in
+    holds.3 ∙ gives-back text e.0 holds.0 e.1 holds.1 e.2 e.3 e.4 e.5 holds.2
 
--- ---- files that say nothing
+-- ---- files that hold nothing
 
 module _ (value : Data) where
-  pub no-dictionary : ((texts : List Text) → IsDistinct texts → get (codes "dictionary") value ≢ Some (json_of_texts texts)) → (text : Text) → ¬ (SaysText value text)
-  no-dictionary none text says = let s = says.2 in none s.dictionary s.distinct s.texts
+  pub no-dictionary : ((texts : List Text) → IsDistinct texts → get (codes "dictionary") value ≢ Some (json_of_texts texts)) → (text : Text) → ¬ (HoldsText value text)
+  no-dictionary none text holds = let s = holds.2 in none s.dictionary s.distinct s.texts
 
-  pub no-numbers : ((numbers : Items) → get (codes "lines") value ≢ Some (array numbers)) → (text : Text) → ¬ (SaysText value text)
-  no-numbers none text says = let s = says.2 in none s.numbers s.indexes
+  pub no-numbers : ((numbers : Items) → get (codes "lines") value ≢ Some (array numbers)) → (text : Text) → ¬ (HoldsText value text)
+  no-numbers none text holds = let s = holds.2 in none s.numbers s.indexes
 
-  pub no-end : ((is_ended : Bool) → get (codes "final_newline") value ≢ Some (boolean is_ended)) → (text : Text) → ¬ (SaysText value text)
-  no-end none text says = let s = says.2 in none says.1 s.end
+  pub no-end : ((is_ended : Bool) → get (codes "final_newline") value ≢ Some (boolean is_ended)) → (text : Text) → ¬ (HoldsText value text)
+  no-end none text holds = let s = holds.2 in none holds.1 s.end
 
   module _ (dictionary : List Text) (texts : get (codes "dictionary") value ≡ Some (json_of_texts dictionary)) where
-    pub more-than-a-line : list_any has_newline dictionary ≡ true → (text : Text) → ¬ (SaysText value text)
-    more-than-a-line has text says =
-        let s = says.2 in
+    pub more-than-a-line : list_any has_newline dictionary ≡ true → (text : Text) → ¬ (HoldsText value text)
+    more-than-a-line has text holds =
+        let s = holds.2 in
         let same = same-texts dictionary s.dictionary (sym texts ∙ s.texts) in
         let both : true ≡ false = sym has ∙ ap (list_any has_newline) same ∙ s.each_a_line in absurd (cc)
 
-    pub no-index : (numbers : Items) → get (codes "lines") value ≡ Some (array numbers) → texts_at dictionary numbers ≡ None → (text : Text) → ¬ (SaysText value text)
-    no-index numbers indexes none text says =
-        let s = says.2 in
+    pub no-index : (numbers : Items) → get (codes "lines") value ≡ Some (array numbers) → indexed_texts dictionary numbers ≡ None → (text : Text) → ¬ (HoldsText value text)
+    no-index numbers indexes none text holds =
+        let s = holds.2 in
         let same = same-texts dictionary s.dictionary (sym texts ∙ s.texts) in
         let items = same-items numbers s.numbers (sym indexes ∙ s.indexes) in
-        let both : None ≡ Some says.0 = sym none ∙ ap (λ d. texts_at d numbers) same ∙ ap (texts_at s.dictionary) items ∙ s.picked in absurd (cc)
+        let both : None ≡ Some holds.0 = sym none ∙ ap (λ d. indexed_texts d numbers) same ∙ ap (indexed_texts s.dictionary) items ∙ s.picked in absurd (cc)
 
 -- text that is no JSON is no file
-pub no-json : (file : Text) → read file ≡ None → (text : Text) → ¬ (Decodes file text)
-no-json file none text says = let both : None ≡ Some says.0 = sym none ∙ says.2 in absurd (cc)
+pub no-json : (file : Text) → read file ≡ None → (text : Text) → ¬ (DecodesFile file text)
+no-json file none text holds = let both : None ≡ Some holds.0 = sym none ∙ holds.2 in absurd (cc)
 
--- text that reads as a value is a file of what this says
-pub reads-as : (file text : Text) (value : Data) → read file ≡ Some value → ¬ (SaysText value text) → ¬ (Decodes file text)
-reads-as file text value is not says = not (subst (λ v. SaysText v text) (same_Some _ _ (sym says.2 ∙ is)) says.1)
+-- text that reads as a value is a file of what this holds
+pub reads-as : (file text : Text) (value : Data) → read file ≡ Some value → ¬ (HoldsText value text) → ¬ (DecodesFile file text)
+reads-as file text value is not holds = not (subst (λ v. HoldsText v text) (same_Some _ _ (sym holds.2 ∙ is)) holds.1)
 
 -- ---- the steps of reading
 
@@ -204,10 +204,10 @@ text-some (t ∷ ts) zero text e = ap (λ x. Some x.now) (same_Some _ _ e)
 text-some (t ∷ ts) (suc i) text e = text-some ts i text e
 
 module _ (dictionary : List (Bor Text)) (all ahead rest : Items) (value : Data) (lines : List (Bor Text))
-    (so_far : texts_at (texts_of dictionary) all ≡ option_map (λ more. texts_of lines ++ more) (texts_at (texts_of dictionary) ahead)) (next : ahead ≡ item value rest)
+    (so_far : indexed_texts (texts_of dictionary) all ≡ option_map (λ more. texts_of lines ++ more) (indexed_texts (texts_of dictionary) ahead)) (next : ahead ≡ item value rest)
     (index : ℕ) (is : option_and_then as_u64 (as_number value) ≡ Some index) where
   -- a number that is no index
-  pub no-text : slice_get dictionary index ≡ None → texts_at (texts_of dictionary) all ≡ None
+  pub no-text : slice_get dictionary index ≡ None → indexed_texts (texts_of dictionary) all ≡ None
   no-text none = so_far ∙ rw (next, is, text-none dictionary index none) refl
 
   onto : (text : Text) (o : Option (List Text)) → option_map (λ more. texts_of lines ++ more) (option_map (λ texts. text ∷ texts) o) ≡ option_map (λ more. (texts_of lines ++ text ∷ []) ++ more) o
@@ -216,5 +216,5 @@ module _ (dictionary : List (Bor Text)) (all ahead rest : Items) (value : Data) 
 
   -- one that is
   pub one-text : (text : Bor Text) (new : List (Bor Text)) → slice_get dictionary index ≡ Some text → new ≡ lines ++ text ∷ []
-      → texts_at (texts_of dictionary) all ≡ option_map (λ more. texts_of new ++ more) (texts_at (texts_of dictionary) rest)
-  one-text text new at pushed = so_far ∙ rw (next, is, text-some dictionary index text at, pushed, texts_of-append lines (text ∷ [])) (onto text.now (texts_at (texts_of dictionary) rest))
+      → indexed_texts (texts_of dictionary) all ≡ option_map (λ more. texts_of new ++ more) (indexed_texts (texts_of dictionary) rest)
+  one-text text new at pushed = so_far ∙ rw (next, is, text-some dictionary index text at, pushed, texts_of-append lines (text ∷ [])) (onto text.now (indexed_texts (texts_of dictionary) rest))

@@ -5,8 +5,8 @@ use Rattle.string_interner.specs.Extend.{texts_of}
 use Rattle.string_interner.proofs.Lemmas.Backend.Entries.{first_entry, no_entry}
 use Rattle.dictcol.specs.Lines.{has_newline}
 use Rattle.dictcol.proofs.Lines.{walked-on}
-use Rattle.dictcol.proofs.Says.{dictionary_numbering}
-use Rattle.dictcol.proofs.file.texts_of.Goals as goal
+use Rattle.dictcol.proofs.HoldsLines.{dictionary_numbering}
+use Rattle.dictcol.proofs.file.collect_texts.Goals as goal
 
 pub returns-then-contains-clause-err : goal.returns-then-contains-clause-err
 returns-then-contains-clause-err c = λ damage.

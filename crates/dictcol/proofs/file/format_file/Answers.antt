@@ -2,8 +2,8 @@ use Rattle.std.proofs.Common.{◌≡◌, ◌++◌, ◌∷◌, [], string_bytes, 
 use Rattle.serde_json.specs.Read.{read}
 use Rattle.serde_json.specs.View.{view}
 use Rattle.dictcol.proofs.Newline.{read-newline}
-use Rattle.dictcol.proofs.Says.{file-depth}
-use Rattle.dictcol.proofs.file.encoded.Goals as goal
+use Rattle.dictcol.proofs.HoldsLines.{file-depth}
+use Rattle.dictcol.proofs.file.format_file.Goals as goal
 
 pub returns-clause-file : goal.returns-clause-file
 returns-clause-file g c =

@@ -2,10 +2,10 @@ use Rattle.std.proofs.Common.{lit<, ◌++◌, ap, ◌∙◌}
 use Rattle.std.proofs.lemmas.Iterator.{items_from_drains}
 use Rattle.std.proofs.lemmas.Iterator.Splits.{YieldsList-from_str_split}
 use Rattle.string_interner.specs.Extend.{texts_of}
-use Rattle.dictcol.proofs.answer.column_of.Goals as goal
+use Rattle.dictcol.proofs.answer.make_column.Goals as goal
 
-pub returns-in-Ok : goal.returns-in-Ok
-returns-in-Ok g c =
+pub returns-in-Ok-clause-rows : goal.returns-in-Ok-clause-rows
+returns-in-Ok-clause-rows g c =
     let h = c.in-Ok.ensures in
     let yielded = h.2 in
     let then = rw yielded.1 at yielded.3 in

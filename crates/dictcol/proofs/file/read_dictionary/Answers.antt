@@ -3,8 +3,8 @@ use Rattle.std.proofs.lemmas.Option.{same_Some}
 use Rattle.serde_json.specs.Find.{get}
 use Rattle.serde_json.specs.View.{view}
 use Rattle.string_interner.specs.declared.json.JsonError.TheVariants.{NotAList, NotAText, Repeated, NotANumber}
-use Rattle.dictcol.proofs.Says.{IsRead, dictionary_numbering, distinct-read}
-use Rattle.dictcol.proofs.file.dictionary_of.Goals as goal
+use Rattle.dictcol.proofs.HoldsLines.{IsRead, dictionary_numbering, distinct-read}
+use Rattle.dictcol.proofs.file.read_dictionary.Goals as goal
 
 pub returns-in-Err-NotAText-clause-err : goal.returns-in-Err-NotAText-clause-err
 returns-in-Err-NotAText-clause-err c = λ damage texts distinct e.

@@ -1,7 +1,7 @@
 use Rattle.std.proofs.Common.{◌≡◌, ◌≤◌, map, take, length, vec_len, vec_capacity}
 use Rattle.serde_json.specs.View.{view}
 use Rattle.string_interner.specs.Json.{json_of_number}
-use Rattle.dictcol.proofs.file.array_of.Given as goal
+use Rattle.dictcol.proofs.file.build_array.Given as goal
 
 -- the elements are the numbers so far, and there is room for the rest
 abbrev pub invariant-loop-number : goal.invariant-loop-number
