@@ -1,8 +1,9 @@
-/* Stands before the C library of a program (LD_PRELOAD), to break its standard input and output off.
+/* Stands before the C library of a program (LD_PRELOAD), to break its standard input and output off, and to give it no random
+   bytes.
 
    READ_BYTES=N has reading fail once N bytes were read, as where a peer is gone. WRITE_BYTES=N has each write take N bytes
    at most. BROKEN_WRITE=N breaks the Nth write, counted from 1, and each after it: they fail with the error number ERROR, or
-   take nothing where that is 0.
+   take nothing where that is 0. NO_RANDOM=1 has each request for random bytes fail.
 
    It includes nothing: the kit's compiler runs where no headers of the C library are installed. */
 typedef unsigned long size_type;
@@ -18,6 +19,8 @@ extern void *dlsym(void *library, const char *name);
 #define STANDARD_OUTPUT 1
 /* Linux's number for a connection that was reset. */
 #define CONNECTION_RESET 104
+/* Its number for a call that it does not have. */
+#define NO_SUCH_CALL 38
 
 struct part {
     const void *bytes;
@@ -71,6 +74,14 @@ long write(int file, const void *bytes, size_type count) {
         return error ? failed(error) : 0;
     }
     return next(file, bytes, least(count, setting("WRITE_BYTES", ~0UL)));
+}
+
+int getentropy(void *bytes, size_type count) {
+    static int (*next)(void *, size_type);
+    if (!next) {
+        next = dlsym(RTLD_NEXT, "getentropy");
+    }
+    return setting("NO_RANDOM", 0) ? (int)failed(NO_SUCH_CALL) : next(bytes, count);
 }
 
 /* A part at a time, as the C library may. */

@@ -288,6 +288,8 @@ def operands(program):
         for name, error in ((b"missing", errno.ENOENT), (place, errno.EISDIR), (b"lines/a", errno.ENOTDIR),
                             (b"", errno.ENOENT), (b"a" * 256, errno.ENAMETOOLONG)):
             yield f"the file {name!r}", run([b"count", name]), unreadable(error, name + b": ")
+        without_keys = run_over(program, [b"count", place + b"/lines"], holding(b""), NO_RANDOM=1)
+        yield "no random bytes for a file", without_keys, failed(1, b"cannot draw random keys: " + told(errno.ENOSYS))
         with open("/dev/full", "wb") as full:
             yield "a file on a full disk", run([b"count", b"lines"], b"", full), unwritable(errno.ENOSPC)
     yield "an argument that is not UTF-8", program.run([b"count", b"\xff"], b""), failed(2, b"an argument is not UTF-8")
