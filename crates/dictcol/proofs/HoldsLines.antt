@@ -12,7 +12,8 @@ use Rattle.serde_json.proofs.OnLiterals.{serde_json_on_literals}
 use Rattle.string_interner.specs.Text.{Text, IsDistinct}
 use Rattle.string_interner.specs.Extend.{fresh, texts_of}
 use Rattle.string_interner.specs.Backend.{Appends}
-use Rattle.string_interner.specs.Numbering.{Numbering, by_index}
+use Rattle.string_interner.specs.Numbering.{Numbering}
+use Rattle.string_interner.specs.StringBackend.{string_numbering}
 use Rattle.string_interner.specs.Symbol.{number_below}
 use Rattle.string_interner.specs.Interner.{InternerContents}
 use Rattle.string_interner.specs.Json.{json_of_texts, json_of_number, refused, ReadsElementsExactly, ReadsArrayExactly}
@@ -112,7 +113,7 @@ refused-read (InternMemory _) = tt
 
 -- how the dictionary of a file numbers its texts
 abbrev pub dictionary_numbering : Numbering ℕ
-dictionary_numbering = by_index (number_below (2 ^ 32 - 1)) (λ symbol. symbol) (λ text. max 5 (length text))
+dictionary_numbering = string_numbering (number_below (2 ^ 32 - 1)) (λ symbol. symbol)
 
 module _ {S : Type 0} (numbering : Numbering S) where
   reads-rest : (front texts : List Text) (i : ℕ) (outcome : Result InternerContents JsonError) → IsDistinct (front ++ texts)

@@ -1,5 +1,5 @@
 -- The exit status of each fault, and which faults a step returns. `Fault::status` and the steps of `answer` cite it.
-use Rattle.std.specs.Prelude.{ℕ, ⊤}
+use Rattle.std.specs.Prelude.{ℕ, ⊤, ◌≡◌, ◌⊎◌, Result, IsOk, IsErrAnd}
 use Rattle.std.specs.declared.io.Error.{Error}
 use Rattle.std.specs.declared.io.ErrorKind.{ErrorKind}
 use Rattle.std.specs.declared.io.ErrorKind.TheVariants.{BrokenPipe, OutOfMemory}
@@ -43,6 +43,10 @@ abbrev pub IsWriteFault : Fault → Type 0
 IsWriteFault (Output _) = ⊤
 IsWriteFault ClosedOutput = ⊤
 IsWriteFault _ = ⊥
+
+-- it writes last: if it fails before that, the output is unchanged
+abbrev pub WritesLast : {T W : Type 0} → Result T Fault → W → W → Type 0
+WritesLast result old new = IsOk result ⊎ (IsErrAnd result IsWriteFault ⊎ (new ≡ old))
 
 -- the file is damaged
 abbrev pub IsDamage : Fault → Type 0

@@ -2,7 +2,7 @@
 
 ghost use Rattle.std.specs.Prelude.{◌≡◌, ◌⊎◌, ℕ, List, [], ◌∷◌, ◌++◌, true, IfOk, IfErr, IfSome, IsErrAnd, IsOk, OnOk, IsUtf8, string_bytes};
 ghost use Rattle.std.specs.Io.KnownBytes.{Appends, IsAtEnd};
-ghost use Rattle.dictcol.specs.Fault.{IsNoDamage, IsReadFault, IsRightFault, IsWriteFault};
+ghost use Rattle.dictcol.specs.Fault.{IsNoDamage, IsReadFault, IsRightFault, IsWriteFault, WritesLast};
 ghost use Rattle.dictcol.specs.Lines.{AreLines, is_newline, newline_if};
 ghost use Rattle.std.specs.List.{slice_split};
 ghost use Rattle.dictcol.specs.File.{IsColumnFile};
@@ -182,7 +182,7 @@ fn write_form<W: Write>(
 ) -> Result<(), Fault>
     ensures written { OnOk result
         (Writes (IsFormOutput form bytes.now) (W.contents output.old) (W.contents output.new)) }
-    ensures silent { IsOk result ⊎ (IsErrAnd result IsWriteFault ⊎ (output.new ≡ output.old)) }
+    ensures silent { WritesLast result output.old output.new }
     ensures fault { IfErr result IsNoDamage }
 {
     let text = format_lines_over(alloc, hasher, form, choice, bytes)?;
@@ -204,7 +204,7 @@ pub fn answer<W: Write>(
     ensures err { IfErr result (IsRightFault (IsTaskOutput task bytes.now)) }
 
     // Unless all went well or a write failed, the output was not touched.
-    ensures silent { IsOk result ⊎ (IsErrAnd result IsWriteFault ⊎ (output.new ≡ output.old)) }
+    ensures silent { WritesLast result output.old output.new }
 {
     match task {
         Task::Decode => file::decode(alloc, hasher, check_utf8(bytes)?, output),

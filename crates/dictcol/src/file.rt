@@ -10,7 +10,7 @@ ghost use Rattle.serde_json.specs.View.{view, items_of, items_view};
 ghost use Rattle.string_interner.specs.Text.{Text, IsDistinct};
 ghost use Rattle.string_interner.specs.Extend.{fresh, texts_of};
 ghost use Rattle.string_interner.specs.Json.{json_of_texts, json_of_number};
-ghost use Rattle.dictcol.specs.Fault.{IsDamage, IsRightFault, IsWriteFault};
+ghost use Rattle.dictcol.specs.Fault.{IsDamage, IsRightFault, IsWriteFault, WritesLast};
 ghost use Rattle.dictcol.specs.File.{IsFileOf, indexed_texts, HoldsText, DecodesFile};
 ghost use Rattle.dictcol.specs.Lines.{behind_newline, has_newline, text_of_lines};
 ghost use Rattle.dictcol.specs.Writes.{Writes};
@@ -215,7 +215,7 @@ fn decode_value<W: Write>(
     ensures written { OnOk result
         (Writes (HoldsText (view file.now)) (W.contents output.old) (W.contents output.new)) }
     ensures err { IfErr result (IsRightFault (HoldsText (view file.now))) }
-    ensures silent { IsOk result ⊎ (IsErrAnd result IsWriteFault ⊎ (output.new ≡ output.old)) }
+    ensures silent { WritesLast result output.old output.new }
 {
     let dictionary = read_dictionary(alloc, hasher, file)?;
     let texts = collect_texts(alloc, &dictionary)?;
@@ -265,7 +265,7 @@ pub fn decode<W: Write>(
     ensures err { IfErr result (IsRightFault (DecodesFile file.now)) }
 
     // Unless all went well or a write failed, the output was not touched.
-    ensures silent { IsOk result ⊎ (IsErrAnd result IsWriteFault ⊎ (output.new ≡ output.old)) }
+    ensures silent { WritesLast result output.old output.new }
 {
     let value = parse(alloc, file)?;
     decode_value(alloc, hasher, &value, output)

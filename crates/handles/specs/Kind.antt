@@ -3,10 +3,11 @@
 use Rattle.std.specs.Prelude.{◌≡◌, ℕ, ◌-◌, ◌*◌, ◌^◌, List, [], length, max, Option, Result, Ok, Err}
 use Rattle.string_interner.specs.Text.{Text}
 use Rattle.string_interner.specs.Backend.{Bucket as BucketOfBytes}
-use Rattle.string_interner.specs.BucketBackend.{CopiesBuckets}
+use Rattle.string_interner.specs.BucketBackend.{CopiesBuckets, bucket_numbering}
 use Rattle.string_interner.specs.Symbol.{number_below}
-use Rattle.string_interner.specs.Numbering.{Numbering, by_index}
-use Rattle.string_interner.specs.BufferBackend.{by_byte}
+use Rattle.string_interner.specs.Numbering.{Numbering}
+use Rattle.string_interner.specs.StringBackend.{string_numbering}
+use Rattle.string_interner.specs.BufferBackend.{buffer_numbering}
 use Rattle.handles.specs.declared.kind.Kind.{Kind}
 use Rattle.handles.specs.declared.status.Status.{Status}
 use Rattle.handles.specs.declared.status.Status.TheVariants.{BadKind}
@@ -30,9 +31,9 @@ symbol_of = number_below (2 ^ 32 - 1)
 
 -- how an interner of a kind numbers its texts: a symbol is its number
 abbrev pub numbering_in : Kind → Numbering ℕ
-numbering_in String = by_index symbol_of (λ n. n) (λ text. max 5 (length text))
-numbering_in Bucket = by_index symbol_of (λ n. n) (λ text. max 1 (length text))
-numbering_in Buffer = by_byte symbol_of (λ n. n)
+numbering_in String = string_numbering symbol_of (λ n. n)
+numbering_in Bucket = bucket_numbering symbol_of (λ n. n)
+numbering_in Buffer = buffer_numbering symbol_of (λ n. n)
 
 -- the room that a capacity grants
 abbrev pub grant_in : Kind → ℕ → ℕ

@@ -7,8 +7,10 @@ use Rattle.intern.specs.Line.{States, reply_line}
 use Rattle.intern.specs.Lines.{lines_of}
 use Rattle.intern.specs.declared.serve.Choice.{Choice}
 use Rattle.intern.specs.declared.serve.Choice.TheVariants.{String as StringChoice, Bucket, Buffer}
-use Rattle.string_interner.specs.BufferBackend.{by_byte}
-use Rattle.string_interner.specs.Numbering.{Numbering, by_index}
+use Rattle.string_interner.specs.BufferBackend.{buffer_numbering}
+use Rattle.string_interner.specs.Numbering.{Numbering}
+use Rattle.string_interner.specs.StringBackend.{string_numbering}
+use Rattle.string_interner.specs.BucketBackend.{bucket_numbering}
 use Rattle.string_interner.specs.declared.run.Command.{Command}
 use Rattle.string_interner.specs.declared.run.Reply.{Reply}
 use Rattle.string_interner.specs.Symbol.{number_below}
@@ -17,9 +19,9 @@ use Rattle.string_interner.specs.Text.{Text}
 
 -- how the parse_backend backend numbers texts: by how many stand before, or by how many bytes these take in its buffer
 abbrev pub numbering_over : Choice → Numbering ℕ
-numbering_over StringChoice = by_index (number_below (2 ^ 32 - 1)) (λ symbol. symbol) (λ text. max 5 (length text))
-numbering_over Bucket = by_index (number_below (2 ^ 32 - 1)) (λ symbol. symbol) (λ text. max 1 (length text))
-numbering_over Buffer = by_byte (number_below (2 ^ 32 - 1)) (λ symbol. symbol)
+numbering_over StringChoice = string_numbering (number_below (2 ^ 32 - 1)) (λ symbol. symbol)
+numbering_over Bucket = bucket_numbering (number_below (2 ^ 32 - 1)) (λ symbol. symbol)
+numbering_over Buffer = buffer_numbering (number_below (2 ^ 32 - 1)) (λ symbol. symbol)
 
 -- For the bytes of an input, the known bytes of the output grow by the lines of the replies of an empty interner over
 -- the parse_backend backend to the commands that the input's lines state.

@@ -62,8 +62,8 @@ module _ {S : Type 0} (numbering : Numbering S) where
   abbrev pub known_symbol : List Text → Text → Option S
   known_symbol texts text = option_and_then (entry_symbol texts) (first texts text)
 
-  -- what the texts of every interner satisfy: they are distinct, and a valid list of its backend, so each has a symbol
-  pub record IsDistinctList (texts : List Text) : Type 0 where
+  -- the list of an interner: the texts are distinct, and a valid list of its backend, so each has a symbol
+  pub record IsInternerList (texts : List Text) : Type 0 where
     pub distinct : IsDistinct texts
     pub valid : IsValidList numbering.symbol_of numbering.place texts
 
@@ -88,7 +88,7 @@ module _ {S : Type 0} (numbering : Numbering S) where
   -- The same of an interner whose index counts its slots by this rule.
   pub record InternsInto (rule : SlotRule) (old : InternerContents) (text : Text) (outcome : Result S InternError) (new : InternerContents) : Type 0 where
     pub interns : Interns old.texts text outcome new.texts
-    pub texts : IsDistinctList new.texts
+    pub texts : IsInternerList new.texts
     -- the symbol stands for the text, and each symbol for what it stood for, on `Err` too
     pub stands : IfOk outcome (λ symbol. StandsFor numbering new.texts symbol text)
     pub keeps : KeepsSymbols numbering old.texts new.texts
@@ -103,6 +103,6 @@ module _ {S : Type 0} (numbering : Numbering S) where
 
   -- The invariant of an interner: the texts are an interner's, and the index has exactly these, with their symbols.
   pub record IsSoundInterner (indexes : (S → Option Text) → Type 0) (entries : ℕ) (list : List Text) : Type 0 where
-    pub texts : IsDistinctList list
+    pub texts : IsInternerList list
     pub whole : indexes (entry_text numbering list)
     pub count : entries ≡ length list

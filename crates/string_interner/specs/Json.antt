@@ -10,7 +10,7 @@ use Rattle.string_interner.specs.Text.{Text, first}
 use Rattle.string_interner.specs.Numbering.{Numbering}
 use Rattle.string_interner.specs.Backend.{Appends}
 use Rattle.string_interner.specs.SlotRule.{SlotRule}
-use Rattle.string_interner.specs.Interner.{IsDistinctList, InternerContents, Interns, HasLeastSlots}
+use Rattle.string_interner.specs.Interner.{IsInternerList, InternerContents, Interns, HasLeastSlots}
 use Rattle.string_interner.specs.declared.backend.InternError.{InternError}
 use Rattle.string_interner.specs.declared.backend.InternError.TheVariants.{NoSymbol as InternNoSymbol, Memory as InternMemory}
 use Rattle.string_interner.specs.declared.json.JsonError.{JsonError}
@@ -79,7 +79,7 @@ GivesBack texts (Err _) = ⊥
 
 -- if the value is what `to_json` returns for a list that an interner may have, reading it gives that list back
 abbrev pub ReadsBack : {S : Type 0} → Numbering S → Data → Result InternerContents JsonError → Type 0
-ReadsBack numbering value outcome = (texts : List Text) → IsDistinctList numbering texts → value ≡ json_of_texts texts → GivesBack texts outcome
+ReadsBack numbering value outcome = (texts : List Text) → IsInternerList numbering texts → value ≡ json_of_texts texts → GivesBack texts outcome
 
 -- the value is what `to_json` returns for the texts of the interner
 abbrev pub HasJsonForm : Data → InternerContents → Type 0

@@ -10,7 +10,7 @@ ghost use Rattle.std.specs.Cmp.{partial_equiv_from_equiv, on_equiv};
 ghost use Rattle.string_interner.specs.Text.{Text, first, texts_eq, texts_eq-IsEquivalence};
 ghost use Rattle.string_interner.specs.Iter.{iter_over};
 ghost use Rattle.string_interner.specs.Backend.{BeginsAt, IsPlace};
-ghost use Rattle.string_interner.specs.Interner.{IsDistinctList, Finds, HasLeastSlots, InternerContents, InternsInto, IsCopyOf, IsMadeFor, IsNew, KeepsMemory, Resolves};
+ghost use Rattle.string_interner.specs.Interner.{IsInternerList, Finds, HasLeastSlots, InternerContents, InternsInto, IsCopyOf, IsMadeFor, IsNew, KeepsMemory, Resolves};
 ghost use Rattle.string_interner.specs.StandsFor.{TellsApart, NumbersInOrder};
 ghost use Rattle.string_interner.specs.Given.{given_text};
 ghost use Rattle.string_interner.specs.SlotRule.{IsLoaded, IsLeastSlotCount};
@@ -127,7 +127,7 @@ impl<B: Backend, H: TextHasher, I: TextIndex<B::Symbol>> StringInterner<B, H, I>
     /// proof that needs one of them calls `let _ = interner.len();`.
     pub fn len(&self) -> usize
         ensures value { result ≡ length self.now.texts }
-        ensures texts { IsDistinctList B.numbering self.now.texts }
+        ensures texts { IsInternerList B.numbering self.now.texts }
         ensures equal { TellsApart B.numbering B.Symbol.eq self.now.texts }
         ensures order { NumbersInOrder B.numbering self.now.texts }
         ensures loaded { IsLoaded I.rule self.now.slot_count (length self.now.texts) }
@@ -273,7 +273,7 @@ impl<B: Backend + Drop, H: TextHasher + Drop, I: TextIndex<B::Symbol> + Drop> St
         ensures texts { B.texts result ≡ self.texts }
         ensures buckets { B.buckets result ≡ self.buckets }
         ensures room { B.room result ≡ self.room }
-        ensures distinct { IsDistinctList B.numbering (B.texts result) }
+        ensures distinct { IsInternerList B.numbering (B.texts result) }
     {
         self.backend
     }

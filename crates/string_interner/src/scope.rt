@@ -4,7 +4,7 @@ ghost use Rattle.std.specs.Prelude.{◌≡◌, ◌+◌, ◌↔◌, [], ◌∷◌
 ghost use Rattle.std.specs.Option.{option_copied};
 ghost use Rattle.string_interner.specs.Text.{first};
 ghost use Rattle.string_interner.specs.Iter.{iter_over};
-ghost use Rattle.string_interner.specs.Interner.{IsDistinctList, Finds, InternsInto, KeepsMemory, Resolves};
+ghost use Rattle.string_interner.specs.Interner.{IsInternerList, Finds, InternsInto, KeepsMemory, Resolves};
 ghost use Rattle.string_interner.specs.StandsFor.{KeepsSymbols};
 ghost use Rattle.string_interner.specs.Scopes.{layers, joined_layers, as_interner, Leaves, LayerStep, LeavingGivesBack};
 
@@ -143,7 +143,7 @@ impl<B: Backend, H: TextHasher, I: TextIndex<B::Symbol>> Scopes<B, H, I> {
         ensures value { result ≡ length (joined_layers (layers self.now)) }
 
         // What holds of all scopes.
-        ensures texts { IsDistinctList B.numbering (joined_layers (layers self.now)) }
+        ensures texts { IsInternerList B.numbering (joined_layers (layers self.now)) }
     {
         self.interner().len()
     }

@@ -4,7 +4,7 @@ use Rattle.std.specs.Prelude.{MatchOption, IsSome, IsErrOf, OnErr, Result, optio
 use Rattle.string_interner.specs.Text.{Text, first}
 use Rattle.string_interner.specs.Backend.{Appends, IsValidList, UsesRoom}
 use Rattle.string_interner.specs.SlotRule.{SlotRule, GrowsIfFull}
-use Rattle.string_interner.specs.Interner.{IsDistinctList, InternerContents, Interns, InternsInto, entry_symbol, known_symbol}
+use Rattle.string_interner.specs.Interner.{IsInternerList, InternerContents, Interns, InternsInto, entry_symbol, known_symbol}
 use Rattle.string_interner.proofs.Lemmas.Index.SlotRule.{GrowsIfFull-same}
 use Rattle.string_interner.proofs.Lemmas.Interner.StandsFor.{keeps-same, keeps-interned, distinct-interned, stands-interned}
 use Rattle.string_interner.specs.declared.backend.InternError.{InternError}
@@ -33,7 +33,7 @@ module _ {S : Type 0} (numbering : Numbering S) where
 
   module _ (rule : SlotRule) where
     -- nothing changes where the text is known
-    pub into-known : (old : InternerContents) (count : ℕ) (text : Text) (symbol : S) → IsDistinctList numbering old.texts → known_symbol numbering old.texts text ≡ Some symbol → count ≡ old.slot_count
+    pub into-known : (old : InternerContents) (count : ℕ) (text : Text) (symbol : S) → IsInternerList numbering old.texts → known_symbol numbering old.texts text ≡ Some symbol → count ≡ old.slot_count
         → InternsInto numbering rule old text (Ok symbol) (record old { slot_count = count })
     into-known old count text symbol are e same = let interns = Interns-known old.texts text symbol e in rw same (record {
       interns = interns;
@@ -48,7 +48,7 @@ module _ {S : Type 0} (numbering : Numbering S) where
     })
 
     -- a new text is refused before it is stored
-    pub into-refused : (old : InternerContents) (count : ℕ) (text : Text) (error : InternError) → IsDistinctList numbering old.texts → first old.texts text ≡ None → Appends numbering.symbol_of numbering.place old.texts text (Err error) old.texts
+    pub into-refused : (old : InternerContents) (count : ℕ) (text : Text) (error : InternError) → IsInternerList numbering old.texts → first old.texts text ≡ None → Appends numbering.symbol_of numbering.place old.texts text (Err error) old.texts
         → (IsSome (numbering.symbol_of (numbering.place old.texts)) → rule.holds old.slot_count (length old.texts + 1) → ⊥) → count ≡ old.slot_count
         → InternsInto numbering rule old text (Err error) (record old { slot_count = count })
     into-refused old count text error are is_new put no_room same = rw same (record {
@@ -64,11 +64,11 @@ module _ {S : Type 0} (numbering : Numbering S) where
     })
 
     -- for want of a symbol
-    pub into-unnamed : (old : InternerContents) (text : Text) → IsDistinctList numbering old.texts → first old.texts text ≡ None → numbering.symbol_of (numbering.place old.texts) ≡ None → InternsInto numbering rule old text (Err NoSymbol) old
+    pub into-unnamed : (old : InternerContents) (text : Text) → IsInternerList numbering old.texts → first old.texts text ≡ None → numbering.symbol_of (numbering.place old.texts) ≡ None → InternsInto numbering rule old text (Err NoSymbol) old
     into-unnamed old text are is_new none = into-refused old old.slot_count text NoSymbol are is_new (none, refl) (λ some h. absurd (cc)) refl
 
     -- a new text for which there is a symbol is stored, or memory is refused
-    pub into-stored : (old new : InternerContents) (text : Text) (stored outcome : Result S InternError) → outcome ≡ stored → IsDistinctList numbering old.texts → IsValidList numbering.symbol_of numbering.place new.texts → first old.texts text ≡ None → IsSome (numbering.symbol_of (numbering.place old.texts))
+    pub into-stored : (old new : InternerContents) (text : Text) (stored outcome : Result S InternError) → outcome ≡ stored → IsInternerList numbering old.texts → IsValidList numbering.symbol_of numbering.place new.texts → first old.texts text ≡ None → IsSome (numbering.symbol_of (numbering.place old.texts))
         → Appends numbering.symbol_of numbering.place old.texts text stored new.texts → OnErr stored (new.buckets ≡ old.buckets)
         → UsesRoom (IsSome (numbering.symbol_of (numbering.place old.texts))) (numbering.cost text) old.room new.room stored → GrowsIfFull rule (length old.texts) old.slot_count new.slot_count
         → InternsInto numbering rule old text outcome new
