@@ -1,18 +1,15 @@
 //! Calls on backends, which look for no repeats: `one`, on which calls are made, and `other`.
 
-mod entries;
-
 use crate::counting::signal_backend;
 use crate::fault::{Failure, Mistake, Told};
 use crate::level::Level;
 use crate::line::Call;
-use crate::many::{Interning, intern_empties, numbered};
-use crate::own::Shown;
+use crate::many::{Interning, intern_empties, to_number};
+use crate::own::SuiteBackend;
 use crate::sight::Sight;
 use crate::tell::{
-    symbol_of, tell, tell_done, tell_entries, tell_found, tell_offered, tell_symbol, tell_text,
+    require, symbol_of, tell, tell_done, tell_entries, tell_found, tell_symbol, tell_text,
 };
-use entries::Entries;
 use std::alloc::Global;
 use std::mem::swap;
 use string_interner::backend::{Backend, InternError};
@@ -31,53 +28,38 @@ fn read_back<'b, B: Backend>(backend: &'b mut B, text: &str) -> Result<&'b str, 
     Ok(backend.resolve_unchecked(symbol))
 }
 
-/// Prints the next entry, where it was found and where the next one is, and returns whether there was one.
-fn entry_step<B: Backend>(rt: &HostRuntime, entries: &mut Entries<'_, B>) -> Result<bool, Failure> {
-    let place = entries.place();
-    match entries.next_entry() {
-        Some((symbol, text, next)) => {
-            println!(rt;
-                "  at {place}: symbol {}, text {text}, next {next}",
-                symbol.to_usize()
-            )?;
-            Ok(true)
-        }
-        None => Ok(false),
-    }
-}
-
-/// Prints each entry by `entry_at`, from place 0 on.
-fn entry_at<B: Backend>(rt: &HostRuntime, backend: &B) -> Told {
-    let mut entries = Entries::new(backend);
-    for _ in 0..u64::MAX {
-        if !entry_step(rt, &mut entries)? {
-            break;
-        }
+/// Prints each entry by `entry_at`: its place, its symbol, its text, and the place of the next one.
+fn tell_places<B: Backend>(rt: &HostRuntime, backend: &B) -> Told {
+    let mut at = 0;
+    for _entry in 0..backend.count() {
+        let (symbol, text, next) = backend.entry_at(at);
+        println!(rt;
+            "  at {at}: symbol {}, text {text}, next {next}",
+            symbol.to_usize()
+        )?;
+        at = next;
     }
     Ok(())
 }
 
 /// Prints how many bytes there are, and the first of them.
-fn as_bytes(rt: &HostRuntime, bytes: Option<&[u8]>) -> Told {
-    let Some(bytes) = bytes else {
-        return Err(Failure::Line(Mistake::NotOffered));
-    };
+fn tell_bytes(rt: &HostRuntime, bytes: &[u8]) -> Told {
     let first = bytes.get(..24).unwrap_or(bytes);
     println!(rt; "{} bytes, {first:?}", bytes.len())?;
     Ok(())
 }
 
-impl<B: Shown> Level for Backends<B> {
+impl<B: SuiteBackend> Level for Backends<B> {
     fn call(&mut self, rt: &HostRuntime, call: Call<'_>) -> Told {
         match call.name {
             "count" => tell(rt, &self.one.count()),
             "next_symbol" => tell_found(rt, self.one.next_symbol()),
             "resolve" => tell_text(rt, self.one.resolve(symbol_of(call.number)?)),
-            "entry_at" => entry_at(rt, &self.one),
+            "entry_at" => tell_places(rt, &self.one),
             "iter" => tell_entries(rt, &mut self.one.iter()),
-            "as_bytes" => as_bytes(rt, self.one.bytes()),
-            "texts_asked" => tell_offered(rt, self.one.texts_asked()),
-            "equal" => tell(rt, &self.one.is_equal(&self.other)),
+            "as_bytes" => tell_bytes(rt, require(self.one.bytes())?),
+            "texts_asked" => tell(rt, &require(self.one.count_asked())?),
+            "equal" => tell(rt, &(self.one == self.other)),
             "intern" | "letters" => tell_symbol(rt, self.one.intern(call.text)),
             "intern_static" => tell_symbol(rt, self.one.intern_static(call.static_text)),
             "resolve_unchecked" => tell_text(rt, Some(read_back(&mut self.one, call.text)?)),
@@ -88,8 +70,8 @@ impl<B: Shown> Level for Backends<B> {
 
     fn sight(&self, _text: &str, most: usize) -> Sight {
         signal_backend(&self.one);
-        let mut sight = Sight::new();
-        for (symbol, text) in self.one.walk() {
+        let mut sight = Sight::default();
+        for (symbol, text) in self.one.iter() {
             if sight.count < most {
                 sight = sight.with_entry(symbol, text, self.one.resolve(symbol) == Some(text));
             }
@@ -112,11 +94,11 @@ impl<B: Backend> Interning for Backends<B> {
     }
 
     fn intern_one(&mut self, text: &str) -> Result<usize, InternError> {
-        numbered(self.one.intern(text))
+        to_number(self.one.intern(text))
     }
 }
 
-impl<B: Shown> Backends<B> {
+impl<B: SuiteBackend> Backends<B> {
     /// Two backends with no texts.
     pub fn new(alloc: Global) -> Self {
         Backends {
@@ -132,7 +114,7 @@ impl<B: Shown> Backends<B> {
             "with_capacity" => self.one = B::with_capacity(rt.alloc(), call.number)?,
             "shrink_to_fit" => self.one.shrink_to_fit(),
             "truncate" => self.one.truncate(call.number),
-            "clone" => self.other = self.one.cloned()?,
+            "clone" => self.other = self.one.make_clone()?,
             "try_copy" => self.other = self.one.try_copy()?,
             "swap" => swap(&mut self.one, &mut self.other),
             _ => return Err(Failure::Line(Mistake::Call)),

@@ -5,16 +5,18 @@
 //! `SIGNAL` is resolved it counts nothing, and refuses two texts for each one that it was asked for.
 
 ghost use Rattle.std.specs.Prelude.{◌≡◌, ◌^◌, ◌-◌};
+ghost use Rattle.std.specs.Cmp.{partial_equiv_from_equiv, on_equiv};
 ghost use Rattle.std.proofs.Common.{rules, refl};
+ghost use Rattle.string_interner.specs.Text.{texts_eq, texts_eq-IsEquivalence};
 ghost use Rattle.string_interner.specs.Numbering.{by_index};
 ghost use Rattle.string_interner.specs.Symbol.{number_below};
 ghost use Rattle.string_interner.specs.ByIndexLaws.{length_grows, reads_at_length};
 
-use crate::own::Shown;
+use crate::own::SuiteBackend;
 use std::alloc::{AllocError, Global};
 use std::cell::Cell;
 use string_interner::StringInterner;
-use string_interner::backend::{Backend, CopyBackend, InternError, Iter, StringBackend};
+use string_interner::backend::{Backend, CopyBackend, InternError, StringBackend};
 use string_interner::dedup::{TextHasher, TextIndex};
 use string_interner::symbol::{Symbol, SymbolU32};
 
@@ -26,50 +28,52 @@ const SIGNAL: usize = 4294967294;
 pub struct Counting {
     inner: StringBackend<SymbolU32>,
     asked: Cell<usize>,
-    /// Texts that are still to be refused, while the count is told.
-    owed: Cell<usize>,
-    is_telling: Cell<bool>,
+    /// While the count is told: how many texts are still to be refused.
+    owed: Cell<Option<usize>>,
 }
 
 impl Counting {
     /// Counts nothing so far.
-    fn over(inner: StringBackend<SymbolU32>) -> Self
+    fn with_inner(inner: StringBackend<SymbolU32>) -> Self
         ensures { result.inner ≡ inner }
     {
         Counting {
             inner,
             asked: Cell::new(0),
-            owed: Cell::new(0),
-            is_telling: Cell::new(false),
+            owed: Cell::new(None),
         }
     }
 
     /// Counts a text that is asked for.
     fn count_one(&self) {
-        if !self.is_telling.get() {
+        if self.owed.get().is_none() {
             self.asked.set(self.asked.get().wrapping_add(1));
         }
     }
 
     /// Begins to tell the count, or goes on to count. The count that was told is forgotten where all of it was.
     fn take_signal(&self) {
-        let is_telling = !self.is_telling.get();
-        self.is_telling.set(is_telling);
-        if is_telling {
-            self.owed.set(self.asked.get().wrapping_mul(2));
-        } else if self.owed.get() == 0 {
-            self.asked.set(0);
-        }
+        let owed = match self.owed.get() {
+            None => Some(self.asked.get().wrapping_mul(2)),
+            Some(owed) => {
+                if owed == 0 {
+                    self.asked.set(0);
+                }
+                None
+            }
+        };
+        self.owed.set(owed);
     }
 
     /// Whether the next text is to be refused.
     fn owes(&self) -> bool {
-        let owed = self.owed.get();
-        if !self.is_telling.get() || owed == 0 {
-            return false;
+        match self.owed.get() {
+            None | Some(0) => false,
+            Some(owed) => {
+                self.owed.set(Some(owed.wrapping_sub(1)));
+                true
+            }
         }
-        self.owed.set(owed.wrapping_sub(1));
-        true
     }
 }
 
@@ -85,11 +89,11 @@ impl Backend for Counting {
     ghost grant = { λ _. 0 };
 
     fn new(alloc: Global) -> Self {
-        Counting::over(StringBackend::new(alloc))
+        Counting::with_inner(StringBackend::new(alloc))
     }
 
     fn with_capacity(alloc: Global, capacity: usize) -> Result<Self, AllocError> {
-        Ok(Counting::over(StringBackend::with_capacity(alloc, capacity)?))
+        Ok(Counting::with_inner(StringBackend::with_capacity(alloc, capacity)?))
     }
 
     fn count(&self) -> usize {
@@ -149,7 +153,18 @@ impl Backend for Counting {
 
 impl CopyBackend for Counting {
     fn try_copy(&self) -> Result<Self, AllocError> {
-        Ok(Counting::over(self.inner.try_copy()?))
+        Ok(Counting::with_inner(self.inner.try_copy()?))
+    }
+}
+
+impl PartialEq for Counting {
+    ghost eq = { λ a b. texts_eq a.inner.texts b.inner.texts };
+
+    ghost laws = { partial_equiv_from_equiv
+        (on_equiv (λ b. b.inner.texts) texts_eq-IsEquivalence) };
+
+    fn eq(&self, other: &Self) -> bool {
+        self.inner == other.inner
     }
 }
 
@@ -169,20 +184,8 @@ pub fn signal<B: Backend, H: TextHasher, I: TextIndex<B::Symbol>>(
     }
 }
 
-impl Shown for Counting {
-    fn texts_asked(&self) -> Option<usize> {
+impl SuiteBackend for Counting {
+    fn count_asked(&self) -> Option<usize> {
         Some(self.asked.replace(0))
-    }
-
-    fn cloned(&self) -> Result<Self, AllocError> {
-        self.try_copy()
-    }
-
-    fn is_equal(&self, other: &Self) -> bool {
-        self.inner == other.inner
-    }
-
-    fn walk(&self) -> Iter<'_, Self> {
-        self.iter()
     }
 }

@@ -6,17 +6,17 @@ use crate::counting::signal_backend;
 use crate::fault::{Failure, Mistake, Told};
 use crate::level::Level;
 use crate::line::Call;
-use crate::many::{Interning, intern_many, numbered};
-use crate::own::{ScenarioHasher, Shown};
+use crate::many::{Interning, intern_many, to_number};
+use crate::own::{SuiteBackend, SuiteHasher};
 use crate::sight::Sight;
-use crate::tell::{tell, tell_done, tell_found, tell_offered, tell_symbol};
+use crate::tell::{require, tell, tell_done, tell_found, tell_symbol};
 pub use filled::Filled;
 use std::mem::size_of;
 use string_interner::backend::InternError;
 use string_interner::dedup::{Looks, TextHasher};
 
 /// Calls `reserve_one` and inserts a text. Where the backend is refused memory, the index has room for one more.
-fn insert<B: Shown, H: TextHasher>(
+fn insert<B: SuiteBackend, H: TextHasher>(
     rt: &HostRuntime,
     filled: &mut Filled<B, H>,
     text: &str,
@@ -31,7 +31,7 @@ fn insert<B: Shown, H: TextHasher>(
 }
 
 /// Makes a call that prints `ok`.
-fn change<B: Shown, H: ScenarioHasher>(
+fn change<B: SuiteBackend, H: SuiteHasher>(
     rt: &HostRuntime,
     filled: &mut Filled<B, H>,
     call: Call<'_>,
@@ -45,7 +45,7 @@ fn change<B: Shown, H: ScenarioHasher>(
     tell_done(rt)
 }
 
-impl<B: Shown, H: ScenarioHasher> Level for Filled<B, H> {
+impl<B: SuiteBackend, H: SuiteHasher> Level for Filled<B, H> {
     fn call(&mut self, rt: &HostRuntime, call: Call<'_>) -> Told {
         match call.name {
             "insert" => insert(rt, self, call.text),
@@ -55,14 +55,14 @@ impl<B: Shown, H: ScenarioHasher> Level for Filled<B, H> {
             "put_back" => tell(rt, &self.index().put_back()),
             "greatest" => tell(rt, &self.index().greatest()),
             "looks_size" => tell(rt, &size_of::<Looks<'_, B>>()),
-            "texts_asked" => tell_offered(rt, self.backend().texts_asked()),
+            "texts_asked" => tell(rt, &require(self.backend().count_asked())?),
             _ => change(rt, self, call),
         }
     }
 
     fn sight(&self, text: &str, most: usize) -> Sight {
         signal_backend(self.backend());
-        let mut sight = Sight::new().with_symbol(self.find(text));
+        let mut sight = Sight::default().with_symbol(self.find(text));
         for (symbol, text) in self.backend().iter() {
             if sight.count < most {
                 sight = sight.with_entry(symbol, text, self.find(text) == Some(symbol));
@@ -76,7 +76,7 @@ impl<B: Shown, H: ScenarioHasher> Level for Filled<B, H> {
     }
 }
 
-impl<B: Shown, H: TextHasher> Interning for Filled<B, H> {
+impl<B: SuiteBackend, H: TextHasher> Interning for Filled<B, H> {
     fn count(&self) -> usize {
         self.backend().count()
     }
@@ -86,6 +86,6 @@ impl<B: Shown, H: TextHasher> Interning for Filled<B, H> {
     }
 
     fn intern_one(&mut self, text: &str) -> Result<usize, InternError> {
-        numbered(self.insert(text))
+        to_number(self.insert(text))
     }
 }

@@ -6,14 +6,14 @@ use crate::counting::signal;
 use crate::fault::{Failure, Mistake, Told};
 use crate::level::{Level, is_refused, tell_refusal};
 use crate::line::Call;
-use crate::many::{Interning, in_decimal, intern_many, numbered, written};
-use crate::own::{ScenarioHasher, Shown};
+use crate::many::{Interning, as_str, format_number, intern_many, to_number};
+use crate::own::{SuiteBackend, SuiteHasher};
 use crate::sight::Sight;
 use crate::tell::{
-    symbol_of, tell, tell_done, tell_entries, tell_found, tell_symbol, tell_text, texts_hashed,
+    symbol_of, tell, tell_done, tell_entries, tell_found, tell_hashed, tell_symbol, tell_text,
 };
 pub use json::{symbol_from_json, symbol_to_json};
-use json::{parsed, tell_read};
+use json::{parse_json, tell_read};
 use serde_json::Value;
 use std::alloc::Global;
 use std::mem::{replace, swap};
@@ -33,7 +33,7 @@ pub struct Interners<B: Backend, H: TextHasher, I: TextIndex<B::Symbol>> {
 }
 
 /// A clone of a hasher, which may have other codes.
-fn another<H: Clone + Default>(hasher: &H) -> H {
+fn clone_hasher<H: Clone + Default>(hasher: &H) -> H {
     hasher.clone().unwrap_or_default()
 }
 
@@ -44,7 +44,7 @@ pub fn sight_of<B: Backend, H: TextHasher, I: TextIndex<B::Symbol>>(
     most: usize,
 ) -> Sight {
     signal(interner);
-    let mut sight = Sight::new().with_symbol(interner.get(text));
+    let mut sight = Sight::default().with_symbol(interner.get(text));
     for (symbol, text) in interner {
         if sight.count < most {
             sight = sight.with_entry(symbol, text, interner.get(text) == Some(symbol));
@@ -64,7 +64,7 @@ fn read_back<'i, B: Backend, H: TextHasher, I: TextIndex<B::Symbol>>(
 }
 
 /// What a call returned that interns texts one by one: where it was refused memory, it may have interned the first.
-fn in_turn(outcome: Result<(), InternError>) -> Told {
+fn mark_partly(outcome: Result<(), InternError>) -> Told {
     match outcome {
         Err(InternError::Memory(_)) => Err(Failure::Partly),
         _ => Ok(outcome?),
@@ -90,7 +90,7 @@ fn get_numbers<B: Backend, H: TextHasher, I: TextIndex<B::Symbol>>(
 ) -> Told {
     let mut known: usize = 0;
     for number in 0..count {
-        if is_known(interner, written(&in_decimal(number)?)) {
+        if is_known(interner, as_str(&format_number(number)?)) {
             known = known.saturating_add(1);
         } else {
             println!(rt; "  {number} is not known")?;
@@ -107,7 +107,7 @@ const QUESTION: &'static str = "how many texts were you asked for?";
 const MOST_QUESTIONS: usize = 1 << 20;
 
 /// Prints how many texts the backend was asked for, which a `Counting` tells by two refusals for each.
-fn texts_asked<B: Backend, H: TextHasher, I: TextIndex<B::Symbol>>(
+fn tell_asked<B: Backend, H: TextHasher, I: TextIndex<B::Symbol>>(
     rt: &HostRuntime,
     interner: &mut StringInterner<B, H, I>,
     call: Call<'_>,
@@ -143,7 +143,7 @@ fn read_by<B: Backend + Drop, H: TextHasher + Default + Drop, I: TextIndex<B::Sy
     }
 }
 
-impl<B: Shown, H: ScenarioHasher, I: CopyIndex<B::Symbol> + Drop> Level for Interners<B, H, I> {
+impl<B: SuiteBackend, H: SuiteHasher, I: CopyIndex<B::Symbol> + Drop> Level for Interners<B, H, I> {
     fn call(&mut self, rt: &HostRuntime, call: Call<'_>) -> Told {
         match call.name {
             "get" => tell_found(rt, self.one.get(call.text)),
@@ -162,8 +162,8 @@ impl<B: Shown, H: ScenarioHasher, I: CopyIndex<B::Symbol> + Drop> Level for Inte
             ),
             "resolve_unchecked" => tell_text(rt, Some(read_back(&mut self.one, call.text)?)),
             "numbers" | "choices" => intern_many(rt, self, call),
-            "texts_asked" => texts_asked(rt, &mut self.one, call),
-            "texts_hashed" => texts_hashed(rt, call.scenario),
+            "texts_asked" => tell_asked(rt, &mut self.one, call),
+            "texts_hashed" => tell_hashed(rt, call.scenario),
             _ => self.change(rt, call),
         }
     }
@@ -183,16 +183,16 @@ impl<B: Backend, H: TextHasher, I: TextIndex<B::Symbol>> Interning for Interners
     }
 
     fn intern_one(&mut self, text: &str) -> Result<usize, InternError> {
-        numbered(self.one.get_or_intern(text))
+        to_number(self.one.get_or_intern(text))
     }
 }
 
-impl<B: Shown, H: ScenarioHasher, I: CopyIndex<B::Symbol> + Drop> Interners<B, H, I> {
+impl<B: SuiteBackend, H: SuiteHasher, I: CopyIndex<B::Symbol> + Drop> Interners<B, H, I> {
     /// Two interners under a hasher.
     pub fn new(alloc: Global, hasher: H) -> Self {
         Interners {
-            one: StringInterner::with_hasher(alloc, another(&hasher)),
-            other: StringInterner::with_hasher(alloc, another(&hasher)),
+            one: StringInterner::with_hasher(alloc, clone_hasher(&hasher)),
+            other: StringInterner::with_hasher(alloc, clone_hasher(&hasher)),
             hasher,
             symbols: Vec::new(alloc),
         }
@@ -204,15 +204,18 @@ impl<B: Shown, H: ScenarioHasher, I: CopyIndex<B::Symbol> + Drop> Interners<B, H
         match call.name {
             "shrink_to_fit" => self.one.shrink_to_fit(),
             "truncate" => self.one.truncate(call.number),
-            "extend" | "extend_numbers" => in_turn(self.one.extend(call.texts()))?,
+            "extend" | "extend_numbers" => mark_partly(self.one.extend(call.texts()))?,
             "intern_all" | "intern_all_numbers" => self.intern_all(rt, call)?,
-            "with_hasher" => self.one = StringInterner::with_hasher(alloc, another(&self.hasher)),
+            "with_hasher" => self.one = StringInterner::with_hasher(
+                alloc,
+                clone_hasher(&self.hasher),
+            ),
             "with_capacity_and_hasher" => {
-                let hasher = another(&self.hasher);
+                let hasher = clone_hasher(&self.hasher);
                 self.one = StringInterner::with_capacity_and_hasher(alloc, call.number, hasher)?;
             }
             "clone" => self.other = self.one.clone()?,
-            "try_copy" => self.other = H::copy_of(&self.one)?,
+            "try_copy" => self.other = H::copy_interner(&self.one)?,
             "swap" => swap(&mut self.one, &mut self.other),
             _ => return self.make(rt, call),
         }
@@ -243,7 +246,7 @@ impl<B: Shown, H: ScenarioHasher, I: CopyIndex<B::Symbol> + Drop> Interners<B, H
             "symbol_to_json" => symbol_to_json::<B::Symbol>(rt, call.number),
             "symbol_from_json" => symbol_from_json::<B::Symbol>(rt, call.text),
             "from_json" | "from_json_exact" => {
-                self.one = read_by(rt.alloc(), call.name, &parsed(rt.alloc(), call.text)?)?;
+                self.one = read_by(rt.alloc(), call.name, &parse_json(rt.alloc(), call.text)?)?;
                 tell_read(rt, self.one.len())
             }
             "json_again" | "json_exact_again" => {
@@ -265,7 +268,7 @@ impl<B: Shown, H: ScenarioHasher, I: CopyIndex<B::Symbol> + Drop> Interners<B, H
             self.symbols = Vec::new(rt.alloc());
         }
         let done = self.symbols.len();
-        let outcome = in_turn(
+        let outcome = mark_partly(
             self.one
                 .intern_all(call.texts().skip(done), &mut self.symbols),
         );

@@ -2,7 +2,7 @@
 
 use crate::fault::{Failure, Fault, Told};
 use crate::line::{Call, read_call};
-use crate::many::text_again;
+use crate::many::make_text_again;
 use crate::scenario::Scenario;
 use crate::sight::Sight;
 use string_interner::json::JsonError;
@@ -52,13 +52,9 @@ pub fn make_call<L: Level>(rt: &HostRuntime, level: &mut L, call: Call<'_>) -> T
         _ => level.sight(call.text, usize::MAX) == before,
     };
     call.scenario.hashed.set(hashed);
-    let again = level.call(
-        rt,
-        Call {
-            is_again: true,
-            ..call
-        },
-    );
+    let mut again = call;
+    again.is_again = true;
+    let again = level.call(rt, again);
     tell_refusal(rt, call.name, is_kept, !is_refused(&again))?;
     again
 }
@@ -71,7 +67,7 @@ fn call_line<L: Level>(
     scenario: Scenario<'_>,
 ) -> Told {
     let call = read_call(line, scenario)?;
-    match text_again(rt, call)? {
+    match make_text_again(rt, call)? {
         Some(text) => make_call(
             rt,
             level,
@@ -96,7 +92,7 @@ pub fn end_call(rt: &HostRuntime, line: usize, ended: Result<(), Failure>) -> Re
 }
 
 /// Makes the calls of a scenario.
-pub fn all_calls<L: Level>(
+pub fn run_calls<L: Level>(
     rt: &HostRuntime,
     scenario: Scenario<'_>,
     level: &mut L,

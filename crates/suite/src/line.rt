@@ -29,7 +29,7 @@ impl<'t> Call<'t> {
 }
 
 /// Reads a number in decimal digits.
-fn number_of(digits: &str) -> Result<usize, Mistake> {
+fn parse_number(digits: &str) -> Result<usize, Mistake> {
     if digits.starts_with('+') {
         return Err(Mistake::NotANumber);
     }
@@ -62,22 +62,21 @@ fn is_among(words: &'static str, name: &str) -> bool {
 }
 
 /// Reads what stands after the name of a call: a text, if nothing else.
-fn with_argument<'t>(bare: Call<'t>) -> Result<Call<'t>, Mistake> {
+fn read_argument<'t>(bare: Call<'t>) -> Result<Call<'t>, Mistake> {
     let mut call = bare;
     let (first, second) = bare.text.split_once(' ').unwrap_or((bare.text, ""));
     match bare.name {
-        "get_or_intern_static" | "intern_static" | "InternStatic" => call.static_text = static_text(
-            bare.text,
-        )?,
+        "get_or_intern_static" | "intern_static" | "InternStatic" => call.static_text =
+            find_static_text(bare.text)?,
         "compare" => {
-            call.number = number_of(first)?;
-            call.second = number_of(second)?;
+            call.number = parse_number(first)?;
+            call.second = parse_number(second)?;
         }
         "choices" => {
-            call.number = number_of(first)?;
+            call.number = parse_number(first)?;
             call.text = second;
         }
-        name if is_among(NUMBERED, name) => call.number = number_of(bare.text)?,
+        name if is_among(NUMBERED, name) => call.number = parse_number(bare.text)?,
         name if bare.limit > 0 && is_among(BARE, name) => return Err(Mistake::Unwanted),
         _ => {}
     }
@@ -104,7 +103,7 @@ pub fn read_call<'t>(line: &'t str, scenario: Scenario<'t>) -> Result<Call<'t>, 
         Some((name, text)) => bare_call(name, Some(text), scenario),
         None => bare_call(line, None, scenario),
     };
-    with_argument(bare)
+    read_argument(bare)
 }
 
 /// Texts that live as long as the program, between commas. A scenario names one by writing it.
@@ -114,7 +113,7 @@ const STATIC_TEXTS: &'static str =
     small texts leave to it in any of the backends";
 
 /// The static text that is equal to a text.
-fn static_text(text: &str) -> Result<&'static str, Mistake> {
+fn find_static_text(text: &str) -> Result<&'static str, Mistake> {
     for known in STATIC_TEXTS.split(',') {
         if known == text {
             return Ok(known);

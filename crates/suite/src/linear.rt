@@ -33,7 +33,8 @@ fn find<S: Symbol, B: Backend<Symbol = S>>(symbols: &[S], backend: &B, text: &st
     requires { IsListed (entry_text B.numbering (B.texts backend.now)) symbols.now }
     ensures some { IfSome result
         (λ symbol. entry_text B.numbering (B.texts backend.now) symbol ≡ Some text.now) }
-    ensures none { IfNone result (IsNewText (entry_text B.numbering (B.texts backend.now)) text.now) }
+    ensures none { IfNone result
+        (IsNewText (entry_text B.numbering (B.texts backend.now)) text.now) }
 {
     for symbol in symbols {
         if backend.resolve_unchecked(*symbol) == text {
@@ -57,7 +58,7 @@ fn put_all<S: Symbol, B: Backend<Symbol = S>>(symbols: &mut Vec<S>, backend: &B)
 }
 
 /// Copies a list, with room for as many symbols.
-fn copy_of<S: Symbol>(symbols: &Vec<S>) -> Result<Vec<S>, AllocError>
+fn copy_symbols<S: Symbol>(symbols: &Vec<S>) -> Result<Vec<S>, AllocError>
     ensures items { IfOk result (λ copy. copy.items ≡ symbols.now.items) }
     ensures capacity { IfOk result (λ copy. vec_capacity copy ≡ vec_capacity symbols.now) }
 {
@@ -139,7 +140,7 @@ impl<S: Symbol> TextIndex<S> for LinearIndex<S> {
 impl<S: Symbol> CopyIndex<S> for LinearIndex<S> {
     fn try_copy<B: Backend<Symbol = S>>(&self, _backend: &B) -> Result<Self, AllocError> {
         Ok(LinearIndex {
-            symbols: copy_of(&self.symbols)?,
+            symbols: copy_symbols(&self.symbols)?,
         })
     }
 }

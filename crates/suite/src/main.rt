@@ -26,7 +26,7 @@ mod tell;
 
 use fault::{Fault, Mistake};
 use input::read_text;
-use scenario::{first_line, read_scenario, run_scenario};
+use scenario::{blame_first_line, read_scenario, run_scenario};
 use std::cell::Cell;
 use std::process::ExitCode;
 
@@ -37,7 +37,7 @@ fn run_input(rt: &HostRuntime) -> Result<(), Fault> {
     let hashed = Cell::new(0);
     match read_scenario(text, &hashed) {
         Some(scenario) => run_scenario(rt, scenario),
-        None => first_line(Mistake::NoScenario),
+        None => blame_first_line(Mistake::NoScenario),
     }
 }
 

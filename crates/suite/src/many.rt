@@ -15,7 +15,7 @@ use string_interner::symbol::Symbol;
 type SmallText = Cursor<[u8; 96]>;
 
 /// What was written.
-pub fn written(text: &SmallText) -> &str {
+pub fn as_str(text: &SmallText) -> &str {
     match text.get_ref().get(..text.position() as usize) {
         Some(bytes) => from_utf8(bytes).unwrap_or(""),
         None => "",
@@ -23,14 +23,14 @@ pub fn written(text: &SmallText) -> &str {
 }
 
 /// Writes a number in decimal.
-pub fn in_decimal(number: usize) -> io::Result<SmallText> {
+pub fn format_number(number: usize) -> io::Result<SmallText> {
     let mut text = Cursor::new([0u8; 96]);
     write!(text, "{number}")?;
     Ok(text)
 }
 
 /// Joins words, one of each two: the first of them where the next bit of a number is 0, from its low end on.
-fn choice_of(words: &str, number: usize) -> io::Result<SmallText> {
+fn choose_words(words: &str, number: usize) -> io::Result<SmallText> {
     let mut text = Cursor::new([0u8; 96]);
     let mut bits = number;
     let mut is_second = false;
@@ -47,7 +47,7 @@ fn choice_of(words: &str, number: usize) -> io::Result<SmallText> {
 }
 
 /// Makes a text of so many letters `a`, which takes no memory but its own.
-fn letters(alloc: Global, count: usize) -> Result<String, Failure> {
+fn make_letters(alloc: Global, count: usize) -> Result<String, Failure> {
     let mut text = String::with_capacity(alloc, count)?;
     for _ in 0..count {
         text.push('a')?;
@@ -57,23 +57,23 @@ fn letters(alloc: Global, count: usize) -> Result<String, Failure> {
 
 /// Joins the decimal numbers below a count by commas, in one request for memory: a number below the count has no more
 /// digits than the count.
-pub fn joined_numbers(alloc: Global, count: usize) -> Result<String, Failure> {
-    let width = written(&in_decimal(count)?).len().saturating_add(1);
+pub fn join_numbers(alloc: Global, count: usize) -> Result<String, Failure> {
+    let width = as_str(&format_number(count)?).len().saturating_add(1);
     let mut text = String::with_capacity(alloc, count.saturating_mul(width))?;
     for number in 0..count {
         if number > 0 {
             text.push(',')?;
         }
-        text.push_str(written(&in_decimal(number)?))?;
+        text.push_str(as_str(&format_number(number)?))?;
     }
     Ok(text)
 }
 
 /// The text that the program makes for a call, if it makes one.
-fn text_of(alloc: Global, call: Call<'_>) -> Result<Option<String>, Failure> {
+fn make_text(alloc: Global, call: Call<'_>) -> Result<Option<String>, Failure> {
     match call.name {
-        "letters" => Ok(Some(letters(alloc, call.number)?)),
-        "extend_numbers" | "intern_all_numbers" | "from_iter_numbers" => Ok(Some(joined_numbers(
+        "letters" => Ok(Some(make_letters(alloc, call.number)?)),
+        "extend_numbers" | "intern_all_numbers" | "from_iter_numbers" => Ok(Some(join_numbers(
             alloc,
             call.number,
         )?)),
@@ -82,12 +82,12 @@ fn text_of(alloc: Global, call: Call<'_>) -> Result<Option<String>, Failure> {
 }
 
 /// The same, made again if memory was refused.
-pub fn text_again(rt: &HostRuntime, call: Call<'_>) -> Result<Option<String>, Failure> {
-    let made = text_of(rt.alloc(), call);
+pub fn make_text_again(rt: &HostRuntime, call: Call<'_>) -> Result<Option<String>, Failure> {
+    let made = make_text(rt.alloc(), call);
     if !is_refused(&made) {
         return made;
     }
-    let again = text_of(rt.alloc(), call);
+    let again = make_text(rt.alloc(), call);
     tell_refusal(rt, call.name, true, again.is_ok())?;
     again
 }
@@ -105,7 +105,7 @@ pub trait Interning {
 }
 
 /// The number of the symbol that was returned.
-pub fn numbered<S: Symbol>(answer: Result<S, InternError>) -> Result<usize, InternError> {
+pub fn to_number<S: Symbol>(answer: Result<S, InternError>) -> Result<usize, InternError> {
     Ok(answer?.to_usize())
 }
 
@@ -141,10 +141,10 @@ pub fn intern_many<L: Interning>(rt: &HostRuntime, level: &mut L, call: Call<'_>
     let mut step: usize = 1;
     for number in 0..call.number {
         let text = match call.name {
-            "choices" => choice_of(call.text, number)?,
-            _ => in_decimal(number)?,
+            "choices" => choose_words(call.text, number)?,
+            _ => format_number(number)?,
         };
-        match intern_again(rt, level, call, written(&text))? {
+        match intern_again(rt, level, call, as_str(&text))? {
             Ok(symbol) => {
                 if symbol.wrapping_sub(last) != step {
                     step = symbol.wrapping_sub(last);

@@ -68,16 +68,7 @@ impl Default for Salted {
 /// shares with its copies and clones.
 #[derive(Clone, Copy, Default)]
 pub struct CountingHasher<'c> {
-    hashed: Option<&'c Cell<usize>>,
-}
-
-impl<'c> CountingHasher<'c> {
-    /// Counts in this cell.
-    pub fn new(hashed: &'c Cell<usize>) -> Self {
-        CountingHasher {
-            hashed: Some(hashed),
-        }
-    }
+    pub hashed: Option<&'c Cell<usize>>,
 }
 
 impl<'c> TextHasher for CountingHasher<'c> {

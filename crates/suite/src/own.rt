@@ -5,14 +5,14 @@ use crate::fault::{Failure, Mistake};
 use crate::odd::Salted;
 use std::alloc::AllocError;
 use string_interner::StringInterner;
-use string_interner::backend::{BucketBackend, BufferBackend, CopyBackend, Iter, StringBackend};
+use string_interner::backend::{BucketBackend, BufferBackend, CopyBackend, StringBackend};
 use string_interner::dedup::{CopyIndex, TextHasher};
 use string_interner::symbol::Symbol;
 
-/// A backend that can be cloned, compared and walked over as its own type lets it.
-pub trait Shown: CopyBackend + Drop {
-    /// How many texts it was asked for since this was last called, where it counts them.
-    fn texts_asked(&self) -> Option<usize> {
+/// A backend of the scenarios.
+pub trait SuiteBackend: CopyBackend + PartialEq + Drop {
+    /// Counts the texts that it was asked for since this was last called, if it counts them at all.
+    fn count_asked(&self) -> Option<usize> {
         None
     }
 
@@ -21,72 +21,44 @@ pub trait Shown: CopyBackend + Drop {
         None
     }
 
-    /// Calls `clone`.
-    fn cloned(&self) -> Result<Self, AllocError>;
-
-    /// Compares by `==`.
-    fn is_equal(&self, other: &Self) -> bool;
-
-    /// Walks over `&self`.
-    fn walk(&self) -> Iter<'_, Self>;
+    /// Calls `clone`, where the backend offers that, and else `try_copy`.
+    fn make_clone(&self) -> Result<Self, AllocError> {
+        self.try_copy()
+    }
 }
 
-impl<S: Symbol> Shown for StringBackend<S> {
-    fn cloned(&self) -> Result<Self, AllocError> {
+impl<S: Symbol> SuiteBackend for StringBackend<S> {
+    fn make_clone(&self) -> Result<Self, AllocError> {
         self.clone()
     }
-
-    fn is_equal(&self, other: &Self) -> bool {
-        *self == *other
-    }
-
-    fn walk(&self) -> Iter<'_, Self> {
-        self.into_iter()
-    }
 }
 
-impl<S: Symbol> Shown for BucketBackend<S> {
-    fn cloned(&self) -> Result<Self, AllocError> {
+impl<S: Symbol> SuiteBackend for BucketBackend<S> {
+    fn make_clone(&self) -> Result<Self, AllocError> {
         self.clone()
     }
-
-    fn is_equal(&self, other: &Self) -> bool {
-        *self == *other
-    }
-
-    fn walk(&self) -> Iter<'_, Self> {
-        self.into_iter()
-    }
 }
 
-impl<S: Symbol> Shown for BufferBackend<S> {
+impl<S: Symbol> SuiteBackend for BufferBackend<S> {
     fn bytes(&self) -> Option<&[u8]> {
         Some(self.as_bytes())
     }
 
-    fn cloned(&self) -> Result<Self, AllocError> {
+    fn make_clone(&self) -> Result<Self, AllocError> {
         self.clone()
-    }
-
-    fn is_equal(&self, other: &Self) -> bool {
-        *self == *other
-    }
-
-    fn walk(&self) -> Iter<'_, Self> {
-        self.into_iter()
     }
 }
 
-/// A hasher of scenarios.
-pub trait ScenarioHasher: TextHasher + Default + Clone + Drop {
+/// A hasher of the scenarios.
+pub trait SuiteHasher: TextHasher + Default + Clone + Drop {
     /// Calls `try_copy`, where an interner under this hasher offers that.
-    fn copy_of<B: CopyBackend + Drop, I: CopyIndex<B::Symbol> + Drop>(
+    fn copy_interner<B: CopyBackend + Drop, I: CopyIndex<B::Symbol> + Drop>(
         interner: &StringInterner<B, Self, I>,
     ) -> Result<StringInterner<B, Self, I>, Failure>;
 }
 
-impl<H: TextHasher + Default + Copy> ScenarioHasher for H {
-    fn copy_of<B: CopyBackend + Drop, I: CopyIndex<B::Symbol> + Drop>(
+impl<H: TextHasher + Default + Copy> SuiteHasher for H {
+    fn copy_interner<B: CopyBackend + Drop, I: CopyIndex<B::Symbol> + Drop>(
         interner: &StringInterner<B, Self, I>,
     ) -> Result<StringInterner<B, Self, I>, Failure> {
         Ok(interner.try_copy()?)
@@ -94,8 +66,8 @@ impl<H: TextHasher + Default + Copy> ScenarioHasher for H {
 }
 
 /// It is no `Copy` hasher, since its clone has another salt.
-impl ScenarioHasher for Salted {
-    fn copy_of<B: CopyBackend + Drop, I: CopyIndex<B::Symbol> + Drop>(
+impl SuiteHasher for Salted {
+    fn copy_interner<B: CopyBackend + Drop, I: CopyIndex<B::Symbol> + Drop>(
         _interner: &StringInterner<B, Self, I>,
     ) -> Result<StringInterner<B, Self, I>, Failure> {
         Err(Failure::Line(Mistake::NotOffered))

@@ -6,11 +6,11 @@ use crate::fault::{Failure, Fault, Told};
 use crate::interners::sight_of;
 use crate::level::{Level, end_call, make_call};
 use crate::line::{Call, bare_call, read_call};
-use crate::many::joined_numbers;
+use crate::many::join_numbers;
 use crate::scenario::Scenario;
 use crate::sight::Sight;
 use crate::tell::{tell, tell_done, tell_text};
-use commands::{Plan, commands_of, texts_of};
+use commands::{Plan, read_commands, read_texts};
 use std::alloc::{AllocError, Global};
 use string_interner::StringInterner;
 use string_interner::backend::{Backend, InternError};
@@ -38,14 +38,6 @@ fn tell_reply(rt: &HostRuntime, reply: &Reply) -> Told {
         Reply::NoSymbol => tell(rt, &InternError::NoSymbol),
         Reply::NoMemory => tell(rt, &"out of memory"),
     }
-}
-
-/// Prints the replies.
-fn tell_replies(rt: &HostRuntime, replies: &[Reply]) -> Told {
-    for reply in replies {
-        tell_reply(rt, reply)?;
-    }
-    Ok(())
 }
 
 impl<B: Backend, H: TextHasher, I: TextIndex<B::Symbol>> Runs<B, H, I> {
@@ -76,14 +68,16 @@ impl<B: Backend, H: TextHasher, I: TextIndex<B::Symbol>> Level for Runs<B, H, I>
         if !call.is_again {
             self.before = self.interner.len();
         }
-        let numbers = joined_numbers(rt.alloc(), self.plan.numbers)?;
-        let texts = texts_of(rt.alloc(), call, self.plan)?;
-        let commands = commands_of(rt.alloc(), call, self.plan, &texts, &numbers)?;
+        let numbers = join_numbers(rt.alloc(), self.plan.numbers)?;
+        let texts = read_texts(rt.alloc(), call, self.plan)?;
+        let commands = read_commands(rt.alloc(), call, self.plan, &texts, &numbers)?;
         let replies = run(rt.alloc(), &mut self.interner, &commands)?;
         if replies.iter().any(|reply| matches!(reply, Reply::NoMemory)) {
             return Err(self.take_back());
         }
-        tell_replies(rt, &replies)?;
+        for reply in &replies {
+            tell_reply(rt, reply)?;
+        }
         tell(rt, &self.interner.len())
     }
 
@@ -98,7 +92,7 @@ fn add_line(plan: &mut Plan, line: &str, scenario: Scenario<'_>) -> Told {
 }
 
 /// Runs the blocks of lines one after another.
-pub fn all_blocks<B: Backend, H: TextHasher, I: TextIndex<B::Symbol>>(
+pub fn run_blocks<B: Backend, H: TextHasher, I: TextIndex<B::Symbol>>(
     rt: &HostRuntime,
     scenario: Scenario<'_>,
     runs: &mut Runs<B, H, I>,

@@ -5,25 +5,25 @@ use crate::counting::Counting;
 use crate::fault::{Fault, Mistake};
 use crate::indexes::Filled;
 use crate::interners::Interners;
-use crate::level::all_calls;
+use crate::level::run_calls;
 use crate::linear::LinearIndex;
 use crate::odd::{Bit, ByteCount, Constant, CountingHasher, Even, Salted};
-use crate::own::{ScenarioHasher, Shown};
-use crate::runs::{Runs, all_blocks};
+use crate::own::{SuiteBackend, SuiteHasher};
+use crate::runs::{Runs, run_blocks};
 use crate::symbols::Symbols;
 use std::cell::Cell;
 use std::hash::{BuildHasherDefault, DefaultHasher};
 use string_interner::StringInterner;
 use string_interner::backend::{BucketBackend, BufferBackend, StringBackend};
-use string_interner::dedup::{FixedState, FoldState, Index, StdHasher, WindowIndex};
+use string_interner::dedup::{CopyIndex, FixedState, FoldState, Index, StdHasher, WindowIndex};
 use string_interner::scope::Scopes;
 use string_interner::symbol::{Symbol, SymbolU16, SymbolU32, SymbolUsize};
 
 /// SipHash-1-3 under keys that are 0.
 type SipState = StdHasher<BuildHasherDefault<DefaultHasher>>;
 
-/// Interners with an index of a caller.
-type Linear<B> = Interners<B, FixedState, LinearIndex<SymbolU32>>;
+/// An index of a caller.
+type Linear = LinearIndex<SymbolU32>;
 
 /// What the first line says, and the lines after it.
 #[derive(Clone, Copy)]
@@ -52,142 +52,133 @@ pub fn read_scenario<'t>(text: &'t str, hashed: &'t Cell<usize>) -> Option<Scena
 }
 
 /// A fault in the first line.
-pub fn first_line<T>(mistake: Mistake) -> Result<T, Fault> {
+pub fn blame_first_line<T>(mistake: Mistake) -> Result<T, Fault> {
     Err(Fault::Line { line: 1, mistake })
 }
 
+/// Runs a scenario on interners.
+fn run_interners<B: SuiteBackend, H: SuiteHasher, I: CopyIndex<B::Symbol> + Drop>(
+    rt: &HostRuntime,
+    scenario: Scenario<'_>,
+    hasher: H,
+) -> Result<(), Fault> {
+    let mut interners = Interners::<B, H, I>::new(rt.alloc(), hasher);
+    run_calls(rt, scenario, &mut interners)
+}
+
 /// Runs a scenario over a backend and under a hasher.
-fn over<B: Shown, H: ScenarioHasher>(
+fn run_over<B: SuiteBackend, H: SuiteHasher>(
     rt: &HostRuntime,
     scenario: Scenario<'_>,
     hasher: H,
 ) -> Result<(), Fault> {
     let alloc = rt.alloc();
     match scenario.level {
-        "interner" => all_calls(
-            rt,
-            scenario,
-            &mut Interners::<B, H, Index<B::Symbol>>::new(alloc, hasher),
-        ),
-        "window" => all_calls(
-            rt,
-            scenario,
-            &mut Interners::<B, H, WindowIndex<B::Symbol>>::new(alloc, hasher),
-        ),
-        "scopes" => all_calls(
+        "interner" => run_interners::<B, H, Index<B::Symbol>>(rt, scenario, hasher),
+        "window" => run_interners::<B, H, WindowIndex<B::Symbol>>(rt, scenario, hasher),
+        "scopes" => run_calls(
             rt,
             scenario,
             &mut Scopes::new(alloc, StringInterner::<B, H>::with_hasher(alloc, hasher)),
         ),
-        "run" => all_blocks(
+        "run" => run_blocks(
             rt,
             scenario,
             &mut Runs::<B, H, Index<B::Symbol>>::new(alloc, hasher),
         ),
-        "backend" => all_calls(rt, scenario, &mut Backends::<B>::new(alloc)),
-        "index" => all_calls(rt, scenario, &mut Filled::<B, H>::new(alloc)),
-        "linear" | "symbol" => first_line(Mistake::NotBuilt),
-        _ => first_line(Mistake::Level),
+        "backend" => run_calls(rt, scenario, &mut Backends::<B>::new(alloc)),
+        "index" => run_calls(rt, scenario, &mut Filled::<B, H>::new(alloc)),
+        "linear" | "symbol" => blame_first_line(Mistake::NotBuilt),
+        _ => blame_first_line(Mistake::Level),
     }
 }
 
 /// Runs a scenario over a backend with these symbols, under the default hasher.
-fn with_symbols<S: Symbol>(rt: &HostRuntime, scenario: Scenario<'_>) -> Result<(), Fault> {
+fn run_with_symbols<S: Symbol>(rt: &HostRuntime, scenario: Scenario<'_>) -> Result<(), Fault> {
     match scenario.backend {
-        "string" => over::<StringBackend<S>, FixedState>(rt, scenario, FixedState),
-        "bucket" => over::<BucketBackend<S>, FixedState>(rt, scenario, FixedState),
-        "buffer" => over::<BufferBackend<S>, FixedState>(rt, scenario, FixedState),
-        "counting" | "none" => first_line(Mistake::NotBuilt),
-        _ => first_line(Mistake::Backend),
+        "string" => run_over::<StringBackend<S>, FixedState>(rt, scenario, FixedState),
+        "bucket" => run_over::<BucketBackend<S>, FixedState>(rt, scenario, FixedState),
+        "buffer" => run_over::<BufferBackend<S>, FixedState>(rt, scenario, FixedState),
+        "counting" | "none" => blame_first_line(Mistake::NotBuilt),
+        _ => blame_first_line(Mistake::Backend),
     }
 }
 
 /// Runs a scenario with `SymbolU32` under a hasher.
-fn under<H: ScenarioHasher>(
+fn run_under<H: SuiteHasher>(
     rt: &HostRuntime,
     scenario: Scenario<'_>,
     hasher: H,
 ) -> Result<(), Fault> {
     if scenario.symbol != "SymbolU32" {
-        return first_line(Mistake::NotBuilt);
+        return blame_first_line(Mistake::NotBuilt);
     }
     match scenario.backend {
-        "string" => over::<StringBackend, H>(rt, scenario, hasher),
-        "bucket" => over::<BucketBackend, H>(rt, scenario, hasher),
-        "buffer" => over::<BufferBackend, H>(rt, scenario, hasher),
-        "counting" => over::<Counting, H>(rt, scenario, hasher),
-        "none" => first_line(Mistake::NotBuilt),
-        _ => first_line(Mistake::Backend),
-    }
-}
-
-/// Runs a scenario over strings with `SymbolU32`, under a hasher.
-fn over_strings<H: ScenarioHasher>(
-    rt: &HostRuntime,
-    scenario: Scenario<'_>,
-    hasher: H,
-) -> Result<(), Fault> {
-    match (scenario.backend, scenario.symbol) {
-        ("string", "SymbolU32") => over::<StringBackend, H>(rt, scenario, hasher),
-        _ => first_line(Mistake::NotBuilt),
+        "string" => run_over::<StringBackend, H>(rt, scenario, hasher),
+        "bucket" => run_over::<BucketBackend, H>(rt, scenario, hasher),
+        "buffer" => run_over::<BufferBackend, H>(rt, scenario, hasher),
+        "counting" => run_over::<Counting, H>(rt, scenario, hasher),
+        "none" => blame_first_line(Mistake::NotBuilt),
+        _ => blame_first_line(Mistake::Backend),
     }
 }
 
 /// Runs a scenario on interners with an index of a caller.
-fn on_linear(rt: &HostRuntime, scenario: Scenario<'_>) -> Result<(), Fault> {
+fn run_linear(rt: &HostRuntime, scenario: Scenario<'_>) -> Result<(), Fault> {
     match (scenario.backend, scenario.symbol) {
-        ("string", "SymbolU32") => all_calls(
-            rt,
-            scenario,
-            &mut Linear::<StringBackend>::new(rt.alloc(), FixedState),
+        ("string", "SymbolU32") => run_interners::<StringBackend, _, Linear>(
+            rt, scenario, FixedState,
         ),
-        ("counting", "SymbolU32") => all_calls(
-            rt,
-            scenario,
-            &mut Linear::<Counting>::new(rt.alloc(), FixedState),
-        ),
-        _ => first_line(Mistake::NotBuilt),
+        ("counting", "SymbolU32") => run_interners::<Counting, _, Linear>(rt, scenario, FixedState),
+        _ => blame_first_line(Mistake::NotBuilt),
     }
 }
 
 /// Runs a scenario on symbols alone.
-fn on_symbols(rt: &HostRuntime, scenario: Scenario<'_>) -> Result<(), Fault> {
+fn run_symbols(rt: &HostRuntime, scenario: Scenario<'_>) -> Result<(), Fault> {
     match (scenario.backend, scenario.symbol) {
-        ("none", "SymbolU16") => all_calls(rt, scenario, &mut Symbols::<SymbolU16>::new()),
-        ("none", "SymbolU32") => all_calls(rt, scenario, &mut Symbols::<SymbolU32>::new()),
-        ("none", "SymbolUsize") => all_calls(rt, scenario, &mut Symbols::<SymbolUsize>::new()),
-        ("none", "usize") => all_calls(rt, scenario, &mut Symbols::<usize>::new()),
-        ("none", "Even") => all_calls(rt, scenario, &mut Symbols::<Even>::new()),
-        ("none", "Bit") => all_calls(rt, scenario, &mut Symbols::<Bit>::new()),
-        _ => first_line(Mistake::NotBuilt),
+        ("none", "SymbolU16") => run_calls(rt, scenario, &mut Symbols::<SymbolU16>::new()),
+        ("none", "SymbolU32") => run_calls(rt, scenario, &mut Symbols::<SymbolU32>::new()),
+        ("none", "SymbolUsize") => run_calls(rt, scenario, &mut Symbols::<SymbolUsize>::new()),
+        ("none", "usize") => run_calls(rt, scenario, &mut Symbols::<usize>::new()),
+        ("none", "Even") => run_calls(rt, scenario, &mut Symbols::<Even>::new()),
+        ("none", "Bit") => run_calls(rt, scenario, &mut Symbols::<Bit>::new()),
+        _ => blame_first_line(Mistake::NotBuilt),
     }
 }
 
 /// Runs a scenario under the default hasher.
-fn under_default(rt: &HostRuntime, scenario: Scenario<'_>) -> Result<(), Fault> {
+fn run_default(rt: &HostRuntime, scenario: Scenario<'_>) -> Result<(), Fault> {
     match (scenario.level, scenario.symbol) {
-        ("symbol", _) => on_symbols(rt, scenario),
-        ("linear", _) => on_linear(rt, scenario),
-        (_, "SymbolU16") => with_symbols::<SymbolU16>(rt, scenario),
-        (_, "SymbolUsize") => with_symbols::<SymbolUsize>(rt, scenario),
-        (_, "usize") => with_symbols::<usize>(rt, scenario),
-        (_, "Even") => with_symbols::<Even>(rt, scenario),
-        (_, "Bit") => with_symbols::<Bit>(rt, scenario),
-        (_, "SymbolU32") => under(rt, scenario, FixedState),
-        _ => first_line(Mistake::Symbol),
+        ("symbol", _) => run_symbols(rt, scenario),
+        ("linear", _) => run_linear(rt, scenario),
+        (_, "SymbolU16") => run_with_symbols::<SymbolU16>(rt, scenario),
+        (_, "SymbolUsize") => run_with_symbols::<SymbolUsize>(rt, scenario),
+        (_, "usize") => run_with_symbols::<usize>(rt, scenario),
+        (_, "Even") => run_with_symbols::<Even>(rt, scenario),
+        (_, "Bit") => run_with_symbols::<Bit>(rt, scenario),
+        (_, "SymbolU32") => run_under(rt, scenario, FixedState),
+        _ => blame_first_line(Mistake::Symbol),
     }
 }
 
 /// Runs a scenario.
 pub fn run_scenario(rt: &HostRuntime, scenario: Scenario<'_>) -> Result<(), Fault> {
     match scenario.hasher {
-        "default" => under_default(rt, scenario),
-        "constant" => under(rt, scenario, Constant),
-        "length" => under(rt, scenario, ByteCount),
-        "salted" => under(rt, scenario, Salted::default()),
-        "fold" => over_strings(rt, scenario, FoldState::default()),
-        "sip" => over_strings(rt, scenario, SipState::default()),
-        "counting" => over_strings(rt, scenario, CountingHasher::new(scenario.hashed)),
-        _ => first_line(Mistake::Hasher),
+        "default" => run_default(rt, scenario),
+        "constant" => run_under(rt, scenario, Constant),
+        "length" => run_under(rt, scenario, ByteCount),
+        "salted" => run_under(rt, scenario, Salted::default()),
+        "fold" | "sip" | "counting"
+            if scenario.backend != "string" || scenario.symbol != "SymbolU32" => {
+            blame_first_line(Mistake::NotBuilt)
+        }
+        "fold" => run_over::<StringBackend, _>(rt, scenario, FoldState::default()),
+        "sip" => run_over::<StringBackend, _>(rt, scenario, SipState::default()),
+        "counting" => {
+            let hashed = Some(scenario.hashed);
+            run_over::<StringBackend, _>(rt, scenario, CountingHasher { hashed })
+        }
+        _ => blame_first_line(Mistake::Hasher),
     }
 }

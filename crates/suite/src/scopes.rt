@@ -6,7 +6,7 @@ use crate::level::Level;
 use crate::line::Call;
 use crate::sight::Sight;
 use crate::tell::{
-    symbol_of, tell, tell_done, tell_entries, tell_found, tell_symbol, tell_text, texts_hashed,
+    symbol_of, tell, tell_done, tell_entries, tell_found, tell_hashed, tell_symbol, tell_text,
 };
 use string_interner::backend::Backend;
 use string_interner::dedup::{TextHasher, TextIndex};
@@ -28,7 +28,7 @@ impl<B: Backend, H: TextHasher, I: TextIndex<B::Symbol>> Level for Scopes<B, H, 
             "len" => tell(rt, &self.len()),
             "is_empty" => tell(rt, &self.is_empty()),
             "iter" => tell_entries(rt, &mut self.iter()),
-            "texts_hashed" => texts_hashed(rt, call.scenario),
+            "texts_hashed" => tell_hashed(rt, call.scenario),
             _ => Err(Failure::Line(Mistake::Call)),
         }
     }

@@ -5,7 +5,7 @@ use string_interner::symbol::Symbol;
 
 /// How many entries were looked at, one number from their texts, their symbols and whether each is found, and one from
 /// all else.
-#[derive(Clone, Copy, PartialEq, Eq)]
+#[derive(Clone, Copy, PartialEq, Eq, Default)]
 pub struct Sight {
     pub count: usize,
     entries: u64,
@@ -18,15 +18,6 @@ fn mix(seen: u64, next: u64) -> u64 {
 }
 
 impl Sight {
-    /// Nothing was looked at.
-    pub fn new() -> Self {
-        Sight {
-            count: 0,
-            entries: 0,
-            rest: 0,
-        }
-    }
-
     /// The same with one more entry: its symbol, its text, and whether the one is found by the other.
     pub fn with_entry<S: Symbol>(self, symbol: S, text: &str, is_found: bool) -> Self {
         let seen = mix(self.entries, symbol.to_usize() as u64);

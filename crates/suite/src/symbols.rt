@@ -69,6 +69,6 @@ impl<S: Symbol + Ord + Hash> Level for Symbols<S> {
 
     /// A symbol type has no texts.
     fn sight(&self, _text: &str, _most: usize) -> Sight {
-        Sight::new()
+        Sight::default()
     }
 }

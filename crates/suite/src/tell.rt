@@ -47,16 +47,16 @@ pub fn symbol_of<S: Symbol>(number: usize) -> Result<S, Failure> {
     }
 }
 
-/// Prints a count, where there is one.
-pub fn tell_offered(rt: &HostRuntime, count: Option<usize>) -> Told {
-    match count {
-        Some(count) => tell(rt, &count),
+/// What a backend offers, or that the line is wrong because it does not.
+pub fn require<T>(offered: Option<T>) -> Result<T, Failure> {
+    match offered {
+        Some(offered) => Ok(offered),
         None => Err(Failure::Line(Mistake::NotOffered)),
     }
 }
 
 /// Prints how many texts were hashed since this was last done, where the hasher counts them.
-pub fn texts_hashed(rt: &HostRuntime, scenario: Scenario<'_>) -> Told {
+pub fn tell_hashed(rt: &HostRuntime, scenario: Scenario<'_>) -> Told {
     match scenario.hasher {
         "counting" => tell(rt, &scenario.hashed.replace(0)),
         _ => Err(Failure::Line(Mistake::NotOffered)),
@@ -64,18 +64,18 @@ pub fn texts_hashed(rt: &HostRuntime, scenario: Scenario<'_>) -> Told {
 }
 
 /// How many entries are still to come, by `len`. Says so where `size_hint` differs.
-fn left_of<B: Backend>(rt: &HostRuntime, walk: &Iter<'_, B>) -> Result<usize, Failure> {
-    let left = walk.len();
-    if walk.size_hint() != (left, Some(left)) {
+fn count_left<B: Backend>(rt: &HostRuntime, iter: &Iter<'_, B>) -> Result<usize, Failure> {
+    let left = iter.len();
+    if iter.size_hint() != (left, Some(left)) {
         println!(rt; "  size_hint differs")?;
     }
     Ok(left)
 }
 
-/// Prints the next entry of a walk, if there is one, and returns whether there was.
-fn step<B: Backend>(rt: &HostRuntime, walk: &mut Iter<'_, B>) -> Result<bool, Failure> {
-    let left = left_of(rt, walk)?;
-    match walk.next() {
+/// Prints the next entry, if there is one, and returns whether there was.
+fn step<B: Backend>(rt: &HostRuntime, iter: &mut Iter<'_, B>) -> Result<bool, Failure> {
+    let left = count_left(rt, iter)?;
+    match iter.next() {
         Some((symbol, text)) => {
             println!(rt; "  {left} left, symbol {}, text {text}", symbol.to_usize())?;
             Ok(true)
@@ -84,14 +84,14 @@ fn step<B: Backend>(rt: &HostRuntime, walk: &mut Iter<'_, B>) -> Result<bool, Fa
     }
 }
 
-/// Prints the entries of a walk, and how many are left after the last one.
-pub fn tell_entries<B: Backend>(rt: &HostRuntime, walk: &mut Iter<'_, B>) -> Told {
+/// Prints the entries ahead, and how many are left after the last one.
+pub fn tell_entries<B: Backend>(rt: &HostRuntime, iter: &mut Iter<'_, B>) -> Told {
     for _ in 0..u64::MAX {
-        if !step(rt, walk)? {
+        if !step(rt, iter)? {
             break;
         }
     }
-    let left = left_of(rt, walk)?;
+    let left = count_left(rt, iter)?;
     println!(rt; "{left} left")?;
     Ok(())
 }

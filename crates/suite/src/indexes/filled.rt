@@ -28,7 +28,8 @@ impl<B: Backend, H: TextHasher> Model for Filled<B, H> {
     ghost view = { λ f. B.texts f.backend };
 
     ghost invariant = { λ f. IsSoundInterner B.numbering
-        (λ entry. IsWhole entry (H.code f.hasher) f.index.slots) (entry_count f.index) (B.texts f.backend) };
+        (λ entry. IsWhole entry (H.code f.hasher) f.index.slots)
+        (entry_count f.index) (B.texts f.backend) };
 }
 
 impl<B: Backend, H: TextHasher + Default> Filled<B, H> {

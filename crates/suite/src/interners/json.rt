@@ -9,7 +9,7 @@ use string_interner::json::JsonError;
 use string_interner::symbol::Symbol;
 
 /// The value of a JSON text.
-pub fn parsed(alloc: Global, text: &str) -> Result<Value, Failure> {
+pub fn parse_json(alloc: Global, text: &str) -> Result<Value, Failure> {
     match Value::from_str(alloc, text) {
         Ok(value) => Ok(value),
         Err(error) if error.is_memory() => Err(Failure::Error(JsonError::Memory(AllocError))),
@@ -25,7 +25,7 @@ pub fn tell_read(rt: &HostRuntime, count: usize) -> Told {
 
 /// Reads a symbol from a JSON text.
 pub fn symbol_from_json<S: Symbol>(rt: &HostRuntime, text: &str) -> Told {
-    let value = parsed(rt.alloc(), text)?;
+    let value = parse_json(rt.alloc(), text)?;
     tell_found(rt, Some(json::symbol_from_json::<S>(&value)?))
 }
 

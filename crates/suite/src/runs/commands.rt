@@ -19,7 +19,7 @@ impl Plan {
         let commands = match call.name {
             "InternNumbers" => call.number,
             "Extend" => 1,
-            _ if plain_command(call).is_some() => 1,
+            _ if read_plain(call).is_some() => 1,
             _ => return Err(Mistake::Call),
         };
         self.commands = self.commands.saturating_add(commands);
@@ -33,7 +33,7 @@ impl Plan {
 }
 
 /// A command that has neither a list of texts nor numbers.
-fn plain_command<'t>(call: Call<'t>) -> Option<Command<'t>> {
+fn read_plain<'t>(call: Call<'t>) -> Option<Command<'t>> {
     match call.name {
         "Intern" => Some(Command::Intern(call.text)),
         "InternStatic" => Some(Command::InternStatic(call.static_text)),
@@ -48,7 +48,7 @@ fn plain_command<'t>(call: Call<'t>) -> Option<Command<'t>> {
 }
 
 /// The texts of all commands that extend, one after another.
-pub fn texts_of<'t>(
+pub fn read_texts<'t>(
     alloc: Global,
     block: Call<'t>,
     plan: Plan,
@@ -75,7 +75,7 @@ fn push_commands<'t>(
     numbers: &'t str,
     at: usize,
 ) -> Result<usize, AllocError> {
-    if let Some(command) = plain_command(call) {
+    if let Some(command) = read_plain(call) {
         commands.push(command)?;
         return Ok(at);
     }
@@ -91,7 +91,7 @@ fn push_commands<'t>(
 }
 
 /// The commands of a block.
-pub fn commands_of<'t>(
+pub fn read_commands<'t>(
     alloc: Global,
     block: Call<'t>,
     plan: Plan,

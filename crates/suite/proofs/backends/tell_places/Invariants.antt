@@ -1,0 +1,6 @@
+use Rattle.std.proofs.Common.{◌≡◌, take}
+use Rattle.suite.proofs.backends.tell_places.Given as goal
+
+-- the entries so far were printed
+abbrev pub invariant-loop-entry : goal.invariant-loop-entry
+invariant-loop-entry g l = l.at ≡ g.B.Backend.numbering.place (take l._entry (g.B.Backend.texts l.backend))
