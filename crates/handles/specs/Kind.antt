@@ -1,6 +1,6 @@
 -- The kinds of interner: their codes in C, and what each means for the numbers of texts.
 -- Cited by `Kind` and by all that speaks of an interner of any kind.
-use Rattle.std.specs.Prelude.{◌≡◌, ℕ, ◌-◌, ◌*◌, ◌^◌, List, [], length, max, Option, Result, Ok, Err}
+use Rattle.std.specs.Prelude.{◌≡◌, ℕ, ◌-◌, ◌*◌, ◌^◌, List, [], Option, Result, Ok, Err}
 use Rattle.string_interner.specs.Text.{Text}
 use Rattle.string_interner.specs.Backend.{Bucket as BucketOfBytes}
 use Rattle.string_interner.specs.BucketBackend.{CopiesBuckets, bucket_numbering}

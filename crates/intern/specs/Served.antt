@@ -1,6 +1,6 @@
 -- What a whole run of the program writes.
 -- Cited by `serve`.
-use Rattle.std.specs.Prelude.{ℕ, ◌-◌, ◌^◌, max, List, [], length, flat_map, Option}
+use Rattle.std.specs.Prelude.{ℕ, ◌-◌, ◌^◌, List, [], flat_map, Option}
 use Rattle.std.specs.Io.KnownBytes.{Appends}
 use Rattle.std.specs.List.{AllZip}
 use Rattle.intern.specs.Line.{States, reply_line}
