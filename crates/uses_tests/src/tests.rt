@@ -1,8 +1,9 @@
 use std::alloc::Global;
 use std::test::Fail;
 use string_interner::DefaultStringInterner;
-use string_interner::backend::InternError;
+use string_interner::backend::{Backend, BucketBackend, BufferBackend, InternError, StringBackend};
 use string_interner::dedup::KeyedState;
+use string_interner::symbol::DefaultSymbol;
 use uses::blocks::Blocks;
 use uses::column::Column;
 use uses::lexer::{is_keyword, lex};
@@ -116,4 +117,32 @@ fn shows_no_key(alloc: Global) -> Result<bool, InternError> {
 #[test]
 fn a_keyed_state_shows_no_key(rt: HostRuntime) -> Result<(), Fail> {
     check_answer(shows_no_key(rt.alloc()))
+}
+
+/// Reports whether an iterator yields the texts red and green, in this order, and no others.
+fn yields_red_and_green<'a, I: Iterator<Item = (DefaultSymbol, &'a str)>>(mut entries: I) -> bool {
+    let first = entries.next().map(|entry| entry.1);
+    let second = entries.next().map(|entry| entry.1);
+    (first, second) == (Some("red"), Some("green")) && entries.next().is_none()
+}
+
+fn iterates_backends(alloc: Global) -> Result<bool, InternError> {
+    let mut strings = <StringBackend>::new(alloc);
+    let mut buckets = <BucketBackend>::new(alloc);
+    let mut buffer = <BufferBackend>::new(alloc);
+    for text in ["red", "green"] {
+        strings.intern(text)?;
+        buckets.intern(text)?;
+        buffer.intern(text)?;
+    }
+    Ok(
+        yields_red_and_green((&strings).into_iter())
+            && yields_red_and_green((&buckets).into_iter())
+            && yields_red_and_green((&buffer).into_iter()),
+    )
+}
+
+#[test]
+fn backends_are_iterated_by_reference(rt: HostRuntime) -> Result<(), Fail> {
+    check_answer(iterates_backends(rt.alloc()))
 }
