@@ -9,7 +9,8 @@
 
 A clause is a `requires`, an `ensures`, or a ghost member of a trait or an impl, among them laws, views and invariants. Its
 text is what its braces hold, with white space made one blank. Of the text of all clauses in crates/*/src, what is
-repeated is the text of each clause of more than 40 characters that an earlier clause has, too.
+repeated is the text of each clause of more than 40 characters that an earlier clause has, too: a shorter one is a word
+with its arguments, which has to stand at each call that it speaks of.
 
     tools/contracts.py           also prints how much text is repeated, and what is repeated most
     tools/contracts.py --write   first writes the quotes anew
@@ -78,6 +79,8 @@ def written_anew(page):
 def stale_quotes(page):
     """What is wrong with the quotes of the page."""
     quotes = list(QUOTE.finditer(page))
+    if page.count("contract:") != len(quotes):
+        yield "a mark of a contract that is not written `<!-- contract: CALL -->`"
     for call in CALLS:
         if call not in [quote["call"] for quote in quotes]:
             yield f"no quote of {call}"
@@ -88,9 +91,9 @@ def stale_quotes(page):
         elif quote["text"] is None:
             yield f"no block of Rattle behind the mark of {call}"
         elif quote["text"] != contract:
-            lines = zip_longest(quote["text"].splitlines(), contract.splitlines(), fillvalue="")
+            lines = zip_longest(quote["text"].splitlines(), contract.splitlines())
             old, new = next(pair for pair in lines if pair[0] != pair[1])
-            yield f"the quote of {call} is stale: it has `{old}` for `{new}`"
+            yield f"the quote of {call} is stale: it has `{old or ''}` for `{new or ''}`"
 
 
 @dataclass(frozen=True)

@@ -1,6 +1,6 @@
 """What is wrong with contracts and their quotes, as tools/contracts.py finds it."""
 
-from unittest import mock
+from unittest import TestCase, mock
 
 from small import SmallRepository
 import contracts
@@ -175,3 +175,44 @@ class ContractsTest(SmallRepository):
         text = LONG[:40]
         self.write(f"{LIBRARY}/halls.rt", f"fn a()\n    ensures {{ {text} }}\n{{\n}}\n\nfn b()\n    ensures {{ {text} }}\n{{\n}}\n")
         self.assertEqual(contracts.repeated(contracts.all_clauses()), ([], 0))
+
+    def test_long_lines_of_each_kind(self):
+        wide = "x" * 99
+        kinds = (f"    requires {{ {wide} }}", f"    pub ghost view = {{ {wide} }};", f"    ghost a: {{ A }} by {{\n{wide}xx }};")
+        for kind in kinds:
+            self.write("crates/high/src/halls.rt", f"fn hall()\n{kind}\n{{\n}}\n")
+            self.assertEqual([fault.split(":")[0] for fault in contracts.faults()], ["crates/high/src/halls.rt"], kind)
+
+    def test_clause_without_an_end(self):
+        self.write(f"{LIBRARY}/halls.rt", "fn hall()\n    ensures { IsHall {")
+        self.assertEqual([clause.number for clause in contracts.clauses(self.top / LIBRARY / "halls.rt")], [2])
+
+    def test_most_repeated_text_comes_first(self):
+        texts = [LONG, LONG + " and", LONG + " and", LONG, LONG]
+        self.write(f"{LIBRARY}/halls.rt", "".join(f"fn a()\n    ensures {{ {text} }}\n{{\n}}\n" for text in texts))
+        self.assertEqual(contracts.repeated(contracts.all_clauses())[0], [(LONG, 3), (LONG + " and", 2)])
+
+    def test_quote_with_a_line_more(self):
+        faults = ["docs/CALLING.md: the quote of rooms::half is stale: it has `` for ``"]
+        self.assertEqual(self.faults_of(PAGE.replace("number result }\n```", "number result }\n\n```")), faults)
+
+    def test_mark_that_is_written_otherwise(self):
+        faults = ["docs/CALLING.md: a mark of a contract that is not written `<!-- contract: CALL -->`"]
+        self.assertEqual(self.faults_of(PAGE + "<!--contract: rooms::third -->\n"), faults)
+
+    def run_main(self, *words):
+        with mock.patch("sys.argv", ["contracts.py", *words]), mock.patch("builtins.print"):
+            return contracts.main()
+
+    def test_main(self):
+        self.assertEqual(self.run_main(), 0)
+        self.write(contracts.PAGE, PAGE.replace("IsEven", "IsOdd"))
+        self.assertEqual(self.run_main(), 1)
+        self.assertEqual(self.run_main("--write"), 0)
+        self.assertEqual((self.top / contracts.PAGE).read_text(encoding="utf-8"), PAGE)
+
+
+class CallsTest(TestCase):
+    def test_calls(self):
+        names = [call.rpartition("::")[2] for call in contracts.CALLS]
+        self.assertEqual(names, "new with_capacity len get get_or_intern resolve iter truncate extend intern_all run".split())

@@ -67,11 +67,11 @@ holds-once value lines lines' is_ended is_ended' holds holds' =
     let same = same_Some lines lines' (sym holds.picked ∙ ap (λ d. indexed_texts d holds.numbers) texts ∙ ap (indexed_texts holds'.dictionary) items ∙ holds'.picked) in
     ap (λ ls. text_of_lines ls is_ended) same ∙ ap (text_of_lines lines') truth
 
-texts_at-numbers : (dictionary : List Text) (numbers : List ℕ) (lines : List Text) → AreNumbersOf dictionary numbers lines → indexed_texts dictionary (items_of (map json_of_number numbers)) ≡ Some lines
-texts_at-numbers dictionary [] [] are = refl
-texts_at-numbers dictionary [] (l ∷ ls) are = absurd are
-texts_at-numbers dictionary (n ∷ ns) [] are = absurd are
-texts_at-numbers dictionary (n ∷ ns) (l ∷ ls) are = rw (are.0, texts_at-numbers dictionary ns ls are.1) refl
+indexed_texts-numbers : (dictionary : List Text) (numbers : List ℕ) (lines : List Text) → AreNumbersOf dictionary numbers lines → indexed_texts dictionary (items_of (map json_of_number numbers)) ≡ Some lines
+indexed_texts-numbers dictionary [] [] are = refl
+indexed_texts-numbers dictionary [] (l ∷ ls) are = absurd are
+indexed_texts-numbers dictionary (n ∷ ns) [] are = absurd are
+indexed_texts-numbers dictionary (n ∷ ns) (l ∷ ls) are = rw (are.0, indexed_texts-numbers dictionary ns ls are.1) refl
 
 -- The file of lines holds them.
 pub file-holds : (lines : List Text) (is_ended : Bool) (value : Data) → IsDistinct (fresh [] lines) → list_any has_newline lines ≡ false → IsFileOf lines is_ended value → HoldsLines value lines is_ended
@@ -84,7 +84,7 @@ file-holds lines is_ended value distinct plain is =
       each_a_line = fresh-plain has_newline [] lines plain;
       numbers = items_of (map json_of_number is.0);
       indexes = ap (get (codes "lines")) is.1;
-      picked = texts_at-numbers dictionary is.0 lines is.2;
+      picked = indexed_texts-numbers dictionary is.0 lines is.2;
       end = ap (get (codes "final_newline")) is.1;
     }
 

@@ -3,6 +3,8 @@
 use Rattle.std.specs.Prelude.{⊤}
 use Rattle.string_interner.specs.Text.{Text}
 use Rattle.dictcol.specs.File.{IsColumnFile, DecodesFile}
+use Rattle.dictcol.specs.Fault.{IsNoDamage, IsRightFault}
+use Rattle.dictcol.specs.declared.fault.Fault.{Fault}
 use Rattle.dictcol.specs.declared.arguments.Form.{Form}
 use Rattle.dictcol.specs.declared.arguments.Form.TheVariants.{File, Counts, SortedCounts}
 use Rattle.dictcol.specs.declared.arguments.Task.{Task}
@@ -18,3 +20,8 @@ IsFormOutput SortedCounts bytes text = ⊤
 abbrev pub IsTaskOutput : Task → Text → Text → Type 0
 IsTaskOutput Decode bytes text = DecodesFile bytes text
 IsTaskOutput (Write form _) bytes text = IsFormOutput form bytes text
+
+-- how the task may fail: a file that is decoded is called damaged only if it holds no text, and lines never are
+abbrev pub IsTaskFault : Task → Text → Fault → Type 0
+IsTaskFault Decode bytes fault = IsRightFault (DecodesFile bytes) fault
+IsTaskFault (Write _ _) bytes fault = IsNoDamage fault

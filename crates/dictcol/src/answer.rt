@@ -1,13 +1,13 @@
 //! From the input to the output.
 
-ghost use Rattle.std.specs.Prelude.{◌≡◌, ◌⊎◌, ℕ, List, [], ◌∷◌, ◌++◌, true, IfOk, IfErr, IfSome, IsErrAnd, IsOk, OnOk, IsUtf8, string_bytes};
+ghost use Rattle.std.specs.Prelude.{◌≡◌, ℕ, List, [], ◌∷◌, ◌++◌, true, IfOk, IfErr, IfSome, OnOk, IsUtf8, string_bytes};
 ghost use Rattle.std.specs.Io.KnownBytes.{Appends, IsAtEnd};
-ghost use Rattle.dictcol.specs.Fault.{IsNoDamage, IsReadFault, IsRightFault, IsWriteFault, WritesLast};
+ghost use Rattle.dictcol.specs.Fault.{IsNoDamage, IsReadFault, IsWriteFault, WritesLast};
 ghost use Rattle.dictcol.specs.Lines.{AreLines, is_newline, newline_if};
 ghost use Rattle.std.specs.List.{slice_split};
 ghost use Rattle.dictcol.specs.File.{IsColumnFile};
 ghost use Rattle.dictcol.specs.Writes.{Writes};
-ghost use Rattle.dictcol.specs.Answer.{IsFormOutput, IsTaskOutput};
+ghost use Rattle.dictcol.specs.Answer.{IsFormOutput, IsTaskFault, IsTaskOutput};
 
 use crate::arguments::{Choice, Form, Task};
 use crate::fault::Fault;
@@ -200,8 +200,8 @@ pub fn answer<W: Write>(
     ensures answered { OnOk result
         (Writes (IsTaskOutput task bytes.now) (W.contents output.old) (W.contents output.new)) }
 
-    // A file that holds a text is never called damaged.
-    ensures err { IfErr result (IsRightFault (IsTaskOutput task bytes.now)) }
+    // A file that holds a text is never called damaged, and lines never are.
+    ensures err { IfErr result (IsTaskFault task bytes.now) }
 
     // Unless all went well or a write failed, the output was not touched.
     ensures silent { WritesLast result output.old output.new }

@@ -1,6 +1,6 @@
 //! The file: a JSON object with the dictionary, a number for each line, and whether the last line ends in a newline.
 
-ghost use Rattle.std.specs.Prelude.{◌≡◌, ◌≢◌, ◌⊎◌, [], List, map, Bool, true, false, codes, Some, None, IfOk, IfErr, IsErrAnd, IsOk, OnOk, string_bytes};
+ghost use Rattle.std.specs.Prelude.{◌≡◌, ◌≢◌, [], List, map, Bool, true, false, codes, Some, None, IfOk, IfErr, OnOk, string_bytes};
 ghost use Rattle.std.specs.Io.KnownBytes.{Appends};
 ghost use Rattle.std.specs.List.{join_with_byte, list_any};
 ghost use Rattle.serde_json.specs.Data.{Data, boolean, array, Items};

@@ -3,7 +3,6 @@
 use Rattle.std.specs.Prelude.{◌≡◌, ℕ, ◌&&◌, Bool, true, false, List, take, Option, IsSome, Result, Ok, Err, option_and_then}
 use Rattle.string_interner.specs.Text.{Text, first, texts_eq}
 use Rattle.string_interner.specs.Numbering.{Numbering}
-use Rattle.string_interner.specs.StandsFor.{KeepsSymbols}
 use Rattle.string_interner.specs.Interner.{InternerContents, InternsInto, Finds, IsMadeFor, IsNew, KeepsMemory}
 use Rattle.string_interner.specs.Window.{seven_eighths}
 use Rattle.string_interner.specs.Json.{json_of_texts, ReadsArray, ReadsArrayExactly}
@@ -61,28 +60,25 @@ pub record IsMade (kind : Kind) (capacity : ℕ) (made : AnyInterner) : Type 0 w
   pub kind_is : kind_of made ≡ kind
   pub made_for : IsMadeFor seven_eighths capacity (grant_in kind capacity) (contents made)
 
--- the first texts stay, with their numbers, and the memory
+-- the first texts stay, and so their numbers, and the memory
 pub record KeepsFirst (len : ℕ) (old new : AnyInterner) : Type 0 where
   pub kind : kind_of new ≡ kind_of old
   pub first : texts_in new ≡ take len (texts_in old)
   pub memory : KeepsMemory (contents old) (contents new)
-  pub keeps : KeepsSymbols (numbering_of old) (take len (texts_in old)) (texts_in new)
 
--- the texts stay, with their numbers, and so do buckets and slots
+-- the texts stay, and so their numbers, and so do buckets and slots
 pub record IsShrunk (old new : AnyInterner) : Type 0 where
   pub kind : kind_of new ≡ kind_of old
   pub texts : texts_in new ≡ texts_in old
   pub buckets : (contents new).buckets ≡ (contents old).buckets
   pub slots : (contents new).slot_count ≡ (contents old).slot_count
-  pub keeps : KeepsSymbols (numbering_of old) (texts_in old) (texts_in new)
 
--- the copy has the same kind and the same texts, each with its number, as many slots, and the buckets of a copy
+-- the copy has the same kind and the same texts, and so the same numbers, as many slots, and the buckets of a copy
 pub record IsAnyCopy (any copy : AnyInterner) : Type 0 where
   pub kind : kind_of copy ≡ kind_of any
   pub texts : texts_in copy ≡ texts_in any
   pub buckets : copies_in (kind_of any) (texts_in any) (contents any).buckets (contents copy).buckets
   pub slots : (contents copy).slot_count ≡ (contents any).slot_count
-  pub keeps : KeepsSymbols (numbering_of any) (texts_in any) (texts_in copy)
 
 abbrev pub same_kind : Kind → Kind → Bool
 same_kind kind.String kind.String = true

@@ -15,7 +15,7 @@ use Rattle.string_interner.specs.Json.{json_of_texts}
 use Rattle.string_interner.specs.declared.backend.InternError.TheVariants.{NoSymbol as InternNoSymbol, Memory}
 use Rattle.string_interner.specs.declared.json.JsonError.{JsonError}
 use Rattle.handles.specs.Any.{FindsNumber, InternsAny, IsAnyCopy, IsEmpty, IsMade, Knows, kind_of, text_at, texts_in}
-use Rattle.handles.specs.Kind.{HasCode, code_of_kind}
+use Rattle.handles.specs.Kind.{HasCode}
 use Rattle.handles.specs.Status.{Tells, code_of_done, status_of_json}
 use Rattle.handles.specs.declared.kind.Kind.{Kind}
 use Rattle.handles.specs.declared.any.AnyInterner.{AnyInterner}
@@ -72,7 +72,7 @@ abbrev pub MakesNew : ℕ → Result AnyInterner Status → Type 0
 MakesNew code (Ok any) = HasCode code (Ok (kind_of any)) × IsEmpty (kind_of any) any
 MakesNew code (Err status) = HasCode code (Err status)
 
--- The same with room.
+-- The same with spare capacity, or memory is refused.
 abbrev pub MakesRoom : ℕ → ℕ → Result AnyInterner Status → Type 0
 MakesRoom code capacity (Ok any) = HasCode code (Ok (kind_of any)) × IsMade (kind_of any) capacity any
 MakesRoom code capacity (Err NoMemory) = (kind : Kind) × HasCode code (Ok kind)
@@ -99,7 +99,7 @@ InternsText text old (Err NoSymbol) new = InternsAny old text (Err InternNoSymbo
 InternsText text old (Err NoMemory) new = InternsAny old text (Err (Memory alloc_error)) new
 InternsText text old (Err _) new = ⊥
 
--- Bytes are interned: as a text is, or they are none.
+-- Bytes are interned: as a text is, or they are not UTF-8.
 abbrev pub InternsBytes : List ℕ → AnyInterner → Result ℕ Status → AnyInterner → Type 0
 InternsBytes bytes old (Err BadText) new = ¬ IsUtf8 bytes × (new ≡ old)
 InternsBytes bytes old outcome new = IsUtf8 bytes × InternsText bytes old outcome new
@@ -110,7 +110,7 @@ FindsText text any (Ok number) = FindsNumber any text (Some number)
 FindsText text any (Err Nothing) = FindsNumber any text None
 FindsText text any (Err _) = ⊥
 
--- Bytes are looked for: as a text is, or they are none.
+-- Bytes are looked for: as a text is, or they are not UTF-8.
 abbrev pub FindsBytes : List ℕ → AnyInterner → Result ℕ Status → Type 0
 FindsBytes bytes any (Err BadText) = ¬ IsUtf8 bytes
 FindsBytes bytes any outcome = IsUtf8 bytes × FindsText bytes any outcome
@@ -164,15 +164,15 @@ IsValueOf bytes (Err _) = ⊥
 
 -- The bytes are a JSON text, whose value gives this outcome for the kind with this code.
 abbrev pub ReadsValue : (Kind → Data → Result AnyInterner JsonError → Type 0) → ℕ → List ℕ → Result AnyInterner JsonError → Type 0
-ReadsValue reads code bytes outcome = (kind : Kind) × (code_of_kind kind ≡ code)
+ReadsValue reads code bytes outcome = (kind : Kind) × HasCode code (Ok kind)
     × (value : Data) × IsUtf8 bytes × (json_read bytes ≡ Some value) × reads kind value outcome
 
 -- Why no interner is made of bytes: no kind has this code; or one has, and the bytes are no JSON text, memory is refused, or
 -- their value is not read.
 pub data RefusesJson (reads : Kind → Data → Result AnyInterner JsonError → Type 0) (code : ℕ) (bytes : List ℕ) : Status → Type 0 where
-  no_kind : ((kind : Kind) → ¬ (code_of_kind kind ≡ code)) → RefusesJson reads code bytes BadKind
-  no_json : (kind : Kind) → code_of_kind kind ≡ code → (IsUtf8 bytes → json_read bytes ≡ None) → RefusesJson reads code bytes BadText
-  no_memory : (kind : Kind) → code_of_kind kind ≡ code → RefusesJson reads code bytes NoMemory
+  no_kind : HasCode code (Err BadKind) → RefusesJson reads code bytes BadKind
+  no_json : (kind : Kind) → HasCode code (Ok kind) → (IsUtf8 bytes → json_read bytes ≡ None) → RefusesJson reads code bytes BadText
+  no_memory : (kind : Kind) → HasCode code (Ok kind) → RefusesJson reads code bytes NoMemory
   not_read : (error : JsonError) → ReadsValue reads code bytes (Err error) → RefusesJson reads code bytes (status_of_json error)
 
 -- A JSON text is read into an interner of the kind with this code.

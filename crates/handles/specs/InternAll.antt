@@ -64,7 +64,7 @@ InternsParts bytes ends (old, before, _) (Err NoSymbol) (new, after, done) = Ref
 InternsParts bytes ends (old, before, _) (Err NoMemory) (new, after, done) = RefusesNext bytes ends (old, before) done NoMemory (new, after)
 InternsParts bytes ends (old, before, _) (Err _) (new, after, done) = ⊥
 
--- the number of an entry, where a symbol has it, and its text
+-- an entry as `entries` lists it: its number and its text
 abbrev pub number_and_text : Entry → Option ℕ × Text
 number_and_text entry = (Some entry.number, entry.text.bytes.now)
 

@@ -1,8 +1,6 @@
 //! The calls on a handle, each with its outcome.
 
-ghost use Rattle.std.specs.Prelude.{◌≡◌, ◌↔◌, IsSome, IsTrue, length, Result};
-ghost use Rattle.std.specs.Str.{IsUtf8};
-ghost use Rattle.string_interner.specs.Text.{first};
+ghost use Rattle.std.specs.Prelude.{◌≡◌, ◌↔◌, IsTrue, length, Result};
 ghost use Rattle.handles.specs.Any.{IsShrunk, KeepsFirst, any_eq, texts_in};
 ghost use Rattle.handles.specs.Calls.{Changes, Copies, CopiesOut, CopiesText, FillsWith, Fills, FindsBytes, FindsText, InternsBytes, InternsText, KnowsBytes, MakesNew, MakesRoom, ResolvesNumber};
 ghost use Rattle.handles.specs.InternAll.{InternsParts, ListsEntries};

@@ -17,14 +17,18 @@ use Rattle.string_interner.specs.Symbol.{number_below}
 use Rattle.string_interner.specs.Run.{Run}
 use Rattle.string_interner.specs.Text.{Text}
 
--- how the parse_backend backend numbers texts: by how many stand before, or by how many bytes these take in its buffer
+-- the symbol with a number, which is that number: those below 2 ^ 32 - 1 have one
+abbrev pub symbol_of : ℕ → Option ℕ
+symbol_of = number_below (2 ^ 32 - 1)
+
+-- how the chosen backend numbers texts
 abbrev pub numbering_over : Choice → Numbering ℕ
-numbering_over StringChoice = string_numbering (number_below (2 ^ 32 - 1)) (λ symbol. symbol)
-numbering_over Bucket = bucket_numbering (number_below (2 ^ 32 - 1)) (λ symbol. symbol)
-numbering_over Buffer = buffer_numbering (number_below (2 ^ 32 - 1)) (λ symbol. symbol)
+numbering_over StringChoice = string_numbering symbol_of (λ symbol. symbol)
+numbering_over Bucket = bucket_numbering symbol_of (λ symbol. symbol)
+numbering_over Buffer = buffer_numbering symbol_of (λ symbol. symbol)
 
 -- For the bytes of an input, the known bytes of the output grow by the lines of the replies of an empty interner over
--- the parse_backend backend to the commands that the input's lines state.
+-- the chosen backend to the commands that the input's lines state.
 pub record WritesReplies (choice : Choice) (bytes : List ℕ) (old new : Option (List ℕ)) : Type 0 where
   pub commands : List Command
   pub replies : List Reply

@@ -113,7 +113,7 @@ fn run_over<B: Backend + Drop>(alloc: Global, commands: &[Command<'_>]) -> Resul
     run(alloc, &mut interner, commands).map_err(|_| Fault::Memory)
 }
 
-/// Runs the commands on an empty interner over the parse_backend backend, and returns the replies.
+/// Runs the commands on an empty interner over the chosen backend, and returns the replies.
 fn run_commands(
     alloc: Global,
     choice: Choice,

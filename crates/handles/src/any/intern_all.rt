@@ -1,6 +1,6 @@
 //! Many texts in one call.
 
-ghost use Rattle.std.specs.Prelude.{◌≡◌, ◌<◌};
+ghost use Rattle.std.specs.Prelude.{◌<◌};
 ghost use Rattle.handles.specs.InternAll.{InternsParts, IsTextBetween};
 
 use super::AnyInterner;
