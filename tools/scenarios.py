@@ -83,7 +83,7 @@ def reply_count(line):
 
 
 def call_part(word):
-    """The part of a call. All that `entry_at` prints is indented."""
+    """The part of a call. All that `entry_at` prints is indented. Shrinking alone may keep the larger block and say nothing."""
     return Part(word, 0 if word == b"entry_at" else 1, 2 if word == b"shrink_to_fit" else 0)
 
 
