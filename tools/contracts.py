@@ -26,6 +26,7 @@ from pathlib import Path
 from textwrap import dedent
 
 from edits import TOP
+from files import read, write
 from source import block_around, functions
 
 PAGE = "docs/CALLING.md"
@@ -59,7 +60,7 @@ def contract_of(call):
     """The signature and the clauses of a call, by its path in the library, or None."""
     module, *owner, name = call.split("::")
     for file in [*(TOP / LIBRARY).glob(f"{module}.rt"), *sources(f"{LIBRARY}/{module}")]:
-        text = file.read_text(encoding="utf-8")
+        text = read(file)
         for function in functions(text):
             if function.name == name and belongs_to(text, function, "".join(owner)):
                 return f"{dedent(function.contract).rstrip()}\n"
@@ -124,7 +125,7 @@ def closing_brace(text, opening):
 
 def clauses(file):
     """The clauses of a source, in order."""
-    text = file.read_text(encoding="utf-8")
+    text = read(file)
     for head in CLAUSE.finditer(text):
         end = closing_brace(text, head.end() - 1)
         while more := MORE.match(text, end):
@@ -150,7 +151,7 @@ def repeated(found):
 
 def faults():
     """What is wrong with the contracts and their quotes."""
-    yield from (f"{PAGE}: {it}" for it in stale_quotes((TOP / PAGE).read_text(encoding="utf-8")))
+    yield from (f"{PAGE}: {it}" for it in stale_quotes(read(TOP / PAGE)))
     found = all_clauses()
     yield from (it for clause in found for it in clause.long_lines)
     share = repeated(found)[1]
@@ -163,7 +164,7 @@ def main():
     parser.add_argument("--write", action="store_true", help="write the quotes anew first")
     if parser.parse_args().write:
         page = TOP / PAGE
-        page.write_text(written_anew(page.read_text(encoding="utf-8")), encoding="utf-8")
+        write(page, written_anew(read(page)))
     again, share = repeated(all_clauses())
     print(f"repeated clause text: {share:.1f} %")
     for text, count in again[:10]:

@@ -15,6 +15,7 @@ from pathlib import PurePosixPath
 from textwrap import indent
 
 from edits import TOP
+from files import read
 
 # Pages whose examples in Rattle are parts of crates.
 SHOWS_RATTLE = ("README.md", "docs/CALLING.md", "docs/USING.md")
@@ -77,7 +78,7 @@ class Repository:
 
     @cached_property
     def sources(self):
-        return [path.read_text(encoding="utf-8") for path in TOP.glob("crates/*/src/**/*.rt")]
+        return [read(path) for path in TOP.glob("crates/*/src/**/*.rt")]
 
 
 def broken_links(page, text):
@@ -88,7 +89,7 @@ def broken_links(page, text):
         path = (TOP / page).parent / name if name else TOP / page
         if not path.exists():
             yield f"the link {target} leads to no file"
-        elif anchor and anchor not in map(anchor_of, HEADING.findall(path.read_text(encoding="utf-8"))):
+        elif anchor and anchor not in map(anchor_of, HEADING.findall(read(path))):
             yield f"the link {target} leads to no heading"
 
 
@@ -119,7 +120,7 @@ def faults():
     """What is wrong with the documents."""
     repository = Repository()
     for page in repository.pages:
-        text = (TOP / page).read_text(encoding="utf-8")
+        text = read(TOP / page)
         found = [*broken_links(page, text), *missing_names(page, text, repository), *unproved_blocks(page, text, repository)]
         yield from (f"{page}: {it}" for it in dict.fromkeys(found))
 

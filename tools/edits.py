@@ -11,6 +11,7 @@ if the prover passes it and a run of a built program must catch it. Its lines:
   scenario:   what catches the bug, for caught-by-runs: a scenario of the suite, or words for run-program
 """
 
+import sys
 from dataclasses import dataclass, field
 from functools import cache
 from pathlib import Path
@@ -80,6 +81,15 @@ def read_edit(path):
 def edits_of(crate, folder=REFUSED):
     """The planted bugs of a crate that this folder holds, by name."""
     return [read_edit(path) for path in sorted((TOP / "crates" / crate / folder).glob("*.edit"))]
+
+
+def choose_edits(of, names, folder=REFUSED):
+    """The planted bugs of these crates that have these names, or all where there is no name. Ends the program where none has
+    one of them."""
+    every = [edit for crate in of for edit in edits_of(crate, folder)]
+    if unknown := set(names) - {edit.name for edit in every}:
+        sys.exit(f"no such edit: {' '.join(sorted(unknown))}")
+    return [edit for edit in every if not names or edit.name in names]
 
 
 @cache

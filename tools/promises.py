@@ -21,6 +21,7 @@ import sys
 from dataclasses import dataclass, field
 
 from edits import CAUGHT, REFUSED, TOP, crates, edits_of
+from files import read, write
 
 PAGE = TOP / "docs" / "PROMISES.md"
 LIBRARY = "string_interner"
@@ -138,10 +139,10 @@ def main():
     parser = argparse.ArgumentParser(description=__doc__.partition("\n")[0])
     parser.add_argument("--check", action="store_true", help="change nothing, and fail if the page is stale")
     changes_nothing = parser.parse_args().check
-    page = PAGE.read_text(encoding="utf-8")
+    page = read(PAGE)
     new, faults = rewrite(page)
     if not changes_nothing:
-        PAGE.write_text(new, encoding="utf-8")
+        write(PAGE, new)
     elif new != page:
         faults += stale_lines(page, new)
     for fault in faults:

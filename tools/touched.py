@@ -21,6 +21,7 @@ import subprocess
 from functools import cache
 
 from edits import TOP, below, crates, edits_of
+from files import read, write
 from source import block_around, functions, functions_of_traits, items, outside_functions, without_comments
 
 TRIED = TOP / "tools/tried-in-full"
@@ -68,7 +69,7 @@ class Changes:
     def versions(self, file):
         """The text of a file at that commit and now, empty where there is none."""
         now = TOP / file
-        return git("show", f"{self.commit}:{file}") or "", now.read_text(encoding="utf-8") if now.exists() else ""
+        return git("show", f"{self.commit}:{file}") or "", read(now) if now.exists() else ""
 
     def changed_below(self, crate, suffix):
         """The changed files of a crate and of the crates below it that have this suffix, each in its two versions."""
@@ -145,13 +146,13 @@ def all_definitions(crate):
     """The definitions that contracts of a crate can cite."""
     for it in [crate, *below(crate)]:
         for path in sorted(TOP.glob(f"crates/{it}/specs/*.antt")):
-            yield from definitions(path.read_text(encoding="utf-8"))
+            yield from definitions(read(path))
 
 
 @cache
 def words_of_methods(crate, name):
     """The words of the contracts that traits give to methods of a name."""
-    texts = (path.read_text(encoding="utf-8") for it in [crate, *below(crate)] for path in TOP.glob(f"crates/{it}/src/**/*.rt"))
+    texts = (read(path) for it in [crate, *below(crate)] for path in TOP.glob(f"crates/{it}/src/**/*.rt"))
     declared = (it for text in texts for it in functions_of_traits(text) if it.name == name)
     return frozenset(word for it in declared for word in WORD.findall(it.contract))
 
@@ -163,7 +164,7 @@ def toolchain():
 
 def last_full_run():
     """The commit of the last full run, or None if there is none to compare with."""
-    commit, _, kit = TRIED.read_text(encoding="utf-8").partition("\n") if TRIED.exists() else ("", "", "")
+    commit, _, kit = read(TRIED).partition("\n") if TRIED.exists() else ("", "", "")
     is_there = commit and git("cat-file", "-e", f"{commit}^{{commit}}") is not None
     return commit if is_there and kit.strip() == toolchain() else None
 
@@ -176,7 +177,7 @@ def commit_as_it_stands():
 
 def note_full_run(commit):
     """Writes that all planted bugs were tried on this commit."""
-    TRIED.write_text(f"{commit}\n{toolchain()}\n", encoding="utf-8")
+    write(TRIED, f"{commit}\n{toolchain()}\n")
 
 
 def touched():

@@ -1,24 +1,15 @@
 """How a planted bug is tried: what it changes where, and with which proof file."""
 
 import re
-from pathlib import Path
 
 import proof_file
 from edits import TOP, Edit
+from files import read, write
 from source import block_around, functions, names_a_type
 
 
 class Unfit(Exception):
     """A planted bug that cannot be tried, and why."""
-
-
-def read(path):
-    return Path(path).read_text(encoding="utf-8")
-
-
-def write(path, text):
-    Path(path).parent.mkdir(parents=True, exist_ok=True)
-    Path(path).write_text(text, encoding="utf-8")
 
 
 class Trial:

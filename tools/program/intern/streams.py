@@ -9,25 +9,15 @@ import subprocess
 import tempfile
 from itertools import product
 
-from program.cases import OUTPUT_BUFFER
-from program.ends import differs
-from program.list_of_texts import CLOSED, UNREADABLE, UNWRITABLE, answer, bad_line
+from program.common.ends import CLOSED, differs
+from program.common.scale import MANY
+from program.common.streams import holding, left_after_a_line, over_a_closed_input, over_a_folder, over_a_full_disk, run_over
+from program.intern.cases import OUTPUT_BUFFER
+from program.intern.list_of_texts import UNREADABLE, UNWRITABLE, answer, bad_line
 from refused_memory import SECONDS
-
 
 COMMANDS = b"i Tiger\ng Bear\nr 0\nlen\nshrink\nr 9\n"
 LINES = [b"symbol 0\n", b"none\n", b"text Tiger\n", b"len 1\n", b"ok\n", b"no reply\n"]
-
-
-def run_over(program, words, given, output=subprocess.PIPE, before=None, **settings):
-    """How a run over these files ends. With settings, the library that breaks input and output off stands before it."""
-    environment = dict(os.environ, **{name: str(value) for name, value in settings.items()})
-    if settings:
-        # A setting of the other library comes with it.
-        environment["LD_PRELOAD"] = " ".join([program.breaking, program.library][:1 + ("REFUSE" in settings)])
-    ended = subprocess.run([program.path, *words], stdin=given, stdout=output, stderr=subprocess.PIPE,
-                           preexec_fn=before, timeout=SECONDS, env=environment)
-    return ended.returncode, ended.stdout or b"", ended.stderr
 
 
 def without_refusal(told):
@@ -35,27 +25,15 @@ def without_refusal(told):
     return told.replace(b"request refused\n", b"")
 
 
-def holding(data):
-    file = tempfile.TemporaryFile()
-    file.write(data)
-    file.seek(0)
-    return file
-
-
 def unreadable_input(program):
-    folder = os.open("/", os.O_RDONLY)
-    yield from differs("a folder as input", run_over(program, [b"string"], folder), UNREADABLE)
-    os.close(folder)
-    closed = run_over(program, [b"string"], None, before=lambda: os.close(0))
-    yield from differs("a closed input", closed, UNREADABLE)
+    yield from differs("a folder as input", over_a_folder(program, [b"string"]), UNREADABLE)
+    yield from differs("a closed input", over_a_closed_input(program, [b"string"]), UNREADABLE)
 
 
 def unwritable_output(program):
     failed = (1, b"", UNWRITABLE)
     for data, wanted in ((b"i Elephant\n", failed), (b"", (0, b"", b"")), (b"x\n", bad_line(1))):
-        with open("/dev/full", "wb") as full:
-            ended = run_over(program, [b"string"], holding(data), full)
-        yield from differs(f"a full disk after {data!r}", ended, wanted)
+        yield from differs(f"a full disk after {data!r}", over_a_full_disk(program, [b"string"], data), wanted)
         closed = run_over(program, [b"string"], holding(data), None, before=lambda: os.close(1))
         yield from differs(f"a closed output after {data!r}", closed, wanted)
 
@@ -79,18 +57,8 @@ def output_of_any_length(program):
 
 
 def reader_that_leaves(program):
-    data = b"i a\n" * 200000
-    with holding(data) as given:
-        started = subprocess.Popen([program.path, b"string"], stdin=given, stdout=subprocess.PIPE,
-                                   stderr=subprocess.PIPE)
-        line = started.stdout.readline()
-        started.stdout.close()
-        error = started.stderr.read()
-        started.stderr.close()
-        ended = started.wait(SECONDS), b"", error
-    yield from differs("a reader that leaves", ended, CLOSED)
-    if line != b"symbol 0\n":
-        yield f"a reader that leaves: it read {line!r}"
+    ended = left_after_a_line(program, [b"string"], b"i a\n" * MANY)
+    yield from differs("a reader that leaves", ended, (CLOSED[0], b"symbol 0\n", CLOSED[2]))
 
 
 def input_in_pieces(program):

@@ -1,15 +1,11 @@
-"""The cases of the program, each once more with each of its requests for memory refused."""
+"""The cases of `intern`, each once more with each of its requests for memory refused."""
 
-from functools import partial
-from pathlib import Path
+from program.common.cases import FIRST_INPUT, Case
+from program.common.ends import differs
+from program.intern.list_of_texts import ANY, OUT_OF_MEMORY, UNREADABLE, USAGE, Run, answer, command_of, is_text, lines_of
 
-from program.ends import differs
-from program.list_of_texts import ANY, OUT_OF_MEMORY, UNREADABLE, USAGE, Run, answer, command_of, is_text, lines_of
-
-CASES = Path(__file__).resolve().parent.parent.parent / "crates/intern/cases"
-
-# In bytes: the buffer of standard output, the first room for the input, a command and a reply.
-OUTPUT_BUFFER, FIRST_INPUT, COMMAND, REPLY = 8192, 512, 24, 32
+# In bytes: the buffer of standard output, a command and a reply.
+OUTPUT_BUFFER, COMMAND, REPLY = 8192, 24, 32
 
 
 def rooms_of_input(data):
@@ -20,20 +16,16 @@ def rooms_of_input(data):
     return rooms
 
 
-class Case:
-    """The files of a case."""
+class CaseOfLines(Case):
+    """The files of a case, with the sizes of the requests that its lines make."""
 
-    ENDS = ("args", "out", "err", "status", "asks")
+    ENDS = (*Case.ENDS, "asks")
+    WORDS = (b"string",)
 
     def __init__(self, path):
-        self.name = path.stem
-        self.data = path.read_bytes()
-        part = {end: path.with_suffix("." + end) for end in self.ENDS}
-        part = {end: file.read_bytes() if file.exists() else None for end, file in part.items()}
-        self.words = [b"string"] if part["args"] is None else part["args"].split(b"\n")[:-1]
-        self.wanted = (int(part["status"] or b"0"), part["out"] or b"", part["err"] or b"")
+        super().__init__(path)
         self.asks = {}
-        for row in (part["asks"] or b"").splitlines():
+        for row in self.parts.get("asks", b"").splitlines():
             line, sizes = row[len(b"line "):].split(b":")
             self.asks[int(line)] = [int(size) for size in sizes.split()]
 
@@ -104,9 +96,8 @@ def asked_after(program, case, number, purpose, ended):
     return program.run_refused(case.words, data, number).asks[number:]
 
 
-def try_case(program, path):
+def try_case(program, case):
     """The faults of a case, and how many requests of it were refused."""
-    case = Case(path)
     faults = differs(f"{case.name}, the case by the rules", answer(case.words, case.data), case.wanted)
     faults += differs(case.name, program.run(case.words, case.data), case.wanted)
     faults += asks_of_lines(case)
@@ -128,17 +119,3 @@ def try_case(program, path):
         if again:
             faults.append(f"{name}: asked again for {again}")
     return faults, len(asks)
-
-
-def try_all(program, pool):
-    paths = sorted(CASES.glob("*.in"))
-    known = {path.stem for path in paths}
-    faults = [f"{path.name} belongs to no case" for path in sorted(CASES.iterdir())
-              if path.suffix[1:] in Case.ENDS and path.stem not in known]
-    if not paths:
-        faults.append("there are no cases")
-    refused = 0
-    for found, count in pool.map(partial(try_case, program), paths):
-        faults += found
-        refused += count
-    return faults, len(paths) + refused, f"{len(paths)} cases, and each of their {refused} requests for memory refused"

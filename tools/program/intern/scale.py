@@ -1,13 +1,10 @@
 """Large inputs, and how often the program asks for memory on them."""
 
-import time
-from functools import partial
-
-from program.cases import OUTPUT_BUFFER
-from program.ends import differs
-from program.list_of_texts import BACKENDS, answer
-
-MANY, MEBIBYTE = 200000, 2**20
+from program.common.ends import differs
+from program.common.scale import MANY, MEBIBYTE, timed
+from program.common.trials import faults_and_figures
+from program.intern.cases import OUTPUT_BUFFER
+from program.intern.list_of_texts import BACKENDS, answer
 
 
 def large_inputs():
@@ -39,9 +36,8 @@ def try_large(program, trial):
     (name, data, allowed), word = trial
     name += " over " + word.decode()
     wanted = answer([word], data)
-    start = time.monotonic()
-    faults = differs(name, program.run([word], data), wanted)
-    seconds = time.monotonic() - start
+    ended, seconds = timed(program.run, [word], data)
+    faults = differs(name, ended, wanted)
     ended = program.run_refused([word], data)
     faults += differs(f"{name}, its requests told", ended, wanted)
     asks = ended.asks
@@ -57,8 +53,5 @@ def try_large(program, trial):
 
 def try_all(program, pool):
     trials = [(given, word) for given in large_inputs() for word in BACKENDS]
-    faults, slowest = [], 0.0
-    for found, seconds in pool.map(partial(try_large, program), trials):
-        faults += found
-        slowest = max(slowest, seconds)
-    return faults, len(trials), f"{len(trials)} large inputs, the slowest in {slowest:.1f} seconds"
+    faults, seconds = faults_and_figures(program, pool, try_large, trials)
+    return faults, len(trials), f"{len(trials)} large inputs, the slowest in {max(seconds):.1f} seconds"

@@ -1,11 +1,11 @@
 """Random inputs, the same ones in each run."""
 
 import random
-from functools import partial
 
-from program.cases import OUTPUT_BUFFER, REPLY
-from program.ends import differs, expect
-from program.list_of_texts import BACKENDS, OUT_OF_MEMORY, USAGE, answer
+from program.common.ends import differs
+from program.common.trials import faults_and_figures, faults_of
+from program.intern.cases import OUTPUT_BUFFER, REPLY
+from program.intern.list_of_texts import BACKENDS, OUT_OF_MEMORY, USAGE, answer, expect
 
 SEED = 20250817
 
@@ -92,15 +92,13 @@ def try_hostile_bytes(program, number):
 
 def try_all(program, pool):
     batches, trials = LISTS // LISTS_OF_AN_INPUT, SHORT_INPUTS // SHORT_INPUTS_OF_A_TRIAL
-    faults = [fault for found in pool.map(partial(try_lists, program), range(batches)) for fault in found]
-    statuses = [0, 0, 0]
-    for found, met in pool.map(partial(try_short_inputs, program), range(1, trials + 1)):
-        faults += found
-        statuses = [before + more for before, more in zip(statuses, met)]
+    faults = faults_of(program, pool, try_lists, range(batches))
+    found, met = faults_and_figures(program, pool, try_short_inputs, range(1, trials + 1))
+    faults += found
+    statuses = [sum(counts) for counts in zip(*met)]
     if min(statuses) < 500:
         faults.append(f"random inputs: too few ended in one of the statuses: {statuses}")
-    for found in pool.map(partial(try_hostile_bytes, program), range(HOSTILE_INPUTS)):
-        faults += found
+    faults += faults_of(program, pool, try_hostile_bytes, range(HOSTILE_INPUTS))
     tried = len(BACKENDS) * LISTS + SHORT_INPUTS + HOSTILE_INPUTS
     return faults, tried, (f"{LISTS} random lists of commands on each backend, {SHORT_INPUTS} short inputs "
                            f"({statuses[0]} answered, {statuses[1]} unreadable, {statuses[2]} with a bad line), "

@@ -1,5 +1,7 @@
 """What the program `intern` answers, reckoned from a list of distinct texts."""
 
+from program.common.ends import differs
+
 BACKENDS = (b"string", b"bucket", b"buffer")
 GREATEST_SYMBOL = 2**32 - 2
 
@@ -7,8 +9,6 @@ USAGE = (2, b"", b"usage: intern string|bucket|buffer\n")
 UNREADABLE = (1, b"", b"cannot read input\n")
 OUT_OF_MEMORY = (1, b"", b"out of memory\n")
 UNWRITABLE = b"cannot write output\n"
-# How a run ends whose output is closed: as a shell tells of a program that SIGPIPE ended.
-CLOSED = (128 + 13, b"", b"")
 
 
 def bad_line(number):
@@ -153,3 +153,8 @@ def answer(words, data, refused=None):
         return bad_line(commands.index(None) + 1)
     replies = Run(words[0], commands, refused).replies
     return 0, b"".join(reply + b"\n" for reply in replies), b""
+
+
+def expect(program, name, words, data):
+    """Runs the program, whose end must be that of a list of texts."""
+    return differs(name, program.run(words, data), answer(words, data))

@@ -1,0 +1,20 @@
+"""What the machine has, and commands that run on it."""
+
+import os
+import re
+import subprocess
+
+PROCESSORS = len(os.sched_getaffinity(0))
+
+
+def available_bytes():
+    """How many bytes of memory the machine could still give."""
+    with open("/proc/meminfo", encoding="utf-8") as file:
+        return int(re.search(r"MemAvailable: +(\d+)", file.read())[1]) << 10
+
+
+def run_in(folder, *words):
+    """Runs a command in a folder, on no input. Returns its status, and what it printed on both outputs."""
+    ran = subprocess.run(list(map(str, words)), cwd=folder, stdin=subprocess.DEVNULL, stdout=subprocess.PIPE,
+                         stderr=subprocess.STDOUT, encoding="utf-8", errors="replace", check=False)
+    return ran.returncode, ran.stdout

@@ -1,0 +1,137 @@
+"""The files of scenarios, and what is read from them.
+
+crates/suite/README.md tells what the files say. Bytes are those of files and outputs, cut at newlines.
+"""
+
+import hashlib
+from collections import Counter
+from dataclasses import dataclass
+
+from edits import TOP
+
+CRATE = TOP / "crates/suite"
+# The scenarios whose requests for memory are refused, and those that are run once each.
+SMALL, LARGE = "scenarios", "large"
+UNKNOWN_LEVEL = b"line 1: unknown level\n"
+# What the program is built for with a window index: backend, symbol type and hasher.
+WITH_WINDOW = {
+    *(f"{backend} SymbolU32 default".encode() for backend in ("string", "bucket", "buffer")),
+    *(f"string {symbol} default".encode() for symbol in ("SymbolU16", "Even", "Bit")),
+    *(f"string SymbolU32 {hasher}".encode() for hasher in ("constant", "length", "salted", "fold", "sip")),
+}
+
+
+def find_calls(folder, crate=CRATE):
+    """The files of calls below a folder of the crate."""
+    return sorted((crate / folder).rglob("*.calls"))
+
+
+def file_faults(crate=CRATE):
+    """What is wrong with the files: some without calls, a name that is given twice, or a folder that is not the level."""
+    files = [path for folder in (SMALL, LARGE) for path in sorted((crate / folder).rglob("*")) if path.is_file()]
+    yield from (f"{path.name} belongs to no calls" for path in files if not path.with_suffix(".calls").exists())
+    calls = [path for path in files if path.suffix == ".calls"]
+    counts = Counter(path.stem for path in calls)
+    yield from (f"{count} scenarios have the name {name}" for name, count in counts.items() if count > 1)
+    for path in calls:
+        with path.open("rb") as file:
+            level = word_of(file.readline()).decode("utf-8", "replace")
+        answers = path.with_suffix(".answers")
+        if path.parent.name != level and not (answers.exists() and answers.read_bytes() == UNKNOWN_LEVEL):
+            yield f"{path.stem} is of level {level}, and not in the folder {level} but in {path.parent.name}"
+
+
+@dataclass
+class Part:
+    """A call, or a block of commands: its word, how many lines it prints that are not indented, and how many of its
+    requests may be refused unseen."""
+
+    word: bytes
+    printed: int
+    unseen: int = 0
+
+
+def cut(text):
+    """The lines of a file or an output, without their newlines."""
+    return text.split(b"\n")[:-1]
+
+
+def plain_lines(text):
+    """The lines of an output that are not indented."""
+    return [line for line in cut(text) if not line.startswith(b"  ")]
+
+
+def word_of(line):
+    """The word of a call's line."""
+    return line.split(b" ")[0]
+
+
+def has_window(calls):
+    """Whether these are calls on interners with the default index, for which there is a window index."""
+    level, _, rest = cut(calls)[0].partition(b" ")
+    return level == b"interner" and rest in WITH_WINDOW
+
+
+def with_window(calls):
+    """The same calls on interners with a window index."""
+    return calls.replace(b"interner", b"window", 1)
+
+
+def reply_count(line):
+    """How many replies the line of a command has."""
+    return int(line.split(b" ")[1]) if word_of(line) == b"InternNumbers" else 1
+
+
+def call_part(word):
+    """The part of a call. All that `entry_at` prints is indented. Shrinking alone may keep the larger block and say nothing."""
+    return Part(word, 0 if word == b"entry_at" else 1, 2 if word == b"shrink_to_fit" else 0)
+
+
+def block_part(block):
+    """The part of a block of commands, which prints the count of texts after its replies."""
+    return Part(b"run", sum(map(reply_count, block)) + 1, 2 * block.count(b"Shrink"))
+
+
+def parts_of(calls):
+    """The calls in order, or the blocks of a run, which empty lines divide."""
+    first, *lines = cut(calls)
+    if word_of(first) != b"run":
+        return [call_part(word_of(line)) for line in lines]
+    blocks = [[]]
+    for line in lines:
+        if line:
+            blocks[-1].append(line)
+        else:
+            blocks.append([])
+    return list(map(block_part, blocks))
+
+
+def wanted_end(answers):
+    """The status, standard output and the message of a bad line, as the answers have them."""
+    lines = [line for line in cut(answers) if not line.startswith(b"asks ")]
+    is_bad = bool(lines) and lines[-1].startswith(b"line ")
+    message = lines.pop() + b"\n" if is_bad else b""
+    return 2 if is_bad else 0, b"".join(line + b"\n" for line in lines), message
+
+
+def asking_parts(parts, answers):
+    """For each request for memory, in order, the index of the part that makes it."""
+    asking = []
+    at, printed = 0, 0
+    for line in [*cut(answers), b"  "]:
+        while at < len(parts) and printed == parts[at].printed:
+            at, printed = at + 1, 0
+        if line.startswith(b"asks "):
+            asking.append(at)
+        elif line.startswith(b"line "):
+            return asking
+        elif not line.startswith(b"  "):
+            printed += 1
+    if at != len(parts):
+        raise ValueError("a call has no answer")
+    return asking
+
+
+def digest_of(output):
+    """What stands for an output that is too long to keep."""
+    return f"{len(cut(output))} lines, SHA-256 {hashlib.sha256(output).hexdigest()}\n".encode()

@@ -1,0 +1,113 @@
+"""What is read from the files of scenarios, and where these files belong."""
+
+import hashlib
+import sys
+import tempfile
+import unittest
+from pathlib import Path
+
+sys.path.insert(0, str(Path(__file__).resolve().parent.parent))
+from scenarios import Part, asking_parts, cut, digest_of, file_faults, find_calls, has_window, parts_of, wanted_end, with_window
+
+
+class TextTest(unittest.TestCase):
+    def test_cut(self):
+        self.assertEqual(cut(b""), [])
+        self.assertEqual(cut(b"one\n\n two \r\n"), [b"one", b"", b" two \r"])
+
+    def test_digest_of(self):
+        text = b"text a\n\n"
+        self.assertEqual(digest_of(text), b"2 lines, SHA-256 %s\n" % hashlib.sha256(text).hexdigest().encode())
+        self.assertNotEqual(digest_of(b"text b\n\n"), digest_of(text))
+
+    def test_wanted_end(self):
+        self.assertEqual(wanted_end(b""), (0, b"", b""))
+        self.assertEqual(wanted_end(b"asks 8\nok\nasks 4\n  text a\n"), (0, b"ok\n  text a\n", b""))
+        self.assertEqual(wanted_end(b"ok\nasks 4\nline 3: unknown word\n"), (2, b"ok\n", b"line 3: unknown word\n"))
+
+    def test_only_the_last_line_is_of_a_bad_line(self):
+        self.assertEqual(wanted_end(b"line 2: a text\nok\n"), (0, b"line 2: a text\nok\n", b""))
+
+
+class PartsTest(unittest.TestCase):
+    def test_calls(self):
+        calls = b"backend string SymbolU32 default\nintern a b\nentry_at\nshrink_to_fit\nintern \n"
+        self.assertEqual(parts_of(calls), [Part(b"intern", 1), Part(b"entry_at", 0), Part(b"shrink_to_fit", 1, 2), Part(b"intern", 1)])
+
+    def test_blocks(self):
+        calls = b"run string SymbolU32 default\nIntern a\nShrink\nInternNumbers 30\n\n\nShrink\nShrink\n"
+        self.assertEqual(parts_of(calls), [Part(b"run", 33, 2), Part(b"run", 1), Part(b"run", 3, 4)])
+
+    def test_words_of_commands_are_calls_elsewhere(self):
+        self.assertEqual(parts_of(b"interner string SymbolU32 default\nShrink\n"), [Part(b"Shrink", 1)])
+
+
+class AskingPartsTest(unittest.TestCase):
+    parts = [Part(b"iter", 1), Part(b"entry_at", 0), Part(b"run", 2)]
+
+    def test_indented_lines_end_no_part(self):
+        answers = b"asks 8\n  1 left\nasks 16\n0 left\nasks 4\nok\nasks 2\n  a\n1\n"
+        self.assertEqual(asking_parts(self.parts, answers), [0, 0, 2, 2])
+
+    def test_a_part_that_prints_nothing_plain_asks_for_nothing(self):
+        self.assertEqual(asking_parts([Part(b"entry_at", 0), Part(b"new", 1)], b"  at 0\nasks 8\nok\n"), [1])
+
+    def test_a_bad_line_ends_the_parts(self):
+        self.assertEqual(asking_parts(self.parts, b"asks 8\nasks 4\nline 2: unknown word\n"), [0, 0])
+
+    def test_each_part_has_an_answer(self):
+        for answers in (b"", b"0 left\n", b"0 left\nok\n", b"asks 8\n"):
+            with self.subTest(answers), self.assertRaises(ValueError):
+                asking_parts(self.parts, answers)
+
+
+class WindowTest(unittest.TestCase):
+    def test_has_window(self):
+        self.assertTrue(has_window(b"interner bucket SymbolU32 default\nget a\n"))
+        for first in (b"scopes string SymbolU32 default", b"interner bucket Even default", b"interner string SymbolU32 counting"):
+            with self.subTest(first):
+                self.assertFalse(has_window(first + b"\nget a\n"))
+
+    def test_only_the_level_changes(self):
+        calls = b"interner string SymbolU32 default\nget interner\n"
+        self.assertEqual(with_window(calls), b"window string SymbolU32 default\nget interner\n")
+
+
+class FilesTest(unittest.TestCase):
+    def faults(self, files):
+        with tempfile.TemporaryDirectory() as folder:
+            for name, text in files.items():
+                path = Path(folder, name)
+                path.parent.mkdir(parents=True, exist_ok=True)
+                path.write_bytes(text)
+            self.names = [path.stem for path in find_calls("scenarios", Path(folder))]
+            return list(file_faults(Path(folder)))
+
+    def test_scenarios_in_their_folders(self):
+        good = {"scenarios/scopes/a.calls": b"scopes string SymbolU32 default\n", "scenarios/scopes/a.answers": b"",
+                "large/run/b.calls": b"run string SymbolU32 default\n", "large/run/b.digest": b""}
+        self.assertEqual(self.faults(good), [])
+        self.assertEqual(self.names, ["a"])
+
+    def test_files_without_calls(self):
+        self.assertEqual(self.faults({"scenarios/run/a.answers": b""}), ["a.answers belongs to no calls"])
+        self.assertEqual(self.faults({"large/b.digest": b""}), ["b.digest belongs to no calls"])
+
+    def test_a_name_that_is_given_twice(self):
+        twice = {"scenarios/run/a.calls": b"run string\n", "large/scopes/a.calls": b"scopes string\n"}
+        self.assertEqual(self.faults(twice), ["2 scenarios have the name a"])
+
+    def test_another_folder_than_the_level(self):
+        for name, place in ("scenarios/scopes/a.calls", "scopes"), ("scenarios/a.calls", "scenarios"):
+            with self.subTest(name):
+                fault = f"a is of level run, and not in the folder run but in {place}"
+                self.assertEqual(self.faults({name: b"run string\n", name.replace("calls", "answers"): b"ok\n"}), [fault])
+                self.assertEqual(self.names, ["a"])
+
+    def test_an_unknown_level_has_no_folder(self):
+        files = {"scenarios/run/a.calls": b"runs string\n", "scenarios/run/a.answers": b"line 1: unknown level\n"}
+        self.assertEqual(self.faults(files), [])
+
+
+if __name__ == "__main__":
+    unittest.main()
