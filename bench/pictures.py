@@ -10,8 +10,8 @@ matplotlib.use("svg")
 import matplotlib.pyplot as plot
 from matplotlib.ticker import FuncFormatter, LogLocator, NullFormatter
 
-from results import BACKENDS, DEFAULT, FAST, FNV, INPUTS, KEYED, MAP, ORIGINAL, PHASES, PICTURES, SET, WINDOW, Results
-from sentences import NOUNS
+from results import BACKENDS, DEFAULT, FAST, FNV, INPUTS, KEYED, MAP, NOUNS, ORIGINAL, PHASES, PICTURES, SET, WINDOW
+from results import Results
 
 plot.rcParams.update(
     {

@@ -23,6 +23,7 @@ INPUTS = {
     "long": "texts of 200 bytes",
     "chosen": "texts that were chosen against FNV-1a",
 }
+NOUNS = {"identifiers": "identifiers", "words": "words", "long": "texts of 200 bytes"}
 
 BACKENDS = ("string", "bucket", "buffer")
 FNV = {backend: ("original", backend, "-", "FNV") for backend in BACKENDS}

@@ -1,5 +1,5 @@
 #!/usr/bin/env python3
-"""tables.py [--docs]: makes tables, and what is said of some pictures, of what bench/run measured, in bench/out/tables.md.
+"""tables.py [--docs]: makes tables of what bench/run measured, in bench/out/tables.md.
 
 With --docs it also puts each block between its two marker lines in README.md and docs/PERFORMANCE.md, and the results beside
 the pictures."""
@@ -7,9 +7,8 @@ import re
 import shutil
 import sys
 
-import sentences
-from results import BACKENDS, DEFAULT, DOCS, FAST, FNV, HERE, INPUTS, MAP, ORIGINAL, PHASES, SET, WINDOW, Results
-from sentences import short
+from results import BACKENDS, DEFAULT, DOCS, FAST, FNV, HERE, INPUTS, KEYED, MAP, NOUNS, ORIGINAL, PHASES, SET, WINDOW
+from results import Results
 
 MEASURES = (*PHASES, "live", "peak")
 CALLS = ("fill", "known", "unknown")
@@ -19,6 +18,13 @@ PAIRS = [
     ("`WindowIndex`, `Fnv1a`, string", WINDOW, FNV["string"]),
     *((f"`WindowIndex`, `FoldState`, {name}", FAST[name], ORIGINAL[name]) for name in BACKENDS),
 ]
+
+
+def short(value):
+    """A number in about two digits, or nothing."""
+    if value is None:
+        return ""
+    return f"{value:,.0f}" if value >= 100 else f"{value:.1f}" if value >= 9.95 else f"{value:.2f}"
 
 
 def table(head, rows):
@@ -54,7 +60,42 @@ def calls(results, name):
         "*default* is `DefaultStringInterner` beside the original under FNV:"
     )
     head = [f"{kind}{phase}" for kind in ("*fast* ", "*default* ") for phase in CALLS]
-    return f"{said}\n\n{table([sentences.NOUNS[name], *head], rows)}"
+    return f"{said}\n\n{table([NOUNS[name], *head], rows)}"
+
+
+def with_backends(results):
+    """The fast interner over the original with the same backend, at each count."""
+    columns = [(backend, phase) for backend in BACKENDS for phase in ("fill", "shuffled")]
+
+    def ratio(count, backend, phase):
+        return results.ratio(FAST[backend], ORIGINAL[backend], "identifiers", count, phase)
+
+    counts = results.counts["identifiers"]
+    rows = [[f"{count:,}", *(short(ratio(count, *column)) for column in columns)] for count in counts]
+    said = (
+        "Time of `FastStringInterner` to intern new texts (fill) and to resolve all symbols in any order (shuffled), "
+        "divided by the original's with the same backend; lower is better. The original uses its default hasher:"
+    )
+    head = [f"*{backend}* {phase}" for backend, phase in columns]
+    return f"{said}\n\n{table([NOUNS['identifiers'], *head], rows)}"
+
+
+def choices(results):
+    """The window index under two hashers, over the default index and hasher, at each count."""
+    inputs = {"identifiers": "unknown", "long": "fill"}
+    columns = [(name, count, phase) for name, phase in inputs.items() for count in results.counts[name]]
+    kinds = {"`WindowIndex`, `FoldState`": FAST["string"], "`WindowIndex`, `RandomState`": KEYED}
+    rows = [
+        [label, *(short(results.ratio(kind, DEFAULT["string"], *column)) for column in columns)]
+        for label, kind in kinds.items()
+    ]
+    said = (
+        "Time to look for identifiers that were not interned (unknown) and to intern new texts of 200 bytes (fill), for "
+        "each number of texts, divided by the time of the default, `Index` under `Fnv1a`; lower is better. All use the "
+        "string backend:"
+    )
+    head = [f"*{phase}* {count:,}" for _, count, phase in columns]
+    return f"{said}\n\n{table(['', *head], rows)}"
 
 
 def memory(results):
@@ -68,8 +109,8 @@ def memory(results):
 
 def pictures(results):
     shown = [picture(f"calls-{name}", calls(results, name)) for name in TEXTS if results.counts[name]]
-    shown.append(picture("backends", sentences.backends(results)))
-    shown.append(picture("index-and-hasher", sentences.choices(results)))
+    shown.append(picture("backends", with_backends(results)))
+    shown.append(picture("index-and-hasher", choices(results)))
     shown.append(picture("memory", memory(results)))
     return "\n\n".join([results.line(), *shown])
 
@@ -116,12 +157,14 @@ def chosen(results):
     for kind in results.kinds():
         values = [results.value(kind, "chosen", count, "fill") for count in counts]
         if any(values):
-            rows.append([name_of(kind), *(short(value * count / 1e6) for value, count in zip(values, counts))])
+            times = [value * count / 1e6 for value, count in zip(values, counts)]
+            rows.append([name_of(kind), *map(short, times), short(times[-1] / times[-2])])
     said = (
-        "Milliseconds to fill an interner with so many texts of 84 bytes whose FNV-1a codes agree in their low 32 bits:"
+        "Milliseconds to fill an interner with texts of 84 bytes whose FNV-1a codes agree in their low 32 bits, by the "
+        f"number of texts. *Growth* is the time for {counts[-1]:,} texts divided by the time for {counts[-2]:,}:"
     )
-    shown = table(["", *(f"{count:,}" for count in counts)], rows)
-    return f"{picture('chosen', sentences.chosen(results))}\n\n{said}\n\n{shown}"
+    shown = table(["", *(f"{count:,}" for count in counts), "*growth*"], rows)
+    return picture("chosen", f"{said}\n\n{shown}")
 
 
 def backends(results):
