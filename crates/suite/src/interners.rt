@@ -161,7 +161,7 @@ impl<B: SuiteBackend, H: SuiteHasher, I: CopyIndex<B::Symbol> + Drop> Level for 
                 self.one.get_or_intern_static(call.static_text),
             ),
             "resolve_unchecked" => tell_text(rt, Some(read_back(&mut self.one, call.text)?)),
-            "numbers" | "choices" => intern_many(rt, self, call),
+            "numbers" | "choices" | "distances" => intern_many(rt, self, call),
             "texts_asked" => tell_asked(rt, &mut self.one, call),
             "texts_hashed" => tell_hashed(rt, call.scenario),
             _ => self.change(rt, call),

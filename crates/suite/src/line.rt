@@ -72,7 +72,7 @@ fn read_argument<'t>(bare: Call<'t>) -> Result<Call<'t>, Mistake> {
             call.number = parse_number(first)?;
             call.second = parse_number(second)?;
         }
-        "choices" => {
+        "choices" | "distances" => {
             call.number = parse_number(first)?;
             call.text = second;
         }

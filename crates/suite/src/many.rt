@@ -7,7 +7,7 @@ use crate::tell::tell_symbol;
 use std::alloc::Global;
 use std::io;
 use std::io::{Cursor, Write};
-use std::str::from_utf8;
+use std::str::{Bytes, from_utf8};
 use string_interner::backend::InternError;
 use string_interner::symbol::Symbol;
 
@@ -44,6 +44,16 @@ fn choose_words(words: &str, number: usize) -> io::Result<SmallText> {
         is_second = !is_second;
     }
     Ok(text)
+}
+
+/// The distance that two letters of ASCII stand for, as digits to base 94, of which `!` is 0.
+fn read_distance(letters: &mut Bytes<'_>) -> usize {
+    let mut distance: usize = 0;
+    for _ in 0..2 {
+        let digit = usize::from(letters.next().unwrap_or(b'!')).wrapping_sub(33);
+        distance = distance.wrapping_mul(94).wrapping_add(digit);
+    }
+    distance
 }
 
 /// Makes a text of so many letters `a`, which takes no memory but its own.
@@ -134,14 +144,21 @@ fn intern_again<L: Interning>(
     Ok(again)
 }
 
-/// Interns the decimal numbers below a count, or choices of words by them. Prints a symbol where the step from the one
-/// before is another one than that one's was; the first is to be 0, and the next one 1.
+/// Interns the decimal numbers below a count, choices of words by them, or as many numbers as there are distances from each to
+/// the next one. Prints a symbol where the step from the one before is another one than that one's was; the first is to be 0,
+/// and the next one 1.
 pub fn intern_many<L: Interning>(rt: &HostRuntime, level: &mut L, call: Call<'_>) -> Told {
     let mut last = usize::MAX;
     let mut step: usize = 1;
+    let mut letters = call.text.bytes();
+    let mut far: usize = 0;
     for number in 0..call.number {
         let text = match call.name {
             "choices" => choose_words(call.text, number)?,
+            "distances" => {
+                far = far.wrapping_add(read_distance(&mut letters));
+                format_number(far)?
+            }
             _ => format_number(number)?,
         };
         match intern_again(rt, level, call, as_str(&text))? {

@@ -9,7 +9,7 @@ ghost use Rattle.suite.specs.Samples.{half_of, half_of-some, halves_equal, halve
 use std::alloc::AllocError;
 use std::cell::Cell;
 use std::marker::Model;
-use string_interner::dedup::{FixedState, TextHasher};
+use string_interner::dedup::{FixedState, KeyedHasher, KeyedState, TextHasher};
 use string_interner::symbol::Symbol;
 
 /// A hasher that gives all texts one code.
@@ -79,6 +79,31 @@ impl<'c> TextHasher for CountingHasher<'c> {
             hashed.set(hashed.get().wrapping_add(1));
         }
         FixedState.hash_text(text)
+    }
+}
+
+/// A `KeyedHasher`, which is one under any keys. Those of its default stand for keys that a system draws: Python makes them
+/// of `PYTHONHASHSEED=1`.
+#[derive(Clone, Copy)]
+pub struct Keyed {
+    keyed: KeyedHasher,
+}
+
+impl TextHasher for Keyed {
+    ghost use Rattle.suite.specs.Keyed.{keyed_code};
+
+    ghost code = { λ hasher text. keyed_code hasher.keyed.builder text };
+
+    fn hash_text(&self, text: &str) -> u64 {
+        self.keyed.hash_text(text)
+    }
+}
+
+impl Default for Keyed {
+    fn default() -> Self {
+        Keyed {
+            keyed: KeyedHasher::new(KeyedState::new(0xAED6_6CE1_84BE_2329, 0xEBE9_BBF1_F149_9052)),
+        }
     }
 }
 

@@ -7,7 +7,7 @@ use crate::indexes::Filled;
 use crate::interners::Interners;
 use crate::level::run_calls;
 use crate::linear::LinearIndex;
-use crate::odd::{Bit, ByteCount, Constant, CountingHasher, Even, Salted};
+use crate::odd::{Bit, ByteCount, Constant, CountingHasher, Even, Keyed, Salted};
 use crate::own::{SuiteBackend, SuiteHasher};
 use crate::runs::{Runs, run_blocks};
 use crate::symbols::Symbols;
@@ -56,14 +56,22 @@ pub fn blame_first_line<T>(mistake: Mistake) -> Result<T, Fault> {
     Err(Fault::Line { line: 1, mistake })
 }
 
-/// Runs a scenario on interners.
-fn run_interners<B: SuiteBackend, H: SuiteHasher, I: CopyIndex<B::Symbol> + Drop>(
+/// Runs a scenario on interners, on scopes, or of commands, which have this index.
+fn run_with<B: SuiteBackend, H: SuiteHasher, I: CopyIndex<B::Symbol> + Drop>(
     rt: &HostRuntime,
     scenario: Scenario<'_>,
     hasher: H,
 ) -> Result<(), Fault> {
-    let mut interners = Interners::<B, H, I>::new(rt.alloc(), hasher);
-    run_calls(rt, scenario, &mut interners)
+    let alloc = rt.alloc();
+    match scenario.level {
+        "scopes" | "window_scopes" => run_calls(
+            rt,
+            scenario,
+            &mut Scopes::new(alloc, StringInterner::<B, H, I>::with_hasher(alloc, hasher)),
+        ),
+        "run" | "window_run" => run_blocks(rt, scenario, &mut Runs::<B, H, I>::new(alloc, hasher)),
+        _ => run_calls(rt, scenario, &mut Interners::<B, H, I>::new(alloc, hasher)),
+    }
 }
 
 /// Runs a scenario over a backend and under a hasher.
@@ -72,22 +80,13 @@ fn run_over<B: SuiteBackend, H: SuiteHasher>(
     scenario: Scenario<'_>,
     hasher: H,
 ) -> Result<(), Fault> {
-    let alloc = rt.alloc();
     match scenario.level {
-        "interner" => run_interners::<B, H, Index<B::Symbol>>(rt, scenario, hasher),
-        "window" => run_interners::<B, H, WindowIndex<B::Symbol>>(rt, scenario, hasher),
-        "scopes" => run_calls(
-            rt,
-            scenario,
-            &mut Scopes::new(alloc, StringInterner::<B, H>::with_hasher(alloc, hasher)),
+        "interner" | "scopes" | "run" => run_with::<B, H, Index<B::Symbol>>(rt, scenario, hasher),
+        "window" | "window_scopes" | "window_run" => run_with::<B, H, WindowIndex<B::Symbol>>(
+            rt, scenario, hasher,
         ),
-        "run" => run_blocks(
-            rt,
-            scenario,
-            &mut Runs::<B, H, Index<B::Symbol>>::new(alloc, hasher),
-        ),
-        "backend" => run_calls(rt, scenario, &mut Backends::<B>::new(alloc)),
-        "index" => run_calls(rt, scenario, &mut Filled::<B, H>::new(alloc)),
+        "backend" => run_calls(rt, scenario, &mut Backends::<B>::new(rt.alloc())),
+        "index" => run_calls(rt, scenario, &mut Filled::<B, H>::new(rt.alloc())),
         "linear" | "symbol" => blame_first_line(Mistake::NotBuilt),
         _ => blame_first_line(Mistake::Level),
     }
@@ -123,13 +122,24 @@ fn run_under<H: SuiteHasher>(
     }
 }
 
+/// The same for a hasher for which the program is built over two backends alone.
+fn run_under_few<H: SuiteHasher>(
+    rt: &HostRuntime,
+    scenario: Scenario<'_>,
+    hasher: H,
+) -> Result<(), Fault> {
+    match (scenario.backend, scenario.symbol) {
+        ("string", "SymbolU32") => run_over::<StringBackend, H>(rt, scenario, hasher),
+        ("counting", "SymbolU32") => run_over::<Counting, H>(rt, scenario, hasher),
+        _ => blame_first_line(Mistake::NotBuilt),
+    }
+}
+
 /// Runs a scenario on interners with an index of a caller.
 fn run_linear(rt: &HostRuntime, scenario: Scenario<'_>) -> Result<(), Fault> {
     match (scenario.backend, scenario.symbol) {
-        ("string", "SymbolU32") => run_interners::<StringBackend, _, Linear>(
-            rt, scenario, FixedState,
-        ),
-        ("counting", "SymbolU32") => run_interners::<Counting, _, Linear>(rt, scenario, FixedState),
+        ("string", "SymbolU32") => run_with::<StringBackend, _, Linear>(rt, scenario, FixedState),
+        ("counting", "SymbolU32") => run_with::<Counting, _, Linear>(rt, scenario, FixedState),
         _ => blame_first_line(Mistake::NotBuilt),
     }
 }
@@ -169,15 +179,12 @@ pub fn run_scenario(rt: &HostRuntime, scenario: Scenario<'_>) -> Result<(), Faul
         "constant" => run_under(rt, scenario, Constant),
         "length" => run_under(rt, scenario, ByteCount),
         "salted" => run_under(rt, scenario, Salted::default()),
-        "fold" | "sip" | "counting"
-            if scenario.backend != "string" || scenario.symbol != "SymbolU32" => {
-            blame_first_line(Mistake::NotBuilt)
-        }
-        "fold" => run_over::<StringBackend, _>(rt, scenario, FoldState::default()),
-        "sip" => run_over::<StringBackend, _>(rt, scenario, SipState::default()),
+        "fold" => run_under(rt, scenario, FoldState::default()),
+        "sip" => run_under_few(rt, scenario, SipState::default()),
+        "keyed" => run_under_few(rt, scenario, Keyed::default()),
         "counting" => {
             let hashed = Some(scenario.hashed);
-            run_over::<StringBackend, _>(rt, scenario, CountingHasher { hashed })
+            run_under_few(rt, scenario, CountingHasher { hashed })
         }
         _ => blame_first_line(Mistake::Hasher),
     }
