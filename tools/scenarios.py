@@ -13,11 +13,14 @@ CRATE = TOP / "crates/suite"
 # The scenarios whose requests for memory are refused, and those that are run once each.
 SMALL, LARGE = "scenarios", "large"
 UNKNOWN_LEVEL = b"line 1: unknown level\n"
-# What the program is built for with a window index: backend, symbol type and hasher.
+# The levels that have an index of either kind, and their words with a window index.
+WITH_INDEX = {b"interner": b"window", b"scopes": b"window_scopes", b"run": b"window_run"}
+# Backend, symbol type and hasher of scenarios that are run again with a window index.
 WITH_WINDOW = {
     *(f"{backend} SymbolU32 default".encode() for backend in ("string", "bucket", "buffer")),
     *(f"string {symbol} default".encode() for symbol in ("SymbolU16", "Even", "Bit")),
-    *(f"string SymbolU32 {hasher}".encode() for hasher in ("constant", "length", "salted", "fold", "sip")),
+    *(f"{backend} SymbolU32 fold".encode() for backend in ("string", "bucket", "buffer")),
+    *(f"string SymbolU32 {hasher}".encode() for hasher in ("constant", "length", "salted", "sip")),
 }
 
 
@@ -66,15 +69,25 @@ def word_of(line):
     return line.split(b" ")[0]
 
 
-def has_window(calls):
-    """Whether these are calls on interners with the default index, for which there is a window index."""
-    level, _, rest = cut(calls)[0].partition(b" ")
-    return level == b"interner" and rest in WITH_WINDOW
+def is_run(calls):
+    """Whether these are blocks of commands."""
+    return word_of(cut(calls)[0]) in (b"run", WITH_INDEX[b"run"])
 
 
 def with_window(calls):
-    """The same calls on interners with a window index."""
-    return calls.replace(b"interner", b"window", 1)
+    """The same calls with a window index, where the driver makes them with both indexes, and else nothing."""
+    level, _, types = cut(calls)[0].partition(b" ")
+    if level not in WITH_INDEX or types not in WITH_WINDOW:
+        return None
+    return WITH_INDEX[level] + calls.removeprefix(level)
+
+
+def as_fast(calls):
+    """The same calls on a fast type, which has a window index and hashes by `fold`, where there is one."""
+    first, is_more, rest = calls.partition(b"\n")
+    if not first.endswith(b" SymbolU32 default"):
+        return None
+    return with_window(first.removesuffix(b"default") + b"fold" + is_more + rest)
 
 
 def reply_count(line):
@@ -94,8 +107,8 @@ def block_part(block):
 
 def parts_of(calls):
     """The calls in order, or the blocks of a run, which empty lines divide."""
-    first, *lines = cut(calls)
-    if word_of(first) != b"run":
+    lines = cut(calls)[1:]
+    if not is_run(calls):
         return [call_part(word_of(line)) for line in lines]
     blocks = [[]]
     for line in lines:

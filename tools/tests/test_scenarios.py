@@ -7,7 +7,8 @@ import unittest
 from pathlib import Path
 
 sys.path.insert(0, str(Path(__file__).resolve().parent.parent))
-from scenarios import Part, asking_parts, cut, digest_of, file_faults, find_calls, has_window, parts_of, wanted_end, with_window
+from scenarios import (Part, as_fast, asking_parts, cut, digest_of, file_faults, find_calls, parts_of, wanted_end,
+                       with_window)
 
 
 class TextTest(unittest.TestCase):
@@ -62,15 +63,25 @@ class AskingPartsTest(unittest.TestCase):
 
 
 class WindowTest(unittest.TestCase):
-    def test_has_window(self):
-        self.assertTrue(has_window(b"interner bucket SymbolU32 default\nget a\n"))
-        for first in (b"scopes string SymbolU32 default", b"interner bucket Even default", b"interner string SymbolU32 counting"):
-            with self.subTest(first):
-                self.assertFalse(has_window(first + b"\nget a\n"))
+    def test_the_level_changes(self):
+        for level, other in (b"interner", b"window"), (b"scopes", b"window_scopes"), (b"run", b"window_run"):
+            calls = level + b" bucket SymbolU32 default\nget " + level + b"\n"
+            self.assertEqual(with_window(calls), other + calls.removeprefix(level))
 
-    def test_only_the_level_changes(self):
-        calls = b"interner string SymbolU32 default\nget interner\n"
-        self.assertEqual(with_window(calls), b"window string SymbolU32 default\nget interner\n")
+    def test_the_hasher_changes_too(self):
+        calls = b"run buffer SymbolU32 default\nGet SymbolU32 default\n"
+        self.assertEqual(as_fast(calls), b"window_run buffer SymbolU32 fold\nGet SymbolU32 default\n")
+
+    def test_what_is_not_run_again(self):
+        for first in (b"backend string SymbolU32 default", b"interner bucket Even default", b"interner string SymbolU32 counting"):
+            with self.subTest(first):
+                self.assertIsNone(with_window(first + b"\nget a\n"))
+                self.assertIsNone(as_fast(first + b"\nget a\n"))
+        self.assertIsNone(as_fast(b"interner string Even default\nget a\n"))
+        self.assertIsNone(as_fast(b"interner string SymbolU32 sip\nget a\n"))
+
+    def test_runs_with_a_window(self):
+        self.assertEqual(parts_of(b"window_run string SymbolU32 fold\nIntern a\nLen\n"), [Part(b"run", 3)])
 
 
 class FilesTest(unittest.TestCase):
