@@ -1,0 +1,211 @@
+"""The memory that an interner has and asks for: a model of the tables in crates/suite/README.md, which knows a list of distinct
+texts and nothing that was run. `asks.py` makes the calls of scenarios on it.
+"""
+
+WIDTHS = {"SymbolU16": 2, "SymbolU32": 4, "SymbolUsize": 8, "usize": 8, "Even": 2, "Bit": 1}
+# Which numbers have a symbol.
+HAS_SYMBOL = {
+    "SymbolU16": lambda number: number < 2 ** 16 - 1,
+    "SymbolU32": lambda number: number < 2 ** 32 - 1,
+    "SymbolUsize": lambda number: number < 2 ** 64 - 1,
+    "usize": lambda number: number < 2 ** 64,
+    "Even": lambda number: number % 2 == 0 and number < 2 ** 17,
+    "Bit": lambda number: number < 2,
+}
+
+
+class NoMemory(Exception):
+    """A size that is no `usize`, for which nothing is asked."""
+
+
+class NoSymbol(Exception):
+    """A text that has no symbol left."""
+
+
+class Memory:
+    """What was asked for since this was last cleared."""
+
+    def __init__(self):
+        self.asks = []
+
+    def ask(self, size):
+        if size >= 2 ** 63:
+            raise NoMemory
+        if size:
+            self.asks.append(size)
+
+
+class Room:
+    """A list whose items take a number of bytes: how many there are, and how many it has room for."""
+
+    def __init__(self, memory, width, capacity=0, length=0):
+        self.memory, self.width, self.capacity, self.length = memory, width, capacity, length
+        memory.ask(capacity * width)
+
+    def add(self, count=1):
+        self.length += count
+        if self.length > self.capacity:
+            self.capacity = max(self.length, 2 * self.capacity, 8 if self.width == 1 else 4)
+            self.memory.ask(self.capacity * self.width)
+
+    def shrink(self):
+        if self.length < self.capacity:
+            self.capacity = self.length
+            self.memory.ask(self.capacity * self.width)
+
+    def copy(self):
+        return Room(self.memory, self.width, self.length, self.length)
+
+
+class StringRoom:
+    """The memory of a `StringBackend`."""
+
+    def __init__(self, memory, capacity=0):
+        self.joined = Room(memory, 1, 5 * capacity)
+        self.ends = Room(memory, 8, capacity)
+
+    def add(self, text, _is_static):
+        self.joined.add(len(text))
+        self.ends.add()
+
+    def keep(self, texts):
+        self.joined.length, self.ends.length = sum(map(len, texts)), len(texts)
+
+    def shrink(self):
+        self.joined.shrink()
+        self.ends.shrink()
+
+    def copy(self, memory):
+        made = StringRoom(memory)
+        made.joined, made.ends = self.joined.copy(), self.ends.copy()
+        return made
+
+    def next_number(self):
+        return self.ends.length
+
+
+class BucketRoom:
+    """The memory of a `BucketBackend`, and of each entry how many bytes it has in a bucket."""
+
+    def __init__(self, memory, capacity=0):
+        self.entries = Room(memory, 24, capacity)
+        self.older = Room(memory, 32)
+        self.head = Room(memory, 1, capacity)
+        self.older_bytes = 0
+        self.lengths = []
+
+    def add(self, text, is_static):
+        self.entries.add()
+        self.lengths.append(0 if is_static else len(text))
+        if self.head.length + self.lengths[-1] > self.head.capacity:
+            self.older.add()
+            self.older_bytes += self.head.length
+            least = max(self.head.capacity, len(text)) + 1
+            self.head = Room(self.head.memory, 1, 1 << (least - 1).bit_length())
+        self.head.length += self.lengths[-1]
+
+    def keep(self, texts):
+        del self.lengths[len(texts):]
+        self.entries.length = len(texts)
+
+    def shrink(self):
+        self.entries.shrink()
+        self.older.shrink()
+
+    def copy(self, memory):
+        made = BucketRoom(memory)
+        made.entries, made.lengths = self.entries.copy(), list(self.lengths)
+        made.head = Room(memory, 1, self.head.capacity + self.older_bytes, sum(self.lengths))
+        return made
+
+    def next_number(self):
+        return self.entries.length
+
+
+class BufferRoom:
+    """The memory of a `BufferBackend`."""
+
+    def __init__(self, memory, capacity=0):
+        self.bytes = Room(memory, 1, 13 * capacity)
+
+    @staticmethod
+    def size(text):
+        """How many bytes a text takes behind its length, which has seven bits in each byte."""
+        return max(len(text).bit_length() + 6, 7) // 7 + len(text)
+
+    def add(self, text, _is_static):
+        self.bytes.add(self.size(text))
+
+    def keep(self, texts):
+        self.bytes.length = sum(map(self.size, texts))
+
+    def shrink(self):
+        self.bytes.shrink()
+
+    def copy(self, memory):
+        made = BufferRoom(memory)
+        made.bytes = self.bytes.copy()
+        return made
+
+    def next_number(self):
+        return self.bytes.length
+
+
+ROOMS = {"string": StringRoom, "counting": StringRoom, "bucket": BucketRoom, "buffer": BufferRoom}
+
+
+class Slots:
+    """The slots of an index, or of a window index."""
+
+    def __init__(self, memory, symbol, is_window, count=0):
+        self.memory, self.symbol, self.is_window, self.count = memory, symbol, is_window, count
+        width = WIDTHS[symbol]
+        if not count:
+            return
+        for size in (width * count, 4 * count, count + 16) if is_window else (2 * width * count,):
+            memory.ask(size)
+
+    def holds(self, count, texts):
+        """Whether so many slots hold so many texts."""
+        return 8 * texts <= 7 * count if self.is_window else 4 * texts <= 3 * count
+
+    def with_capacity(self, capacity):
+        """New slots, the least that hold so many texts."""
+        count = 8 if capacity else 0
+        while not self.holds(count, capacity):
+            count *= 2
+        return self.with_count(count)
+
+    def with_count(self, count):
+        return Slots(self.memory, self.symbol, self.is_window, count)
+
+    def reserved(self, texts):
+        """These slots, or new ones where they do not hold so many texts."""
+        return self if self.holds(self.count, texts) else self.with_count(max(8, 2 * self.count))
+
+
+class Interner:
+    """A list of distinct texts, and the memory that an interner has for it."""
+
+    def __init__(self, slots, room):
+        self.slots, self.room = slots, room
+        self.texts = {}
+
+    def intern(self, text, is_static=False):
+        if text in self.texts:
+            return
+        if not HAS_SYMBOL[self.slots.symbol](self.room.next_number()):
+            raise NoSymbol
+        self.slots = self.slots.reserved(len(self.texts) + 1)
+        self.room.add(text, is_static)
+        self.texts[text] = None
+
+    def truncate(self, count):
+        self.texts = dict.fromkeys(list(self.texts)[:count])
+        self.room.keep(self.texts)
+
+    def copy(self, slots):
+        """A copy over new slots."""
+        made = Interner(slots, self.room.copy(self.slots.memory))
+        made.texts = dict(self.texts)
+        return made

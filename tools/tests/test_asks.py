@@ -1,0 +1,69 @@
+"""The model of what calls ask for: by the answers of all scenarios that it knows, and by values reckoned by hand."""
+
+import sys
+import unittest
+from pathlib import Path
+
+sys.path.insert(0, str(Path(__file__).resolve().parent.parent))
+from asks import asks_with_window, reckon, split_asks
+from scenarios import SMALL, WITH_INDEX, find_calls
+
+LEVELS = {level.decode() for pair in WITH_INDEX.items() for level in pair}
+
+
+class AnswersTest(unittest.TestCase):
+    def test_all_scenarios(self):
+        known = [path for path in find_calls(SMALL) if path.parent.name in LEVELS]
+        self.assertEqual({path.parent.name for path in known} & {"interner", "scopes", "run"}, {"interner", "scopes", "run"})
+        for path in known:
+            answers = path.with_suffix(".answers").read_bytes()
+            if not answers.startswith(b"line 1: "):
+                with self.subTest(path.stem):
+                    list(split_asks(path.read_bytes(), answers))
+
+    def test_another_size(self):
+        calls = b"interner string SymbolU32 default\nget_or_intern Tiger\n"
+        self.assertEqual(list(split_asks(calls, b"asks 64\nasks 8\nasks 32\nsymbol 0\n")), [([], [64, 8, 32])])
+        for asks in (b"asks 64\nasks 8\n", b"asks 64\nasks 9\nasks 32\n", b"asks 8\nasks 64\nasks 8\nasks 32\n"):
+            with self.subTest(asks), self.assertRaises(ValueError):
+                list(split_asks(calls, asks + b"symbol 0\n"))
+
+    def test_what_the_program_asks_itself(self):
+        calls = b"interner buffer SymbolU32 default\nletters 6\n"
+        self.assertEqual(list(split_asks(calls, b"asks 6\nasks 64\nasks 8\nsymbol 0\n")), [([6], [64, 8])])
+
+
+class WindowTest(unittest.TestCase):
+    def test_three_requests_for_slots(self):
+        calls = b"interner string Even default\nwith_capacity 7\n"
+        self.assertEqual(asks_with_window(calls, b"asks 64\nasks 35\nasks 56\nok\n"), [[16, 32, 24, 35, 56]])
+
+    def test_seven_eighths(self):
+        calls = b"interner buffer SymbolU32 default\nextend_numbers 8\n"
+        self.assertEqual(asks_with_window(calls, b"asks 16\nasks 64\nasks 8\nasks 16\nasks 128\nok\n"),
+                         [[16, 32, 32, 24, 8, 16, 64, 64, 32]])
+
+    def test_what_the_program_asks_itself_stays(self):
+        calls = b"run bucket SymbolU32 default\nIntern a\nNumber 0\n"
+        answers = b"asks 48\nasks 64\nasks 64\nasks 96\nasks 128\nasks 2\nasks 1\nsymbol 0\ntext a\n1\n"
+        self.assertEqual(asks_with_window(calls, answers), [[48, 64, 32, 32, 24, 96, 128, 2, 1]])
+
+    def test_scopes(self):
+        calls = b"scopes string SymbolU32 default\nenter\ndeclare b\nleave\n"
+        self.assertEqual(asks_with_window(calls, b"asks 32\nok\nasks 64\nasks 8\nasks 32\nsymbol 0\ntrue\n"),
+                         [[32], [32, 32, 24, 8, 32], []])
+
+
+class BadLineTest(unittest.TestCase):
+    def test_calls_before_it(self):
+        calls = b"interner string SymbolU32 default\nget_or_intern a\nnumbers x\nget_or_intern b\n"
+        self.assertEqual(reckon(calls, b"asks 64\nasks 8\nasks 32\nsymbol 0\nline 3: not a number\n"), [[64, 8, 32]])
+
+    def test_blocks_before_it(self):
+        calls = b"run string SymbolU32 default\nIntern a\n\nLen\nLen\nget a\n"
+        self.assertEqual(reckon(calls, b"symbol 0\n1\nline 6: unknown word\n"), [[32, 64, 8, 32]])
+        self.assertEqual(reckon(calls, b"line 2: unknown word\n"), [])
+
+
+if __name__ == "__main__":
+    unittest.main()
