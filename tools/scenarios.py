@@ -30,8 +30,10 @@ def find_calls(folder, crate=CRATE):
 
 
 def file_faults(crate=CRATE):
-    """What is wrong with the files: some without calls, a name that is given twice, or a folder that is not the level."""
-    files = [path for folder in (SMALL, LARGE) for path in sorted((crate / folder).rglob("*")) if path.is_file()]
+    """What is wrong with the files: some without calls, which are no script, a name that is given twice, or a folder that is
+    not the level."""
+    files = [path for folder in (SMALL, LARGE) for path in sorted((crate / folder).rglob("*"))
+             if path.is_file() and path.suffix != ".py"]
     yield from (f"{path.name} belongs to no calls" for path in files if not path.with_suffix(".calls").exists())
     calls = [path for path in files if path.suffix == ".calls"]
     counts = Counter(path.stem for path in calls)

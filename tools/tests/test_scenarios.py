@@ -1,14 +1,15 @@
 """What is read from the files of scenarios, and where these files belong."""
 
 import hashlib
+import subprocess
 import sys
 import tempfile
 import unittest
 from pathlib import Path
 
 sys.path.insert(0, str(Path(__file__).resolve().parent.parent))
-from scenarios import (Part, as_fast, asking_parts, cut, digest_of, file_faults, find_calls, parts_of, wanted_end,
-                       with_window)
+from scenarios import (CRATE, LARGE, Part, as_fast, asking_parts, cut, digest_of, file_faults, find_calls, parts_of,
+                       wanted_end, with_window)
 
 
 class TextTest(unittest.TestCase):
@@ -84,6 +85,20 @@ class WindowTest(unittest.TestCase):
         self.assertEqual(parts_of(b"window_run string SymbolU32 fold\nIntern a\nLen\n"), [Part(b"run", 3)])
 
 
+@unittest.skipUnless(sys.hash_info.algorithm == "siphash13", "Python hashes by another function")
+class ChosenTest(unittest.TestCase):
+    def test_texts_that_are_chosen_again(self):
+        script = CRATE / LARGE / "choose.py"
+        with tempfile.TemporaryDirectory() as folder:
+            subprocess.run([sys.executable, script, folder], check=True)
+            chosen = {path.relative_to(folder): path.read_bytes() for path in Path(folder).rglob("chosen_*")}
+        kept = {path.relative_to(script.parent): path.read_bytes() for path in script.parent.rglob("chosen_*")}
+        self.assertEqual(sorted(kept), sorted(chosen))
+        for name in kept:
+            with self.subTest(name):
+                self.assertTrue(kept[name] == chosen[name])
+
+
 class FilesTest(unittest.TestCase):
     def faults(self, files):
         with tempfile.TemporaryDirectory() as folder:
@@ -103,6 +118,9 @@ class FilesTest(unittest.TestCase):
     def test_files_without_calls(self):
         self.assertEqual(self.faults({"scenarios/run/a.answers": b""}), ["a.answers belongs to no calls"])
         self.assertEqual(self.faults({"large/b.digest": b""}), ["b.digest belongs to no calls"])
+
+    def test_a_script_needs_no_calls(self):
+        self.assertEqual(self.faults({"large/run/choose.py": b""}), [])
 
     def test_a_name_that_is_given_twice(self):
         twice = {"scenarios/run/a.calls": b"run string\n", "large/scopes/a.calls": b"scopes string\n"}
