@@ -6,6 +6,7 @@ crates/suite/README.md tells what the files say. Bytes are those of files and ou
 import hashlib
 from collections import Counter
 from dataclasses import dataclass
+from itertools import product
 
 from edits import TOP
 
@@ -15,13 +16,9 @@ SMALL, LARGE = "scenarios", "large"
 UNKNOWN_LEVEL = b"line 1: unknown level\n"
 # The levels that have an index of either kind, and their words with a window index.
 WITH_INDEX = {b"interner": b"window", b"scopes": b"window_scopes", b"run": b"window_run"}
-# Backend, symbol type and hasher of scenarios that are run again with a window index.
-WITH_WINDOW = {
-    *(f"{backend} SymbolU32 default".encode() for backend in ("string", "bucket", "buffer")),
-    *(f"string {symbol} default".encode() for symbol in ("SymbolU16", "Even", "Bit")),
-    *(f"{backend} SymbolU32 fold".encode() for backend in ("string", "bucket", "buffer")),
-    *(f"string SymbolU32 {hasher}".encode() for hasher in ("constant", "length", "salted", "sip")),
-}
+# Backends and hashers of scenarios that are run again with a window index: those that count what is asked for or hashed would
+# print other counts.
+COUNT_NOTHING = set(product((b"string", b"bucket", b"buffer"), (b"default", b"constant", b"length", b"salted", b"fold", b"sip")))
 
 
 def find_calls(folder, crate=CRATE):
@@ -78,8 +75,8 @@ def is_run(calls):
 
 def with_window(calls):
     """The same calls with a window index, where the driver makes them with both indexes, and else nothing."""
-    level, _, types = cut(calls)[0].partition(b" ")
-    if level not in WITH_INDEX or types not in WITH_WINDOW:
+    level, *types = cut(calls)[0].split(b" ", 3)
+    if level not in WITH_INDEX or tuple(types[::2]) not in COUNT_NOTHING:
         return None
     return WITH_INDEX[level] + calls.removeprefix(level)
 

@@ -69,12 +69,17 @@ class WindowTest(unittest.TestCase):
             calls = level + b" bucket SymbolU32 default\nget " + level + b"\n"
             self.assertEqual(with_window(calls), other + calls.removeprefix(level))
 
+    def test_each_symbol_type_and_hasher(self):
+        for types in b"bucket Even default", b"buffer usize default", b"bucket SymbolU32 salted":
+            self.assertEqual(with_window(b"scopes " + types + b"\nlen\n"), b"window_scopes " + types + b"\nlen\n")
+
     def test_the_hasher_changes_too(self):
         calls = b"run buffer SymbolU32 default\nGet SymbolU32 default\n"
         self.assertEqual(as_fast(calls), b"window_run buffer SymbolU32 fold\nGet SymbolU32 default\n")
 
     def test_what_is_not_run_again(self):
-        for first in (b"backend string SymbolU32 default", b"interner bucket Even default", b"interner string SymbolU32 counting"):
+        for first in (b"backend string SymbolU32 default", b"run counting SymbolU32 default", b"interner string SymbolU32 counting",
+                      b"scopes vector SymbolU32 default", b"interner string", b"interner"):
             with self.subTest(first):
                 self.assertIsNone(with_window(first + b"\nget a\n"))
                 self.assertIsNone(as_fast(first + b"\nget a\n"))
