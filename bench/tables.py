@@ -130,11 +130,17 @@ def ratios(results):
 
 def nanoseconds(results):
     count = middle_count(results)
-    rows = []
-    for kind in results.kinds():
-        row = results.values.get((kind, "identifiers", count), {})
-        rows.append([name_of(kind), *(short(row.get(measure)) for measure in MEASURES)])
-    return f"Nanoseconds a call, and bytes a text, at {count:,} identifiers:\n\n" + table(["", *MEASURES], rows)
+    shown = {
+        "the least of all rounds, and bytes a text": {measure: measure for measure in MEASURES},
+        "the median of all rounds": {phase: f"{phase} median" for phase in PHASES},
+        "how far the middle half of all rounds spreads": {phase: f"{phase} spread" for phase in PHASES},
+    }
+    tables = []
+    for said, measures in shown.items():
+        found = [(kind, results.values.get((kind, "identifiers", count), {})) for kind in results.kinds()]
+        rows = [[name_of(kind), *(short(row.get(of)) for of in measures.values())] for kind, row in found]
+        tables.append(f"Nanoseconds a call at {count:,} identifiers, {said}:\n\n" + table(["", *measures], rows))
+    return "\n\n".join(tables)
 
 
 def instructions(results):

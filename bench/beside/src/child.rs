@@ -4,7 +4,7 @@ use std::io::{self, Read, Write};
 use std::os::fd::{FromRawFd, OwnedFd};
 
 /// Runs the work in a fork of this process, which has no other threads, and returns the numbers that it gave.
-pub fn in_child<const N: usize>(work: impl FnOnce() -> [u64; N]) -> io::Result<[u64; N]> {
+pub fn in_child(work: impl FnOnce() -> Vec<u64>) -> io::Result<Vec<u64>> {
     let mut ends = [0_i32; 2];
     // SAFETY: the place is there for the time of the call.
     if unsafe { libc::pipe(ends.as_mut_ptr()) } != 0 {
@@ -33,16 +33,15 @@ pub fn in_child<const N: usize>(work: impl FnOnce() -> [u64; N]) -> io::Result<[
             let mut status = 0;
             // SAFETY: the place is there for the time of the call.
             unsafe { libc::waitpid(child, &mut status, 0) };
-            if status != 0 || bytes.len() != 8 * N {
+            if status != 0 {
                 return Err(io::Error::other(format!(
                     "the child ended with status {status}"
                 )));
             }
-            let mut numbers = [0; N];
-            for (number, bytes) in numbers.iter_mut().zip(bytes.chunks_exact(8)) {
-                *number = u64::from_ne_bytes(bytes.try_into().unwrap());
-            }
-            Ok(numbers)
+            let numbers = bytes.chunks_exact(8);
+            Ok(numbers
+                .map(|bytes| u64::from_ne_bytes(bytes.try_into().unwrap()))
+                .collect())
         }
     }
 }

@@ -77,7 +77,7 @@ fn times(case: &Case, kinds: &[&Kind], seconds: f64, passes: u32) -> Result<Vec<
         for (kind, results) in kinds.iter().zip(&mut all) {
             let numbers = in_child(|| kind.measure(&case.inputs, budget).to_numbers())
                 .map_err(|error| format!("{}: {error}", kind.word()))?;
-            results.merge(&Results::from_numbers(numbers));
+            results.add(&numbers);
             eprint!(".");
         }
         eprintln!();
@@ -95,7 +95,7 @@ fn compare(kinds: &[&Kind], all: &[Results]) -> Result<(), Fault> {
         for (phase, name) in PHASES.iter().enumerate() {
             let both = [results, &all[model]]
                 .iter()
-                .all(|it| it.nanoseconds[phase] != u64::MAX);
+                .all(|it| !it.times(phase).is_empty());
             if both && results.sums[phase] != all[model].sums[phase] {
                 return Err(format!(
                     "{} and {} differ in {name}",
@@ -106,11 +106,25 @@ fn compare(kinds: &[&Kind], all: &[Results]) -> Result<(), Fault> {
             }
         }
         // A copy has as many texts as a clone.
-        if results.nanoseconds[7] != u64::MAX && results.sums[7] != results.sums[6] {
+        if !results.times(7).is_empty() && results.sums[7] != results.sums[6] {
             return Err(format!("the copy of {} differs from its clone", kind.word()).into());
         }
     }
     Ok(())
+}
+
+/// Prints the least and the median of the times of a phase, and how far the middle half of them spreads. Times rise.
+fn print_rounds(case: &Case, kind: &Kind, phase: &str, times: &[u64]) {
+    let Some(last) = times.len().checked_sub(1) else {
+        return;
+    };
+    case.print(kind, phase, times[0]);
+    case.print(kind, &format!("{phase} median"), times[last / 2]);
+    // Fewer times have no quarters.
+    if last >= 3 {
+        let spread = times[last * 3 / 4] - times[last / 4];
+        case.print(kind, &format!("{phase} spread"), spread);
+    }
 }
 
 fn print_times(case: &Case, kinds: &[Kind], seconds: f64, passes: u32) -> Result<(), Fault> {
@@ -118,10 +132,8 @@ fn print_times(case: &Case, kinds: &[Kind], seconds: f64, passes: u32) -> Result
     let all = times(case, &kinds, seconds, passes)?;
     compare(&kinds, &all)?;
     for (kind, results) in kinds.iter().zip(&all) {
-        for (phase, &nanoseconds) in PHASES.iter().zip(&results.nanoseconds) {
-            if nanoseconds != u64::MAX {
-                case.print(kind, phase, nanoseconds);
-            }
+        for (phase, name) in PHASES.iter().enumerate() {
+            print_rounds(case, kind, name, &results.times(phase));
         }
     }
     Ok(())
@@ -131,13 +143,15 @@ fn print_memory(case: &Case, kinds: &[Kind]) -> Result<(), Fault> {
     let counter = memory::Counter::loaded().ok_or("the counter of memory is not loaded")?;
     eprint!("{} {}, memory ", case.count(), case.name);
     for kind in kinds.iter().filter(|kind| case.is_for(kind)) {
-        let [live, peak] = in_child(|| {
+        let numbers = in_child(|| {
             counter.reset();
             kind.leave(&case.inputs);
-            [counter.live(), counter.peak()]
+            let held = [counter.live(), counter.peak()];
+            held.to_vec()
         })?;
-        case.print(kind, "live", live);
-        case.print(kind, "peak", peak);
+        for (measure, &bytes) in ["live", "peak"].iter().zip(&numbers) {
+            case.print(kind, measure, bytes);
+        }
         eprint!(".");
     }
     eprintln!();

@@ -1,6 +1,6 @@
 //! The library's half, which is linked in.
 
-use crate::phases::{Budget, Results};
+use crate::phases::{Budget, Results, Row, MOST_ROUNDS, NO_TIMES};
 use crate::texts::{Inputs, Packed};
 
 extern "C" {
@@ -27,7 +27,8 @@ extern "C" {
     ) -> u32;
 }
 
-fn run(kind: u32, inputs: &Inputs, budget: Budget) -> Results {
+/// Runs, and writes the times to as many rounds as there is room for.
+fn run(kind: u32, inputs: &Inputs, budget: Budget, mut rounds: Vec<Row>) -> Results {
     let Inputs {
         new,
         known,
@@ -35,7 +36,7 @@ fn run(kind: u32, inputs: &Inputs, budget: Budget) -> Results {
     } = inputs;
     let bytes = |texts: &Packed| (texts.bytes.as_ptr(), texts.bytes.len());
     let ends = |texts: &Packed| (texts.ends.as_ptr(), texts.ends.len());
-    let mut results = Results::none();
+    let mut sums = Row::default();
     let (new_bytes, known_bytes, unknown_bytes) = (bytes(new), bytes(known), bytes(unknown));
     let (new_ends, known_ends, unknown_ends) = (ends(new), ends(known), ends(unknown));
     // SAFETY: each pointer and count is of a slice that is there for the time of the call, and the last two of slices
@@ -57,14 +58,15 @@ fn run(kind: u32, inputs: &Inputs, budget: Budget) -> Results {
             unknown_bytes.1,
             unknown_ends.0,
             unknown_ends.1,
-            results.nanoseconds.as_mut_ptr(),
-            results.nanoseconds.len(),
-            results.sums.as_mut_ptr(),
-            results.sums.len(),
+            rounds.as_mut_ptr().cast(),
+            rounds.len() * sums.len(),
+            sums.as_mut_ptr(),
+            sums.len(),
         )
     };
     assert_eq!(status, 0, "the library's half says {status} of kind {kind}");
-    results
+    rounds.retain(|round| *round != NO_TIMES);
+    Results { rounds, sums }
 }
 
 /// Measures all phases on one kind of interner.
@@ -76,6 +78,7 @@ pub fn measure(kind: u32, inputs: &Inputs, budget: Budget) -> Results {
             rounds: budget.rounds.max(1),
             ..budget
         },
+        vec![NO_TIMES; MOST_ROUNDS as usize],
     )
 }
 
@@ -88,5 +91,6 @@ pub fn leave(kind: u32, inputs: &Inputs) {
             rounds: 0,
             nanoseconds: 0,
         },
+        Vec::new(),
     );
 }

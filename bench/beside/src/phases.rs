@@ -9,8 +9,8 @@ pub const PHASES: [&str; 8] = [
     "fill", "known", "unknown", "resolve", "shuffled", "iterate", "clone", "copy",
 ];
 
-/// More rounds than these make no time smaller.
-const MOST_ROUNDS: u32 = 200;
+/// More rounds than these say nothing new.
+pub const MOST_ROUNDS: u32 = 200;
 
 /// How long an implementation is measured: so many rounds, and then more until so many nanoseconds are over.
 #[derive(Clone, Copy)]
@@ -19,42 +19,48 @@ pub struct Budget {
     pub nanoseconds: u64,
 }
 
-/// The least time of each phase, in nanoseconds, and what it gave. A phase that was not made has the greatest time.
-#[derive(Clone, Copy)]
+/// A number for each phase.
+pub type Row = [u64; PHASES.len()];
+
+/// The times of a round before it is made, and of a phase that is not.
+pub const NO_TIMES: Row = [u64::MAX; PHASES.len()];
+
+/// The times of each round, in nanoseconds, and what each phase gave.
+#[derive(Clone)]
 pub struct Results {
-    pub nanoseconds: [u64; 8],
-    pub sums: [u64; 8],
+    pub rounds: Vec<Row>,
+    pub sums: Row,
 }
 
 impl Results {
     pub fn none() -> Self {
         Results {
-            nanoseconds: [u64::MAX; 8],
-            sums: [0; 8],
+            rounds: Vec::new(),
+            sums: Row::default(),
         }
     }
 
-    /// All times, and then all sums.
-    pub fn to_numbers(self) -> [u64; 16] {
-        let mut numbers = [0; 16];
-        numbers[..8].copy_from_slice(&self.nanoseconds);
-        numbers[8..].copy_from_slice(&self.sums);
-        numbers
+    /// The sums, and then the rounds.
+    pub fn to_numbers(&self) -> Vec<u64> {
+        let rounds = self.rounds.iter().flatten();
+        self.sums.iter().chain(rounds).copied().collect()
     }
 
-    pub fn from_numbers(numbers: [u64; 16]) -> Self {
-        Results {
-            nanoseconds: std::array::from_fn(|phase| numbers[phase]),
-            sums: std::array::from_fn(|phase| numbers[phase + 8]),
-        }
+    /// Adds the rounds of another run, which did the same work, as `to_numbers` gave them.
+    pub fn add(&mut self, numbers: &[u64]) {
+        let mut rows = numbers
+            .chunks_exact(PHASES.len())
+            .map(|row| Row::try_from(row).unwrap());
+        self.sums = rows.next().unwrap();
+        self.rounds.extend(rows);
     }
 
-    /// Takes the lesser times of both, which did the same work.
-    pub fn merge(&mut self, other: &Results) {
-        for (least, &time) in self.nanoseconds.iter_mut().zip(&other.nanoseconds) {
-            *least = time.min(*least);
-        }
-        self.sums = other.sums;
+    /// The times of a phase, the least first: none where it was not made.
+    pub fn times(&self, phase: usize) -> Vec<u64> {
+        let all = self.rounds.iter().map(|round| round[phase]);
+        let mut times: Vec<u64> = all.filter(|&time| time != u64::MAX).collect();
+        times.sort_unstable();
+        times
     }
 }
 
@@ -81,7 +87,7 @@ impl Watch {
         let then = now();
         let result = black_box(work());
         let took = now() - then;
-        self.0.nanoseconds[phase] = took.min(self.0.nanoseconds[phase]);
+        self.0.rounds.last_mut().unwrap()[phase] = took;
         self.0.sums[phase] = sum(&result) as u64;
         result
     }
@@ -138,11 +144,13 @@ pub fn measure<I: Interner>(inputs: &Inputs, budget: Budget) -> Results {
         inputs.unknown.list(),
     );
     let mut watch = Watch(Results::none());
+    watch.0.rounds.reserve(MOST_ROUNDS as usize);
     let begun = now();
     for done in 0..MOST_ROUNDS {
         if done >= budget.rounds && now() - begun >= budget.nanoseconds {
             break;
         }
+        watch.0.rounds.push(NO_TIMES);
         round::<I>(&mut watch, &new, &known, &unknown);
     }
     watch.0
