@@ -11,19 +11,11 @@ import matplotlib.pyplot as plot
 from matplotlib.ticker import FuncFormatter, LogLocator, NullFormatter
 
 from results import BACKENDS, DEFAULT, FAST, FNV, INPUTS, KEYED, MAP, NOUNS, ORIGINAL, PHASES, PICTURES, SET, WINDOW
-from results import Results
+from results import TEXTS, Results
 
-plot.rcParams.update(
-    {
-        "font.size": 8,
-        "font.family": "sans-serif",
-        "svg.fonttype": "none",
-        "svg.hashsalt": "string_interner",
-        "axes.spines.top": False,
-        "axes.spines.right": False,
-        "savefig.facecolor": "white",
-    }
-)
+plot.rcParams.update({"font.size": 8, "font.family": "sans-serif", "savefig.facecolor": "white"})
+plot.rcParams.update({"svg.fonttype": "none", "svg.hashsalt": "string_interner"})
+plot.rcParams.update({"axes.spines.top": False, "axes.spines.right": False})
 STYLES = [
     {"linestyle": "-", "marker": "o", "color": "black", "linewidth": 1.8},
     {"linestyle": "--", "marker": "s", "color": "black"},
@@ -107,8 +99,12 @@ def draw_lines(axes, counts, kinds, value):
     name_ends(axes, ends)
 
 
-def save(figure, results, name, folder):
-    line = textwrap.fill(results.line(), int(figure.get_figwidth() * 19))
+def entitle(figure, title, size=9):
+    figure.suptitle(title, fontsize=size, x=0.01, y=0.99, ha="left", va="top")
+
+
+def save(figure, line, name, folder):
+    line = textwrap.fill(line, int(figure.get_figwidth() * 19))
     figure.text(0.01, 0.004, line, fontsize=6, color="0.3", va="bottom")
     figure.savefig(folder / f"{name}.svg", metadata={"Date": None})
     if "--png" in sys.argv:
@@ -119,22 +115,16 @@ def save(figure, results, name, folder):
 def panels(results, folder, file, title, kinds, parts, columns=2):
     """A picture of panels, each an input and a phase."""
     rows = -(-len(parts) // columns)
-    figure, all_axes = plot.subplots(rows, columns, figsize=(4.5 * columns, 2.25 * rows + 0.55), squeeze=False)
-    figure.subplots_adjust(
-        left=0.105 / columns,
-        right=1 - 0.26 / columns,
-        top=1 - 0.55 / (2.25 * rows + 0.55),
-        bottom=0.6 / (2.25 * rows + 0.55),
-        wspace=0.62,
-        hspace=0.42,
-    )
-    figure.suptitle(title, fontsize=10, x=0.01, y=0.995, ha="left", va="top")
+    height = 2.25 * rows + 0.55
+    figure, all_axes = plot.subplots(rows, columns, figsize=(4.5 * columns, height), squeeze=False)
+    figure.subplots_adjust(left=0.105 / columns, right=1 - 0.26 / columns, top=1 - 0.55 / height, bottom=0.6 / height)
+    figure.subplots_adjust(wspace=0.62, hspace=0.42)
+    entitle(figure, title, 10)
+    is_of_one_input = len({name for name, _ in parts}) == 1
     for axes, (name, phase) in zip(all_axes.flat, parts):
         draw_lines(axes, results.counts[name], kinds, lambda kind, count: results.value(kind, name, count, phase))
-        axes.set_title(
-            PHASES[phase] if len({part[0] for part in parts}) == 1 else f"{phase}, {name}", fontsize=8, loc="left"
-        )
-    save(figure, results, file, folder)
+        axes.set_title(PHASES[phase] if is_of_one_input else f"{phase}, {name}", fontsize=8, loc="left")
+    save(figure, results.line("times"), file, folder)
 
 
 def draw_memory(results, folder):
@@ -144,17 +134,11 @@ def draw_memory(results, folder):
         kinds[f"original, {backend}"] = FNV[backend]
         kinds[f"ours, {backend}, Index"] = DEFAULT[backend]
         kinds[f"ours, {backend}, WindowIndex"] = FAST[backend]
-    names = [name for name in ("identifiers", "words", "long") if results.counts[name]]
+    names = [name for name in TEXTS if results.counts[name]]
     figure, all_axes = plot.subplots(1, len(names), figsize=(9, 3.4), sharey=True, squeeze=False)
     figure.subplots_adjust(left=0.2, right=0.985, top=0.83, bottom=0.16, wspace=0.12)
-    figure.suptitle(
-        "Bytes a text: black lives once all are in, white is the most at once; dashed: the bytes of the texts alone",
-        fontsize=9,
-        x=0.01,
-        y=0.99,
-        ha="left",
-        va="top",
-    )
+    title = "Bytes a text: black lives once all are in, white is the most at once; dashed: the bytes of the texts alone"
+    entitle(figure, title)
     for axes, name in zip(all_axes.flat, names):
         count = max(results.counts[name])
         places = range(len(kinds))
@@ -169,7 +153,7 @@ def draw_memory(results, folder):
         axes.invert_yaxis()
         axes.set_xlim(0, max(peak) * 1.24)
         axes.set_title(f"{count:,} {NOUNS[name]}", fontsize=7.5, loc="left")
-    save(figure, results, "memory", folder)
+    save(figure, results.line("memory"), "memory", folder)
 
 
 def draw_chosen(results, folder):
@@ -179,16 +163,9 @@ def draw_chosen(results, folder):
 
     figure, axes = plot.subplots(figsize=(6, 3.2))
     figure.subplots_adjust(left=0.09, right=0.78, top=0.86, bottom=0.2)
-    figure.suptitle(
-        "Milliseconds to fill an interner with texts that were chosen against FNV-1a, by their count",
-        fontsize=9,
-        x=0.01,
-        y=0.99,
-        ha="left",
-        va="top",
-    )
+    entitle(figure, "Milliseconds to fill an interner with texts that were chosen against FNV-1a, by their count")
     draw_lines(axes, results.counts["chosen"], OF_CHOSEN, milliseconds)
-    save(figure, results, "chosen", folder)
+    save(figure, results.line("times"), "chosen", folder)
 
 
 def main():
@@ -197,7 +174,7 @@ def main():
     folder.mkdir(parents=True, exist_ok=True)
     most = [("identifiers", phase) for phase in ("fill", "known", "unknown", "shuffled")]
     panels(results, folder, "interning", "Nanoseconds a call, by the count of identifiers of 10 bytes", PEERS, most)
-    for name in ("identifiers", "words", "long"):
+    for name in TEXTS:
         if results.counts[name]:
             parts = [(name, phase) for phase in PHASES]
             panels(

@@ -1,10 +1,14 @@
 """What bench/run measured, as bench/out/results.tsv has it."""
 import collections
 import pathlib
+import re
 
 HERE = pathlib.Path(__file__).resolve().parent
 DOCS = HERE.parent / "docs"
 PICTURES = {"out": HERE / "out/pictures", "docs": DOCS / "pictures"}
+# What is measured by itself, each with a file of results.
+PARTS = ("times", "memory", "cycles")
+TEXTS = ("identifiers", "words", "long")
 
 # The phases, and what each is called where it is shown.
 PHASES = {
@@ -37,44 +41,48 @@ SET = ("IndexSet", "-", "-", "default")
 
 
 class Results:
-    """Values by kind, input, count and measure: nanoseconds, bytes or instructions, a text each."""
+    """Values by kind, input, count and measure: nanoseconds, bytes, estimated cycles or instructions, a text each."""
 
-    def __init__(self, path=HERE / "out/results.tsv"):
-        self.head = {}
+    def __init__(self, folder=HERE / "out"):
+        self.heads = {}
         self.values = collections.defaultdict(dict)
         self.counts = collections.defaultdict(list)
         self.bytes = {}
-        lines = [line.rstrip("\n") for line in open(path, encoding="utf-8")]
-        for line in lines:
-            if line.startswith("# "):
-                key, value = line[2:].split(": ", 1)
-                self.head[key] = value
-        for line in lines[len(self.head) + 1 :]:
+        for part in PARTS:
+            self.add(part, pathlib.Path(folder, f"{part}.tsv").read_text(encoding="utf-8").splitlines())
+
+    def add(self, part, lines):
+        """Adds the lines of a part's file: of its head, of the names of its columns, and of its values."""
+        self.heads[part] = head = dict(line[2:].split(": ", 1) for line in lines if line.startswith("# "))
+        for line in lines[len(head) + 1 :]:
             *kind, name, count, size, measure, value = line.split("\t")
             self.values[tuple(kind), name, int(count)][measure] = float(value)
             if int(count) not in self.counts[name]:
-                self.counts[name].append(int(count))
+                self.counts[name] = sorted([*self.counts[name], int(count)])
             if size:
                 self.bytes[name, int(count)] = float(size)
-        for counts in self.counts.values():
-            counts.sort()
 
     def value(self, kind, name, count, measure):
         """The value, or none. What copies is `try_copy` where there is one, and else `clone`."""
         row = self.values.get((kind, name, count), {})
-        if measure == "copy" and measure not in row:
-            measure = "clone"
-        return row.get(measure)
+        return row.get(measure, row.get(re.sub("^copy", "clone", measure)))
 
     def ratio(self, kind, other, name, count, measure):
         """The value over another kind's, or none."""
         ours, theirs = self.value(kind, name, count, measure), self.value(other, name, count, measure)
         return ours / theirs if ours is not None and theirs else None
 
+    def counted(self, name):
+        """The counts of an input whose cycles were estimated."""
+        return sorted({count for (_, of, count), row in self.values.items() if of == name and "fill cycles" in row})
+
+    def middle_count(self):
+        return min(self.counts["identifiers"], key=lambda count: abs(count - 100_000))
+
     def kinds(self):
         return list(dict.fromkeys(kind for kind, _, _ in self.values))
 
-    def line(self):
-        """What is said below each picture and table."""
-        head = self.head
-        return f"Commit {head['commit']}, {head['date']}, {head['machine']}; {head['load']}. Beside {head['original']}."
+    def line(self, *parts):
+        """What is said below pictures and above tables of these parts."""
+        said = (f"{part}: commit {{commit}}, {{date}}, {{machine}}; {{load}}".format(**self.heads[part]) for part in parts)
+        return f"{'. '.join(said)}. Beside {self.heads[parts[0]]['original']}."

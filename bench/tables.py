@@ -7,17 +7,16 @@ import re
 import shutil
 import sys
 
-from results import BACKENDS, DEFAULT, DOCS, FAST, FNV, HERE, INPUTS, KEYED, MAP, NOUNS, ORIGINAL, PHASES, SET, WINDOW
-from results import Results
+from results import BACKENDS, DEFAULT, DOCS, FAST, FNV, HERE, INPUTS, KEYED, MAP, NOUNS, ORIGINAL, PARTS, PHASES, PICTURES
+from results import SET, TEXTS, WINDOW, Results
 
 MEASURES = (*PHASES, "live", "peak")
 CALLS = ("fill", "known", "unknown")
-TEXTS = ("identifiers", "words", "long")
-PAIRS = [
-    *((f"`Index`, `Fnv1a`, {name}", DEFAULT[name], FNV[name]) for name in BACKENDS),
-    ("`WindowIndex`, `Fnv1a`, string", WINDOW, FNV["string"]),
-    *((f"`WindowIndex`, `FoldState`, {name}", FAST[name], ORIGINAL[name]) for name in BACKENDS),
-]
+PAIRS = {
+    **{f"`Index`, `Fnv1a`, {name}": (DEFAULT[name], FNV[name]) for name in BACKENDS},
+    "`WindowIndex`, `Fnv1a`, string": (WINDOW, FNV["string"]),
+    **{f"`WindowIndex`, `FoldState`, {name}": (FAST[name], ORIGINAL[name]) for name in BACKENDS},
+}
 
 
 def short(value):
@@ -27,40 +26,43 @@ def short(value):
     return f"{value:,.0f}" if value >= 100 else f"{value:.1f}" if value >= 9.95 else f"{value:.2f}"
 
 
-def table(head, rows):
-    lines = [f"| {' | '.join(head)} |", "|---|" + "---:|" * (len(head) - 1)]
-    return "\n".join(lines + [f"| {' | '.join(row)} |" for row in rows])
+def table(said, head, rows):
+    """A table and what is said above it. A row is a label, which may take several columns, and its numbers."""
+    lines = [f"{said}:\n", f"| {' | '.join(head)} |", "|---|" + "---:|" * (len(head) - 1)]
+    return "\n".join(lines + [f"| {label} | {' | '.join(map(short, values))} |" for label, values in rows])
 
 
 def name_of(kind):
     library, backend, index, hasher = kind
     if library == "ours":
         return f"ours, {backend}, `{index}`, `{hasher}`"
-    return f"{library}, {backend}, {hasher}" if library == "original" else library
+    return library if backend == "-" else f"{library}, {backend}, {hasher}"
 
 
 def picture(file, below, folder="pictures"):
     return f"![{file}]({folder}/{file}.svg)\n\n{below}"
 
 
-def middle_count(results):
-    return min(results.counts["identifiers"], key=lambda count: abs(count - 100_000))
+def cycles(measure):
+    """The name of a phase's estimated cycles. What is no phase has none."""
+    return f"{measure} cycles" if measure in PHASES else measure
 
 
 def calls(results, name):
-    """The two interners over the original under the same kind of hasher, at each count."""
+    """The two interners over the original under the same kind of hasher."""
     pairs = [(FAST["string"], ORIGINAL["string"]), (DEFAULT["string"], FNV["string"])]
     rows = [
-        [f"{count:,}", *(short(results.ratio(*pair, name, count, phase)) for pair in pairs for phase in CALLS)]
-        for count in results.counts[name]
+        (f"{count:,} | {said}", [results.ratio(*pair, name, count, of(phase)) for pair in pairs for phase in CALLS])
+        for said, of, counts in (("cycles", cycles, results.counted(name)), ("time", str, results.counts[name]))
+        for count in counts
     ]
     said = (
-        "Time to intern new texts (fill), to intern them again (known) and to look for others (unknown), divided by the "
-        "original's; lower is better. *Fast* is `FastStringInterner` beside the original under its default hasher, "
-        "*default* is `DefaultStringInterner` beside the original under FNV:"
+        "Estimated cycles and least time to intern new texts (fill), to intern them again (known) and to look for others "
+        "(unknown), divided by the original's; lower is better. *Fast* is `FastStringInterner` beside the original under its "
+        "default hasher, *default* is `DefaultStringInterner` beside the original under FNV"
     )
     head = [f"{kind}{phase}" for kind in ("*fast* ", "*default* ") for phase in CALLS]
-    return f"{said}\n\n{table([NOUNS[name], *head], rows)}"
+    return table(said, [NOUNS[name], "", *head], rows)
 
 
 def with_backends(results):
@@ -68,43 +70,40 @@ def with_backends(results):
     columns = [(backend, phase) for backend in BACKENDS for phase in ("fill", "shuffled")]
 
     def ratio(count, backend, phase):
-        return results.ratio(FAST[backend], ORIGINAL[backend], "identifiers", count, phase)
+        return results.ratio(FAST[backend], ORIGINAL[backend], "identifiers", count, cycles(phase))
 
-    counts = results.counts["identifiers"]
-    rows = [[f"{count:,}", *(short(ratio(count, *column)) for column in columns)] for count in counts]
+    rows = [(f"{count:,}", [ratio(count, *column) for column in columns]) for count in results.counted("identifiers")]
     said = (
-        "Time of `FastStringInterner` to intern new texts (fill) and to resolve all symbols in any order (shuffled), "
-        "divided by the original's with the same backend; lower is better. The original uses its default hasher:"
+        "Estimated cycles of `FastStringInterner` to intern new texts (fill) and to resolve all symbols in any order "
+        "(shuffled), divided by the original's with the same backend; lower is better. The original uses its default hasher"
     )
-    head = [f"*{backend}* {phase}" for backend, phase in columns]
-    return f"{said}\n\n{table([NOUNS['identifiers'], *head], rows)}"
+    return table(said, [NOUNS["identifiers"], *(f"*{backend}* {phase}" for backend, phase in columns)], rows)
 
 
 def choices(results):
     """The window index under two hashers, over the default index and hasher, at each count."""
     inputs = {"identifiers": "unknown", "long": "fill"}
-    columns = [(name, count, phase) for name, phase in inputs.items() for count in results.counts[name]]
+    columns = [(name, count, phase) for name, phase in inputs.items() for count in results.counted(name)]
     kinds = {"`WindowIndex`, `FoldState`": FAST["string"], "`WindowIndex`, `RandomState`": KEYED}
     rows = [
-        [label, *(short(results.ratio(kind, DEFAULT["string"], *column)) for column in columns)]
+        (label, [results.ratio(kind, DEFAULT["string"], *case, cycles(phase)) for *case, phase in columns])
         for label, kind in kinds.items()
     ]
     said = (
-        "Time to look for identifiers that were not interned (unknown) and to intern new texts of 200 bytes (fill), for "
-        "each number of texts, divided by the time of the default, `Index` under `Fnv1a`; lower is better. All use the "
-        "string backend:"
+        "Estimated cycles to look for identifiers that were not interned (unknown) and to intern new texts of 200 bytes "
+        "(fill), for each number of texts, divided by those of the default, `Index` under `Fnv1a`; lower is better. All use "
+        "the string backend"
     )
-    head = [f"*{phase}* {count:,}" for _, count, phase in columns]
-    return f"{said}\n\n{table(['', *head], rows)}"
+    return table(said, ["", *(f"*{phase}* {count:,}" for _, count, phase in columns)], rows)
 
 
 def memory(results):
     count = max(results.counts["identifiers"])
     kinds = {"`WindowIndex`": FAST["string"], "`Index`": DEFAULT["string"], "the original": FNV["string"]}
     kinds |= {"`IndexSet`": SET, "`HashMap` and `Vec`": MAP}
-    row = [short(results.value(kind, "identifiers", count, "live")) for kind in kinds.values()]
-    said = f"Bytes per text at {count:,} identifiers of 10 bytes on average; the first three have a string backend:"
-    return f"{said}\n\n{table(['', *kinds], [['bytes', *row]])}"
+    row = [results.value(kind, "identifiers", count, "live") for kind in kinds.values()]
+    said = f"Bytes per text at {count:,} identifiers of 10 bytes on average; the first three have a string backend"
+    return table(said, ["", *kinds], [("bytes", row)])
 
 
 def pictures(results):
@@ -112,49 +111,50 @@ def pictures(results):
     shown.append(picture("backends", with_backends(results)))
     shown.append(picture("index-and-hasher", choices(results)))
     shown.append(picture("memory", memory(results)))
-    return "\n\n".join([results.line(), *shown])
+    return "\n\n".join([results.line("times", "cycles", "memory"), *shown])
 
 
 def ratios(results):
-    blocks = [results.line()]
-    for name in filter(results.counts.get, TEXTS):
-        rows = []
-        for label, ours, theirs in PAIRS:
-            for count in results.counts[name]:
-                values = (results.ratio(ours, theirs, name, count, measure) for measure in MEASURES)
-                rows.append([label, f"{count:,}", *map(short, values)])
-        title = INPUTS[name][0].upper() + INPUTS[name][1:]
-        blocks.append(f"{title}:\n\n" + table(["over the original's", "texts", *MEASURES], rows))
-    return "\n\n".join(blocks)
+    shown = []
+    for said, of, counts in (("Estimated cycles", cycles, results.counted), ("Least time", str, results.counts.get)):
+        for name in filter(counts, TEXTS):
+            rows = [
+                (f"{label} | {count:,}", [results.ratio(*pair, name, count, of(measure)) for measure in MEASURES])
+                for label, pair in PAIRS.items()
+                for count in counts(name)
+            ]
+            shown.append(table(f"{said}, and bytes, for {INPUTS[name]}", ["", "texts", *MEASURES], rows))
+    return "\n\n".join(shown)
+
+
+def of_kinds(results, said, name, count, measures):
+    """A table of the kinds that have some of these values. Each column has a name, and the measure that it shows."""
+    found = [(kind, results.values.get((kind, name, count), {})) for kind in results.kinds()]
+    rows = [(name_of(kind), [row.get(of) for of in measures.values()]) for kind, row in found]
+    return table(said, ["", *measures], [row for row in rows if any(value is not None for value in row[1])])
 
 
 def nanoseconds(results):
-    count = middle_count(results)
+    count = results.middle_count()
     shown = {
         "the least of all rounds, and bytes a text": {measure: measure for measure in MEASURES},
         "the median of all rounds": {phase: f"{phase} median" for phase in PHASES},
         "how far the middle half of all rounds spreads": {phase: f"{phase} spread" for phase in PHASES},
     }
-    tables = []
-    for said, measures in shown.items():
-        found = [(kind, results.values.get((kind, "identifiers", count), {})) for kind in results.kinds()]
-        rows = [[name_of(kind), *(short(row.get(of)) for of in measures.values())] for kind, row in found]
-        tables.append(f"Nanoseconds a call at {count:,} identifiers, {said}:\n\n" + table(["", *measures], rows))
-    return "\n\n".join(tables)
+    return "\n\n".join(
+        of_kinds(results, f"Nanoseconds a call at {count:,} identifiers, {said}", "identifiers", count, measures)
+        for said, measures in shown.items()
+    )
 
 
-def instructions(results):
-    measures = [f"{phase} instructions" for phase in PHASES]
-    blocks = []
-    for name in TEXTS:
-        rows = [
-            [name_of(kind), *(short(row.get(measure)) for measure in measures)]
-            for (kind, of, _), row in results.values.items()
-            if of == name and measures[0] in row
-        ]
-        if rows:
-            blocks.append(f"Instructions a call, at 10,000 {INPUTS[name]}:\n\n" + table(["", *PHASES], rows))
-    return "\n\n".join(blocks) or "Instructions were not counted."
+def estimated(results):
+    measures = {phase: cycles(phase) for phase in PHASES}
+    shown = [
+        of_kinds(results, f"Estimated cycles a call, for {count:,} {INPUTS[name]}", name, count, measures)
+        for name in TEXTS
+        for count in results.counted(name)
+    ]
+    return "\n\n".join(shown) or "Cycles were not estimated."
 
 
 def chosen(results):
@@ -164,29 +164,28 @@ def chosen(results):
         values = [results.value(kind, "chosen", count, "fill") for count in counts]
         if any(values):
             times = [value * count / 1e6 for value, count in zip(values, counts)]
-            rows.append([name_of(kind), *map(short, times), short(times[-1] / times[-2])])
+            rows.append((name_of(kind), [*times, times[-1] / times[-2]]))
     said = (
         "Milliseconds to fill an interner with texts of 84 bytes whose FNV-1a codes agree in their low 32 bits, by the "
-        f"number of texts. *Growth* is the time for {counts[-1]:,} texts divided by the time for {counts[-2]:,}:"
+        f"number of texts. *Growth* is the time for {counts[-1]:,} texts divided by the time for {counts[-2]:,}"
     )
-    shown = table(["", *(f"{count:,}" for count in counts), "*growth*"], rows)
-    return picture("chosen", f"{said}\n\n{shown}")
+    return picture("chosen", table(said, ["", *(f"{count:,}" for count in counts), "*growth*"], rows))
 
 
 def backends(results):
     """For the README: the backends, and what a user would take else."""
-    count = middle_count(results)
+    count = max(results.counted("identifiers"), default=results.middle_count())
     kinds = {f"`FastStringInterner`, {name}": FAST[name] for name in BACKENDS}
     kinds |= {"`DefaultStringInterner`, string": DEFAULT["string"], "the original, string": ORIGINAL["string"]}
     kinds |= {"`IndexSet`": SET, "`HashMap` and `Vec`": MAP}
     measures = ("fill", "known", "unknown", "shuffled", "iterate", "live", "peak")
     rows = [
-        [label, *(short(results.value(kind, "identifiers", count, measure)) for measure in measures)]
+        (label, [results.value(kind, "identifiers", count, cycles(measure)) for measure in measures])
         for label, kind in kinds.items()
     ]
-    said = f"Nanoseconds per call, and bytes per text, at {count:,} identifiers:"
+    said = f"Estimated cycles per call, and bytes per text, at {count:,} identifiers"
     head = ["", "fill", "known", "unknown", "resolve, shuffled", "iterate", "bytes", "most bytes while filling"]
-    return f"{said}\n\n{table(head, rows)}\n\n![memory](docs/pictures/memory.svg)"
+    return f"{table(said, head, rows)}\n\n![memory](docs/pictures/memory.svg)"
 
 
 def blocks(results):
@@ -195,20 +194,19 @@ def blocks(results):
         "pictures": pictures(results),
         "ratios": ratios(results),
         "nanoseconds": nanoseconds(results),
-        "instructions": instructions(results),
+        "cycles": estimated(results),
         "chosen": chosen(results),
         "speed": picture("interning", calls(results, "identifiers"), "docs/pictures"),
         "backends": backends(results),
     }
 
 
-def put(document, made):
-    """Replaces what stands between the marker lines of each block."""
-    shown = document.read_text(encoding="utf-8")
+def put(text, made):
+    """The text, with what stands between the marker lines of each block replaced."""
     for name, block in made.items():
         begin, end = f"<!-- bench/run: {name} -->", f"<!-- end: {name} -->"
-        shown = re.sub(f"{begin}\n.*?{end}", lambda _: f"{begin}\n{block}\n{end}", shown, flags=re.S)
-    document.write_text(shown, encoding="utf-8")
+        text = re.sub(f"{begin}\n.*?{end}", lambda _: f"{begin}\n{block}\n{end}", text, flags=re.S)
+    return text
 
 
 def main():
@@ -217,10 +215,11 @@ def main():
     (HERE / "out/tables.md").write_text("\n\n".join(made.values()) + "\n", encoding="utf-8")
     if "--docs" in sys.argv:
         for document in (DOCS.parent / "README.md", DOCS / "PERFORMANCE.md"):
-            put(document, made)
-        (DOCS / "pictures").mkdir(exist_ok=True)
-        shutil.copy(HERE / "out/results.tsv", DOCS / "pictures/results.tsv")
-    print(f"{made['nanoseconds']}\n\n{results.line()}")
+            document.write_text(put(document.read_text(encoding="utf-8"), made), encoding="utf-8")
+        PICTURES["docs"].mkdir(exist_ok=True)
+        for part in PARTS:
+            shutil.copy(HERE / f"out/{part}.tsv", PICTURES["docs"])
+    print(f"{made['nanoseconds']}\n\n{results.line(*PARTS)}")
 
 
 if __name__ == "__main__":

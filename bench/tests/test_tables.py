@@ -1,0 +1,63 @@
+"""How results are read, and what tables and documents show of them."""
+
+import sys
+import tempfile
+import unittest
+from pathlib import Path
+
+sys.path.insert(0, str(Path(__file__).resolve().parents[1]))
+import tables
+from results import FAST, FNV, ORIGINAL, PARTS, Results
+
+HEAD = {"commit": "c0ffee", "date": "2026-01-01", "machine": "a machine", "original": "the original", "load": "busy"}
+
+
+def results_of(*rows):
+    """Results of rows of a kind, an input, a count, a measure and a value."""
+    with tempfile.TemporaryDirectory() as folder:
+        for part in PARTS:
+            head = "".join(f"# {key}: {value}\n" for key, value in HEAD.items())
+            Path(folder, f"{part}.tsv").write_text(f"{head}the names of the columns\n")
+        with open(Path(folder, "times.tsv"), "a") as file:
+            file.writelines("\t".join(map(str, (*kind, *row[:2], "", *row[2:]))) + "\n" for kind, *row in rows)
+        return Results(folder)
+
+
+class Tables(unittest.TestCase):
+    def test_a_ratio_is_ours_over_the_original(self):
+        rows = [(FAST["string"], "words", 10, "fill", 30), (ORIGINAL["string"], "words", 10, "fill", 60)]
+        self.assertEqual(results_of(*rows).ratio(FAST["string"], ORIGINAL["string"], "words", 10, "fill"), 0.5)
+        self.assertIsNone(results_of(rows[0]).ratio(FAST["string"], ORIGINAL["string"], "words", 10, "fill"))
+
+    def test_a_copy_is_a_clone_where_there_is_none(self):
+        rows = [(FNV["string"], "words", 10, f"clone{of}", value) for of, value in (("", 4), (" cycles", 9))]
+        results = results_of(*rows, (FAST["string"], "words", 10, "clone", 7), (FAST["string"], "words", 10, "copy", 3))
+        self.assertEqual(results.value(FNV["string"], "words", 10, "copy"), 4)
+        self.assertEqual(results.value(FNV["string"], "words", 10, "copy cycles"), 9)
+        self.assertEqual(results.value(FAST["string"], "words", 10, "copy"), 3)
+
+    def test_counts_with_cycles(self):
+        rows = [("words", 20, "fill cycles", 1), ("words", 10, "fill cycles", 1), ("long", 5, "fill cycles", 1)]
+        results = results_of(*((FAST["string"], *row) for row in (*rows, ("words", 30, "fill", 1))))
+        self.assertEqual(results.counted("words"), [10, 20])
+
+    def test_rounds_have_a_table_each_for_least_median_and_spread(self):
+        values = {"fill": 100, "fill median": 111, "fill spread": 7}
+        rows = [(FAST["string"], "identifiers", 10, measure, value) for measure, value in values.items()]
+        shown = tables.nanoseconds(results_of(*rows)).split("\n\n")
+        lines = [table.splitlines()[-1] for table in shown[1::2]]
+        self.assertEqual([line.split(" | ")[1] for line in lines], ["100", "111", "7.00"])
+
+    def test_numbers_are_short(self):
+        shown = [tables.short(value) for value in (None, 1234.4, 99.94, 9.944)]
+        self.assertEqual(shown, ["", "1,234", "99.9", "9.94"])
+
+    def test_a_document_keeps_what_is_outside_of_the_markers(self):
+        begin, end = "<!-- bench/run: speed -->", "<!-- end: speed -->"
+        text = f"before\n{begin}\nold\nolder\n{end}\nafter\n<!-- bench/run: other -->\nkept\n<!-- end: other -->\n"
+        shown = tables.put(text, {"speed": r"new \1", "not there": "no"})
+        self.assertEqual(shown, text.replace("old\nolder", r"new \1"))
+
+
+if __name__ == "__main__":
+    unittest.main()
