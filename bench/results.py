@@ -7,7 +7,7 @@ HERE = pathlib.Path(__file__).resolve().parent
 DOCS = HERE.parent / "docs"
 PICTURES = {"out": HERE / "out/pictures", "docs": DOCS / "pictures"}
 # What is measured by itself, each with a file of results.
-PARTS = ("times", "memory", "cycles")
+PARTS = ("times", "memory", "cycles", "columns")
 TEXTS = ("identifiers", "words", "long")
 
 # The phases, and what each is called where it is shown.
@@ -28,6 +28,13 @@ INPUTS = {
     "chosen": "texts that were chosen against FNV-1a",
 }
 NOUNS = {"identifiers": "identifiers", "words": "words", "long": "texts of 200 bytes"}
+# What the programs read.
+LINES = {
+    "in order": "of a log, in order",
+    "shuffled": "of a log, shuffled",
+    "encoded": "what `encode` made of the first",
+    "repeated": "600 distinct ones",
+}
 
 BACKENDS = ("string", "bucket", "buffer")
 FNV = {backend: ("original", backend, "-", "FNV") for backend in BACKENDS}
@@ -38,6 +45,7 @@ WINDOW = ("ours", "string", "WindowIndex", "Fnv1a")
 KEYED = ("ours", "string", "WindowIndex", "RandomState")
 MAP = ("HashMap and Vec", "-", "-", "default")
 SET = ("IndexSet", "-", "-", "default")
+BY_C = [("ours through C", "string", "-", of) for of in ("UTF-8", "bytes")]
 
 
 class Results:

@@ -7,8 +7,8 @@ import re
 import shutil
 import sys
 
-from results import BACKENDS, DEFAULT, DOCS, FAST, FNV, HERE, INPUTS, KEYED, MAP, NOUNS, ORIGINAL, PARTS, PHASES, PICTURES
-from results import SET, TEXTS, WINDOW, Results
+from results import BACKENDS, BY_C, DEFAULT, DOCS, FAST, FNV, HERE, INPUTS, KEYED, LINES, MAP, NOUNS, ORIGINAL, PHASES, SET
+from results import PARTS, PICTURES, TEXTS, WINDOW, Results
 
 MEASURES = (*PHASES, "live", "peak")
 CALLS = ("fill", "known", "unknown")
@@ -127,9 +127,9 @@ def ratios(results):
     return "\n\n".join(shown)
 
 
-def of_kinds(results, said, name, count, measures):
+def of_kinds(results, said, name, count, measures, kinds=None):
     """A table of the kinds that have some of these values. Each column has a name, and the measure that it shows."""
-    found = [(kind, results.values.get((kind, name, count), {})) for kind in results.kinds()]
+    found = [(kind, results.values.get((kind, name, count), {})) for kind in kinds or results.kinds()]
     rows = [(name_of(kind), [row.get(of) for of in measures.values()]) for kind, row in found]
     return table(said, ["", *measures], [row for row in rows if any(value is not None for value in row[1])])
 
@@ -155,6 +155,38 @@ def estimated(results):
         for count in results.counted(name)
     ]
     return "\n\n".join(shown) or "Cycles were not estimated."
+
+
+def by_c(results):
+    """The library beside its calls through C."""
+    count = min(results.counts["identifiers"])
+    shown = {"Estimated cycles": cycles, "Instructions": "{} instructions".format, "Nanoseconds, the least of all rounds,": str}
+    return "\n\n".join(
+        of_kinds(
+            results,
+            f"{said} a call, for {count:,} identifiers",
+            "identifiers",
+            count,
+            {phase: of(phase) for phase in PHASES},
+            [FAST["string"], *BY_C],
+        )
+        for said, of in shown.items()
+    )
+
+
+def columns(results):
+    measures = {"cycles": "run cycles", "least": "run", "median": "run median", "spread": "run spread", "bytes": "memory"}
+    rows = {}
+    for (kind, lines, _), row in results.values.items():
+        if lines in LINES:
+            rows.setdefault(f"`{kind[0]}` | {LINES[lines]}".replace(" | uniq", r" \| uniq"), {}).update(row)
+    # Cycles are of the lesser count, where there are any.
+    least, most = (of(results.counts["shuffled"]) for of in (min, max))
+    said = (
+        f"Estimated cycles of {least:,} lines; and nanoseconds and bytes of memory of {most:,} lines; all a line. "
+        "Memory is the most that one process held"
+    )
+    return table(said, ["", "lines", *measures], [(label, map(row.get, measures.values())) for label, row in rows.items()])
 
 
 def chosen(results):
@@ -195,6 +227,8 @@ def blocks(results):
         "ratios": ratios(results),
         "nanoseconds": nanoseconds(results),
         "cycles": estimated(results),
+        "through C": by_c(results),
+        "columns": columns(results),
         "chosen": chosen(results),
         "speed": picture("interning", calls(results, "identifiers"), "docs/pictures"),
         "backends": backends(results),

@@ -48,6 +48,19 @@ class Tables(unittest.TestCase):
         lines = [table.splitlines()[-1] for table in shown[1::2]]
         self.assertEqual([line.split(" | ")[1] for line in lines], ["100", "111", "7.00"])
 
+    def test_a_program_has_a_row_for_both_counts(self):
+        sort = ("sort | uniq -c", "-", "-", "-")
+        rows = [(sort, "shuffled", 10, "run cycles", 70), (sort, "shuffled", 100, "run", 300)]
+        rows += [(sort, "shuffled", 100, "run median", 310), (sort, "shuffled", 100, "memory", 25)]
+        last = tables.columns(results_of(*rows)).splitlines()[-1]
+        self.assertEqual(last, r"| `sort \| uniq -c` | of a log, shuffled | 70.0 | 300 | 310 |  | 25.0 |")
+
+    def test_parts_were_measured_apart(self):
+        results = results_of()
+        results.heads["cycles"] = {**HEAD, "commit": "f00d"}
+        said = "times: commit c0ffee, 2026-01-01, a machine; busy. cycles: commit f00d, 2026-01-01, a machine; busy"
+        self.assertEqual(results.line("times", "cycles"), f"{said}. Beside the original.")
+
     def test_numbers_are_short(self):
         shown = [tables.short(value) for value in (None, 1234.4, 99.94, 9.944)]
         self.assertEqual(shown, ["", "1,234", "99.9", "9.94"])

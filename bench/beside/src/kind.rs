@@ -1,5 +1,6 @@
 //! What is measured, by name.
 
+use crate::by_c::ByC;
 use crate::interner::{Interner, MapAndList, Set, UnderDefault, UnderFnv};
 use crate::phases::{Budget, Results};
 use crate::texts::Inputs;
@@ -68,6 +69,8 @@ pub fn all() -> Vec<Kind> {
         Kind::of_peer::<UnderDefault<BufferBackend>>(["original", "buffer", "-", "default"]),
         Kind::of_peer::<MapAndList>(["HashMap and Vec", "-", "-", "default"]),
         Kind::of_peer::<Set>(["IndexSet", "-", "-", "default"]),
+        Kind::of_peer::<ByC<false>>(["ours through C", "string", "-", "UTF-8"]),
+        Kind::of_peer::<ByC<true>>(["ours through C", "string", "-", "bytes"]),
     ];
     for backend in 0..BACKENDS.len() {
         for index in 0..INDEXES.len() {

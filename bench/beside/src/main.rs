@@ -8,6 +8,7 @@
 //!
 //! WORDS is a list of words, one a line, or `-` where none is wanted.
 
+mod by_c;
 mod child;
 mod interner;
 mod kind;

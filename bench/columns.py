@@ -1,0 +1,89 @@
+"""The program dictcol beside sort, over lines that are made here: times by hyperfine, memory, and estimated cycles."""
+import json
+import os
+import pathlib
+import random
+import shlex
+import shutil
+import subprocess
+import sys
+import tempfile
+
+from cycles import count, cycles_in
+
+RUNS = 5
+# Each command, and the lines that it reads. `encoded` is what dictcol made of those in order.
+COMMANDS = [
+    ("dictcol encode", "in order"),
+    ("sort -u", "in order"),
+    ("dictcol encode", "shuffled"),
+    ("sort -u", "shuffled"),
+    ("dictcol decode", "encoded"),
+    ("dictcol count", "repeated"),
+    ("sort | uniq -c", "repeated"),
+]
+# Runs a command, and prints its peak in KiB. Linux counts what the parent of a process holds when it starts, too, so the parent
+# is a small one.
+PEAK = """import resource, subprocess, sys
+subprocess.run(sys.argv[1], shell=True, check=True, stdout=subprocess.DEVNULL)
+print(resource.getrusage(resource.RUSAGE_CHILDREN).ru_maxrss)
+"""
+# By bytes, for which sort is fastest.
+ENVIRONMENT = {**os.environ, "LC_ALL": "C"}
+
+
+def lines_of(name, number):
+    """So many lines: of a log, in the order of their times or not, nearly all distinct; or repeats of 600 lines."""
+    chooser = random.Random(number)
+    if name == "repeated":
+        return [f"user{chooser.randrange(600)}@example.org signed in\n" for _ in range(number)]
+    lines = [
+        f"{1_700_000_000 + at} host{chooser.randrange(32)} request {chooser.randrange(1 << 32)} took {at % 997} ms\n"
+        for at in range(number)
+    ]
+    if name == "shuffled":
+        chooser.shuffle(lines)
+    return lines
+
+
+def spread_of(times):
+    """How far the middle half of the times spreads, as the driver has it."""
+    last = len(times) - 1
+    return sorted(times)[last * 3 // 4] - sorted(times)[last // 4]
+
+
+def time_runs(command, given):
+    """The nanoseconds of some runs, by hyperfine, and the most memory of a process of one."""
+    with open(given) as lines:
+        words = [sys.executable, "-c", PEAK, command]
+        peak = subprocess.run(words, check=True, stdin=lines, stdout=subprocess.PIPE, env=ENVIRONMENT).stdout
+    measured = {"memory": int(peak) * 1024}
+    if shutil.which("hyperfine"):
+        told = given.with_suffix(".json")
+        tool = ["hyperfine", "--warmup", "1", "--runs", str(RUNS), "--export-json", told, f"< '{given}' {command}"]
+        subprocess.run(tool, check=True, capture_output=True, env=ENVIRONMENT)
+        times = sorted(1e9 * time for time in json.loads(told.read_text())["results"][0]["times"])
+        measured |= {"run": times[0], "run median": times[(RUNS - 1) // 2], "run spread": spread_of(times)}
+    return measured
+
+
+def count_cycles(command, given):
+    """The estimated cycles and the instructions of all processes of a run."""
+    with open(given) as lines:
+        parts = count(["sh", "-c", command], "--trace-children=yes", stdin=lines, env=ENVIRONMENT)
+    return {"run cycles": sum(map(cycles_in, parts)), "run instructions": sum(totals["Ir"] for totals in parts)}
+
+
+def measure_columns(program, number, measure):
+    """Yields a line of results for each value that `measure` gives for a command over so many lines."""
+    with tempfile.TemporaryDirectory() as folder:
+        files = {given: pathlib.Path(folder, given) for _, given in COMMANDS}
+        for name in files.keys() - {"encoded"}:
+            files[name].write_text("".join(lines_of(name, number)))
+        with open(files["in order"]) as lines, open(files["encoded"], "w") as encoded:
+            subprocess.run([program, "encode"], check=True, stdin=lines, stdout=encoded)
+        for command, given in COMMANDS:
+            size = files["in order" if given == "encoded" else given].stat().st_size / number
+            for what, value in measure(command.replace("dictcol", shlex.quote(str(program))), files[given]).items():
+                row = (command, "-", "-", "-", given, number, f"{size:.1f}", what, f"{value / number:.2f}")
+                yield "\t".join(map(str, row))
