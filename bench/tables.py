@@ -128,10 +128,12 @@ def ratios(results):
 
 
 def of_kinds(results, said, name, count, measures, kinds=None):
-    """A table of the kinds that have some of these values. Each column has a name, and the measure that it shows."""
+    """A table of the kinds that have some of these values, or of all these kinds, or nothing where they have none. Each column
+    has a name, and the measure that it shows."""
     found = [(kind, results.values.get((kind, name, count), {})) for kind in kinds or results.kinds()]
     rows = [(name_of(kind), [row.get(of) for of in measures.values()]) for kind, row in found]
-    return table(said, ["", *measures], [row for row in rows if any(value is not None for value in row[1])])
+    rows = [row for row in rows if any(value is not None for value in row[1])]
+    return table(said, ["", *measures], rows) if rows and len(rows) >= len(kinds or rows) else ""
 
 
 def nanoseconds(results):
@@ -141,10 +143,11 @@ def nanoseconds(results):
         "the median of all rounds": {phase: f"{phase} median" for phase in PHASES},
         "how far the middle half of all rounds spreads": {phase: f"{phase} spread" for phase in PHASES},
     }
-    return "\n\n".join(
+    tables = (
         of_kinds(results, f"Nanoseconds a call at {count:,} identifiers, {said}", "identifiers", count, measures)
         for said, measures in shown.items()
     )
+    return "\n\n".join(filter(None, tables))
 
 
 def estimated(results):
@@ -161,30 +164,25 @@ def by_c(results):
     """The library beside its calls through C."""
     count = min(results.counts["identifiers"])
     shown = {"Estimated cycles": cycles, "Instructions": "{} instructions".format, "Nanoseconds, the least of all rounds,": str}
-    return "\n\n".join(
-        of_kinds(
-            results,
-            f"{said} a call, for {count:,} identifiers",
-            "identifiers",
-            count,
-            {phase: of(phase) for phase in PHASES},
-            [FAST["string"], *BY_C],
-        )
+    kinds = [FAST["string"], *BY_C]
+    tables = (
+        of_kinds(results, f"{said} a call, for {count:,} identifiers", "identifiers", count, {it: of(it) for it in PHASES}, kinds)
         for said, of in shown.items()
     )
+    return "\n\n".join(filter(None, tables)) or "Not measured."
 
 
 def columns(results):
-    measures = {"cycles": "run cycles", "least": "run", "median": "run median", "spread": "run spread", "bytes": "memory"}
+    measures = {"cycles": "run cycles", "ns": "run", "median": "run median", "spread": "run spread", "bytes": "memory"}
     rows = {}
     for (kind, lines, _), row in results.values.items():
         if lines in LINES:
             rows.setdefault(f"`{kind[0]}` | {LINES[lines]}".replace(" | uniq", r" \| uniq"), {}).update(row)
     # Cycles are of the lesser count, where there are any.
-    least, most = (of(results.counts["shuffled"]) for of in (min, max))
+    least, most = (of(results.counts["shuffled"], default=0) for of in (min, max))
     said = (
-        f"Estimated cycles of {least:,} lines; and nanoseconds and bytes of memory of {most:,} lines; all a line. "
-        "Memory is the most that one process held"
+        f"Per line, estimated cycles for {least:,} lines; and for {most:,} lines nanoseconds (the least and the median of all "
+        "runs, and how far the middle half of them spreads) and bytes of memory, the most that one process held at once"
     )
     return table(said, ["", "lines", *measures], [(label, map(row.get, measures.values())) for label, row in rows.items()])
 

@@ -7,7 +7,7 @@ from pathlib import Path
 
 sys.path.insert(0, str(Path(__file__).resolve().parents[1]))
 import tables
-from results import FAST, FNV, ORIGINAL, PARTS, Results
+from results import BY_C, FAST, FNV, ORIGINAL, PARTS, Results
 
 HEAD = {"commit": "c0ffee", "date": "2026-01-01", "machine": "a machine", "original": "the original", "load": "busy"}
 
@@ -47,6 +47,13 @@ class Tables(unittest.TestCase):
         shown = tables.nanoseconds(results_of(*rows)).split("\n\n")
         lines = [table.splitlines()[-1] for table in shown[1::2]]
         self.assertEqual([line.split(" | ")[1] for line in lines], ["100", "111", "7.00"])
+
+    def test_calls_through_c_are_shown_once_all_are_measured(self):
+        rows = [(kind, "identifiers", 10, "fill", 7) for kind in (FAST["string"], *BY_C)]
+        rows.append((FAST["string"], "identifiers", 10, "fill cycles", 5))
+        shown = tables.by_c(results_of(*rows))
+        self.assertNotIn("cycles", shown)
+        self.assertEqual(shown.count("| 7.00 |"), 3)
 
     def test_a_program_has_a_row_for_both_counts(self):
         sort = ("sort | uniq -c", "-", "-", "-")
