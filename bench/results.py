@@ -1,4 +1,4 @@
-"""What bench/run measured, as bench/out/results.tsv has it."""
+"""What bench/run measured, as the files of its parts in bench/out have it."""
 import collections
 import pathlib
 import re
@@ -92,5 +92,8 @@ class Results:
 
     def line(self, *parts):
         """What is said below pictures and above tables of these parts."""
-        said = (f"{part}: commit {{commit}}, {{date}}, {{machine}}; {{load}}".format(**self.heads[part]) for part in parts)
-        return f"{'. '.join(said)}. Beside {self.heads[parts[0]]['original']}."
+        said = collections.defaultdict(list)
+        for part in parts:
+            said["commit {commit}, {date}, {machine}; {load}".format(**self.heads[part])].append(part)
+        lines = (f"{' and '.join(of).capitalize()}: {head}" for head, of in said.items())
+        return f"{'. '.join(lines)}. Beside {self.heads[parts[0]]['original']}."

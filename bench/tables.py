@@ -48,18 +48,19 @@ def cycles(measure):
     return f"{measure} cycles" if measure in PHASES else measure
 
 
-def calls(results, name):
-    """The two interners over the original under the same kind of hasher."""
+def calls(results, name, said, measures):
+    """The two interners over the original under the same kind of hasher, by these measures: each a word, and the name that it
+    gives to a phase."""
     pairs = [(FAST["string"], ORIGINAL["string"]), (DEFAULT["string"], FNV["string"])]
     rows = [
-        (f"{count:,} | {said}", [results.ratio(*pair, name, count, of(phase)) for pair in pairs for phase in CALLS])
-        for said, of, counts in (("cycles", cycles, results.counted(name)), ("time", str, results.counts[name]))
-        for count in counts
+        (f"{count:,} | {word}", [results.ratio(*pair, name, count, of(phase)) for pair in pairs for phase in CALLS])
+        for word, of in measures.items()
+        for count in (results.counted(name) if word == "cycles" else results.counts[name])
     ]
-    said = (
-        "Estimated cycles and least time to intern new texts (fill), to intern them again (known) and to look for others "
-        "(unknown), divided by the original's; lower is better. *Fast* is `FastStringInterner` beside the original under its "
-        "default hasher, *default* is `DefaultStringInterner` beside the original under FNV"
+    said += (
+        " to intern new texts (fill), to intern them again (known) and to look for others (unknown), divided by the "
+        "original's; lower is better. *Fast* is `FastStringInterner` beside the original under its default hasher, "
+        "*default* is `DefaultStringInterner` beside the original under FNV"
     )
     head = [f"{kind}{phase}" for kind in ("*fast* ", "*default* ") for phase in CALLS]
     return table(said, [NOUNS[name], "", *head], rows)
@@ -107,7 +108,8 @@ def memory(results):
 
 
 def pictures(results):
-    shown = [picture(f"calls-{name}", calls(results, name)) for name in TEXTS if results.counts[name]]
+    both = ("Estimated cycles and least time", {"cycles": cycles, "time": str})
+    shown = [picture(f"calls-{name}", calls(results, name, *both)) for name in TEXTS if results.counts[name]]
     shown.append(picture("backends", with_backends(results)))
     shown.append(picture("index-and-hasher", choices(results)))
     shown.append(picture("memory", memory(results)))
@@ -162,11 +164,11 @@ def estimated(results):
 
 def by_c(results):
     """The library beside its calls through C."""
-    count = min(results.counts["identifiers"])
+    count, name = min(results.counts["identifiers"]), "identifiers"
     shown = {"Estimated cycles": cycles, "Instructions": "{} instructions".format, "Nanoseconds, the least of all rounds,": str}
     kinds = [FAST["string"], *BY_C]
     tables = (
-        of_kinds(results, f"{said} a call, for {count:,} identifiers", "identifiers", count, {it: of(it) for it in PHASES}, kinds)
+        of_kinds(results, f"{said} a call, for {count:,} {name}", name, count, {it: of(it) for it in PHASES}, kinds)
         for said, of in shown.items()
     )
     return "\n\n".join(filter(None, tables)) or "Not measured."
@@ -218,6 +220,12 @@ def backends(results):
     return f"{table(said, head, rows)}\n\n![memory](docs/pictures/memory.svg)"
 
 
+def speed(results):
+    """For the README: the figures that hold."""
+    said = "The picture shows times, the table [estimated cycles](docs/PERFORMANCE.md)"
+    return picture("interning", calls(results, "identifiers", said, {"cycles": cycles}), "docs/pictures")
+
+
 def blocks(results):
     """The blocks of the documents, by name."""
     return {
@@ -228,7 +236,7 @@ def blocks(results):
         "through C": by_c(results),
         "columns": columns(results),
         "chosen": chosen(results),
-        "speed": picture("interning", calls(results, "identifiers"), "docs/pictures"),
+        "speed": speed(results),
         "backends": backends(results),
     }
 

@@ -65,8 +65,8 @@ class Tables(unittest.TestCase):
     def test_parts_were_measured_apart(self):
         results = results_of()
         results.heads["cycles"] = {**HEAD, "commit": "f00d"}
-        said = "times: commit c0ffee, 2026-01-01, a machine; busy. cycles: commit f00d, 2026-01-01, a machine; busy"
-        self.assertEqual(results.line("times", "cycles"), f"{said}. Beside the original.")
+        said = "Times and memory: commit c0ffee, 2026-01-01, a machine; busy. Cycles: commit f00d, 2026-01-01, a machine; busy"
+        self.assertEqual(results.line("times", "cycles", "memory"), f"{said}. Beside the original.")
 
     def test_numbers_are_short(self):
         shown = [tables.short(value) for value in (None, 1234.4, 99.94, 9.944)]
