@@ -165,7 +165,7 @@ def estimated(results):
 def by_c(results):
     """The library beside its calls through C."""
     count, name = min(results.counts["identifiers"]), "identifiers"
-    shown = {"Estimated cycles": cycles, "Instructions": "{} instructions".format, "Nanoseconds, the least of all rounds,": str}
+    shown = {"Estimated cycles": cycles, "Instructions": "{} instructions".format, "Least nanoseconds": str}
     kinds = [FAST["string"], *BY_C]
     tables = (
         of_kinds(results, f"{said} a call, for {count:,} {name}", name, count, {it: of(it) for it in PHASES}, kinds)
