@@ -1,6 +1,6 @@
 //! The inputs: the same ones on each machine with the same list of words.
 
-use std::collections::HashSet;
+use std::collections::{BTreeSet, HashSet};
 
 /// Texts end to end, and where each ends.
 #[derive(Default)]
@@ -100,7 +100,8 @@ fn long_text(random: &mut Random) -> String {
 }
 
 fn distinct(count: usize, mut make: impl FnMut() -> String) -> Vec<String> {
-    let mut seen = HashSet::with_capacity(count);
+    // Its texts are freed in the same order in each run, so that the heap looks the same, too.
+    let mut seen = BTreeSet::new();
     let mut texts = Vec::with_capacity(count);
     while texts.len() < count {
         let text = make();
