@@ -10,7 +10,7 @@ matplotlib.use("svg")
 import matplotlib.pyplot as plot
 from matplotlib.ticker import FuncFormatter, LogLocator, NullFormatter
 
-from results import BACKENDS, DEFAULT, FAST, FNV, INPUTS, KEYED, MAP, NOUNS, ORIGINAL, PHASES, PICTURES, SET, WINDOW
+from results import BACKENDS, DEFAULT, FAST, FNV, INPUTS, KEYED, MAP, NOUNS, ORIGINAL, PHASES, PICTURES, SET, TAGGED
 from results import TEXTS, Results
 
 plot.rcParams.update({"font.size": 8, "font.family": "sans-serif", "savefig.facecolor": "white"})
@@ -39,11 +39,11 @@ for name in BACKENDS:
     OF_BACKENDS[f"ours, {name}"] = FAST[name]
     OF_BACKENDS[f"original, {name}"] = ORIGINAL[name]
 OF_CHOICES = {
-    "Window, Fold": FAST["string"],
+    "Tagged, Fold": FAST["string"],
     "Index, Fixed": DEFAULT["string"],
-    "Window, Fixed": WINDOW,
+    "Tagged, Fixed": TAGGED,
     "Index, Fold": ("ours", "string", "Index", "FoldState"),
-    "Window, Random": KEYED,
+    "Tagged, Random": KEYED,
     "Index, Random": ("ours", "string", "Index", "RandomState"),
 }
 OF_CHOSEN = {**OF_CHOICES, "original, FNV": FNV["string"], "original": ORIGINAL["string"]}
@@ -133,7 +133,7 @@ def draw_memory(results, folder):
     for backend in BACKENDS:
         kinds[f"original, {backend}"] = FNV[backend]
         kinds[f"ours, {backend}, Index"] = DEFAULT[backend]
-        kinds[f"ours, {backend}, WindowIndex"] = FAST[backend]
+        kinds[f"ours, {backend}, TaggedIndex"] = FAST[backend]
     names = [name for name in TEXTS if results.counts[name]]
     figure, all_axes = plot.subplots(1, len(names), figsize=(9, 3.4), sharey=True, squeeze=False)
     figure.subplots_adjust(left=0.2, right=0.985, top=0.83, bottom=0.16, wspace=0.12)
@@ -181,7 +181,7 @@ def main():
                 results, folder, f"calls-{name}", f"Nanoseconds a call, by the count of {INPUTS[name]}", PEERS, parts
             )
     parts = [("identifiers", phase) for phase in PHASES]
-    title = "The backends: ours (WindowIndex, FoldState) and the original's (its default hasher), nanoseconds a call"
+    title = "The backends: ours (TaggedIndex, FoldState) and the original's (its default hasher), nanoseconds a call"
     panels(results, folder, "backends", title, OF_BACKENDS, parts)
     parts = [(name, phase) for phase in ("fill", "known", "unknown") for name in ("identifiers", "long")]
     title = "Indexes and hashers over the string backend: nanoseconds a call, by the count of texts"

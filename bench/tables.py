@@ -8,14 +8,14 @@ import shutil
 import sys
 
 from results import BACKENDS, BY_C, DEFAULT, DOCS, FAST, FNV, HERE, INPUTS, KEYED, LINES, MAP, NOUNS, ORIGINAL, PHASES, SET
-from results import PARTS, PICTURES, TEXTS, WINDOW, Results
+from results import PARTS, PICTURES, TEXTS, TAGGED, Results
 
 MEASURES = (*PHASES, "live", "peak")
 CALLS = ("fill", "known", "unknown")
 PAIRS = {
     **{f"`Index`, `Fnv1a`, {name}": (DEFAULT[name], FNV[name]) for name in BACKENDS},
-    "`WindowIndex`, `Fnv1a`, string": (WINDOW, FNV["string"]),
-    **{f"`WindowIndex`, `FoldState`, {name}": (FAST[name], ORIGINAL[name]) for name in BACKENDS},
+    "`TaggedIndex`, `Fnv1a`, string": (TAGGED, FNV["string"]),
+    **{f"`TaggedIndex`, `FoldState`, {name}": (FAST[name], ORIGINAL[name]) for name in BACKENDS},
 }
 
 
@@ -82,10 +82,10 @@ def with_backends(results):
 
 
 def choices(results):
-    """The window index under two hashers, over the default index and hasher, at each count."""
+    """The tagged index under two hashers, over the default index and hasher, at each count."""
     inputs = {"identifiers": "unknown", "long": "fill"}
     columns = [(name, count, phase) for name, phase in inputs.items() for count in results.counted(name)]
-    kinds = {"`WindowIndex`, `FoldState`": FAST["string"], "`WindowIndex`, `RandomState`": KEYED}
+    kinds = {"`TaggedIndex`, `FoldState`": FAST["string"], "`TaggedIndex`, `RandomState`": KEYED}
     rows = [
         (label, [results.ratio(kind, DEFAULT["string"], *case, cycles(phase)) for *case, phase in columns])
         for label, kind in kinds.items()
@@ -100,7 +100,7 @@ def choices(results):
 
 def memory(results):
     count = max(results.counts["identifiers"])
-    kinds = {"`WindowIndex`": FAST["string"], "`Index`": DEFAULT["string"], "the original": FNV["string"]}
+    kinds = {"`TaggedIndex`": FAST["string"], "`Index`": DEFAULT["string"], "the original": FNV["string"]}
     kinds |= {"`IndexSet`": SET, "`HashMap` and `Vec`": MAP}
     row = [results.value(kind, "identifiers", count, "live") for kind in kinds.values()]
     said = f"Bytes per text at {count:,} identifiers of 10 bytes on average; the first three have a string backend"

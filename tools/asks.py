@@ -7,7 +7,7 @@ the model does not know: that is the same with either index.
 import json
 
 from rooms import ROOMS, WIDTHS, Interner, Memory, NoMemory, NoSymbol, Room, Slots
-from scenarios import WITH_INDEX, asking_parts, cut, is_run, parts_of, plain_lines, wanted_end, with_window
+from scenarios import WITH_INDEX, asking_parts, cut, is_run, parts_of, plain_lines, wanted_end, with_tags
 
 # What `texts_asked` interns and drops again.
 QUESTION = b"how many texts were you asked for?"
@@ -43,13 +43,13 @@ class Calls:
     def __init__(self, first):
         level, self.backend, self.symbol, _ = first.decode().split(" ", 3)
         self.memory = Memory()
-        self.is_window = level.encode() in WITH_INDEX.values()
+        self.is_tagged = level.encode() in WITH_INDEX.values()
         self.one, self.other = self.new(), self.new()
         self.starts, self.counts = Room(self.memory, 8), []
 
     def new(self, capacity=0):
         """A new interner with room for so many texts."""
-        slots = Slots(self.memory, self.symbol, self.is_window).with_capacity(capacity)
+        slots = Slots(self.memory, self.symbol, self.is_tagged).with_capacity(capacity)
         return Interner(slots, ROOMS[self.backend](self.memory, capacity))
 
     def collect(self, texts):
@@ -235,7 +235,7 @@ def split_asks(calls, answers):
         yield own, reckoned
 
 
-def asks_with_window(calls, answers):
-    """For each part, what it asks for with a window index, where the answers are those with the other index."""
+def asks_with_tags(calls, answers):
+    """For each part, what it asks for with a tagged index, where the answers are those with the other index."""
     own = [asked for asked, _ in split_asks(calls, answers)]
-    return [mine + theirs for mine, theirs in zip(own, reckon(with_window(calls), answers))]
+    return [mine + theirs for mine, theirs in zip(own, reckon(with_tags(calls), answers))]

@@ -155,19 +155,19 @@ ROOMS = {"string": StringRoom, "counting": StringRoom, "bucket": BucketRoom, "bu
 
 
 class Slots:
-    """The slots of an index, or of a window index."""
+    """The slots of an index, or of a tagged index."""
 
-    def __init__(self, memory, symbol, is_window, count=0):
-        self.memory, self.symbol, self.is_window, self.count = memory, symbol, is_window, count
+    def __init__(self, memory, symbol, is_tagged, count=0):
+        self.memory, self.symbol, self.is_tagged, self.count = memory, symbol, is_tagged, count
         width = WIDTHS[symbol]
         if not count:
             return
-        for size in (width * count, 4 * count, count + 16) if is_window else (2 * width * count,):
+        for size in (width * count, 4 * count, count + 16) if is_tagged else (2 * width * count,):
             memory.ask(size)
 
     def holds(self, count, texts):
         """Whether so many slots hold so many texts."""
-        return 8 * texts <= 7 * count if self.is_window else 4 * texts <= 3 * count
+        return 8 * texts <= 7 * count if self.is_tagged else 4 * texts <= 3 * count
 
     def with_capacity(self, capacity):
         """New slots, the least that hold so many texts."""
@@ -177,7 +177,7 @@ class Slots:
         return self.with_count(count)
 
     def with_count(self, count):
-        return Slots(self.memory, self.symbol, self.is_window, count)
+        return Slots(self.memory, self.symbol, self.is_tagged, count)
 
     def reserved(self, texts):
         """These slots, or new ones where they do not hold so many texts."""

@@ -14,9 +14,9 @@ CRATE = TOP / "crates/suite"
 # The scenarios whose requests for memory are refused, and those that are run once each.
 SMALL, LARGE = "scenarios", "large"
 UNKNOWN_LEVEL = b"line 1: unknown level\n"
-# The levels that have an index of either kind, and their words with a window index.
-WITH_INDEX = {b"interner": b"window", b"scopes": b"window_scopes", b"run": b"window_run"}
-# Backends and hashers of scenarios that are run again with a window index: those that count what is asked for or hashed would
+# The levels that have an index of either kind, and their words with a tagged index.
+WITH_INDEX = {b"interner": b"tagged", b"scopes": b"tagged_scopes", b"run": b"tagged_run"}
+# Backends and hashers of scenarios that are run again with a tagged index: those that count what is asked for or hashed would
 # print other counts.
 COUNT_NOTHING = set(product((b"string", b"bucket", b"buffer"), (b"default", b"constant", b"length", b"salted", b"fold", b"sip")))
 
@@ -73,8 +73,8 @@ def is_run(calls):
     return word_of(cut(calls)[0]) in (b"run", WITH_INDEX[b"run"])
 
 
-def with_window(calls):
-    """The same calls with a window index, where the driver makes them with both indexes, and else nothing."""
+def with_tags(calls):
+    """The same calls with a tagged index, where the driver makes them with both indexes, and else nothing."""
     level, *types = cut(calls)[0].split(b" ", 3)
     if level not in WITH_INDEX or tuple(types[::2]) not in COUNT_NOTHING:
         return None
@@ -82,11 +82,11 @@ def with_window(calls):
 
 
 def as_fast(calls):
-    """The same calls on a fast type, which has a window index and hashes by `fold`, where there is one."""
+    """The same calls on a fast type, which has a tagged index and hashes by `fold`, where there is one."""
     first, is_more, rest = calls.partition(b"\n")
     if not first.endswith(b" SymbolU32 default"):
         return None
-    return with_window(first.removesuffix(b"default") + b"fold" + is_more + rest)
+    return with_tags(first.removesuffix(b"default") + b"fold" + is_more + rest)
 
 
 def reply_count(line):

@@ -5,7 +5,7 @@ import unittest
 from pathlib import Path
 
 sys.path.insert(0, str(Path(__file__).resolve().parent.parent))
-from asks import asks_with_window, reckon, split_asks
+from asks import asks_with_tags, reckon, split_asks
 from scenarios import SMALL, WITH_INDEX, find_calls
 
 LEVELS = {level.decode() for pair in WITH_INDEX.items() for level in pair}
@@ -33,24 +33,24 @@ class AnswersTest(unittest.TestCase):
         self.assertEqual(list(split_asks(calls, b"asks 6\nasks 64\nasks 8\nsymbol 0\n")), [([6], [64, 8])])
 
 
-class WindowTest(unittest.TestCase):
+class TaggedTest(unittest.TestCase):
     def test_three_requests_for_slots(self):
         calls = b"interner string Even default\nwith_capacity 7\n"
-        self.assertEqual(asks_with_window(calls, b"asks 64\nasks 35\nasks 56\nok\n"), [[16, 32, 24, 35, 56]])
+        self.assertEqual(asks_with_tags(calls, b"asks 64\nasks 35\nasks 56\nok\n"), [[16, 32, 24, 35, 56]])
 
     def test_seven_eighths(self):
         calls = b"interner buffer SymbolU32 default\nextend_numbers 8\n"
-        self.assertEqual(asks_with_window(calls, b"asks 16\nasks 64\nasks 8\nasks 16\nasks 128\nok\n"),
+        self.assertEqual(asks_with_tags(calls, b"asks 16\nasks 64\nasks 8\nasks 16\nasks 128\nok\n"),
                          [[16, 32, 32, 24, 8, 16, 64, 64, 32]])
 
     def test_what_the_program_asks_itself_stays(self):
         calls = b"run bucket SymbolU32 default\nIntern a\nNumber 0\n"
         answers = b"asks 48\nasks 64\nasks 64\nasks 96\nasks 128\nasks 2\nasks 1\nsymbol 0\ntext a\n1\n"
-        self.assertEqual(asks_with_window(calls, answers), [[48, 64, 32, 32, 24, 96, 128, 2, 1]])
+        self.assertEqual(asks_with_tags(calls, answers), [[48, 64, 32, 32, 24, 96, 128, 2, 1]])
 
     def test_scopes(self):
         calls = b"scopes string SymbolU32 default\nenter\ndeclare b\nleave\n"
-        self.assertEqual(asks_with_window(calls, b"asks 32\nok\nasks 64\nasks 8\nasks 32\nsymbol 0\ntrue\n"),
+        self.assertEqual(asks_with_tags(calls, b"asks 32\nok\nasks 64\nasks 8\nasks 32\nsymbol 0\ntrue\n"),
                          [[32], [32, 32, 24, 8, 32], []])
 
 

@@ -9,7 +9,7 @@ from pathlib import Path
 
 sys.path.insert(0, str(Path(__file__).resolve().parent.parent))
 from scenarios import (CRATE, LARGE, Part, as_fast, asking_parts, cut, digest_of, file_faults, find_calls, parts_of,
-                       wanted_end, with_window)
+                       wanted_end, with_tags)
 
 
 class TextTest(unittest.TestCase):
@@ -63,31 +63,31 @@ class AskingPartsTest(unittest.TestCase):
                 asking_parts(self.parts, answers)
 
 
-class WindowTest(unittest.TestCase):
+class TaggedTest(unittest.TestCase):
     def test_the_level_changes(self):
-        for level, other in (b"interner", b"window"), (b"scopes", b"window_scopes"), (b"run", b"window_run"):
+        for level, other in (b"interner", b"tagged"), (b"scopes", b"tagged_scopes"), (b"run", b"tagged_run"):
             calls = level + b" bucket SymbolU32 default\nget " + level + b"\n"
-            self.assertEqual(with_window(calls), other + calls.removeprefix(level))
+            self.assertEqual(with_tags(calls), other + calls.removeprefix(level))
 
     def test_each_symbol_type_and_hasher(self):
         for types in b"bucket Even default", b"buffer usize default", b"bucket SymbolU32 salted":
-            self.assertEqual(with_window(b"scopes " + types + b"\nlen\n"), b"window_scopes " + types + b"\nlen\n")
+            self.assertEqual(with_tags(b"scopes " + types + b"\nlen\n"), b"tagged_scopes " + types + b"\nlen\n")
 
     def test_the_hasher_changes_too(self):
         calls = b"run buffer SymbolU32 default\nGet SymbolU32 default\n"
-        self.assertEqual(as_fast(calls), b"window_run buffer SymbolU32 fold\nGet SymbolU32 default\n")
+        self.assertEqual(as_fast(calls), b"tagged_run buffer SymbolU32 fold\nGet SymbolU32 default\n")
 
     def test_what_is_not_run_again(self):
         for first in (b"backend string SymbolU32 default", b"run counting SymbolU32 default", b"interner string SymbolU32 counting",
                       b"scopes vector SymbolU32 default", b"interner string", b"interner"):
             with self.subTest(first):
-                self.assertIsNone(with_window(first + b"\nget a\n"))
+                self.assertIsNone(with_tags(first + b"\nget a\n"))
                 self.assertIsNone(as_fast(first + b"\nget a\n"))
         self.assertIsNone(as_fast(b"interner string Even default\nget a\n"))
         self.assertIsNone(as_fast(b"interner string SymbolU32 sip\nget a\n"))
 
-    def test_runs_with_a_window(self):
-        self.assertEqual(parts_of(b"window_run string SymbolU32 fold\nIntern a\nLen\n"), [Part(b"run", 3)])
+    def test_runs_with_tags(self):
+        self.assertEqual(parts_of(b"tagged_run string SymbolU32 fold\nIntern a\nLen\n"), [Part(b"run", 3)])
 
 
 @unittest.skipUnless(sys.hash_info.algorithm == "siphash13", "Python hashes by another function")

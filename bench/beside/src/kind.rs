@@ -8,7 +8,7 @@ use crate::{ours, phases};
 use string_interner::backend::{BucketBackend, BufferBackend, StringBackend};
 
 const BACKENDS: [&str; 3] = ["string", "bucket", "buffer"];
-const INDEXES: [&str; 2] = ["Index", "WindowIndex"];
+const INDEXES: [&str; 2] = ["Index", "TaggedIndex"];
 const HASHERS: [&str; 3] = ["Fnv1a", "FoldState", "RandomState"];
 
 type Measure = Box<dyn Fn(&Inputs, Budget) -> Results>;

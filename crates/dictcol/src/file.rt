@@ -21,13 +21,13 @@ use serde_json::{Value, json};
 use std::alloc::{AllocError, Global};
 use std::io::Write;
 use string_interner::backend::{Backend, DefaultBackend};
-use string_interner::dedup::WindowIndex;
+use string_interner::dedup::TaggedIndex;
 use string_interner::json::JsonError;
 use string_interner::{DefaultSymbol, StringInterner};
 use uses::column::Column;
 
 /// The texts of a file.
-type Dictionary = StringInterner<DefaultBackend, LineHasher, WindowIndex<DefaultSymbol>>;
+type Dictionary = StringInterner<DefaultBackend, LineHasher, TaggedIndex<DefaultSymbol>>;
 
 /// Returns the array of the numbers.
 fn build_array(alloc: Global, numbers: &[usize]) -> Result<Value, AllocError>

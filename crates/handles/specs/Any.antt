@@ -4,7 +4,7 @@ use Rattle.std.specs.Prelude.{◌≡◌, ℕ, ◌&&◌, Bool, true, false, List,
 use Rattle.string_interner.specs.Text.{Text, first, texts_eq}
 use Rattle.string_interner.specs.Numbering.{Numbering}
 use Rattle.string_interner.specs.Interner.{InternerContents, InternsInto, Finds, IsMadeFor, IsNew, KeepsMemory}
-use Rattle.string_interner.specs.Window.{seven_eighths}
+use Rattle.string_interner.specs.LoadFactor.{seven_eighths}
 use Rattle.string_interner.specs.Json.{json_of_texts, ReadsArray, ReadsArrayExactly}
 use Rattle.serde_json.specs.Data.{Data}
 use Rattle.string_interner.specs.declared.backend.InternError.{InternError}

@@ -6,7 +6,7 @@ ghost use Rattle.serde_json.specs.View.{view};
 ghost use Rattle.string_interner.specs.Json.{json_of_texts};
 ghost use Rattle.handles.specs.Any.{FindsNumber, InternsAny, IsAnyCopy, IsEmpty, IsMade, IsShrunk, KeepsFirst, Knows, ReadsAs, ReadsAsExactly, any_eq, text_at, texts_in};
 ghost use Rattle.string_interner.specs.Interner.{InternsInto};
-ghost use Rattle.string_interner.specs.Window.{seven_eighths};
+ghost use Rattle.string_interner.specs.LoadFactor.{seven_eighths};
 ghost use Rattle.handles.specs.Status.{TellsInterned, outcome_of};
 
 mod entries;
@@ -20,12 +20,12 @@ use serde_json::Value;
 use std::alloc::{AllocError, Global};
 use string_interner::StringInterner;
 use string_interner::backend::{Backend, BucketBackend, BufferBackend, InternError, StringBackend};
-use string_interner::dedup::WindowIndex;
+use string_interner::dedup::TaggedIndex;
 use string_interner::json::JsonError;
 use string_interner::symbol::{Symbol, SymbolU32};
 
 /// An interner over a backend as a `FastStringInterner` is, but for its hasher, which is chosen.
-type HashedInterner<B> = StringInterner<B, ChosenHasher, WindowIndex<<B as Backend>::Symbol>>;
+type HashedInterner<B> = StringInterner<B, ChosenHasher, TaggedIndex<<B as Backend>::Symbol>>;
 
 /// An interner of one of the kinds.
 #[derive(Drop)]

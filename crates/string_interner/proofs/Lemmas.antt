@@ -9,4 +9,5 @@ pub mod Run
 pub mod Scopes
 pub mod StringBackend
 pub mod Texts
-pub mod WindowIndex
+pub mod Table
+pub mod TaggedSlots

@@ -3,10 +3,11 @@
 pub mod Buckets
 pub mod Buffer
 pub mod Hasher
+pub mod LoadFactor
 pub mod Probing
 pub mod Reading
 pub mod Slots
 pub mod Spelling
 pub mod StdHasher
 pub mod Strings
-pub mod Window
+pub mod Tagged

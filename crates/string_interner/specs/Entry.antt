@@ -1,5 +1,5 @@
 -- The text of the entry that has a symbol.
--- Cited by `Index`, which asks a backend for the texts of its symbols.
+-- Cited by `Table` and its layouts, which ask a backend for the texts of symbols.
 use Rattle.std.specs.Prelude.{ℕ, List, [], ◌∷◌, ◌++◌, Option, Some, None, if◌then◌else◌, ◌==◌}
 use Rattle.string_interner.specs.Text.{Text}
 use Rattle.string_interner.specs.Numbering.{Numbering}

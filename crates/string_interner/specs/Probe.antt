@@ -1,9 +1,11 @@
 -- What the steps of the index do to its slots.
--- Cited by the functions of `dedup` that stay within the crate, and by the clause `vacant` of `Index::reserve_one`.
+-- Cited by the functions of `dedup` that stay within the crate, by `Layout.antt`, and by the clause `vacant` of
+-- `Table::reserve_one`.
 use Rattle.std.specs.Prelude.{◌≡◌, ℕ, ◌<◌, ◌≤◌, ◌%◌, ◌+◌, ◌⊎◌, List, length, slice_index_or, slice_set, Contains, Option, Some, None}
 use Rattle.string_interner.specs.Text.{Text}
 use Rattle.string_interner.specs.Slots.{symbols, filled_run, probed}
-use Rattle.string_interner.specs.Index.{Fits, IsSlotCount}
+use Rattle.string_interner.specs.LoadFactor.{IsSlotCount}
+use Rattle.string_interner.specs.Index.{Fits}
 use Rattle.string_interner.specs.declared.dedup.probe.Vacancy.{Vacancy}
 
 -- the slot count is allowed, and a slot is empty

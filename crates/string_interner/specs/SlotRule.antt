@@ -1,5 +1,5 @@
 -- How an index counts its slots: which counts there are, how many entries these hold, and how they grow.
--- Cited by the trait `TextIndex`, by `Index`, and by all that stands on an interner.
+-- Cited by the trait `TextIndex`, by `Table`, and by all that stands on an interner.
 use Rattle.std.specs.Prelude.{◌≡◌, ℕ, ◌+◌, ◌≤◌, ◌⊎◌}
 
 pub record SlotRule : Type 1 where

@@ -1,5 +1,5 @@
 -- A list of slots, each empty or with a symbol, as probing reads it, and the count of looks.
--- Cited by `Looks`, by `Index` and by what the index is made of.
+-- Cited by `Looks`, by `Table` and by what it is made of.
 use Rattle.std.specs.Prelude.{ℕ, ◌+◌, ◌%◌, ◌<◌, ◌≤◌, List, [], ◌∷◌, ◌++◌, take, drop, length, slice_index_or, Option, Some, None, IsSome, IsNone, Bool, if◌then◌else◌}
 
 -- what contracts see of `Looks`: the borrowed backend, and how many looks were taken

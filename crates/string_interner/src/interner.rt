@@ -16,7 +16,8 @@ ghost use Rattle.string_interner.specs.Given.{given_text};
 ghost use Rattle.string_interner.specs.SlotRule.{IsLoaded, IsLeastSlotCount};
 
 use crate::backend::{Backend, CopyBackend, InternError, Iter};
-use crate::dedup::{CopyIndex, DefaultHashBuilder, Entry, Index, TextHasher, TextIndex};
+use crate::dedup::{CopyIndex, DefaultIndex, Entry, TextIndex};
+use crate::hash::{DefaultHashBuilder, TextHasher};
 use crate::symbol::Symbol;
 use given::Given;
 use std::alloc::{AllocError, Global};
@@ -38,7 +39,7 @@ use std::marker::Model;
 pub struct StringInterner<
     B: Backend,
     H: TextHasher = DefaultHashBuilder,
-    I: TextIndex<B::Symbol> = Index<<B as Backend>::Symbol>,
+    I: TextIndex<B::Symbol> = DefaultIndex<<B as Backend>::Symbol>,
 > {
     backend: B,
     hasher: H,
@@ -321,7 +322,7 @@ impl<B: CopyBackend + Drop, H: TextHasher + Copy, I: CopyIndex<B::Symbol> + Drop
         ensures copy { IfOk result (IsCopyOf B.copies self.now) }
         ensures slots { IfOk result (λ copy. copy.slot_count ≡ self.now.slot_count) }
     {
-        let index = self.index.try_copy(&self.backend)?;
+        let index = self.index.try_copy()?;
         Ok(StringInterner {
             backend: self.backend.try_copy()?,
             hasher: self.hasher,

@@ -7,7 +7,8 @@ ghost use Rattle.string_interner.specs.Interner.{HasLeastSlots};
 ghost use Rattle.string_interner.specs.Json.{json_of_texts, json_of_number, read_into, refused, KeepsLeastSlots, HasJsonForm, ReadsArray, ReadsArrayExactly, ReadsBack, ReadsElements, ReadsElementsExactly, symbol_read};
 
 use crate::backend::{Backend, InternError};
-use crate::dedup::{TextHasher, TextIndex};
+use crate::dedup::TextIndex;
+use crate::hash::TextHasher;
 use crate::interner::StringInterner;
 use crate::symbol::Symbol;
 use serde_json::Value;

@@ -7,6 +7,7 @@
 
 pub mod backend;
 pub mod dedup;
+pub mod hash;
 mod interner;
 pub mod json;
 pub mod run;
@@ -15,8 +16,10 @@ pub mod symbol;
 
 use backend::Backend;
 pub use backend::DefaultBackend;
-pub use dedup::DefaultHashBuilder;
-use dedup::{FoldState, WindowIndex};
+pub use dedup::DefaultIndex;
+use dedup::TaggedIndex;
+pub use hash::DefaultHashBuilder;
+use hash::FoldState;
 pub use interner::StringInterner;
 pub use symbol::{DefaultSymbol, Symbol};
 
@@ -27,9 +30,9 @@ pub type DefaultStringInterner<B = DefaultBackend, H = DefaultHashBuilder> = Str
 /// that reads 16 bytes at a time.
 ///
 /// Its codes are the same in each run, and it is easy to choose texts that have one code. Where they come from someone who
-/// may do so, take `StringInterner<B, KeyedHasher, WindowIndex<S>>` under random keys, where `S` is the symbol type.
+/// may do so, take `StringInterner<B, KeyedHasher, TaggedIndex<S>>` under random keys, where `S` is the symbol type.
 pub type FastStringInterner<B = DefaultBackend> = StringInterner<
     B,
     FoldState,
-    WindowIndex<<B as Backend>::Symbol>,
+    TaggedIndex<<B as Backend>::Symbol>,
 >;

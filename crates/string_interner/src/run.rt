@@ -8,7 +8,8 @@ ghost use Rattle.string_interner.specs.ListAnswers.{AnswersAsAList};
 ghost use Rattle.string_interner.specs.Run.{refusal, intern_reply, reply_number, CopyReply, text_at_number, NumberReply, ExtendReply, InternsNone, Step, RunsAll};
 
 use crate::backend::{Backend, InternError};
-use crate::dedup::{TextHasher, TextIndex};
+use crate::dedup::TextIndex;
+use crate::hash::TextHasher;
 use crate::interner::StringInterner;
 use crate::symbol::Symbol;
 use std::alloc::{AllocError, Global};

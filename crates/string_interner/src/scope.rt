@@ -9,7 +9,8 @@ ghost use Rattle.string_interner.specs.StandsFor.{KeepsSymbols};
 ghost use Rattle.string_interner.specs.Scopes.{layers, joined_layers, as_interner, Leaves, LayerStep, LeavingGivesBack};
 
 use crate::backend::{Backend, InternError, Iter};
-use crate::dedup::{DefaultHashBuilder, Index, TextHasher, TextIndex};
+use crate::dedup::{DefaultIndex, TextIndex};
+use crate::hash::{DefaultHashBuilder, TextHasher};
 use crate::interner::StringInterner;
 use std::alloc::{AllocError, Global};
 use std::marker::Model;
@@ -23,7 +24,7 @@ use std::marker::Model;
 pub struct Scopes<
     B: Backend,
     H: TextHasher = DefaultHashBuilder,
-    I: TextIndex<B::Symbol> = Index<<B as Backend>::Symbol>,
+    I: TextIndex<B::Symbol> = DefaultIndex<<B as Backend>::Symbol>,
 > {
     interner: StringInterner<B, H, I>,
     /// The number of texts when each open scope was entered, the outermost scope first.

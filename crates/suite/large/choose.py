@@ -23,7 +23,7 @@ SCENARIOS = {
     "chosen_texts_string_sip": ("interner", "string", "sip", "words", 50000),
     "chosen_texts_counting": ("interner", "counting", "default", "words", 1000),
     "chosen_texts_counting_keyed": ("interner", "counting", "keyed", "words", 50000),
-    "chosen_blocks_string_sip": ("window", "string", "sip", "blocks", 262144),
+    "chosen_blocks_string_sip": ("tagged", "string", "sip", "blocks", 262144),
     "chosen_blocks_counting_fold": ("interner", "counting", "fold", "blocks", 1000),
     "chosen_blocks_counting_keyed": ("interner", "counting", "keyed", "blocks", 50000),
     "chosen_numbers_under_their_keys": ("interner", "counting", "keyed", "numbers", 1000),

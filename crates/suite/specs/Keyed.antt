@@ -2,7 +2,7 @@
 -- Cited by the hasher `Keyed` of the scenarios; no contract of the library speaks of it.
 use Rattle.std.specs.Prelude.{ℕ}
 use Rattle.std.specs.Hash.DefaultHasher as sip
-use Rattle.string_interner.specs.declared.dedup.hasher.KeyedState.{KeyedState}
+use Rattle.string_interner.specs.declared.hash.KeyedState.{KeyedState}
 use Rattle.string_interner.specs.Text.{Text}
 use Rattle.string_interner.specs.Hasher.{one_write}
 

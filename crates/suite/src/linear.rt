@@ -138,7 +138,7 @@ impl<S: Symbol> TextIndex<S> for LinearIndex<S> {
 }
 
 impl<S: Symbol> CopyIndex<S> for LinearIndex<S> {
-    fn try_copy<B: Backend<Symbol = S>>(&self, _backend: &B) -> Result<Self, AllocError> {
+    fn try_copy(&self) -> Result<Self, AllocError> {
         Ok(LinearIndex {
             symbols: copy_symbols(&self.symbols)?,
         })

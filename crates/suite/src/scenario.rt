@@ -15,7 +15,7 @@ use std::cell::Cell;
 use std::hash::{BuildHasherDefault, DefaultHasher};
 use string_interner::StringInterner;
 use string_interner::backend::{BucketBackend, BufferBackend, StringBackend};
-use string_interner::dedup::{CopyIndex, FixedState, FoldState, Index, StdHasher, WindowIndex};
+use string_interner::dedup::{CopyIndex, FixedState, FoldState, Index, StdHasher, TaggedIndex};
 use string_interner::scope::Scopes;
 use string_interner::symbol::{Symbol, SymbolU16, SymbolU32, SymbolUsize};
 
@@ -64,12 +64,12 @@ fn run_with<B: SuiteBackend, H: SuiteHasher, I: CopyIndex<B::Symbol> + Drop>(
 ) -> Result<(), Fault> {
     let alloc = rt.alloc();
     match scenario.level {
-        "scopes" | "window_scopes" => run_calls(
+        "scopes" | "tagged_scopes" => run_calls(
             rt,
             scenario,
             &mut Scopes::new(alloc, StringInterner::<B, H, I>::with_hasher(alloc, hasher)),
         ),
-        "run" | "window_run" => run_blocks(rt, scenario, &mut Runs::<B, H, I>::new(alloc, hasher)),
+        "run" | "tagged_run" => run_blocks(rt, scenario, &mut Runs::<B, H, I>::new(alloc, hasher)),
         _ => run_calls(rt, scenario, &mut Interners::<B, H, I>::new(alloc, hasher)),
     }
 }
@@ -82,7 +82,7 @@ fn run_over<B: SuiteBackend, H: SuiteHasher>(
 ) -> Result<(), Fault> {
     match scenario.level {
         "interner" | "scopes" | "run" => run_with::<B, H, Index<B::Symbol>>(rt, scenario, hasher),
-        "window" | "window_scopes" | "window_run" => run_with::<B, H, WindowIndex<B::Symbol>>(
+        "tagged" | "tagged_scopes" | "tagged_run" => run_with::<B, H, TaggedIndex<B::Symbol>>(
             rt, scenario, hasher,
         ),
         "backend" => run_calls(rt, scenario, &mut Backends::<B>::new(rt.alloc())),

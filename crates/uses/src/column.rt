@@ -10,7 +10,7 @@ ghost use Rattle.uses.specs.Column.{AppendsRows, AreNumbersOf, AreSymbolNumbers}
 use std::alloc::{AllocError, Global};
 use std::marker::Model;
 use string_interner::backend::{Backend, DefaultBackend, InternError};
-use string_interner::dedup::{FoldState, TextHasher, TextIndex, WindowIndex};
+use string_interner::dedup::{FoldState, TaggedIndex, TextHasher, TextIndex};
 use string_interner::{StringInterner, Symbol};
 
 /// A list of rows, each a text, of which equal ones are kept once: in a `FastStringInterner`, where no other backend,
@@ -19,7 +19,7 @@ use string_interner::{StringInterner, Symbol};
 pub struct Column<
     B: Backend = DefaultBackend,
     H: TextHasher = FoldState,
-    I: TextIndex<B::Symbol> = WindowIndex<<B as Backend>::Symbol>,
+    I: TextIndex<B::Symbol> = TaggedIndex<<B as Backend>::Symbol>,
 > {
     dictionary: StringInterner<B, H, I>,
     /// The symbol of each row.

@@ -10,7 +10,7 @@ use Rattle.string_interner.specs.Text.{Text}
 use Rattle.string_interner.specs.Numbering.{Numbering}
 use Rattle.string_interner.specs.StandsFor.{StandsFor, KeepsSymbols, StandInOrder, none, next}
 use Rattle.string_interner.specs.Interner.{InternsInto}
-use Rattle.string_interner.specs.Window.{seven_eighths}
+use Rattle.string_interner.specs.LoadFactor.{seven_eighths}
 use Rattle.string_interner.proofs.Lemmas.Interner.Extends.{taken-more}
 use Rattle.handles.specs.Kind.{numbering_in}
 use Rattle.handles.specs.Any.{InternsAny, contents, numbering_of, texts_in}

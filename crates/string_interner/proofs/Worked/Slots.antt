@@ -1,24 +1,26 @@
--- How many slots an index has: from 8 on twice as many where more than three quarters would be filled. By the count of
--- entries that came one after another, with the symbols that were put back as the slots grew, and by capacity.
-use Rattle.std.proofs.Common.{◌≡◌, ℕ, zero, suc, ◌+◌, ◌-◌, ◌*◌, ◌^◌, ◌<◌, ◌≤◌, cond, max, [], length, Option, refl, sym, ap, subst, ◌∙◌, inl, inr, arith}
+-- How many slots an `Index` has, by the count of entries that came one after another: from 8 on twice as many where more
+-- than three quarters would be filled. With the symbols that were moved as the slots grew.
+use Rattle.std.proofs.Common.{◌≡◌, ℕ, zero, suc, ◌+◌, ◌*◌, ◌<◌, ◌≤◌, cond, max, List, [], length, Option, sym, ap, subst, ◌∙◌, inl, inr, arith, refl}
 use Rattle.std.specs.Prelude.{nat_le}
-use Rattle.std.proofs.Math.Pow.{pow_mono}
 use Rattle.std.proofs.lemmas.Bool.{cases_lt, le-leb, lt-leb}
 use Rattle.string_interner.specs.Text.{Text}
 use Rattle.string_interner.specs.Slots.{symbols}
-use Rattle.string_interner.specs.Index.{IndexContents, entry_count, Holds, HasRoom, IsSlotCount, GrowsTo, Grows, Inserts, Refills, three_quarters}
-use Rattle.string_interner.specs.SlotRule.{IsLeastSlotCount}
-use Rattle.string_interner.proofs.Lemmas.Index.SlotRule.{least-none}
-use Rattle.string_interner.specs.IndexLaws.{least_more, three_quarters-laws}
+use Rattle.string_interner.specs.LoadFactor.{GrowsTo}
+use Rattle.string_interner.specs.Layout.{plain_layout}
+use Rattle.string_interner.specs.Table.{TableContents, entry_count, HasRoom, Grows, Inserts, Refills}
+
+-- what contracts see of an `Index`
+abbrev IndexContents : Type 0 → Type 0
+IndexContents S = TableContents (List (Option S))
 
 -- An index to which so many entries came, one after another, with room made for each before: from no slots on, which
 -- stay where one more entry is allowed, and else grow.
 pub data Filled {S : Type 0} : ℕ → IndexContents S → Type 0 where
   no_entries : (index : IndexContents S) → index.slots ≡ [] → index.put_back ≡ 0 → index.greatest ≡ 0 → Filled zero index
   had_room : {n : ℕ} {old new : IndexContents S} (entry : S → Option Text) (code : Text → ℕ) (symbol : S)
-      → Filled n old → HasRoom old → Inserts entry code old new symbol → Filled (suc n) new
+      → Filled n old → HasRoom plain_layout old → Inserts plain_layout entry code old new symbol → Filled (suc n) new
   grew : {n : ℕ} {old bigger new : IndexContents S} (entry : S → Option Text) (code : Text → ℕ) (symbol : S)
-      → Filled n old → (¬ HasRoom old) → Grows old bigger → entry_count bigger ≡ entry_count old → Inserts entry code bigger new symbol → Filled (suc n) new
+      → Filled n old → (¬ HasRoom plain_layout old) → Grows plain_layout old bigger → entry_count plain_layout bigger ≡ entry_count plain_layout old → Inserts plain_layout entry code bigger new symbol → Filled (suc n) new
 
 -- What so many slots grow to, and what slots and symbols put back come to as one entry joins so many others.
 abbrev grown : ℕ → ℕ
@@ -56,7 +58,7 @@ no_room_left : (n slots : ℕ) → (¬ (4 * (n + 1) ≤ 3 * slots)) → 3 * slot
 no_room_left n slots none = elim (cases_lt (3 * slots) (4 * (n + 1))) as (λ _. 3 * slots < 4 * (n + 1)) [ inl l ↦ l | inr l ↦ absurd (none l) ]
 
 abbrev Counts : {S : Type 0} → IndexContents S → ℕ → ℕ → ℕ → Type 0
-Counts index n slots put_back = (entry_count index ≡ n) × (length index.slots ≡ slots) × (index.put_back ≡ put_back) × (index.greatest ≡ n)
+Counts index n slots put_back = (entry_count plain_layout index ≡ n) × (length index.slots ≡ slots) × (index.put_back ≡ put_back) × (index.greatest ≡ n)
 
 counts : {S : Type 0} {n : ℕ} {index : IndexContents S} → Filled n index → Counts index n (slots_after n) (put_back_after n)
 counts (no_entries index none back most) = (ap (λ slots. length (symbols slots)) none, ap length none, back, most)
@@ -104,57 +106,7 @@ pub after-twenty-five-entries : (S : Type 0) → AfterEntries S 25 64 42
 after-twenty-five-entries S index filled = let h = counts filled in (h.1, h.2)
 
 -- thirteen entries that gave way to two: slots and counts stay
-pub after-truncating : (S : Type 0) (entry : S → Option Text) (code : Text → ℕ) (old new : IndexContents S) → Filled 13 old → Refills entry code old new 2
+pub after-truncating : (S : Type 0) (entry : S → Option Text) (code : Text → ℕ) (old new : IndexContents S) → Filled 13 old → Refills plain_layout entry code old new 2
     → (length new.slots ≡ 32) × (new.put_back ≡ 18) × (new.greatest ≡ 13)
 after-truncating S entry code old new filled refills =
     let h = counts filled in (refills.slots ∙ h.1, refills.put_back ∙ h.2, refills.greatest ∙ ap (λ most. max most 2) h.3)
-
--- The least slots for a capacity.
-
-eight : (capacity : ℕ) → 0 < capacity → capacity ≤ 6 → IsLeastSlotCount three_quarters capacity 8
-eight capacity some few = record { allowed = inr (0, refl); room = omega arith; least = λ m allowed room. at_least m allowed room }
-  where
-    at_least : (m : ℕ) → IsSlotCount m → Holds m capacity → 8 ≤ m
-    at_least m (inl none) room = absurd (omega arith)
-    at_least m (inr power) room = let e = power.1 in let one : 2 ^ 0 ≤ 2 ^ power.0 = pow_mono {i = 0} (omega arith) in omega arith
-
-doubled : (capacity k : ℕ) → 3 * (8 * 2 ^ k) < 4 * capacity → 4 * capacity ≤ 3 * (2 * (8 * 2 ^ k)) → IsLeastSlotCount three_quarters capacity (2 * (8 * 2 ^ k))
-doubled capacity k more room =
-    let least = least_more capacity (8 * 2 ^ k) (2 * (8 * 2 ^ k)) (k, refl) refl more in record { allowed = inr least.0; room = room; least = least.1 }
-
-pub slots-for-none : IsLeastSlotCount three_quarters 0 0
-slots-for-none = least-none three_quarters three_quarters-laws 0 0 refl refl
-
-pub slots-for-one : IsLeastSlotCount three_quarters 1 8
-slots-for-one = eight 1 (omega arith) (omega arith)
-
-pub slots-for-six : IsLeastSlotCount three_quarters 6 8
-slots-for-six = eight 6 (omega arith) (omega arith)
-
-pub slots-for-seven : IsLeastSlotCount three_quarters 7 16
-slots-for-seven = doubled 7 0 (omega arith) (omega arith)
-
-pub slots-for-twelve : IsLeastSlotCount three_quarters 12 16
-slots-for-twelve = doubled 12 0 (omega arith) (omega arith)
-
-pub slots-for-thirteen : IsLeastSlotCount three_quarters 13 32
-slots-for-thirteen = doubled 13 1 (omega arith) (omega arith)
-
-pub slots-for-twenty-four : IsLeastSlotCount three_quarters 24 32
-slots-for-twenty-four = doubled 24 1 (omega arith) (omega arith)
-
-pub slots-for-twenty-five : IsLeastSlotCount three_quarters 25 64
-slots-for-twenty-five = doubled 25 2 (omega arith) (omega arith)
-
-pub slots-for-forty-eight : IsLeastSlotCount three_quarters 48 64
-slots-for-forty-eight = doubled 48 2 (omega arith) (omega arith)
-
-pub slots-for-forty-nine : IsLeastSlotCount three_quarters 49 128
-slots-for-forty-nine = doubled 49 3 (omega arith) (omega arith)
-
--- No count of slots that fits 64 bits holds 2^63 entries, or the greatest number of 64 bits.
-pub no-slots-for-half-of-all : ¬ Holds (2 ^ 63) (2 ^ 63)
-no-slots-for-half-of-all holds = absurd (omega arith)
-
-pub no-slots-for-all : ¬ Holds (2 ^ 63) (2 ^ 64 - 1)
-no-slots-for-all holds = absurd (omega arith)

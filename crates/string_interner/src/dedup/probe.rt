@@ -1,14 +1,18 @@
 //! Linear probing: from the home of a text on, slot by slot, round the end to the first.
 
-ghost use Rattle.std.specs.Prelude.{◌≡◌, ◌+◌, ◌<◌, ◌≤◌, ◌%◌, ◌^◌, length, IsSome, Contains, Some};
+ghost use Rattle.std.specs.Prelude.{◌≡◌, ℕ, ◌+◌, ◌<◌, ◌≤◌, ◌%◌, length};
+ghost use Rattle.string_interner.specs.Text.{Text};
 ghost use Rattle.string_interner.specs.Entry.{entry_text};
 ghost use Rattle.string_interner.specs.Slots.{probed, filled_run, first_passing};
-ghost use Rattle.string_interner.specs.Index.{IsSlotCount, has_text};
-ghost use Rattle.string_interner.specs.Probe.{FillsSlot, HasFreeSlot, IsVacant};
+ghost use Rattle.string_interner.specs.LoadFactor.{IsSlotCount};
+ghost use Rattle.string_interner.specs.Index.{has_text};
+ghost use Rattle.string_interner.specs.Probe.{Follows, HasFreeSlot, IsVacant};
 ghost use Rattle.string_interner.specs.TextIndex.{IfVacant, found_by};
 
 use crate::backend::Backend;
-use crate::dedup::slots::{Looks, Slots, slot_after};
+use crate::dedup::layout::Layout;
+use crate::dedup::looks::Looks;
+use crate::dedup::slots::Slots;
 use crate::dedup::text_index::Entry;
 use crate::symbol::Symbol;
 
@@ -49,65 +53,65 @@ pub fn home_of(code: u64, slots: usize) -> usize
     (code as usize) & (slots - 1)
 }
 
-/// Probes for a text with this code, slot by slot from its home on, up to the first that has its symbol or is empty.
+/// Returns the slot after this one: after the last comes the first.
 #[inline(always)]
-pub fn probe<S: Symbol, B: Backend<Symbol = S>>(
-    slots: &Slots<S>,
-    code: u64,
-    looks: &mut Looks<'_, B>,
-    text: &str,
-) -> Entry<S, Vacancy>
-    requires some { 0 < length slots.now }
-    requires count { IsSlotCount (length slots.now) }
-    requires entries { (s : S) → Contains slots.now (Some s)
-        → IsSome (entry_text B.numbering (B.texts looks.old.backend) s) }
-    ensures found { found_by result ≡ first_passing
-        (has_text (entry_text B.numbering (B.texts looks.old.backend)) text.now)
-        (filled_run (probed slots.now (code % length slots.now))) }
-    ensures vacant { IfVacant result (IsVacant slots.now code) }
-    ensures backend { looks.new.backend ≡ looks.old.backend }
-    ensures counts { looks.old.count ≤ looks.new.count }
-    ensures looks { looks.new.count
-        ≤ looks.old.count + length (filled_run (probed slots.now (code % length slots.now))) + 1 }
+pub fn slot_after(at: usize, count: usize) -> usize
+    requires { at < count }
+    ensures { Follows count at result }
 {
-    let count = slots.len();
-    let mut at = home_of(code, count);
-    for _step in 0..count {
-        let Some(seen) = slots.look(at, looks, text) else {
-            return Entry::Vacant(Vacancy {
-                code,
-                slot_count: count,
-                at,
-            });
-        };
-        if seen.matches {
-            return Entry::Occupied(seen.symbol);
+    if at + 1 < count { at + 1 } else { 0 }
+}
+
+/// How the slots of a layout are searched.
+pub trait Probe<S: Symbol>: Layout<S> {
+    /// Probes for a text with this code from its home on, up to the first slot that has its symbol or is empty.
+    ///
+    /// Takes at most one look more than there are symbols in the probe cluster.
+    fn probe<B: Backend<Symbol = S>>(
+        &self,
+        code: u64,
+        looks: &mut Looks<'_, B>,
+        text: &str,
+    ) -> Entry<S, Vacancy>
+        requires free { HasFreeSlot (Self.layout.slots self.now) }
+        requires fits { (of : Text → ℕ) × (Self.layout.fits
+            (entry_text B.numbering (B.texts looks.old.backend)) of self.now
+            × (code ≡ of text.now)) }
+        ensures found { found_by result ≡ first_passing
+            (has_text (entry_text B.numbering (B.texts looks.old.backend)) text.now)
+            (filled_run (probed (Self.layout.slots self.now)
+            (code % length (Self.layout.slots self.now)))) }
+        ensures vacant { IfVacant result (IsVacant (Self.layout.slots self.now) code) }
+        ensures backend { looks.new.backend ≡ looks.old.backend }
+        ensures counts { looks.old.count ≤ looks.new.count }
+        ensures looks { looks.new.count ≤ looks.old.count
+            + length (filled_run (probed (Self.layout.slots self.now)
+            (code % length (Self.layout.slots self.now)))) + 1 };
+}
+
+impl<S: Symbol> Probe<S> for Slots<S> {
+    #[inline(always)]
+    fn probe<B: Backend<Symbol = S>>(
+        &self,
+        code: u64,
+        looks: &mut Looks<'_, B>,
+        text: &str,
+    ) -> Entry<S, Vacancy> {
+        let count = self.len();
+        let mut at = home_of(code, count);
+        for _step in 0..count {
+            let Some(seen) = looks.look(self.slot(at), text) else {
+                return Entry::Vacant(Vacancy {
+                    code,
+                    slot_count: count,
+                    at,
+                });
+            };
+            if seen.matches {
+                return Entry::Occupied(seen.symbol);
+            }
+            at = slot_after(at, count);
         }
-        at = slot_after(at, count);
-    }
-    Entry::Vacant(Vacancy::by_code(code))
-}
-
-/// Puts a symbol into the first empty slot from its text's home on.
-pub fn put_by_code<S: Symbol>(slots: &mut Slots<S>, code: u64, symbol: S)
-    requires { HasFreeSlot slots.old }
-    ensures { FillsSlot slots.old slots.new (code % length slots.old) symbol }
-{
-    let home = home_of(code, slots.len());
-    slots.put(home, symbol);
-}
-
-/// Puts a symbol where its vacancy says.
-#[inline]
-pub fn occupy<S: Symbol>(slots: &mut Slots<S>, vacancy: Vacancy, symbol: S)
-    requires free { HasFreeSlot slots.old }
-    requires vacant { IsVacant slots.old vacancy.code vacancy }
-    ensures puts { FillsSlot slots.old slots.new (vacancy.code % length slots.old) symbol }
-    ensures small { length slots.old < 2 ^ 64 }
-{
-    if vacancy.slot_count == slots.len() {
-        slots.set(vacancy.at, symbol);
-    } else {
-        put_by_code(slots, vacancy.code, symbol);
+        Entry::Vacant(Vacancy::by_code(code))
     }
 }

@@ -1,57 +1,18 @@
-//! The slots of the index, and the one way to read one of them through a shared reference, which counts.
+//! Slots with symbols alone.
 
-ghost use Rattle.std.specs.Prelude.{◌≡◌, ◌+◌, ◌<◌, ◌^◌, length, slice_index_or, slice_set, replicate, [], IfNone, IfOk, IfSome, IsSome, Contains, None, Some};
-ghost use Rattle.string_interner.specs.Entry.{entry_text};
+ghost use Rattle.std.specs.Prelude.{◌≡◌, ◌<◌, length, slice_index_or, [], None};
 ghost use Rattle.string_interner.specs.Slots.{symbols};
-ghost use Rattle.string_interner.specs.Index.{has_text};
-ghost use Rattle.string_interner.specs.Probe.{FillsSlot, Follows};
 
 use crate::backend::Backend;
-use crate::dedup::count::Count;
+use crate::dedup::layout::Layout;
+use crate::dedup::looks::Slot;
+use crate::dedup::probe::slot_after;
+use crate::hash::TextHasher;
 use crate::symbol::Symbol;
 use std::alloc::{AllocError, Global};
 use std::marker::Model;
 
-/// Borrows a backend for look-ups and counts their looks. A look reads one slot, with the text of its symbol.
-///
-/// The count is ghost state: no method returns it, and it takes no space.
-#[derive(Drop)]
-pub struct Looks<'a, B> {
-    backend: &'a B,
-    count: Count,
-}
-
-/// Contracts see the backend and the count of looks.
-impl<'a, B> Model for Looks<'a, B> {
-    ghost use Rattle.string_interner.specs.Slots.{LooksContents};
-
-    ghost Value = { LooksContents B };
-
-    ghost view = { λ l. record { backend = l.backend.now; count = l.count.value } };
-}
-
-impl<'a, B> Looks<'a, B> {
-    /// Borrows a backend, with no looks so far.
-    #[inline(always)]
-    pub fn new(backend: &'a B) -> Self
-        ensures backend { result.backend ≡ backend.now }
-        ensures count { result.count ≡ 0 }
-    {
-        Looks {
-            backend,
-            count: Count::new(),
-        }
-    }
-}
-
-/// A filled slot that was read: its symbol, and whether that symbol's text is the one looked for.
-#[derive(Drop)]
-pub struct Seen<S> {
-    pub symbol: S,
-    pub matches: bool,
-}
-
-/// The slots, each empty or with a symbol.
+/// Slots with symbols alone, at most three quarters of which are filled.
 #[derive(Drop)]
 pub struct Slots<S: Symbol> {
     items: Vec<Option<S>>,
@@ -66,15 +27,6 @@ impl<S: Symbol> Model for Slots<S> {
     ghost view = { λ s. s.items.items };
 }
 
-/// Returns the slot after this one: after the last comes the first.
-#[inline(always)]
-pub fn slot_after(at: usize, count: usize) -> usize
-    requires { at < count }
-    ensures { Follows count at result }
-{
-    if at + 1 < count { at + 1 } else { 0 }
-}
-
 /// Empties all slots.
 fn empty_all<S: Symbol>(slots: &mut [Option<S>])
     ensures empty { symbols slots.new ≡ [] }
@@ -86,114 +38,92 @@ fn empty_all<S: Symbol>(slots: &mut [Option<S>])
 }
 
 impl<S: Symbol> Slots<S> {
-    /// Makes an empty list of slots. Allocates nothing.
-    pub fn new(alloc: Global) -> Self
-        ensures { result ≡ [] }
+    /// Returns a slot, which is read by a look.
+    #[inline(always)]
+    pub fn slot(&self, at: usize) -> Slot<S>
+        requires { at < length self.now }
+        ensures { result ≡ slice_index_or self.now at None }
     {
+        Slot::new(self.symbol_at(at))
+    }
+
+    /// Returns the symbol of a slot, if any.
+    #[inline(always)]
+    fn symbol_at(&self, at: usize) -> Option<S>
+        requires { at < length self.now }
+        ensures { result ≡ slice_index_or self.now at None }
+    {
+        self.items[at]
+    }
+}
+
+impl<S: Symbol> Layout<S> for Slots<S> {
+    ghost use Rattle.string_interner.specs.Layout.{plain_layout};
+    ghost use Rattle.string_interner.specs.LayoutLaws.{plain_layout-laws};
+
+    ghost layout = { plain_layout };
+
+    #[inline(always)]
+    fn has_room(count: usize, entries: usize) -> bool {
+        // Three quarters, since a slot count is a multiple of 4.
+        entries < count - count / 4
+    }
+
+    fn new(alloc: Global) -> Self {
         Slots {
             items: Vec::new(alloc),
         }
     }
 
-    /// Makes `count` empty slots. Returns `Err` only if an allocation fails.
-    pub fn empty(alloc: Global, count: usize) -> Result<Self, AllocError>
-        ensures { IfOk result (λ slots. slots ≡ replicate count None) }
-    {
+    fn empty(alloc: Global, count: usize) -> Result<Self, AllocError> {
         Ok(Slots {
             items: Vec::from_elem(alloc, None, count)?,
         })
     }
 
-    /// Returns as many slots with the same symbols, copied at once. Reads no text. Returns `Err` only if an allocation
-    /// fails.
-    ///
-    /// Takes the backend of the symbols' entries, which `Index::find` has in its `Looks` alone. So it cannot copy the
-    /// slots, and read them without a look.
-    pub fn try_copy<B: Backend<Symbol = S>>(&self, backend: &B) -> Result<Self, AllocError>
-        requires { (s : S) → Contains self.now (Some s)
-            → IsSome (entry_text B.numbering (B.texts backend.now) s) }
-        ensures { IfOk result (λ copy. copy ≡ self.now) }
-    {
+    fn try_copy(&self) -> Result<Self, AllocError> {
         Ok(Slots {
             items: Vec::from_slice(*self.items.allocator(), &self.items)?,
         })
     }
 
-    /// Returns how many slots there are.
     #[inline(always)]
-    pub fn len(&self) -> usize
-        ensures { result ≡ length self.now }
-    {
+    fn len(&self) -> usize {
         self.items.len()
     }
 
-    /// Reads a slot for a text: its symbol, if any, and whether that symbol's text is this one. That is one look.
     #[inline(always)]
-    pub fn look<B: Backend<Symbol = S>>(
+    fn rehash_slot<H: TextHasher, B: Backend<Symbol = S>>(
         &self,
         at: usize,
-        looks: &mut Looks<'_, B>,
-        text: &str,
-    ) -> Option<Seen<S>>
-        requires within { at < length self.now }
-        requires is_entry { (s : S) → slice_index_or self.now at None ≡ Some s
-            → IsSome (entry_text B.numbering (B.texts looks.old.backend) s) }
-        ensures empty { IfNone result (slice_index_or self.now at None ≡ None) }
-        ensures symbol { IfSome result (λ seen. slice_index_or self.now at None
-            ≡ Some seen.symbol) }
-        ensures matches { IfSome result (λ seen. seen.matches
-            ≡ has_text (entry_text B.numbering (B.texts looks.old.backend)) text.now seen.symbol) }
-        ensures backend { looks.new.backend ≡ looks.old.backend }
-        ensures count { looks.new.count ≡ looks.old.count + 1 }
-    {
-        looks.count.add_one();
-        let symbol = self.items[at]?;
-        let matches = looks.backend.resolve_unchecked(symbol) == text;
-        Some(Seen { symbol, matches })
+        _count: usize,
+        hasher: &H,
+        backend: &B,
+    ) -> Option<(u64, S)> {
+        let symbol = self.symbol_at(at)?;
+        Some((hasher.hash_text(backend.resolve_unchecked(symbol)), symbol))
     }
 
-    /// Returns the symbol of a slot, if any. Takes `&mut`, so that it is no look.
     #[inline(always)]
-    pub fn symbol_at(&mut self, at: usize) -> Option<S>
-        requires { at < length self.old }
-        ensures symbol { result ≡ slice_index_or self.old at None }
-        ensures same { self.new ≡ self.old }
-    {
-        self.items[at]
-    }
-
-    /// Puts the symbol into this slot.
-    #[inline(always)]
-    pub fn set(&mut self, at: usize, symbol: S)
-        requires { at < length self.old }
-        ensures set { self.new ≡ slice_set self.old at (Some symbol) }
-        ensures small { length self.old < 2 ^ 64 }
-    {
+    fn set(&mut self, at: usize, symbol: S, _code: u64) {
         self.items[at] = Some(symbol);
     }
 
-    /// Empties all slots.
-    pub fn clear(&mut self)
-        ensures empty { symbols self.new ≡ [] }
-        ensures count { length self.new ≡ length self.old }
-    {
-        empty_all(&mut self.items);
-    }
-
-    /// Puts the symbol into the first empty slot from its home on, wrapping around at the end.
-    pub fn put(&mut self, home: usize, symbol: S)
-        requires home { home < length self.old }
-        requires free { length (symbols self.old) < length self.old }
-        ensures { FillsSlot self.old self.new home symbol }
-    {
+    fn put(&mut self, home: usize, symbol: S, code: u64) {
         let count = self.len();
         let mut at = home;
         for _step in 0..count {
             if self.symbol_at(at).is_none() {
-                self.set(at, symbol);
+                self.set(at, symbol, code);
                 return;
             }
             at = slot_after(at, count);
         }
     }
+
+    fn clear(&mut self) {
+        empty_all(&mut self.items);
+    }
+
+    ghost layout_laws = { plain_layout-laws };
 }

@@ -7,10 +7,7 @@ ghost use Rattle.string_interner.specs.SlotRule.{SlotRule, IsLoaded, IsLeastSlot
 ghost use Rattle.string_interner.specs.TextIndex.{AddsEntry, IfOccupied, IfVacant, IsNewText};
 
 use crate::backend::Backend;
-use crate::dedup::Index;
-use crate::dedup::hasher::TextHasher;
-use crate::dedup::probe::Vacancy;
-use crate::dedup::slots::Looks;
+use crate::hash::TextHasher;
 use crate::symbol::Symbol;
 use std::alloc::{AllocError, Global};
 
@@ -26,8 +23,8 @@ pub enum Entry<S, V> {
 /// A map from the texts of a backend's entries to their symbols: what an interner asks of its index.
 ///
 /// An index holds symbols, and asks the backend for their texts. It counts its slots by a rule of its own: which slot
-/// counts there are, how many entries these hold, and what they grow to. `Index` is the one that an interner has where
-/// no other is named.
+/// counts there are, how many entries these hold, and what they grow to. [`DefaultIndex`](super::DefaultIndex) is the one
+/// that an interner has if no other is named.
 ///
 /// Its calls take the backend and the hasher of the entries that it has.
 pub trait TextIndex<S: Symbol> {
@@ -140,88 +137,7 @@ pub trait TextIndex<S: Symbol> {
 
 /// An index that can be copied.
 pub trait CopyIndex<S: Symbol>: TextIndex<S> {
-    /// Returns an equal index. Hashes and reads no text.
-    ///
-    /// Returns `Err` only if an allocation fails. Takes the backend whose entries the index has, so that a look-up that
-    /// is to count its looks, as `Index::find`, cannot copy the index and look at the copy.
-    fn try_copy<B: Backend<Symbol = S>>(&self, backend: &B) -> Result<Self, AllocError>
-        requires { (code : Text → ℕ)
-            × Self.indexes self.now (entry_text B.numbering (B.texts backend.now)) code }
+    /// Returns an equal index. Hashes and reads no text. Returns `Err` only if an allocation fails.
+    fn try_copy(&self) -> Result<Self, AllocError>
         ensures { IfOk result (λ copy. copy ≡ self.now) };
-}
-
-impl<S: Symbol> TextIndex<S> for Index<S> {
-    ghost use Rattle.string_interner.specs.Index.{IsWhole, entry_count, three_quarters};
-    ghost use Rattle.string_interner.specs.IndexLaws.{three_quarters-laws};
-    ghost use Rattle.string_interner.specs.Probe.{IsVacant};
-
-    type Vacancy = Vacancy;
-
-    ghost indexes = { λ index entry code. IsWhole entry code index.slots };
-
-    ghost entries = { λ index. entry_count index };
-
-    ghost slots = { λ index. length index.slots };
-
-    ghost rule = { three_quarters };
-
-    ghost is_vacant = { λ index code vacancy. IsVacant index.slots code vacancy };
-
-    fn new(alloc: Global) -> Self {
-        Index::new(alloc)
-    }
-
-    fn with_capacity(alloc: Global, capacity: usize) -> Result<Self, AllocError> {
-        Index::with_capacity(alloc, capacity)
-    }
-
-    fn allocator(&self) -> Global {
-        Index::allocator(self)
-    }
-
-    #[inline]
-    fn len(&self) -> usize {
-        Index::len(self)
-    }
-
-    #[inline(always)]
-    fn entry<H: TextHasher, B: Backend<Symbol = S>>(
-        &self,
-        hasher: &H,
-        backend: &B,
-        text: &str,
-    ) -> Entry<S, Vacancy> {
-        Index::entry(self, hasher, &mut Looks::new(backend), text)
-    }
-
-    fn reserve_one<H: TextHasher, B: Backend<Symbol = S>>(
-        &mut self,
-        hasher: &H,
-        backend: &B,
-    ) -> Result<(), AllocError> {
-        Index::reserve_one(self, hasher, backend)
-    }
-
-    #[inline]
-    fn insert_at(&mut self, vacancy: Vacancy, symbol: S) {
-        Index::insert_at(self, vacancy, symbol);
-    }
-
-    fn refill<H: TextHasher, B: Backend<Symbol = S>>(&mut self, hasher: &H, backend: &B) {
-        Index::refill(self, hasher, backend);
-    }
-
-    ghost rule_laws = { three_quarters-laws };
-}
-
-impl<S: Symbol> CopyIndex<S> for Index<S> {
-    fn try_copy<B: Backend<Symbol = S>>(&self, backend: &B) -> Result<Self, AllocError> {
-        Ok(Index {
-            slots: self.slots.try_copy(backend)?,
-            len: self.len,
-            put_back: self.put_back,
-            greatest: self.greatest,
-            alloc: self.alloc,
-        })
-    }
 }

@@ -5,7 +5,8 @@ ghost use Rattle.string_interner.specs.Extend.{Extends, Collects, YieldedBy};
 
 use super::StringInterner;
 use crate::backend::{Backend, InternError};
-use crate::dedup::{TextHasher, TextIndex};
+use crate::dedup::TextIndex;
+use crate::hash::TextHasher;
 use std::alloc::Global;
 
 impl<B: Backend, H: TextHasher, I: TextIndex<B::Symbol>> StringInterner<B, H, I> {

@@ -6,7 +6,8 @@ ghost use Rattle.string_interner.specs.InternAll.{InternsEach};
 
 use super::StringInterner;
 use crate::backend::{Backend, InternError};
-use crate::dedup::{TextHasher, TextIndex};
+use crate::dedup::TextIndex;
+use crate::hash::TextHasher;
 
 impl<B: Backend, H: TextHasher, I: TextIndex<B::Symbol>> StringInterner<B, H, I> {
     /// Interns the texts of a finite iterator in order, as `extend` does, and appends the symbol of each to a list: a

@@ -21,15 +21,16 @@ impl<B: Backend, H: TextHasher> Model for Filled<B, H> {
     ghost use Rattle.std.specs.Prelude.{List};
     ghost use Rattle.string_interner.specs.Text.{Text};
     ghost use Rattle.string_interner.specs.Interner.{IsSoundInterner};
-    ghost use Rattle.string_interner.specs.Index.{IsWhole, entry_count};
+    ghost use Rattle.string_interner.specs.Layout.{IsTable, plain_layout};
+    ghost use Rattle.string_interner.specs.Table.{entry_count};
 
     ghost Value = { List Text };
 
     ghost view = { λ f. B.texts f.backend };
 
     ghost invariant = { λ f. IsSoundInterner B.numbering
-        (λ entry. IsWhole entry (H.code f.hasher) f.index.slots)
-        (entry_count f.index) (B.texts f.backend) };
+        (λ entry. IsTable plain_layout entry (H.code f.hasher) f.index.slots)
+        (entry_count plain_layout f.index) (B.texts f.backend) };
 }
 
 impl<B: Backend, H: TextHasher + Default> Filled<B, H> {

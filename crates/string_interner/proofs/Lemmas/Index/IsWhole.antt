@@ -1,5 +1,4 @@
--- An index that has the text of each entry, and how it takes one entry more.
--- An index of all entries of a list of distinct texts: what it finds, and how it takes a text that is put last.
+-- Slots that have the text of each entry: what they find, and how they take an entry more, or a text that is put last.
 use Rattle.std.proofs.Common.{◌≡◌, ℕ, Bool, true, false, cond, List, [], Option, Some, None, refl, sym, ap, subst, ◌∙◌, inl, inr, ◌<◌, ◌∷◌, ◌++◌, take, IsSome}
 use Rattle.std.specs.List.{Contains}
 use Rattle.std.specs.Option.{is_some, unwrap_or}
@@ -7,8 +6,9 @@ use Rattle.std.specs.Str.{bytes_eq}
 use Rattle.std.proofs.lemmas.Slice.Eq.{bytes_eq-Decides}
 use Rattle.string_interner.specs.Text.{Text, first}
 use Rattle.string_interner.specs.Slots.{symbols}
-use Rattle.string_interner.specs.Index.{AddsPair, Fits, FitsAll, IndexContents, InsertsByCode, IsAbsent, IsWhole, SameMap, has_text, look_up, text_of}
-use Rattle.string_interner.specs.TextIndex.{Adds, AddsEntry, IfOccupied, IfVacant, IsNewText, found_by}
+use Rattle.string_interner.specs.Index.{AddsPair, Fits, IsAbsent, SameMap, has_text, look_up, text_of}
+use Rattle.string_interner.specs.Layout.{IsTable, plain_layout}
+use Rattle.string_interner.specs.TextIndex.{Adds, IfOccupied, IfVacant, IsNewText, found_by}
 use Rattle.string_interner.specs.declared.dedup.text_index.Entry.{Entry}
 use Rattle.string_interner.specs.declared.dedup.text_index.Entry.TheVariants.{Occupied, Vacant}
 use Rattle.string_interner.specs.EntryLaws.{entry_text-is, entry_text-at}
@@ -22,6 +22,10 @@ use Rattle.string_interner.specs.Entry.{entry_text}
 use Rattle.string_interner.specs.Interner.{entry_symbol, known_symbol}
 use Rattle.string_interner.proofs.Lemmas.Texts.First.{first_within, first_is as text_at_first, first_none}
 use Rattle.string_interner.specs.Numbering.{Numbering}
+
+-- the slots fit, and have the text of each entry
+abbrev pub IsWhole : {S : Type 0} → (S → Option Text) → (Text → ℕ) → List (Option S) → Type 0
+IsWhole entry code slots = IsTable plain_layout entry code slots
 
 -- the symbol that is found under a text has that text
 pub look_up-text : {S : Type 0} (entry : S → Option Text) (slots : List (Option S)) (t : Text) (s : S) → look_up entry slots t ≡ Some s → entry s ≡ Some t
@@ -91,21 +95,6 @@ pub found-vacant : {S V : Type 0} (entry : S → Option Text) (code : Text → �
     → IfVacant found (λ _. IsNewText entry t)
 found-vacant entry code slots t (Occupied s) whole e = tt
 found-vacant entry code slots t (Vacant v) whole e = λ s is. let n : None ≡ Some s = e ∙ whole.whole s t is in cc
-
--- no slots hold each entry where there is none
-pub IsWhole-none : {S : Type 0} (code : Text → ℕ) (slots : List (Option S)) → FitsAll slots → IsWhole (λ _. None) code slots
-IsWhole-none code slots fits = record { fits = fits (λ _. None) code; whole = λ s t e. absurd (cc) }
-
--- with the symbol of a text that is one entry more they hold each entry again
-pub IsWhole-inserted : {S : Type 0} (entry more : S → Option Text) (code : Text → ℕ) (old new : IndexContents S) (known_code : ℕ) (symbol : S) (t : Text) → AddsEntry entry more symbol t
-    → IsWhole entry code old.slots → known_code ≡ code t → InsertsByCode known_code old new symbol → IsWhole more code new.slots
-IsWhole-inserted entry more code old new known_code symbol t adds whole is_code by =
-    let one = adds.adds in
-    let absent = look_up-none entry old.slots t adds.new_text in
-    let text = text_of-added entry more code old.slots old.slots symbol t whole whole.fits (λ u. refl) one in
-    let inserts = by more code (Fits-added entry more code old.slots old.slots symbol t whole whole.fits (λ u. refl) one)
-    (IsAbsent-added entry more code old.slots old.slots symbol t whole whole.fits (λ u. refl) one absent) (is_code ∙ ap code (sym text)) in
-    IsWhole-added entry more code old.slots old.slots symbol t whole whole.fits (λ u. refl) one absent new.slots inserts.fits inserts.pair
 
 module _ {S : Type 0} (numbering : Numbering S)
     (numbered : (i : ℕ) (s : S) → numbering.symbol_of i ≡ Some s → (numbering.number s ≡ i) × (i < 2 ^ 64))

@@ -1,13 +1,13 @@
 -- The loop of a probe over slots, from a home on: where it stands after some steps, if each passes one slot, or if some
 -- pass several at once, and where it ends.
 use Rattle.std.proofs.Common.{◌≡◌, ℕ, ◌+◌, ◌-◌, ◌<◌, ◌≤◌, ◌⊎◌, Bool, true, false, cond, List, ◌∷◌, Option, Some, None, length, get_or, take, drop, refl, sym, ap, ◌∙◌, inl, inr, arith, set, subst, zero, suc}
-use Rattle.std.proofs.lemmas.List.{drop_more, length-append, length-take-le, length-drop, get_or_append_left, get_or-append_right, get_or-take, get_or-drop, get_or_read}
+use Rattle.std.proofs.lemmas.List.{drop_more, length-append, length-take-le, length-drop, get_or_append_left, get_or-append_right, get_or-take, get_or-drop}
 use Rattle.string_interner.specs.Slots.{probed, filled_run, first_passing, symbols}
 use Rattle.std.specs.List.{Contains}
 use Rattle.std.specs.Option.{is_some}
 use Rattle.string_interner.specs.Probe.{IsFree, FillsSlot}
 use Rattle.string_interner.proofs.Lemmas.Index.Slots.{run-set_end, probe-set, run_within}
-use Rattle.string_interner.specs.Window.{WindowContents, HasAnotherTag, TagTells}
+use Rattle.string_interner.specs.Tagged.{TaggedContents, HasAnotherTag, TagTells}
 
 module _ {S : Type 0} where
   pub length-probe : (slots : List (Option S)) (home : ℕ) → home ≤ length slots → length (probed slots home) ≡ length slots
@@ -84,19 +84,6 @@ module _ {S : Type 0} (slots : List (Option S)) (home : ℕ) (h : home < length 
   abbrev pub On : ℕ → ℕ → Type 0
   On i at = Walked (λ (_ : S). false) slots home i at
 
-  pub puts_at : (i at : ℕ) (s : S) → On i at → i < length slots → get_or slots at None ≡ None → FillsSlot slots (set slots at (Some s)) home s
-  puts_at i at s w k e =
-      let run = (Walked-empty (λ _. false) slots home i at h w k e).1 in
-      let m : i < length (probed slots home) = omega (arith, length-probe slots home (omega arith)) in
-      record {
-        at = at;
-        in_range = w.in_range;
-        was_empty = e;
-        written = refl;
-        placed = subst (λ (xs : List (Option S)). Contains (filled_run xs) s) (sym (probe-set slots home i at (Some s) h k w.in_range w.place))
-            (run-set_end (probed slots home) i s run m);
-      }
-
   pub free_at : (test : S → Bool) (i at : ℕ) → Walked test slots home i at → i < length slots → get_or slots at None ≡ None → IsFree slots home at
   free_at test i at w k e =
       let run = (Walked-empty test slots home i at h w k e).1 in
@@ -111,6 +98,9 @@ module _ {S : Type 0} (slots : List (Option S)) (home : ℕ) (h : home < length 
               (run-set_end (probed slots home) i s run m);
         },
       )
+
+  pub puts_at : (i at : ℕ) (s : S) → On i at → i < length slots → get_or slots at None ≡ None → FillsSlot slots (set slots at (Some s)) home s
+  puts_at i at s w k e = (free_at (λ _. false) i at w k e).1 s
 
   pub passes : (i at next : ℕ) → On i at → i < length slots → is_some (get_or slots at None) ≡ true → next < length slots
       → (next ≡ at + 1) ⊎ ((next ≡ 0) × (at + 1 ≡ length slots)) → On (i + 1) next
@@ -132,10 +122,6 @@ module _ {S : Type 0} where
   some_from None e = absurd (cc)
   some_from (Some s) e = (s, refl)
 
-  pub slot_is : (xs slots : List (Option S)) (at : ℕ) (x : Option S) → xs ≡ slots → at < length slots → x ≡ get_or xs at x → get_or slots at None ≡ x
-  slot_is xs slots at x same l e =
-      let m : at < length xs = rw same l in sym (get_or_read xs at x m e None ∙ ap (λ ys. get_or ys at None) same)
-
 module _ {S : Type 0} where
   -- after so many steps, each of which passed a slot or more, the walk stands before this slot
   pub record Stands (test : S → Bool) (slots : List (Option S)) (home steps at : ℕ) : Type 0 where
@@ -144,53 +130,53 @@ module _ {S : Type 0} where
     pub steps_le : steps ≤ passed
 
   -- no symbol passes the test of a walk to the first empty slot, so any tag tells that
-  pub none_tells : (window : WindowContents S) (tag : ℕ) → TagTells (λ _. false) window tag
-  none_tells window tag k s l e h = absurd (let d : false ≡ true = h in cc)
+  pub none_tells : (tagged : TaggedContents S) (tag : ℕ) → TagTells (λ _. false) tagged tag
+  none_tells tagged tag k s l e h = absurd (let d : false ≡ true = h in cc)
 
-  module _ (test : S → Bool) (window : WindowContents S) (tag home : ℕ) (h : home < length window.slots)
-      (free : length (symbols window.slots) < length window.slots) (tells : TagTells test window tag) where
+  module _ (test : S → Bool) (tagged : TaggedContents S) (tag home : ℕ) (h : home < length tagged.slots)
+      (free : length (symbols tagged.slots) < length tagged.slots) (tells : TagTells test tagged tag) where
     -- one slot is empty, so fewer slots are passed than there are
-    within : (i at : ℕ) → Walked test window.slots home i at → i < length window.slots
-    within i at w = let r = w.run in let b = run_within window.slots home in omega arith
+    within : (i at : ℕ) → Walked test tagged.slots home i at → i < length tagged.slots
+    within i at w = let r = w.run in let b = run_within tagged.slots home in omega arith
 
     -- a slot of another tag is passed
-    one : (i at next : ℕ) → Walked test window.slots home i at → HasAnotherTag window tag at → next < length window.slots
-        → (next ≡ at + 1) ⊎ ((next ≡ 0) × (at + 1 ≡ length window.slots)) → Walked test window.slots home (i + 1) next
+    one : (i at next : ℕ) → Walked test tagged.slots home i at → HasAnotherTag tagged tag at → next < length tagged.slots
+        → (next ≡ at + 1) ⊎ ((next ≡ 0) × (at + 1 ≡ length tagged.slots)) → Walked test tagged.slots home (i + 1) next
     one i at next w o m q =
-        let by : (x : Option S) → get_or window.slots at None ≡ x → Walked test window.slots home (i + 1) next = elim [
+        let by : (x : Option S) → get_or tagged.slots at None ≡ x → Walked test tagged.slots home (i + 1) next = elim [
           | None ↦ λ e. absurd (let f : false ≡ true = sym (ap is_some e) ∙ o.filled in cc)
           | Some s ↦ λ e.
               let no : (t : Bool) → test s ≡ t → test s ≡ false = elim [ true ↦ λ f. absurd (o.other (tells at s w.in_range e f)) | false ↦ λ f. f ] in
-              Walked-more test window.slots home i at h w s next (within i at w) e (no (test s) refl) m q
+              Walked-more test tagged.slots home i at h w s next (within i at w) e (no (test s) refl) m q
         ] in
-        by (get_or window.slots at None) refl
+        by (get_or tagged.slots at None) refl
 
     -- and so are many
-    many : (n i at to : ℕ) → Walked test window.slots home i at → to < length window.slots → at + n ≡ to
-        → ((k : ℕ) → at ≤ k → k < to → HasAnotherTag window tag k) → Walked test window.slots home (i + n) to
+    many : (n i at to : ℕ) → Walked test tagged.slots home i at → to < length tagged.slots → at + n ≡ to
+        → ((k : ℕ) → at ≤ k → k < to → HasAnotherTag tagged tag k) → Walked test tagged.slots home (i + n) to
     many zero i at to w l e others =
         let q : at ≡ to = omega arith in let z : i ≡ i + 0 = omega arith in
-        subst (λ j. Walked test window.slots home j to) z (subst (λ t. Walked test window.slots home i t) q w)
+        subst (λ j. Walked test tagged.slots home j to) z (subst (λ t. Walked test tagged.slots home i t) q w)
     many (suc n) i at to w l e others =
         let z : i + 1 + n ≡ i + suc n = omega arith in
-        subst (λ j. Walked test window.slots home j to) z
+        subst (λ j. Walked test tagged.slots home j to) z
         (many n (i + 1) (at + 1) to (one i at (at + 1) w (others at (omega arith) (omega arith)) (omega arith) (inl refl)) l (omega arith) (λ k a b. others k (omega arith) b))
 
-    module _ (steps at : ℕ) (s : Stands test window.slots home steps at) where
+    module _ (steps at : ℕ) (s : Stands test tagged.slots home steps at) where
       -- the slot where sixteen tags end
-      pub Stands-reached : (to : ℕ) → at ≤ to → to < length window.slots → ((k : ℕ) → at ≤ k → k < to → HasAnotherTag window tag k) → Stands test window.slots home steps to
+      pub Stands-reached : (to : ℕ) → at ≤ to → to < length tagged.slots → ((k : ℕ) → at ≤ k → k < to → HasAnotherTag tagged tag k) → Stands test tagged.slots home steps to
       Stands-reached to le l others =
           let a = s.steps_le in record { passed = s.passed + (to - at); walked = many (to - at) s.passed at to s.walked l (omega arith) others; steps_le = omega arith }
 
       -- from which the walk goes on
-      pub Stands-on : (to : ℕ) → at < to → to < length window.slots → ((k : ℕ) → at ≤ k → k < to → HasAnotherTag window tag k) → Stands test window.slots home (steps + 1) to
+      pub Stands-on : (to : ℕ) → at < to → to < length tagged.slots → ((k : ℕ) → at ≤ k → k < to → HasAnotherTag tagged tag k) → Stands test tagged.slots home (steps + 1) to
       Stands-on to le l others =
           let a = s.steps_le in record { passed = s.passed + (to - at); walked = many (to - at) s.passed at to s.walked l (omega arith) others; steps_le = omega arith }
 
       -- or round the end to the first slot
-      pub Stands-round : ((k : ℕ) → at ≤ k → k < length window.slots → HasAnotherTag window tag k) → Stands test window.slots home (steps + 1) 0
+      pub Stands-round : ((k : ℕ) → at ≤ k → k < length tagged.slots → HasAnotherTag tagged tag k) → Stands test tagged.slots home (steps + 1) 0
       Stands-round others =
-          let a = s.steps_le in let r = s.walked.in_range in let n = length window.slots - 1 in
+          let a = s.steps_le in let r = s.walked.in_range in let n = length tagged.slots - 1 in
           let w = many (n - at) s.passed at n s.walked (omega arith) (omega arith) (λ k x y. others k x (omega arith)) in
           record {
             passed = s.passed + (n - at) + 1;
@@ -199,25 +185,28 @@ module _ {S : Type 0} where
           }
 
       -- a slot whose tag agrees and whose text is another is passed as well
-      pub Stands-missed : (u : S) (next : ℕ) → get_or window.slots at None ≡ Some u → test u ≡ false → next < length window.slots
-          → (next ≡ at + 1) ⊎ ((next ≡ 0) × (at + 1 ≡ length window.slots)) → Stands test window.slots home (steps + 1) next
+      pub Stands-missed : (u : S) (next : ℕ) → get_or tagged.slots at None ≡ Some u → test u ≡ false → next < length tagged.slots
+          → (next ≡ at + 1) ⊎ ((next ≡ 0) × (at + 1 ≡ length tagged.slots)) → Stands test tagged.slots home (steps + 1) next
       Stands-missed u next e t m q =
           let a = s.steps_le in
           record {
             passed = s.passed + 1;
-            walked = Walked-more test window.slots home s.passed at h s.walked u next (within s.passed at s.walked) e t m q;
+            walked = Walked-more test tagged.slots home s.passed at h s.walked u next (within s.passed at s.walked) e t m q;
             steps_le = omega arith;
           }
 
-      pub Stands-hit : (u : S) → get_or window.slots at None ≡ Some u → test u ≡ true → first_passing test (filled_run (probed window.slots home)) ≡ Some u
-      Stands-hit u e t = (Walked-hit test window.slots home s.passed at h s.walked u (within s.passed at s.walked) e t).0
+      pub Stands-hit : (u : S) → get_or tagged.slots at None ≡ Some u → test u ≡ true → first_passing test (filled_run (probed tagged.slots home)) ≡ Some u
+      Stands-hit u e t = (Walked-hit test tagged.slots home s.passed at h s.walked u (within s.passed at s.walked) e t).0
 
-      pub Stands-empty : get_or window.slots at None ≡ None → first_passing test (filled_run (probed window.slots home)) ≡ None
-      Stands-empty e = (Walked-empty test window.slots home s.passed at h s.walked (within s.passed at s.walked) e).0
+      pub Stands-run : (u : S) → get_or tagged.slots at None ≡ Some u → test u ≡ true → steps < length (filled_run (probed tagged.slots home))
+      Stands-run u e t = let a = s.steps_le in let b = (Walked-hit test tagged.slots home s.passed at h s.walked u (within s.passed at s.walked) e t).1 in omega arith
 
-      pub Stands-free : get_or window.slots at None ≡ None → IsFree window.slots home at
-      Stands-free e = free_at window.slots home h test s.passed at s.walked (within s.passed at s.walked) e
+      pub Stands-empty : get_or tagged.slots at None ≡ None → first_passing test (filled_run (probed tagged.slots home)) ≡ None
+      Stands-empty e = (Walked-empty test tagged.slots home s.passed at h s.walked (within s.passed at s.walked) e).0
+
+      pub Stands-free : get_or tagged.slots at None ≡ None → IsFree tagged.slots home at
+      Stands-free e = free_at tagged.slots home h test s.passed at s.walked (within s.passed at s.walked) e
 
       -- no walk takes as many steps as there are slots
-      pub Stands-ends : length window.slots ≤ steps → ⊥
+      pub Stands-ends : length tagged.slots ≤ steps → ⊥
       Stands-ends l = let a = s.steps_le in let b = within s.passed at s.walked in omega arith

@@ -8,9 +8,10 @@ use Rattle.string_interner.specs.Slots.{symbols, first_passing}
 use Rattle.string_interner.specs.Index.{Fits, SameMap, has_text, look_up, text_in, text_of}
 use Rattle.string_interner.specs.Probe.{FillsSlot, Rebuilt}
 use Rattle.string_interner.proofs.Lemmas.Index.Slots.{none, head_or_tail, Contains-symbols, symbols-in, symbols-append, length-symbols}
-use Rattle.string_interner.proofs.Lemmas.Index.LookUp.{FirstIs, first_is, same_first, entry_from_has, text_in-from, at_slot, Fits-one, FillsSlot-fits, FillsSlot-symbols, FillsSlot-cases, FillsSlot-here, FillsSlot-there}
+use Rattle.string_interner.proofs.Lemmas.Index.LookUp.{FirstIs, first_is, same_first, entry_from_has, at_slot, Fits-one, FillsSlot-fits, FillsSlot-symbols, FillsSlot-cases, FillsSlot-here, FillsSlot-there}
 use Rattle.string_interner.specs.Text.{Text}
 use Rattle.string_interner.proofs.Lemmas.Index.Inserts.{text_of_is}
+use Rattle.string_interner.proofs.Lemmas.Index.Refills.{Fits-none}
 
 -- empty slots have no symbols
 pub symbols-replicate : (S : Type 0) (n : ℕ) → symbols {S = S} (replicate n None) ≡ []
@@ -26,17 +27,10 @@ module _ {S : Type 0} where
   none_there (suc n) s h = elim (head_or_tail (Some s) None (replicate n None) h) as (λ _. ⊥) [ inl e ↦ cc | inr t ↦ none_there n s t ]
 
 module _ {S : Type 0} (entry : S → Option Text) (code : Text → ℕ) where
-  -- empty slots fit
-  pub Fits-empty : (n : ℕ) → Fits entry code (replicate n None)
-  Fits-empty n = record {
-    entries = λ s h. absurd (none_there n s h);
-    distinct = λ j k t a b. absurd (let r = text_in-from entry (replicate n None) j t a in none_there n r.0 r.1.0);
-    placed = λ s t h r. absurd (none_there n s h);
-  }
-
+  -- empty slots have nothing to move
   pub Rebuilt-start : (n : ℕ) → Rebuilt entry code [] (replicate n None)
   Rebuilt-start n = record {
-    fits = Fits-empty n;
+    fits = Fits-none entry code (replicate n None) (symbols-replicate S n);
     count = no_symbols S n;
     to = λ s h. absurd (none (Some s) h);
     from = λ s h. absurd (none_there n s h);

@@ -1,5 +1,5 @@
 -- The symbols of all entries put into empty slots, one after another.
-use Rattle.std.proofs.Common.{◌≡◌, ℕ, ◌+◌, ◌-◌, ◌<◌, ◌≢◌, ◌%◌, max, Bool, true, false, List, [], ◌∷◌, ◌++◌, length, get_or, Option, Some, None, refl, sym, ap, subst, ◌∙◌, arith}
+use Rattle.std.proofs.Common.{◌≡◌, ℕ, ◌-◌, ◌<◌, ◌≢◌, ◌%◌, Bool, true, false, List, [], ◌∷◌, ◌++◌, length, get_or, Option, Some, None, refl, sym, ap, subst, ◌∙◌, arith}
 use Rattle.std.specs.Prelude.{◌^◌}
 use Rattle.std.specs.List.{Contains}
 use Rattle.std.specs.Str.{bytes_eq}
@@ -10,14 +10,14 @@ use Rattle.string_interner.specs.Backend.{IsValidList}
 use Rattle.string_interner.specs.Iter.{entries}
 use Rattle.string_interner.specs.Entry.{entry_text}
 use Rattle.string_interner.specs.Slots.{symbols}
-use Rattle.string_interner.specs.Index.{Fits, IndexContents}
+use Rattle.string_interner.specs.Index.{Fits, text_of}
 use Rattle.string_interner.specs.Probe.{FillsSlot}
 use Rattle.string_interner.proofs.Lemmas.Index.Slots.{none, Contains-symbols}
 use Rattle.string_interner.proofs.Lemmas.Texts.First.{first_new}
 use Rattle.string_interner.proofs.Lemmas.Backend.IsValidList.{valid-front}
-use Rattle.string_interner.proofs.Lemmas.Index.Inserts.{inserted}
+use Rattle.string_interner.proofs.Lemmas.Index.Inserts.{AddsPair-put, Fits-put}
 use Rattle.string_interner.proofs.Lemmas.Interner.IsSoundInterner.{IsFilled, fits-more, absent-more, text-more, interned-more}
-use Rattle.string_interner.proofs.Lemmas.Index.LookUp.{text_in-from}
+use Rattle.string_interner.proofs.Lemmas.Index.LookUp.{FillsSlot-symbols, text_in-from}
 use Rattle.string_interner.specs.Numbering.{Numbering}
 
 -- slots without symbols fit all entries
@@ -68,9 +68,6 @@ module _ {S : Type 0} (numbering : Numbering S)
     same = refl;
   }
 
-  abbrev index : List (Option S) → IndexContents S
-  index slots = record { slots = slots; put_back = 0; greatest = 0 }
-
   step : (done todo behind ahead : List Text) (slots new : List (Option S)) (s : S) (t : Text) → texts ≡ done ++ todo
       → IsFilled numbering code done slots → entries numbering done todo ≡ (Some s, t) ∷ entries numbering behind ahead
       → FillsSlot slots new (code t % length slots) s → IsPlaced numbering code texts behind ahead new
@@ -83,14 +80,13 @@ module _ {S : Type 0} (numbering : Numbering S)
       let fits = fits-more numbering numbered injective grows code done slots is u s more new_text put in
       let absent = absent-more numbering numbered injective grows code done slots is u s more new_text put in
       let text = text-more numbering numbered injective grows code done slots is u s more new_text put in
-      let now : IndexContents S = record { slots = new; put_back = 0; greatest = max 0 (length (symbols slots) + 1) } in
-      let inserts = inserted (entry_text numbering more) code (index slots) now slots s refl refl refl fits absent
-      (subst (λ x. FillsSlot slots new (code x % length slots) s) (sym (ap (λ p. p.1) head) ∙ sym text) puts) in
+      let at : FillsSlot slots new (code (text_of (entry_text numbering more) s) % length slots) s = subst (λ x. FillsSlot slots new (code x % length slots) s) (sym (ap (λ p. p.1) head) ∙ sym text) puts in
       record {
         done = more;
         todo = us;
         all = front;
-        interned = interned-more numbering numbered injective grows code done slots is u s more new_text put (index slots) now (valid-front numbering.symbol_of numbering.place grows more us (rw front at valid)) refl inserts;
+        interned = interned-more numbering numbered injective grows code done slots is u s more new_text put new (valid-front numbering.symbol_of numbering.place grows more us (rw front at valid))
+            (Fits-put (entry_text numbering more) code slots new s fits absent at) (AddsPair-put (entry_text numbering more) code slots new s fits absent at) (FillsSlot-symbols slots new _ s at);
         same = sym rest;
       }
 

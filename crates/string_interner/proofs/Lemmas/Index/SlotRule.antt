@@ -53,7 +53,3 @@ module _ (rule : SlotRule) (laws : IsSlotRule rule) where
       | inr is_full ↦ least-full len mid new s is_full grows load
     ];
   }
-
-  -- no slots are the least count for no entries
-  pub least-none : (len count : ℕ) → len ≡ 0 → count ≡ 0 → IsLeastSlotCount rule len count
-  least-none len count e z = rw (e, z) laws.none

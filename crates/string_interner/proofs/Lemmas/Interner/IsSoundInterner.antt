@@ -10,12 +10,12 @@ use Rattle.string_interner.specs.Backend.{IsValidList, Appends}
 use Rattle.string_interner.specs.Entry.{entry_text}
 use Rattle.string_interner.specs.Slots.{symbols}
 use Rattle.string_interner.specs.TextIndex.{Adds, AddsEntry, IsNewText}
-use Rattle.string_interner.specs.Index.{AddsPair, Fits, IndexContents, Inserts, InsertsByCode, IsAbsent, IsWhole, SameMap, look_up, text_of}
+use Rattle.string_interner.specs.Index.{AddsPair, Fits, IsAbsent, SameMap, look_up, text_of}
 use Rattle.string_interner.specs.Interner.{Finds, IsSoundInterner, entry_symbol, known_symbol}
 use Rattle.string_interner.specs.EntryLaws.{entry_text-adds, entry_text-at, entry_text-is}
 use Rattle.string_interner.proofs.Lemmas.Texts.First.{first_within, first_is, first_none}
 use Rattle.string_interner.proofs.Lemmas.Interner.StandsFor.{one_entry, finds-known}
-use Rattle.string_interner.proofs.Lemmas.Index.IsWhole.{Fits-added, text_of-added, IsAbsent-added, IsWhole-added, look_up-known}
+use Rattle.string_interner.proofs.Lemmas.Index.IsWhole.{IsWhole, Fits-added, text_of-added, IsAbsent-added, IsWhole-added, look_up-known}
 use Rattle.string_interner.specs.Numbering.{Numbering}
 
 module _ {S : Type 0} (numbering : Numbering S) where
@@ -135,18 +135,6 @@ module _ {S : Type 0} (numbering : Numbering S)
   pub sought : (lent : List Text) (found : Option S) (t : Text) → found ≡ look_up (entries lent) slots t → lent ≡ texts → known_symbol numbering texts t ≡ found
   sought lent found t e same = sym (look_up-finds t) ∙ ap (λ (xs : List Text). look_up (entries xs) slots t) (sym same) ∙ sym e
 
-  -- and something is found exactly if the text is known
-  pub sought_known : (lent : List Text) (found : Option S) (t : Text) → found ≡ look_up (entries lent) slots t → lent ≡ texts → IsSome found ↔ IsSome (first texts t)
-  sought_known lent found t e same = subst (λ o. IsSome o ↔ IsSome (first texts t)) (sought lent found t e same) (known-symbol numbering texts t is.texts.valid)
-
-  -- and where nothing is found, the text is new
-  pub sought_none : (lent : List Text) (found : Option S) (t : Text) → found ≡ look_up (entries lent) slots t → lent ≡ texts → found ≡ None → first texts t ≡ None
-  sought_none lent found t e same none = known_none numbering texts t is.texts.valid (sought lent found t e same ∙ none)
-
-  -- the same of a text that is known by an equation
-  pub not_found : (lent : List Text) (t u : Text) → None ≡ look_up (entries lent) slots t → lent ≡ texts → t ≡ u → first texts u ≡ None
-  not_found lent t u e same text = subst (λ x. first texts x ≡ None) text (sought_none lent None t e same refl)
-
   -- slots that hold the same map, of as many symbols
   pub interned-same : (bigger : List (Option S)) → Fits (entries texts) code bigger → SameMap (entries texts) slots bigger
       → length (symbols bigger) ≡ length (symbols slots) → IsFilled numbering code texts bigger
@@ -177,15 +165,10 @@ module _ {S : Type 0} (numbering : Numbering S)
     text-more = text_of-added (entries texts) (entries more) code slots slots s t is.whole is.whole.fits (λ u. refl) adds
 
     -- once it is inserted the index has each text again
-    pub interned-more : (old new : IndexContents S) → IsValidList numbering.symbol_of numbering.place more → old.slots ≡ slots → Inserts (entries more) code old new s
-        → IsFilled numbering code more new.slots
-    interned-more old new valid here i = record {
+    pub interned-more : (new : List (Option S)) → IsValidList numbering.symbol_of numbering.place more → Fits (entries more) code new → AddsPair (entries more) slots new s
+        → length (symbols new) ≡ length (symbols slots) + 1 → IsFilled numbering code more new
+    interned-more new valid fits pair count = record {
       texts = record { distinct = rw put.1 (all_pairs_push (λ a b. a ≢ b) texts t is.texts.distinct (first_none texts t new_text)); valid = valid };
-      whole = IsWhole-added (entries texts) (entries more) code slots slots s t is.whole is.whole.fits (λ u. refl) adds absent new.slots i.fits
-          (subst (λ (xs : List (Option S)). AddsPair (entries more) xs new.slots s) here i.pair);
-      count = (let a = ap (λ xs. length (symbols xs)) here in let b = i.count in let d = is.count in let e = ap length put.1 ∙ length_push texts t in omega arith);
+      whole = IsWhole-added (entries texts) (entries more) code slots slots s t is.whole is.whole.fits (λ u. refl) adds absent new fits pair;
+      count = (let d = is.count in let e = ap length put.1 ∙ length_push texts t in omega arith);
     }
-
-    -- where it is put by the code of the text, it is inserted
-    pub inserts-more : (known_code : ℕ) (old new : IndexContents S) → old.slots ≡ slots → known_code ≡ code t → InsertsByCode known_code old new s → Inserts (entries more) code old new s
-    inserts-more known_code old new here is_code by = by (entries more) code (rw here fits-more) (rw here absent-more) (is_code ∙ ap code (sym text-more))

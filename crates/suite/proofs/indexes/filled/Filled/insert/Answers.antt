@@ -1,4 +1,4 @@
-use Rattle.std.proofs.Common.{◌∙◌, sym, refl}
+use Rattle.std.proofs.Common.{◌∙◌, sym}
 use Rattle.string_interner.proofs.Lemmas.Backend.Numbering.{numbered, injective}
 use Rattle.string_interner.proofs.Lemmas.Interner.IsSoundInterner.{known_none, interned-same, fits-more, absent-more, interned-more}
 use Rattle.suite.proofs.indexes.filled.Filled.insert.Goals as goal
@@ -13,4 +13,4 @@ insert-requires-clause-absent g c = absent-more g.B.Backend.numbering (numbered 
 
 pub invariant_of-self-2 : goal.invariant_of-self-2
 invariant_of-self-2 g c = interned-more g.B.Backend.numbering (numbered g.B.Backend.numbering g.met.B.Backend.symbols g.met.B.Symbol.Symbol.numbered) (injective g.B.Backend.numbering g.met.B.Backend.symbols g.met.B.Symbol.Symbol.injective) g.met.B.Backend.grows _ _ _ (interned-same g.B.Backend.numbering (numbered g.B.Backend.numbering g.met.B.Backend.symbols g.met.B.Symbol.Symbol.numbered) (injective g.B.Backend.numbering g.met.B.Backend.symbols g.met.B.Symbol.Symbol.injective) g.met.B.Backend.grows _ _ _ c.self.invariant _ c.reserve_one.ensures.fits c.reserve_one.ensures.same c.reserve_one.ensures.count)
-    c.args.text.now _ _ (known_none g.B.Backend.numbering _ _ c.self.invariant.texts.valid (rw c.self.view_is (sym c.find.ensures ∙ c.in_default.is))) c.in_ok-symbol.ensures.appends _ _ c.in_ok-symbol.ensures.valid refl c.insert.ensures
+    c.args.text.now _ _ (known_none g.B.Backend.numbering _ _ c.self.invariant.texts.valid (rw c.self.view_is (sym c.find.ensures ∙ c.in_default.is))) c.in_ok-symbol.ensures.appends _ c.in_ok-symbol.ensures.valid c.insert.ensures.fits c.insert.ensures.pair c.insert.ensures.count

@@ -1,0 +1,4 @@
+pub mod EntryAhead
+pub mod IsCoded
+pub mod IsSoundTable
+pub mod IsTable

@@ -1,0 +1,4 @@
+pub mod IsTagged
+pub mod StoredCode
+pub mod Tags
+pub mod TagTells

@@ -1,0 +1,11 @@
+-- What the tag of a text's code tells of the slots.
+use Rattle.std.proofs.Common.{◌≡◌, ℕ, Option, sym, ap, ◌∙◌}
+use Rattle.string_interner.specs.Text.{Text}
+use Rattle.string_interner.specs.Index.{has_text}
+use Rattle.string_interner.specs.Tagged.{FitsTagged, TaggedContents, TagTells, stored_code, tag_of}
+use Rattle.string_interner.proofs.Lemmas.Index.LookUp.{entry_from_has}
+
+-- each slot whose symbol has a text has that text's tag
+pub TagTells-fits : {S : Type 0} (entry : S → Option Text) (code : Text → ℕ) (tagged : TaggedContents S) → FitsTagged entry code tagged → (text : Text) (c : ℕ) → c ≡ code text
+    → TagTells (has_text entry text) tagged (tag_of (stored_code c))
+TagTells-fits entry code tagged fits text c e k s l slot has = ap tag_of (fits.coded k s text l slot (entry_from_has entry text s has) ∙ ap stored_code (sym e))

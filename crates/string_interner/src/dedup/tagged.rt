@@ -1,0 +1,240 @@
+//! Slots with a tag and 32 bits of a code beside each symbol.
+
+mod tags;
+
+ghost use Rattle.std.specs.Prelude.{◌≡◌, ◌+◌, ◌<◌, ◌≤◌, ℕ, length, slice_index_or, replicate, vec_capacity, vec_len, None};
+ghost use Rattle.string_interner.specs.Tagged.{HasAnotherTag};
+
+use crate::backend::Backend;
+use crate::dedup::layout::Layout;
+use crate::dedup::looks::Looks;
+use crate::dedup::probe::{Probe, Vacancy, home_of, slot_after};
+use crate::dedup::text_index::Entry;
+use crate::hash::TextHasher;
+use crate::symbol::Symbol;
+use std::alloc::{AllocError, Global};
+use std::marker::Model;
+use tags::{LANES, lanes_passed, stored_code, tag_of};
+
+/// Up to this slot count a home is known by the 32 bits of a stored code.
+const MOST_SLOTS_BY_STORED_CODE: usize = 0x1_0000_0000;
+
+/// Slots with a tag and 32 bits of a code beside each symbol, at most seven eighths of which are filled.
+///
+/// A slot is empty if its tag is 0; what else is stored of it says nothing then. There are sixteen more tags than
+/// slots, so that sixteen can be read from each slot on; those behind the last slot are read and make no difference.
+///
+/// The list of symbols is empty until the first one is put, which is then written to all slots at once; its memory is
+/// asked for with the rest. So no symbol is made up for an empty slot, and a symbol type need not have the number 0, or
+/// any other.
+#[derive(Drop)]
+pub struct TaggedSlots<S: Symbol> {
+    items: Vec<S>,
+    codes: Vec<u32>,
+    tags: Vec<u8>,
+}
+
+/// Contracts see the list of slots, and the list of stored codes.
+impl<S: Symbol> Model for TaggedSlots<S> {
+    ghost use Rattle.std.specs.Prelude.{vec_capacity};
+    ghost use Rattle.string_interner.specs.Tagged.{IsTagged, TaggedContents, contents_of};
+
+    ghost Value = { TaggedContents S };
+
+    ghost view = { λ s. contents_of s.items.items s.codes.items s.tags.items };
+
+    ghost invariant = { λ s. IsTagged s.items.items s.codes.items s.tags.items
+        (vec_capacity s.items) };
+}
+
+/// Fills an empty list up to `count` with this item. Allocates nothing, since the capacity is there.
+#[inline(never)]
+fn fill_empty<S: Symbol>(items: &mut Vec<S>, count: usize, item: S)
+    requires room { count ≤ vec_capacity items.old }
+    requires empty { vec_len items.old ≡ 0 }
+    ensures filled { items.new.items ≡ replicate count item }
+    ensures capacity { vec_capacity items.old ≤ vec_capacity items.new }
+{
+    let _ = items.resize(count, item);
+}
+
+/// Fills the list up to `count` with this item if it has none. Allocates nothing, since the capacity is there.
+#[inline(always)]
+fn fill_items<S: Symbol>(items: &mut Vec<S>, count: usize, item: S)
+    requires room { count ≤ vec_capacity items.old }
+    ensures filled { vec_len items.old ≡ 0 → items.new.items ≡ replicate count item }
+    ensures same { 0 < vec_len items.old → items.new.items ≡ items.old.items }
+    ensures capacity { vec_capacity items.old ≤ vec_capacity items.new }
+{
+    if items.is_empty() {
+        fill_empty(items, count, item);
+    }
+}
+
+impl<S: Symbol> TaggedSlots<S> {
+    /// Returns the symbol of a slot, if any.
+    #[inline(always)]
+    fn symbol_at(&self, at: usize) -> Option<S>
+        requires { at < length self.now.slots }
+        ensures { result ≡ slice_index_or self.now.slots at None }
+    {
+        if self.tags[at] == 0 {
+            return None;
+        }
+        Some(self.items[at])
+    }
+
+    /// Returns the stored code beside a slot.
+    #[inline(always)]
+    fn code_at(&self, at: usize) -> u32
+        requires { at < length self.now.slots }
+        ensures { result ≡ slice_index_or self.now.codes at 0 }
+    {
+        self.codes[at]
+    }
+
+    /// Returns the first slot from `at` on that is empty or has this tag, as far as sixteen tags tell: the slot behind
+    /// them if none of these is, and the slot count if the slots end before. All slots that it passes have other tags.
+    #[inline(always)]
+    fn pass(&self, at: usize, tag: u8) -> usize
+        requires { at < length self.now.slots }
+        ensures from { at ≤ result }
+        ensures within { result ≤ length self.now.slots }
+        ensures passed { (k : ℕ) → at ≤ k → k < result → HasAnotherTag self.now tag k }
+    {
+        (at + lanes_passed(&self.tags, at, tag)).min(self.codes.len())
+    }
+}
+
+impl<S: Symbol> Layout<S> for TaggedSlots<S> {
+    ghost use Rattle.string_interner.specs.Tagged.{tagged_layout};
+    ghost use Rattle.string_interner.specs.LayoutLaws.{tagged_layout-laws};
+
+    ghost layout = { tagged_layout };
+
+    #[inline(always)]
+    fn has_room(count: usize, entries: usize) -> bool {
+        // Seven eighths, since a slot count is a multiple of 8.
+        entries < count - count / 8
+    }
+
+    fn new(alloc: Global) -> Self {
+        TaggedSlots {
+            items: Vec::new(alloc),
+            codes: Vec::new(alloc),
+            tags: Vec::new(alloc),
+        }
+    }
+
+    fn empty(alloc: Global, count: usize) -> Result<Self, AllocError> {
+        if count == 0 {
+            return Ok(TaggedSlots::new(alloc));
+        }
+        Ok(TaggedSlots {
+            items: Vec::with_capacity(alloc, count)?,
+            codes: Vec::from_elem(alloc, 0u32, count)?,
+            tags: Vec::from_elem(alloc, 0u8, count + LANES)?,
+        })
+    }
+
+    fn try_copy(&self) -> Result<Self, AllocError> {
+        let alloc = *self.items.allocator();
+        // While no symbol was put this list is empty, and yet has the capacity for all slots.
+        let mut items = Vec::with_capacity(alloc, self.codes.len())?;
+        items.extend_from_slice(&self.items)?;
+        Ok(TaggedSlots {
+            items,
+            codes: Vec::from_slice(alloc, &self.codes)?,
+            tags: Vec::from_slice(alloc, &self.tags)?,
+        })
+    }
+
+    #[inline(always)]
+    fn len(&self) -> usize {
+        self.codes.len()
+    }
+
+    #[inline(always)]
+    fn rehash_slot<H: TextHasher, B: Backend<Symbol = S>>(
+        &self,
+        at: usize,
+        count: usize,
+        hasher: &H,
+        backend: &B,
+    ) -> Option<(u64, S)> {
+        let symbol = self.symbol_at(at)?;
+        if count <= MOST_SLOTS_BY_STORED_CODE {
+            return Some((u64::from(self.code_at(at)), symbol));
+        }
+        Some((hasher.hash_text(backend.resolve_unchecked(symbol)), symbol))
+    }
+
+    #[inline]
+    fn set(&mut self, at: usize, symbol: S, code: u64) {
+        fill_items(&mut self.items, self.codes.len(), symbol);
+        let stored = stored_code(code);
+        self.items[at] = symbol;
+        self.codes[at] = stored;
+        self.tags[at] = tag_of(stored);
+    }
+
+    /// Filled slots are passed up to sixteen at once.
+    #[inline]
+    fn put(&mut self, home: usize, symbol: S, code: u64) {
+        let count = self.len();
+        let mut at = home;
+        for _step in 0..count {
+            let reached = self.pass(at, 0);
+            if reached == count {
+                at = 0;
+            } else if self.symbol_at(reached).is_none() {
+                self.set(reached, symbol, code);
+                return;
+            } else {
+                at = slot_after(reached, count);
+            }
+        }
+    }
+
+    fn clear(&mut self) {
+        self.tags.fill(0);
+    }
+
+    ghost layout_laws = { tagged_layout-laws };
+}
+
+impl<S: Symbol> Probe<S> for TaggedSlots<S> {
+    /// Slots of other tags are passed without a look, up to sixteen at once.
+    #[inline(always)]
+    fn probe<B: Backend<Symbol = S>>(
+        &self,
+        code: u64,
+        looks: &mut Looks<'_, B>,
+        text: &str,
+    ) -> Entry<S, Vacancy> {
+        let count = self.len();
+        let tag = tag_of(stored_code(code));
+        let mut at = home_of(code, count);
+        for _step in 0..count {
+            let reached = self.pass(at, tag);
+            if reached == count {
+                at = 0;
+            } else if reached - at == LANES {
+                at = reached;
+            } else {
+                let Some(symbol) = self.symbol_at(reached) else {
+                    return Entry::Vacant(Vacancy {
+                        code,
+                        slot_count: count,
+                        at: reached,
+                    });
+                };
+                if looks.has_text(symbol, text) {
+                    return Entry::Occupied(symbol);
+                }
+                at = slot_after(reached, count);
+            }
+        }
+        Entry::Vacant(Vacancy::by_code(code))
+    }
+}
