@@ -1,4 +1,4 @@
-//! Borrows a backend for look-ups, and counts the slots that they read.
+//! Borrows a backend for look-ups, and counts their looks.
 
 ghost use Rattle.std.specs.Prelude.{◌≡◌, ◌+◌, IfNone, IfSome, IsSome, None, Some};
 ghost use Rattle.std.specs.Option.{ForSome};
@@ -34,7 +34,8 @@ impl<S> Slot<S> {
     }
 }
 
-/// Borrows a backend for look-ups and counts their looks. A look reads one slot, with the text of its symbol.
+/// Borrows a backend for look-ups and counts their looks. A look reads one slot of an `Index`, with the text of its
+/// symbol, and compares one text for a `TaggedIndex`.
 ///
 /// The count is ghost state: no method returns it, and it takes no space.
 #[derive(Drop)]
