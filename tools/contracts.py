@@ -20,9 +20,7 @@ import argparse
 import re
 import sys
 from collections import Counter
-from dataclasses import dataclass
 from itertools import zip_longest
-from pathlib import Path
 from textwrap import dedent
 
 from edits import TOP
@@ -43,9 +41,9 @@ MORE = re.compile(r"\s*(?:=|by)\s*\{")
 BRACE = re.compile(r"[{}]")
 
 
-def sources(folder):
-    """The sources in a folder, in order."""
-    return sorted((TOP / folder).glob("**/*.rt"))
+def sources(folder="crates/*/src"):
+    """The sources in a folder, or in all crates, in order."""
+    return sorted(TOP.glob(f"{folder}/**/*.rt"))
 
 
 def belongs_to(text, function, owner):
@@ -82,9 +80,7 @@ def stale_quotes(page):
     quotes = list(QUOTE.finditer(page))
     if page.count("contract:") != len(quotes):
         yield "a mark of a contract that is not written `<!-- contract: CALL -->`"
-    for call in CALLS:
-        if call not in [quote["call"] for quote in quotes]:
-            yield f"no quote of {call}"
+    yield from (f"no quote of {call}" for call in CALLS if call not in [quote["call"] for quote in quotes])
     for quote in quotes:
         call, contract = quote["call"], contract_of(quote["call"])
         if contract is None:
@@ -97,22 +93,6 @@ def stale_quotes(page):
             yield f"the quote of {call} is stale: it has `{old or ''}` for `{new or ''}`"
 
 
-@dataclass(frozen=True)
-class Clause:
-    """A clause of a source, with the number of its first line and its lines as they stand."""
-
-    file: Path
-    number: int
-    lines: list[str]
-    text: str
-
-    @property
-    def long_lines(self):
-        """Where its lines are too long."""
-        long = [(number, len(line)) for number, line in enumerate(self.lines, self.number) if len(line) > MOST_COLUMNS]
-        return [f"{self.file.relative_to(TOP)}:{number}: {columns} columns in a clause" for number, columns in long]
-
-
 def closing_brace(text, opening):
     """The offset behind the brace that closes the one at an offset."""
     depth = 0
@@ -123,38 +103,37 @@ def closing_brace(text, opening):
     return len(text)
 
 
-def clauses(file):
-    """The clauses of a source, in order."""
-    text = read(file)
+def clauses(text):
+    """The clauses of a source, in order: the number of the first line, the lines, and the text."""
     for head in CLAUSE.finditer(text):
         end = closing_brace(text, head.end() - 1)
         while more := MORE.match(text, end):
             end = closing_brace(text, more.end() - 1)
         lines = text[head.start() : max(text.find("\n", end), end)].splitlines()
-        inside = " ".join(text[head.end() : end - 1].split())
-        yield Clause(file, text.count("\n", 0, head.start()) + 1, lines, inside)
+        yield text.count("\n", 0, head.start()) + 1, lines, " ".join(text[head.end() : end - 1].split())
 
 
-def all_clauses():
-    """The clauses of all crates."""
-    return [clause for file in sorted(TOP.glob("crates/*/src/**/*.rt")) for clause in clauses(file)]
+def long_lines(file):
+    """Where lines of clauses are too long."""
+    lines = (it for first, lines, _ in clauses(read(file)) for it in enumerate(lines, first))
+    return [f"{file.relative_to(TOP)}:{number}: {len(line)} columns in a clause" for number, line in lines if len(line) > MOST_COLUMNS]
 
 
-def repeated(found):
-    """The texts that clauses repeat, each with its count, most characters first; and their share of all text, in percent."""
-    counts = Counter(clause.text for clause in found)
+def repeated():
+    """The texts that clauses of the crates repeat, each with its count, most characters first; and their share of all text, in
+    percent."""
+    counts = Counter(text for file in sources() for _, _, text in clauses(read(file)))
     again = [(text, count) for text, count in counts.items() if count > 1 and len(text) > LENGTH_THAT_COUNTS]
     again.sort(key=lambda it: -len(it[0]) * (it[1] - 1))
     characters = sum(len(text) * (count - 1) for text, count in again)
-    return again, 100 * characters / max(1, sum(len(clause.text) for clause in found))
+    return again, 100 * characters / max(1, sum(len(text) * count for text, count in counts.items()))
 
 
 def faults():
     """What is wrong with the contracts and their quotes."""
     yield from (f"{PAGE}: {it}" for it in stale_quotes(read(TOP / PAGE)))
-    found = all_clauses()
-    yield from (it for clause in found for it in clause.long_lines)
-    share = repeated(found)[1]
+    yield from (it for file in sources() for it in long_lines(file))
+    share = repeated()[1]
     if share > MOST_REPEATED:
         yield f"{share:.1f} % of the clauses' text is repeated, and {MOST_REPEATED} % may be: tools/contracts.py lists it"
 
@@ -163,14 +142,10 @@ def main():
     parser = argparse.ArgumentParser(description=__doc__.partition("\n")[0])
     parser.add_argument("--write", action="store_true", help="write the quotes anew first")
     if parser.parse_args().write:
-        page = TOP / PAGE
-        write(page, written_anew(read(page)))
-    again, share = repeated(all_clauses())
-    print(f"repeated clause text: {share:.1f} %")
-    for text, count in again[:10]:
-        print(f"{count} times: {text}")
+        write(TOP / PAGE, written_anew(read(TOP / PAGE)))
+    again, share = repeated()
     found = list(faults())
-    print(*found, sep="\n", end="\n" if found else "")
+    print(f"repeated clause text: {share:.1f} %", *(f"{count} times: {text}" for text, count in again[:10]), *found, sep="\n")
     return 1 if found else 0
 
 
