@@ -1,5 +1,7 @@
 """Which planted bugs are tried together, and what is tried where nothing is changed."""
 
+from collections import Counter
+
 import proof_file
 from verdicts import LET_THROUGH
 
@@ -8,16 +10,11 @@ TOGETHER = 80
 
 
 def batches(trials, workers):
-    """Deals out trials so that no batch has two of a function that has no copies, and all workers end at about the same
-    time."""
-    dealt, further = [[] for _ in range(workers * -(-len(trials) // (workers * TOGETHER)))], []
-    for trial in sorted(trials, key=lambda it: it.has_copies):
-        able = [it for it in dealt if trial.has_copies or all(other.function != trial.function for other in it)]
-        if able:
-            min(able, key=len).append(trial)
-        else:
-            further.append([trial])
-    return [it for it in [*further, *dealt] if it]
+    """Deals out trials so that no batch has two of a function, and all workers end at about the same time."""
+    most = max(Counter(it.function for it in trials).values())
+    count = -(-max(most, len(trials) / TOGETHER) // workers) * workers
+    dealt = sorted(trials, key=lambda it: it.function)
+    return [batch for start in range(int(count)) if (batch := dealt[start :: int(count)])]
 
 
 def proof_files_without_bugs(trials):
@@ -37,8 +34,7 @@ def proof_file_without_bugs(trials):
 
 def control_of(trials):
     """A trial of a function as it is, by an answer of its proof file, if there is one."""
-    able = (it for it in trials if it.is_answered and it.has_copies and it.goal in it.goals)
-    return next((it.control() for it in able), None)
+    return next((it.control() for it in trials if it.is_answered and it.goal in it.goals), None)
 
 
 def settle(outcomes, control, is_out_of_reach):
@@ -46,5 +42,4 @@ def settle(outcomes, control, is_out_of_reach):
     told = outcomes.pop(control, LET_THROUGH)
     if told != LET_THROUGH:
         return dict.fromkeys(outcomes, f"the control {control.name} is not let through: {told}")
-    reason = "its goal is not proved where nothing is changed"
-    return {trial: reason if is_out_of_reach(trial) else outcome for trial, outcome in outcomes.items()}
+    return outcomes | dict.fromkeys(filter(is_out_of_reach, outcomes), "its goal is not proved where nothing is changed")

@@ -38,9 +38,9 @@ class Verdicts:
         It is refused where its goal is not proved, and neither the answer to that goal nor what else the proof file defines
         misses a name: where they cite what the bug took away, they fail for that alone, and the refusal shows nothing.
         """
-        if trial.tried_in not in self.open:
+        if trial.function not in self.open:
             return "its function is not one that the check names"
-        errors = self.errors.get(trial.tried_in, [])
+        errors = self.errors.get(trial.function, [])
         mattering = [message for name, message in errors if name == trial.goal or name not in trial.goals or not trial.goal]
         if any(map(MISSING.search, mattering)):
             return BY_FORM_ALONE
@@ -52,8 +52,8 @@ class Verdicts:
 
     def opened(self, trial):
         """The goals of the function that are not proved."""
-        failed = (name for name, _ in self.errors.get(trial.tried_in, []))
-        return list(dict.fromkeys([*self.open[trial.tried_in], *failed]))
+        failed = (name for name, _ in self.errors.get(trial.function, []))
+        return list(dict.fromkeys([*self.open[trial.function], *failed]))
 
     def is_out_of_reach(self, trial):
         """Reports whether the goal stands where nothing is changed, and is not proved there by its answer or the tactics."""

@@ -1,6 +1,7 @@
 """Which planted bugs are tried together, and how controls and first checks are settled."""
 
 import unittest
+from unittest import mock
 
 from small import SmallRepository
 import plan
@@ -19,18 +20,25 @@ class PlanTest(SmallRepository):
             self.write_edit(f"bug_{number}", old, str(number), function, "returns")
         return [self.trial(f"bug_{number}") for number in range(count)]
 
-    def test_bugs_of_a_function_that_has_copies_go_together(self):
-        trials = self.several("half", "number / 2", 5)
-        self.assertEqual(plan.batches(trials, 1), [trials])
-
-    def test_bugs_of_a_function_that_has_none_go_one_by_one(self):
-        trials = self.several("SquareShape::area", "side * side", 3)
-        self.assertEqual([len(it) for it in plan.batches(trials, 1)], [1, 1, 1])
-        self.assertEqual({trial for batch in plan.batches(trials, 2) for trial in batch}, set(trials))
+    def test_bugs_of_a_function_go_one_by_one(self):
+        trials = [*self.several("half", "number / 2", 5), self.trial("doubles_once"), self.trial("quarters_once")]
+        for workers in 1, 2, 3:
+            dealt = plan.batches(trials, workers)
+            self.assertEqual(sorted(it.name for batch in dealt for it in batch), sorted(it.name for it in trials))
+            for batch in dealt:
+                functions = [it.function for it in batch]
+                self.assertEqual(len(functions), len(set(functions)))
 
     def test_workers_get_about_as_many_each(self):
-        trials = self.several("half", "number / 2", 7)
-        self.assertEqual(sorted(len(it) for it in plan.batches(trials, 3)), [2, 2, 3])
+        trials = [self.trial(name) for name in ("doubles_once", "halves_twice", "quarters_once", "area_is_the_side")]
+        self.assertEqual([len(it) for it in plan.batches(trials, 2)], [2, 2])
+        self.assertEqual(sorted(len(it) for it in plan.batches(trials[:3], 2)), [1, 2])
+        self.assertEqual([len(it) for it in plan.batches(trials, 1)], [4])
+
+    def test_no_batch_gets_too_many(self):
+        with mock.patch.object(plan, "TOGETHER", 1):
+            trials = [self.trial(name) for name in ("doubles_once", "halves_twice", "quarters_once")]
+            self.assertEqual([len(it) for it in plan.batches(trials, 1)], [1, 1, 1])
 
     def test_goals_are_tried_where_nothing_is_changed(self):
         files = plan.proof_files_without_bugs([self.trial("doubles_once"), self.trial("halves_twice")])
@@ -48,7 +56,7 @@ class PlanTest(SmallRepository):
     def test_a_control_is_of_an_answered_goal(self):
         self.assertIsNone(plan.control_of([self.trial("halves_twice")]))
         control = plan.control_of([self.trial("halves_twice"), self.trial("doubles_once")])
-        self.assertEqual((control.function, [it[3] for it in control.changes]), ("double", [""]))
+        self.assertEqual((control.function, control.changes), ("double", []))
 
     def test_a_control_that_is_not_let_through_fails_all(self):
         trial, control = self.trial("halves_twice"), self.trial("doubles_once").control()

@@ -36,31 +36,12 @@ class TrialTest(SmallRepository):
         apply(trial.put(self.top / "crates/low"), self.top / "crates/low")
         self.assertEqual((self.top / "crates/low/src/lib.rt").read_text(), SOURCE.replace("number / 2", "number / 8"))
 
-    def test_a_copy_stands_behind_its_function(self):
-        folder = self.top / "crates/low"
-        trial = Trial(self.edit("doubles_once"), False)
-        self.assertTrue(trial.has_copies)
-        apply(trial.put_beside(folder), folder)
-        names = [it.name for it in functions((folder / "src/lib.rt").read_text())]
-        self.assertEqual(names, ["area", "double", "double_in_doubles_once", "half", "quarter"])
-        copied = (folder / "proofs/double_in_doubles_once/Answers.antt").read_text()
-        self.assertIn("use Rattle.low.proofs.double_in_doubles_once.Goals as goal", copied)
-        self.assertIn("pub fn double_in_doubles_once(number: u32)", (folder / "src/lib.rt").read_text())
-
-    def test_a_method_of_a_trait_has_no_copy(self):
-        self.assertFalse(Trial(self.edit("area_is_the_side"), False).has_copies)
-
-    def test_a_function_that_calls_itself_has_no_copy(self):
-        self.write("crates/low/src/lib.rt", SOURCE.replace("number / 2", "half(number) / 2"))
-        self.write_edit("halves_twice", "half(number) / 2", "half(number) / 8", "half", "returns")
-        self.assertFalse(Trial(self.edit("halves_twice"), False).has_copies)
-
-    def test_a_control_changes_nothing_but_the_name(self):
+    def test_a_control_changes_nothing_but_the_proof_file(self):
         folder = self.top / "crates/low"
         control = Trial(self.edit("doubles_once"), False).control()
-        apply(control.put_beside(folder), folder)
-        double, copy = (it for it in functions((folder / "src/lib.rt").read_text()) if it.name.startswith("double"))
-        self.assertEqual(copy.text.replace("_in_doubles_once_without_the_bug", ""), double.text)
+        apply(control.put(folder), folder)
+        self.assertEqual((folder / "src/lib.rt").read_text(), SOURCE)
+        self.assertNotIn("returns-then-ne", (folder / "proofs/double/Answers.antt").read_text())
 
     def test_tactics_answer_a_goal_without_an_answer(self):
         trial = Trial(self.edit("halves_twice"), False)

@@ -43,7 +43,6 @@ class Tried:
     """The part of a trial that a verdict looks at."""
 
     function: str = "double"
-    tried_in: str = "double"
     goal: str | None = "returns"
     goals: list[str] = field(default_factory=lambda: ["returns", "returns-then-ne"])
     is_answered: bool = True
@@ -72,7 +71,7 @@ class VerdictsTest(unittest.TestCase):
         self.assertEqual(self.outcome(TACTICS_TOO, tactics=["by-tactics"]), REFUSED)
 
     def test_a_function_of_which_nothing_is_said(self):
-        self.assertNotIn(self.outcome(REFUSAL, tried_in="half"), (REFUSED, LET_THROUGH))
+        self.assertNotIn(self.outcome(REFUSAL, function="half"), (REFUSED, LET_THROUGH))
 
     def test_without_a_goal_the_open_goals_are_told(self):
         trial = Tried(goal=None, goals=[])
