@@ -113,41 +113,40 @@ def rewrite(page):
     """The page as it should be, and what is wrong with its rows."""
     lines = page.splitlines()
     rows = read_rows(lines)
-    faults = []
+    found = []
     for edit in (edit for crate in crates() for edit in edits_of(crate, REFUSED)):
         row = find_row(edit, rows)
         if row:
             row.bugs.append(edit.name)
         else:
-            faults.append(f"no row names the function of {edit.name}: {edit.function} of {edit.crate}")
+            found.append(f"no row names the function of {edit.name}: {edit.function} of {edit.crate}")
     for row in rows:
         lines[row.number] = str(row)
         if fault := row.fault():
-            faults.append(f"line {row.number + 1} {fault}: {row.promise}")
+            found.append(f"line {row.number + 1} {fault}: {row.promise}")
     table = write_caught_table()
-    return CAUGHT_TABLE.sub(lambda _: table, "\n".join(lines) + "\n"), faults
+    return CAUGHT_TABLE.sub(lambda _: table, "\n".join(lines) + "\n"), found
 
 
-def stale_lines(page, new):
-    """Says that the page is stale, and where first."""
-    pairs = enumerate(zip(page.splitlines(), new.splitlines()), 1)
-    stale = [f"line {number} is stale: {old[:100]}" for number, (old, now) in pairs if old != now]
-    return [f"{PAGE.relative_to(TOP)} is stale: tools/promises.py writes it anew", *stale[:5]]
+def faults():
+    """What is wrong with the page, and whether and where it is stale."""
+    page = read(PAGE)
+    new, found = rewrite(page)
+    if new != page:
+        pairs = enumerate(zip(page.splitlines(), new.splitlines()), 1)
+        stale = [f"line {number} is stale: {old[:100]}" for number, (old, now) in pairs if old != now]
+        found += [f"{PAGE.relative_to(TOP)} is stale: tools/promises.py writes it anew", *stale[:5]]
+    return found
 
 
 def main():
     parser = argparse.ArgumentParser(description=__doc__.partition("\n")[0])
     parser.add_argument("--check", action="store_true", help="change nothing, and fail if the page is stale")
-    changes_nothing = parser.parse_args().check
-    page = read(PAGE)
-    new, faults = rewrite(page)
-    if not changes_nothing:
-        write(PAGE, new)
-    elif new != page:
-        faults += stale_lines(page, new)
-    for fault in faults:
-        print(fault, file=sys.stderr)
-    return 1 if faults else 0
+    if not parser.parse_args().check:
+        write(PAGE, rewrite(read(PAGE))[0])
+    found = faults()
+    print(*found, sep="\n", end="\n" * bool(found), file=sys.stderr)
+    return 1 if found else 0
 
 
 if __name__ == "__main__":

@@ -1,10 +1,10 @@
 """Which row of docs/PROMISES.md takes up a planted bug, and what of the page is written by hand."""
 
-import sys
 import unittest
-from pathlib import Path
+from unittest import mock
 
-sys.path.insert(0, str(Path(__file__).resolve().parent.parent))
+from small import SmallRepository
+import promises
 from edits import Change, Edit
 from promises import HEAD, find_row, read_rows
 
@@ -67,6 +67,42 @@ class Rows(unittest.TestCase):
         self.assertIn("says none", third.fault())
         first.bugs.append("bug")
         self.assertEqual(str(first), "| a new backend is empty | `new`, `texts` | `bug` |")
+
+
+class PageTest(SmallRepository):
+    ROWS = f"## Numbers (`crates/low`)\n\n{HEAD}\n|---|---|---|\n| it doubles | `double` | `doubles_once` |\n" \
+           "| other numbers | `half`, `quarter`, `area` | {} |\n\n## Above (`crates/high`)\n\n" \
+           f"{HEAD}\n|---|---|---|\n| it is fourfold | `fourfold` | `doubles_instead` |\n"
+    LISTED = "`area_is_the_side`, `halves_twice`, `quarters_once`"
+
+    def setUp(self):
+        super().setUp()
+        for name, value in (("TOP", self.top), ("PAGE", self.top / "docs/PROMISES.md")):
+            patch = mock.patch.object(promises, name, value)
+            patch.start()
+            self.addCleanup(patch.stop)
+
+    def faults_of(self, listed):
+        self.write("docs/PROMISES.md", self.ROWS.replace("{}", listed))
+        return promises.faults()
+
+    def test_nothing_is_wrong(self):
+        self.assertEqual(self.faults_of(self.LISTED), [])
+
+    def test_a_stale_page(self):
+        faults = self.faults_of("`halves_twice`; a word")
+        self.assertEqual(faults[0], "docs/PROMISES.md is stale: tools/promises.py writes it anew")
+        self.assertTrue(faults[1].startswith("line 6 is stale: | other numbers"))
+
+    def test_writing(self):
+        self.faults_of("`halves_twice`; a word")
+        with mock.patch("sys.argv", ["promises.py"]):
+            self.assertEqual(promises.main(), 0)
+        self.assertEqual((self.top / "docs/PROMISES.md").read_text(), self.ROWS.replace("{}", f"{self.LISTED}; a word"))
+
+    def test_a_bug_of_no_row(self):
+        self.write_edit("thirds", "number / 4", "number / 3", "third", "returns")
+        self.assertEqual(self.faults_of(self.LISTED), ["no row names the function of thirds: third of low"])
 
 
 if __name__ == "__main__":

@@ -1,0 +1,73 @@
+"""The parts of the gate: what they count, what they take, and how they end."""
+
+import contextlib
+import io
+import os
+import runpy
+import subprocess
+import sys
+import unittest
+
+from small import edits
+
+CHECK = runpy.run_path(str(edits.TOP / "check"))
+
+
+class PartTest(unittest.TestCase):
+    def run_part(self, script, **named):
+        """A part that runs a script, whether all was well, and what was printed."""
+        self.gate = CHECK["Gate"](None)
+        with contextlib.redirect_stdout(io.StringIO()) as printed:
+            is_well = self.gate.begin("it", ["sh", "-c", script]).wait(**named)
+        return is_well, self.gate.parts[0], printed.getvalue()
+
+    def test_a_count(self):
+        is_well, part, printed = self.run_part("echo '9 passed, 9 failed'; echo '3 passed, 0 failed'")
+        self.assertEqual((is_well, part.passed, part.failed), (True, 3, 0))
+        self.assertEqual(printed, "== it\n9 passed, 9 failed\n3 passed, 0 failed\n")
+
+    def test_what_failed(self):
+        self.assertEqual(self.run_part("echo '3 passed, 2 failed'; exit 1")[0], False)
+        for script in "echo '3 passed, 0 failed'; exit 1", "true", "echo '0 passed, 0 failed'":
+            is_well, part, printed = self.run_part(script)
+            self.assertEqual((is_well, part.failed), (False, 1), script)
+            self.assertIn("and no count of what passed", printed)
+
+    def test_tests_of_python(self):
+        self.assertEqual(self.run_part("echo 'Ran 157 tests in 0.5s'")[1].passed, 157)
+        self.assertEqual(self.run_part("echo 'Ran 157 tests in 0.5s'; exit 1")[1].failed, 1)
+
+    def test_a_part_that_counts_nothing(self):
+        self.assertTrue(self.run_part("true", is_counted=False)[0])
+        self.assertFalse(self.run_part("exit 1", is_counted=False)[0])
+
+    def test_what_is_said_on_the_way(self):
+        part = CHECK["Gate"](None).begin("it", ["sh", "-c", "echo begun; sleep 60"])
+        self.assertTrue(part.says("^begun"))
+        part.end()
+        self.assertFalse(part.says("^done"))
+
+    def test_the_count_of_all(self):
+        self.run_part("echo '3 passed, 2 failed'")
+        self.gate.left_out.append("a thing")
+        with contextlib.redirect_stdout(io.StringIO()) as printed:
+            self.assertEqual(self.gate.tell(), 1)
+        lines = printed.getvalue().splitlines()
+        self.assertRegex(lines[1], r"^it: \d+ seconds, \d+ processor seconds, \d+ MiB$")
+        self.assertEqual(lines[-2:], ["left out: a thing", "3 passed, 2 failed"])
+
+
+class SizesTest(unittest.TestCase):
+    def test_a_process_and_those_below_it(self):
+        hold = "import sys; it = b'x' * (64 << 20); print(flush=True); sys.stdin.read()"
+        words = [sys.executable, "-c", f"import subprocess; subprocess.run({[sys.executable, '-c', hold]!r})"]
+        with subprocess.Popen(words, stdin=subprocess.PIPE, stdout=subprocess.PIPE) as process:
+            process.stdout.readline()
+            sizes = CHECK["sizes_by_part"]([process.pid, os.getppid()])
+            process.stdin.close()
+        self.assertGreater(sizes[process.pid], 64 << 20)
+        self.assertEqual(set(sizes), {process.pid, os.getppid()})
+
+
+if __name__ == "__main__":
+    unittest.main()
