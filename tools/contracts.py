@@ -115,8 +115,9 @@ def clauses(text):
 
 def long_lines(file):
     """Where lines of clauses are too long."""
-    lines = (it for first, lines, _ in clauses(read(file)) for it in enumerate(lines, first))
-    return [f"{file.relative_to(TOP)}:{number}: {len(line)} columns in a clause" for number, line in lines if len(line) > MOST_COLUMNS]
+    long = ((number, len(line)) for first, lines, _ in clauses(read(file)) for number, line in enumerate(lines, first)
+            if len(line) > MOST_COLUMNS)
+    return [f"{file.relative_to(TOP)}:{number}: {columns} columns in a clause" for number, columns in long]
 
 
 def repeated():

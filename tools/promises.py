@@ -4,15 +4,10 @@
     tools/promises.py           rewrites the page in place
     tools/promises.py --check   fails if the page is not what would be written
 
-A heading names in backticks the files whose functions its rows speak of: a file or a folder of the library's sources, a
-crate as `crates/NAME`, or a file of it. A row names functions in its second column, in backticks, by the end of their path:
-`intern` is every function of that name, `Index::find` that of `Index` alone. A bug that the prover refuses belongs to the
-row that names the longest end of its function's path; of several such rows to the one that also names the clause that the
-bug breaks, as far as its goal tells, and else to the first. The third column lists these bugs. After them, or in their
-place, it may have words that are written by hand, between semicolons.
-
-It also fails if no row names the function of a bug, if a row has neither a bug nor words, and if a row has bugs although
-its words begin with `none`.
+The page says which row a bug belongs to. A heading names in backticks a file or a folder of the library's sources, a crate as
+`crates/NAME`, or a file of it. A row names functions in its second column, in backticks, by the end of their path: `intern` is
+every function of that name, `Index::find` that of `Index` alone. It also fails if no row names the function of a bug, if a row
+has neither a bug nor words, and if a row has bugs although its words begin with `none`.
 """
 
 import argparse

@@ -94,28 +94,20 @@ def reply_count(line):
     return int(line.split(b" ")[1]) if word_of(line) == b"InternNumbers" else 1
 
 
-def call_part(word):
-    """The part of a call. All that `entry_at` prints is indented. Shrinking alone may keep the larger block and say nothing."""
-    return Part(word, 0 if word == b"entry_at" else 1, 2 if word == b"shrink_to_fit" else 0)
-
-
-def block_part(block):
-    """The part of a block of commands, which prints the count of texts after its replies."""
-    return Part(b"run", sum(map(reply_count, block)) + 1, 2 * block.count(b"Shrink"))
-
-
 def parts_of(calls):
     """The calls in order, or the blocks of a run, which empty lines divide."""
-    lines = cut(calls)[1:]
+    first, *lines = cut(calls)
     if not is_run(calls):
-        return [call_part(word_of(line)) for line in lines]
+        # All that `entry_at` prints is indented. Shrinking alone may keep the larger block and say nothing.
+        return [Part(it, int(it != b"entry_at"), 2 * (it == b"shrink_to_fit")) for it in map(word_of, lines)]
     blocks = [[]]
     for line in lines:
         if line:
             blocks[-1].append(line)
         else:
             blocks.append([])
-    return list(map(block_part, blocks))
+    # A block prints the count of texts after its replies.
+    return [Part(b"run", sum(map(reply_count, block)) + 1, 2 * block.count(b"Shrink")) for block in blocks]
 
 
 def wanted_end(answers):

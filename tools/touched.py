@@ -7,13 +7,12 @@ toolchain. A planted bug is touched if, since then,
   - its own file is new or has changed,
   - its function has changed, or the head of the `impl` around it, or a proof file of that function,
   - the file that it changes has changed outside functions (types, invariants, ghost members),
-  - a function that its function or its own text calls has another contract,
-  - a trait's contract for a method of its function's name has changed,
+  - a function that its function or its own text calls has another contract, or a trait's method of its function's name has,
   - or a definition or a type has changed that its function cites, by itself or through other definitions; a type has changed,
     too, if it has a trait that it had not.
 
-What is new beside what was there touches nothing else. All this is told by names, so more are touched than need be. With no such commit, or with another toolchain, all are. What
-tries the bugs (tools/*.py and tools/refuse-edits) is not considered: its own tests judge it.
+What is new beside what was there touches nothing else. All this is told by names, so more are touched than need be. With no
+such commit, or with another toolchain, all are. What tries the bugs is not considered: its own tests judge it.
 """
 
 import re
@@ -77,13 +76,8 @@ class Changes:
         return [self.versions(it) for it in sorted(self.files) if it.startswith(folders) and it.endswith(suffix)]
 
     @cache
-    def methods(self, crate):
-        """The names of methods whose declaration in a trait has changed."""
-        return self.changed_names(crate, lambda text: [(it.name, without_comments(it.text)) for it in functions_of_traits(text)])
-
-    @cache
     def callees(self, crate):
-        """The names of functions whose contracts have changed."""
+        """The names of functions, and of methods of traits, whose contracts have changed."""
         return self.changed_names(crate, lambda text: [(it.name, without_comments(it.contract)) for it in functions(text)])
 
     def changed_names(self, crate, named_texts, suffix=".rt"):
@@ -120,7 +114,7 @@ class Changes:
         crate = f"crates/{edit.crate}"
         name = edit.function.rpartition("::")[2]
         own = (f"{crate}/must-fail/{edit.name}.edit", f"{crate}/proofs/{edit.function.replace('::', '/')}/")
-        if name in self.methods(edit.crate) or any(file.startswith(own) for file in self.files):
+        if any(file.startswith(own) for file in self.files):
             return True
         cited = set(words_of_methods(edit.crate, name)).union(*(WORD.findall(change.new) for change in edit.changes))
         for file in (f"{crate}/{it}" for it in edit.files):

@@ -1,0 +1,64 @@
+"""Runs a built program, also with requests for memory, reading or writing that fail."""
+
+import subprocess
+import tempfile
+from collections import namedtuple
+from contextlib import nullcontext
+from pathlib import Path
+
+from edits import TOP
+from machine import run_in
+
+SECONDS = 60
+# What the library says at the end of a run that gave back all memory, and what stands for that line where it is missing.
+HELD_NOTHING, HELD = b"holds 0\n", b"not all memory was given back\n"
+
+End = namedtuple("End", "status output error")
+
+
+def holding(data):
+    """A file of these bytes."""
+    file = tempfile.TemporaryFile()
+    file.write(data)
+    file.seek(0)
+    return file
+
+
+class Program:
+    """A built program, and .ci/failures.c, compiled into a folder, whose settings the runs get."""
+
+    def __init__(self, path, folder):
+        self.path = str(Path(path).resolve())
+        self.library = f"{folder}/failures.so"
+        clang = Path(run_in(TOP, "rt", "doc")[1].split()[-1]).parent / "toolchain/bin/clang"
+        words = [clang if clang.exists() else "cc", "-O2", "-shared", "-fPIC", "-nostdlib", "-fuse-ld=lld"]
+        subprocess.run([*words, "-o", self.library, TOP / ".ci/failures.c"], check=True)
+
+    def run(self, words, given=b"", output=subprocess.PIPE, is_joined=False, seconds=SECONDS, before=None, folder=None,
+            **settings):
+        """How a run over these bytes, or over this file, ends, where standard error may be joined to standard output."""
+        environment = {"LD_PRELOAD": self.library, **{name: str(value) for name, value in settings.items()}} if settings else {}
+        with holding(given) if isinstance(given, bytes) else nullcontext(given) as stdin:
+            try:
+                # Without closing files first, the process starts several times as fast.
+                ended = subprocess.run([self.path, *words], stdin=stdin, stdout=output, env=environment, cwd=folder,
+                                       stderr=subprocess.STDOUT if is_joined else subprocess.PIPE, timeout=seconds,
+                                       preexec_fn=before, close_fds=False, check=False)
+            except subprocess.TimeoutExpired:
+                return End(None, b"", b"not done after %d seconds\n" % seconds)
+        printed, told = ended.stdout or b"", (ended.stderr or b"").replace(b"request refused\n", b"")
+        if "TELL_HELD" in settings:
+            printed, told = (without_held(printed), told) if is_joined else (printed, without_held(told))
+        return End(ended.returncode, printed, told)
+
+    def run_with_asks(self, words, data, refused=0, **settings):
+        """How a run ends with the request of this number refused, counted from 1, and the sizes of its requests for memory."""
+        ended = self.run(words, data, REFUSE=refused, TELL_ASKS=1, TELL_HELD=1, **settings)
+        lines = ended.error.splitlines(keepends=True)
+        asks = [int(line[5:]) for line in lines if line.startswith(b"asks ")]
+        return ended._replace(error=b"".join(line for line in lines if not line.startswith(b"asks "))), asks
+
+
+def without_held(told):
+    """What a run told, without the line that it holds nothing at its end. Without that line, more than it told."""
+    return told.removesuffix(HELD_NOTHING) if told.endswith(HELD_NOTHING) else told + HELD

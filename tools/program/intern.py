@@ -1,0 +1,273 @@
+"""What is tried of the program `intern`."""
+
+import random
+
+from program.cases import FIRST_INPUT, MANY, MEBIBYTE, Case, cases, rows
+from program.streams import Streams
+from program.texts import (ANY, BACKENDS, OUT_OF_MEMORY, UNREADABLE, UNWRITABLE, USAGE, Run, answer, bad_line, command_of,
+                           lines_of)
+
+CASES = "crates/intern/cases"
+# In bytes: the buffer of standard output, a command and a reply.
+OUTPUT_BUFFER, COMMAND, REPLY = 8192, 24, 32
+
+
+def rooms_of_input(data):
+    """The room asked for to read an input: it doubles until all is read."""
+    rooms = [FIRST_INPUT]
+    while rooms[-1] < len(data):
+        rooms.append(2 * rooms[-1])
+    return rooms
+
+
+def asks_of_lines(case):
+    """The sizes of the requests of each line, by its number, as the case has them."""
+    lines = (row.removeprefix(b"line ").split(b":") for row in case.asks.splitlines())
+    return {int(line): [int(size) for size in sizes.split()] for line, sizes in lines}
+
+
+def requests(case):
+    """The requests after those for the words: the number of a line, or a word for what it is for, and its size."""
+    yield "output", OUTPUT_BUFFER
+    if case.end == USAGE:
+        return
+    yield from (("input", room) for room in rooms_of_input(case.data))
+    count = len(lines_of(case.data))
+    if case.end == UNREADABLE or count == 0:
+        return
+    yield "commands", COMMAND * count
+    if case.end[0] == 0:
+        yield "replies", REPLY * count
+        yield from ((line, size) for line, sizes in sorted(asks_of_lines(case).items()) for size in sizes)
+
+
+def wrong_asks(case):
+    """The lines of a case that have other requests than by the rules, with these."""
+    asks = asks_of_lines(case)
+    if case.end[0] != 0:
+        return asks
+    wanted = enumerate(Run(case.words[0], map(command_of, lines_of(case.data))).asks, 1)
+    return {line: sizes for line, sizes in wanted if sizes is not ANY and list(sizes) != asks.get(line, [])}
+
+
+def end_when_refused(case, purpose, is_last_of_words):
+    """How the run must end with a request refused."""
+    match purpose:
+        case "words" if not is_last_of_words:
+            return USAGE
+        case "commands" if case.end[0] != 0:
+            # A bad line is reported whatever memory is refused for the commands.
+            return case.end
+        case "input" | "commands" | "replies":
+            return OUT_OF_MEMORY
+        case "words" | "output":
+            # Room for the list of words is asked for ahead, and again as it fills; unbuffered output needs none.
+            return case.end
+    return answer(case.words, case.data, refused=purpose)
+
+
+def asked_again(program, case, number, purpose, asks):
+    """What was asked for after a refused request, by the call that was refused."""
+    if purpose in ("input", "commands", "replies"):
+        return asks[number:]
+    if purpose == "output":
+        return [] if asks[number:] == [size for _, size in requests(case)][1:] else asks[number:]
+    lines = lines_of(case.data)
+    if purpose == "words" or lines[purpose - 1] == b"shrink":
+        return []
+    # No line comes after the refused one, so that each further request is its own.
+    data = b"\n".join(lines[:purpose])
+    number -= len(rooms_of_input(case.data)) - len(rooms_of_input(data))
+    return program.run_with_asks(case.words, data, number)[1][number:]
+
+
+def try_case(program, path):
+    """A case, and again with each of its requests for memory refused."""
+    case = Case.read(path, [b"string"])
+    name = case.name
+    yield f"{name}, the case by the rules", answer(case.words, case.data), case.end
+    yield f"{name}, its lines that ask for something else", wrong_asks(case), {}
+    yield name, program.run(case.words, case.data), case.end
+    ended, asks = program.run_with_asks(case.words, case.data)
+    yield f"{name}, its requests told", ended, case.end
+    words = asks.index(OUTPUT_BUFFER) if OUTPUT_BUFFER in asks else len(asks)
+    wanted = list(requests(case))
+    yield f"{name}, what it asks for after the words, by {wanted}", asks[words:], [size for _, size in wanted]
+    purposes = ["words"] * words + [purpose for purpose, _ in wanted]
+    for number, (purpose, size) in enumerate(zip(purposes, asks), 1):
+        refused = f"{name}, request {number} for {purpose} ({size} bytes) refused"
+        ended, after = program.run_with_asks(case.words, case.data, number)
+        yield refused, ended, end_when_refused(case, purpose, number == words)
+        yield f"{refused}: asked again", asked_again(program, case, number, purpose, after), []
+
+
+def try_answer(program, name, words, data):
+    yield f"{name} over {words}", program.run(words, data), answer(words, data)
+
+
+def try_bad_line(program, row):
+    for word in BACKENDS:
+        for data, number in ((row + b"\n", 1), (row, 1), (b"i a\n" + row + b"\nx\n", 2)):
+            # Without a newline the empty line is no line.
+            if data:
+                yield f"bad line {row!r}", program.run([word], data), bad_line(number)
+
+
+def try_unknown_word(program, row):
+    # Told before input that is not UTF-8, and before a bad line.
+    for data in (b"i a\n", b"\xff", b"x\n", b""):
+        yield f"word {row!r}", program.run([row], data), USAGE
+        yield f"second word {row!r}", program.run([b"string", row], data), USAGE
+
+
+def try_no_text(program, row):
+    for word in BACKENDS:
+        # At the start, in a text, at the end, and after a bad line.
+        for data in (row + b"\n", b"i " + row + b"\n", b"i a\ni a" + row, b"x\ni a" + row):
+            yield f"bytes {row!r}", program.run([word], data), UNREADABLE
+
+
+TABLES = {"bad_lines": try_bad_line, "unknown_words": try_unknown_word, "bytes_that_are_not_utf8": try_no_text}
+
+SEED = 20250817
+TEXTS = [b"", b"a", b"b", b" ", b"a ", b"\r", b"\0", b"len", "é".encode(), "\U0001f418".encode(), b"Tiger", b"Horse"]
+PIECES = [b"i ", b"g ", b"r ", b"n ", b"i a", b"g a", b"len", b"shrink", b"\n", b"\n", b"\n", b"a", b"0", b"1", b" ", b"\r",
+          b"+", "é".encode()]
+
+
+def random_text(source):
+    if source.random() < 0.3:
+        return source.choice(TEXTS)
+    letter = source.choice([b"x", b"\x01", b"\x02", b"\x7f", "é".encode()])
+    return b"%d" % source.randrange(400) + letter * source.choice([0, 0, 0, 1, 2, 3, 130])
+
+
+def random_command(source, line):
+    match source.choice("iiiiiigggrrrnnls"):
+        case "i" | "g" as word:
+            return word.encode() + b" " + random_text(source)
+        case "r":
+            return b"r %d" % source.randrange(line + 2)
+        case "n":
+            return b"n %d" % source.choice([source.randrange(500), source.randrange(8000), 2**32 - 2, 2**64 - 1])
+        case "l":
+            return b"len"
+    return b"shrink"
+
+
+def try_random_commands(program, number, word):
+    """Commands on a backend, once with all memory and once with a request refused."""
+    source = random.Random(SEED + number)
+    lines = [random_command(source, line) for line in range(2000)]
+    data = b"\n".join(lines)
+    wanted, name = answer([word], data), f"random commands {number} over {word}"
+    ended, asks = program.run_with_asks([word], data)
+    yield name, ended, wanted
+    refused = source.randrange(1, len(asks) + 1)
+    ended, _ = program.run_with_asks([word], data, refused)
+    replies = ended.output.split(b"\n")
+    if b"no memory" in replies:
+        wanted = answer([word], data, refused=replies.index(b"no memory") + 1)
+    elif refused <= asks.index(OUTPUT_BUFFER):
+        wanted = USAGE if ended.status != 0 else wanted
+    elif asks.index(OUTPUT_BUFFER) + 1 < refused <= asks.index(REPLY * len(lines)) + 1:
+        wanted = OUT_OF_MEMORY
+    yield f"{name}, request {refused} refused", ended, wanted
+
+
+def try_short_inputs(program, number):
+    """Up to eight pieces of lines, among them bytes of any value. Each status is met often."""
+    source, met = random.Random(SEED - number), [0, 0, 0]
+    for _ in range(500):
+        pieces = [source.choice(PIECES) if source.randrange(19) else bytes([source.randrange(256)])
+                  for _ in range(source.randrange(9))]
+        words, data = [source.choice(BACKENDS)], b"".join(pieces)
+        wanted = answer(words, data)
+        met[wanted[0]] += 1
+        yield f"the input {data!r} over {words}", program.run(words, data), wanted
+    yield f"short inputs {number}: the statuses that are met less than 25 times of {met}", [it for it in met if it < 25], []
+
+
+def try_hostile_bytes(program, number):
+    """Bytes of any value, or of small ones, or of ASCII."""
+    source = random.Random(number)
+    greatest = source.choice([2, 128, 256])
+    data = bytes(source.randrange(greatest) for _ in range(source.randrange(5000)))
+    yield from try_answer(program, f"hostile bytes {number}", [source.choice(BACKENDS)], data)
+
+
+def large_inputs():
+    """The name of each, the input, and how many requests its lines may make: none that grows with known texts."""
+    texts, known, few = b"".join(b"i %d\n" % number for number in range(MANY)), b"i Tiger\n", 200
+    yield "new texts", texts, few
+    yield "one text", known * MANY, 3
+    yield "look-ups", known + b"g Tiger\n" * MANY, 3
+    yield "look-ups of unknown texts", texts.replace(b"i", b"g"), 0
+    yield "earlier replies", known + b"r 0\n" * MANY, 3 + MANY
+    yield "no replies", known + b"r %d\n" % MANY * MANY, 3
+    yield "numbers", texts + b"".join(b"n %d\n" % number for number in range(0, MANY, 7)), few + MANY
+    yield "numbers without a text", b"n 4294967295\n" * MANY, 0
+    yield "lengths", b"len\n" * MANY, 0
+    yield "shrinking", (b"i a\nshrink\n" + b"i b\nshrink\n") * (MANY // 4), 4 * 5
+    yield "a text of a mebibyte", b"i " + b"a" * MEBIBYTE + b"\nr 0\nlen\ng " + b"a" * MEBIBYTE + b"\n", 4
+    yield "a number with a million zeros before it", b"i a\ni b\nn " + b"0" * 1000000 + b"1\n", 2 * 3 + 1
+    yield "a number of a million digits", b"i a\nn " + b"1" * 1000000, 0
+    yield "a bad line of a mebibyte", b"i a\n" + b"a" * MEBIBYTE + b"\n", 0
+    yield "a million empty lines", b"i a\n" + b"\n" * 1000000, 0
+    yield "a bad line after a mebibyte", b"i a\ni " + b"a" * MEBIBYTE + b"\nx\nlen", 0
+    yield "bad lines", b"x\n" * MANY, 0
+    yield "a bad line at the end", known * (MANY - 1) + b"x\n", 0
+
+
+def try_large(program, name, data, allowed, word):
+    name, wanted = f"{name} over {word}", answer([word], data)
+    yield name, program.run([word], data), wanted
+    ended, asks = program.run_with_asks([word], data)
+    yield f"{name}, its requests told", ended, wanted
+    # Beside those of the lines: the words, the output, the commands and replies, and an input that doubles.
+    allowed += 8 + 2 + len(data).bit_length()
+    yield f"{name}: more than {allowed} requests for memory", asks[allowed:], []
+    most = 2 * (REPLY * (data.count(b"\n") + 1) + len(data)) + OUTPUT_BUFFER
+    yield f"{name}: requests for more than {most} bytes", [size for size in asks if size > most], []
+
+
+def unreadable(_):
+    return UNREADABLE[2]
+
+
+def unwritable(_):
+    return UNWRITABLE
+
+
+COMMANDS = b"i Tiger\ng Bear\nr 0\nlen\nshrink\nr 9\n"
+LONG = COMMANDS + b"r 0\n" * 30000
+STREAMS = Streams(
+    answered=(
+        ([b"string"], COMMANDS, b"symbol 0\nnone\ntext Tiger\nlen 1\nok\nno reply\n"),
+        ([b"buffer"], b"i Tiger\nn 1\nn 6\nr 5\nr 1\nr 0\nlen\nshrink\n",
+         b"symbol 0\nnone\nnone\nno reply\nno reply\ntext Tiger\nlen 1\nok\n"),
+        ([b"buffer"], "i é\ni a\nr 0\nlen".encode(), "symbol 0\nsymbol 3\ntext é\nlen 2\n".encode()),
+        ([b"bucket"], b"i \nr 0\n", b"symbol 0\ntext \n"),
+        ([b"string"], b"", b""),
+    ),
+    failing=(([b"string"], b"x\n"), ([b"string"], b"i a\nx\ni \xc3\xa9\nlen\n\xff\n")),
+    long=([b"string"], LONG, answer([b"string"], LONG)[1]),
+    unreadable=unreadable,
+    unwritable=unwritable,
+    buffer=OUTPUT_BUFFER,
+)
+
+
+def parts():
+    """The trials, by the name of their part."""
+    return {
+        "cases": cases(CASES, try_case),
+        "tables": rows(CASES, TABLES),
+        "streams": STREAMS.trials(),
+        "random": [
+            *((try_random_commands, number, word) for number in range(100) for word in BACKENDS),
+            *((try_short_inputs, number) for number in range(20)),
+            *((try_hostile_bytes, number) for number in range(300)),
+        ],
+        "scale": ((try_large, *given, word) for given in large_inputs() for word in BACKENDS),
+    }

@@ -1,0 +1,124 @@
+"""What the program `intern` answers, reckoned from a list of distinct texts."""
+
+BACKENDS = (b"string", b"bucket", b"buffer")
+GREATEST_SYMBOL = 2**32 - 2
+
+USAGE = (2, b"", b"usage: intern string|bucket|buffer\n")
+UNREADABLE = (1, b"", b"cannot read input\n")
+OUT_OF_MEMORY = (1, b"", b"out of memory\n")
+UNWRITABLE = b"cannot write output\n"
+# What a line asks for where no rule tells how much room it needs.
+ANY = None
+
+
+def bad_line(number):
+    return 2, b"", b"bad line %d\n" % number
+
+
+def lines_of(data):
+    """The lines. A newline at the very end begins no further one."""
+    lines = data.split(b"\n")
+    return lines[:-1] if lines[-1] == b"" else lines
+
+
+def command_of(line):
+    """The word and the argument of a command, or nothing for a bad line."""
+    word, space, rest = line.partition(b" ")
+    if not space:
+        return (word, None) if word in (b"len", b"shrink") else None
+    if word in (b"i", b"g"):
+        return word, rest
+    digits = rest.lstrip(b"0")
+    if word in (b"r", b"n") and rest.isdigit() and len(digits) <= 20 and int(digits or b"0") < 2**64:
+        return word, int(digits or b"0")
+    return None
+
+
+def spelled(length):
+    """A length in base 128, its lowest digit first, with bit 7 set on all digits but the last."""
+    digits = bytearray()
+    while length >= 128:
+        digits.append(128 + length % 128)
+        length //= 128
+    return bytes([*digits, length])
+
+
+def read_at(entries, number):
+    """The text that is read in a byte buffer at any number: a length of at most ten digits, then its bytes."""
+    length = 0
+    for count, digit in enumerate(entries[number:number + 10]):
+        length += digit % 128 * 128**count
+        if digit < 128:
+            text = bytes(entries[number + count + 1:number + count + 1 + length])
+            return text if len(text) == length < 2**64 and is_text(text) else None
+    return None
+
+
+def is_text(data):
+    try:
+        return data.decode("utf-8") is not None
+    except UnicodeDecodeError:
+        return False
+
+
+class Run:
+    """Commands on an empty list of distinct texts over a backend, where the memory that one line asks for is refused.
+
+    Of each line it has the reply, the number that the reply tells, and the sizes of its requests for memory.
+    """
+
+    def __init__(self, backend, commands, refused=None):
+        self.is_buffer = backend == b"buffer"
+        self.known, self.texts, self.entries = {}, [], bytearray()
+        self.replies, self.numbers, self.asks = [], [], []
+        for line, (word, argument) in enumerate(commands, 1):
+            number, reply, asks = self.step(word, argument, line == refused)
+            if reply is None:
+                reply = b"none" if number is None else b"symbol %d" % number
+            self.replies.append(reply)
+            self.numbers.append(number)
+            self.asks.append(asks)
+
+    def step(self, word, argument, is_refused):
+        """The number that a command tells, its reply where it is of another kind, and what it asks for."""
+        match word:
+            case b"i" if argument not in self.known:
+                return (None, b"no memory", ANY) if is_refused else (self.intern(argument), None, ANY)
+            case b"i" | b"g":
+                return self.known.get(argument), None, ()
+            case b"r" if argument >= len(self.numbers) or self.numbers[argument] is None:
+                return None, b"no reply", ()
+            case b"r":
+                return self.read(self.numbers[argument], is_refused)
+            case b"n":
+                return self.read(argument, is_refused)
+            case b"len":
+                return None, b"len %d" % len(self.texts), ()
+        return None, b"ok", ANY
+
+    def intern(self, text):
+        self.known[text] = len(self.entries) if self.is_buffer else len(self.texts)
+        self.texts.append(text)
+        self.entries += spelled(len(text)) + text
+        return self.known[text]
+
+    def read(self, number, is_refused):
+        text = None
+        if number <= GREATEST_SYMBOL:
+            text = read_at(self.entries, number) if self.is_buffer else [*self.texts[number:number + 1], None][0]
+        if not text:
+            return None, b"none" if text is None else b"text ", ()
+        return None, b"no memory" if is_refused else b"text " + text, (len(text),)
+
+
+def answer(words, data, refused=None):
+    """The status, standard output and standard error. The memory that the line `refused` asks for is refused."""
+    if len(words) != 1 or words[0] not in BACKENDS:
+        return USAGE
+    if not is_text(data):
+        return UNREADABLE
+    commands = [command_of(line) for line in lines_of(data)]
+    if None in commands:
+        return bad_line(commands.index(None) + 1)
+    replies = Run(words[0], commands, refused).replies
+    return 0, b"".join(reply + b"\n" for reply in replies), b""

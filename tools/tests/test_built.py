@@ -1,0 +1,111 @@
+"""Runs of a built program, for which scripts of a shell stand here."""
+
+import os
+import shutil
+import tempfile
+import unittest
+import unittest.mock
+from pathlib import Path
+
+import small  # brings the tools into reach
+from built import HELD, End, Program, holding, without_held
+from trials import Tally, outcome
+
+
+class ScriptTest(unittest.TestCase):
+    def program(self, script):
+        """A program over a library that does nothing."""
+        folder = tempfile.TemporaryDirectory()
+        self.addCleanup(folder.cleanup)
+        program = Program.__new__(Program)
+        program.path, program.library = f"{folder.name}/program", ""
+        Path(program.path).write_text(f"#!/bin/sh\n{script}\n")
+        os.chmod(program.path, 0o755)
+        return program
+
+    def test_an_end(self):
+        program = self.program('cat; echo "$1" >&2; exit 3')
+        self.assertEqual(program.run([b"a b"], b"in\xff"), (3, b"in\xff", b"a b\n"))
+        self.assertEqual(program.run([b"a"], b"in", is_joined=True), (3, b"ina\n", b""))
+        with holding(b"file") as file:
+            self.assertEqual(program.run([b"a"], file).output, b"file")
+
+    def test_settings_are_all_of_the_environment(self):
+        program = self.program('echo "$REFUSE $HOME"')
+        self.assertEqual(program.run([], REFUSE=2).output, b"2 \n")
+        self.assertEqual(program.run([]).output, b" \n")
+
+    def test_a_run_without_end(self):
+        self.assertIsNone(self.program("exec sleep 9").run([], seconds=0.1).status)
+
+    def test_asks(self):
+        program = self.program("printf 'asks 8\\nword\\nasks 16\\nrequest refused\\nholds 0\\n' >&2")
+        self.assertEqual(program.run_with_asks([], b"", 2), (End(0, b"", b"word\n"), [8, 16]))
+
+    def test_memory_that_is_held_at_the_end(self):
+        program = self.program("printf 'asks 8\\nholds 1\\n' >&2")
+        self.assertEqual(program.run_with_asks([], b""), (End(0, b"", b"holds 1\n" + HELD), [8]))
+        self.assertEqual(without_held(b"holds 0\nlate\n"), b"holds 0\nlate\n" + HELD)
+        self.assertEqual(program.run([], is_joined=True, TELL_HELD=1).output, b"asks 8\nholds 1\n" + HELD)
+
+
+@unittest.skipUnless(shutil.which("rt"), "no toolchain")
+class FailuresTest(unittest.TestCase):
+    """The library that has reading, writing and memory fail, before programs of the system."""
+
+    @classmethod
+    def setUpClass(cls):
+        cls.folder = tempfile.TemporaryDirectory()
+        cls.addClassCleanup(cls.folder.cleanup)
+        cls.program = Program(shutil.which("cat"), cls.folder.name)
+
+    def test_input_that_breaks_off(self):
+        ended = self.program.run([], b"abcdef", READ_BYTES=3)
+        self.assertEqual((ended.status, ended.output), (1, b"abc"))
+        self.assertIn(b"onnection reset", ended.error)
+
+    def test_output_that_breaks_off(self):
+        self.assertEqual(self.program.run([], b"abcdef", WRITE_BYTES=2), (0, b"abcdef", b""))
+        self.assertEqual(self.program.run([], b"abcdef", WRITE_BYTES=2, BROKEN_WRITE=3, ERROR=28)[:2], (1, b"abcd"))
+
+    def test_requests_are_told_and_refused(self):
+        _, asks = self.program.run_with_asks([], b"")
+        self.assertTrue(asks and all(size > 0 for size in asks))
+        ended, after = self.program.run_with_asks([], b"a", len(asks))
+        self.assertEqual(after[:len(asks)], asks)
+        self.assertNotEqual(ended, self.program.run([], b"a"))
+
+
+class OutcomeTest(unittest.TestCase):
+    def outcome(self, *compared, error=None):
+        def trial(_):
+            yield from compared
+            if error:
+                raise error
+
+        return outcome(None, (trial,))
+
+    def test_what_differs_is_a_fault(self):
+        ends = ("it", End(1, b"out", b"err"), (1, b"out", b""))
+        self.assertEqual(self.outcome(("same", 1, 1), ends, ("list", [1], [])),
+                         (["it: error b'err' in the place of error b''", "list: [1] in the place of []"], 3))
+
+    def test_the_first_line_that_differs_is_told(self):
+        found, wanted = (0, b"a\nb\nc\n", b""), (0, b"a\nx\nc\n", b"")
+        self.assertEqual(self.outcome(("it", found, wanted))[0], ["it: b'b' in the place of b'x'"])
+        self.assertEqual(self.outcome(("it", (0, b"a", b""), (0, b"a\n", b"")))[0], ["it: nothing in the place of b''"])
+        self.assertEqual(self.outcome(("it", b"a\nb", b"a\nc"))[0], ["it: b'b' in the place of b'c'"])
+
+    def test_a_trial_that_cannot_be_made_is_a_fault(self):
+        faults, count = self.outcome(("same", 1, 1), error=ValueError("no such request"))
+        self.assertEqual(count, 2)
+        self.assertRegex(faults[0], "(?s)^same, and then: .*ValueError: no such request")
+        self.assertTrue(self.outcome(error=KeyError(3))[0][0].startswith("trial [], and then: "))
+
+    def test_nothing_tried_is_a_failure(self):
+        with unittest.mock.patch("builtins.print"):
+            self.assertEqual(Tally().end(), 1)
+
+
+if __name__ == "__main__":
+    unittest.main()

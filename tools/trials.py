@@ -1,0 +1,71 @@
+"""Trials of a built program, which run over all processors.
+
+A trial is a function with what it gets after the program. It yields for each thing that it sees a name, what was found, and
+what is wanted.
+"""
+
+import time
+import traceback
+from concurrent.futures import ProcessPoolExecutor
+from functools import partial
+from itertools import zip_longest
+
+from machine import PROCESSORS
+
+SHOWN_FAULTS = 20
+
+
+def lines_of(value):
+    """The lines of a value that are compared: of how a run ended its status, and those of standard error and output."""
+    match value:
+        case status, bytes(output), bytes(error):
+            return [f"status {status}", *(f"error {line}" for line in error.split(b"\n")), *output.split(b"\n")]
+        case bytes():
+            return value.split(b"\n")
+    return [value]
+
+
+def difference(found, wanted):
+    """The first line in which two values differ."""
+    pairs = zip_longest(lines_of(found), lines_of(wanted), fillvalue="nothing")
+    one, other = next(pair for pair in pairs if pair[0] != pair[1])
+    return f"{str(one)[:300]} in the place of {str(other)[:300]}"
+
+
+def outcome(program, trial):
+    """The faults of a trial, and how many things it saw. What keeps it from going on is a fault, too."""
+    function, *given = trial
+    faults, count, name = [], 0, f"{function.__name__} {given}"[:200]
+    try:
+        for count, (name, found, wanted) in enumerate(function(program, *given), 1):
+            if found != wanted:
+                faults.append(f"{name}: {difference(found, wanted)}")
+    except Exception:
+        faults.append(f"{name}, and then: {traceback.format_exc(limit=-1)}")
+        count += 1
+    return faults, count
+
+
+class Tally:
+    """Counts what passed and what failed, part by part."""
+
+    def __init__(self):
+        self.passed = self.failed = 0
+
+    def run(self, what, program, trials):
+        """Runs a part, and prints its faults and how many things were compared."""
+        start = time.monotonic()
+        with ProcessPoolExecutor(PROCESSORS) as pool:
+            outcomes = list(pool.map(partial(outcome, program), trials))
+        faults = [fault for found, _ in outcomes for fault in found]
+        count = sum(count for _, count in outcomes)
+        print(*faults[:SHOWN_FAULTS], sep="\n", end="\n" * bool(faults))
+        print(f"{what}: {count} comparisons in {len(outcomes)} trials, {len(faults)} faults, "
+              f"{time.monotonic() - start:.1f} seconds", flush=True)
+        self.passed += count - len(faults)
+        self.failed += len(faults)
+
+    def end(self):
+        """Prints the count, and returns the status: 1 if anything failed, or nothing was tried."""
+        print(f"{self.passed} passed, {self.failed} failed")
+        return 1 if self.failed or not self.passed else 0
