@@ -7,6 +7,7 @@ from pathlib import Path
 from small import edits
 
 import scenarios
+from program import dictcol, intern
 
 
 class ReadEditTest(unittest.TestCase):
@@ -61,7 +62,7 @@ class PlantedBugsTest(unittest.TestCase):
                 if edit.crate == "string_interner":
                     self.assertLessEqual(set(edit.scenario), names)
                 else:
-                    self.assertIn(edit.scenario[0], ("cases", "tables", "streams", "random", "scale", "memory"))
+                    self.assertLessEqual(set(edit.scenario), set({"intern": intern, "dictcol": dictcol}[edit.crate].parts()))
 
 
 if __name__ == "__main__":
