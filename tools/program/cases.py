@@ -1,8 +1,4 @@
-"""Folders of cases, and of tables, which have a row for each of many inputs that end alike.
-
-What is tried of a program are trials: functions that get the program, and maybe more, and yield a name, what was found, and
-what is wanted.
-"""
+"""Folders of cases, and of tables, which have a row for each of many inputs that end alike."""
 
 from dataclasses import dataclass
 
@@ -48,13 +44,13 @@ def cases(folder, try_case):
     yield from ((try_case, path) for path in sorted((TOP / folder).glob("*.in")))
 
 
+def try_table(_, name, count):
+    yield f"{name} has rows", count > 0, True
+
+
 def rows(folder, tables):
     """The trials of a folder's tables: what tries a row, by the name of the table."""
     for name, try_row in tables.items():
         found = (TOP / folder / name).read_bytes().split(b"\n")[:-1]
-        yield has_rows, name, len(found)
+        yield try_table, name, len(found)
         yield from ((try_row, row) for row in found)
-
-
-def has_rows(_, name, count):
-    yield f"{name} has rows", count > 0, True

@@ -116,7 +116,8 @@ def output_that_breaks_off(program, streams):
 def reader_that_leaves(program, streams):
     """Its reader closes the output after the first line."""
     words, data, whole = streams.long
-    with holding(data) as given, subprocess.Popen([program.path, *words], stdin=given, stdout=-1, stderr=-1) as started:
+    pipe = subprocess.PIPE
+    with holding(data) as given, subprocess.Popen([program.path, *words], stdin=given, stdout=pipe, stderr=pipe) as started:
         line = started.stdout.readline()
         started.stdout.close()
         found = started.wait(SECONDS), line, started.stderr.read()
