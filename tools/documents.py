@@ -3,7 +3,8 @@
 
 - a link that leads to no file, or to no heading of its page;
 - a file in a code span or a command that is not there;
-- an identifier in a code span that no file of the repository has, if it has a capital or two words. docs/DIFFERENCES.md may name what the original has;
+- an identifier in a code span that no file of the repository has, if it has a capital or two words, except what
+  docs/DIFFERENCES.md names of the original;
 - a block of Rattle that stands in no crate to the word, at the margin or indented as a method, so that nothing proves it.
 """
 
@@ -46,25 +47,17 @@ class Repository:
         return [it for it in listed if (TOP / it).is_file()]
 
     @cached_property
-    def pages(self):
-        return [it for it in self.files if it.endswith(".md")]
-
-    @cached_property
     def words(self):
         """The words of all files but the pages, and of their names."""
-        words = set(re.findall(r"\w+", "\n".join(self.files)))
-        for name in self.files:
-            if not name.endswith((".md", ".svg")):
-                words |= set(re.findall(r"\w+", (TOP / name).read_text(encoding="utf-8", errors="replace")))
-        return words
+        named = (TOP / name for name in self.files if not name.endswith((".md", ".svg")))
+        texts = ["\n".join(self.files), *(path.read_text(encoding="utf-8", errors="replace") for path in named)]
+        return {word for text in texts for word in re.findall(r"\w+", text)}
 
     @cached_property
     def ends(self):
         """The ends of the paths of all files, with and without suffixes, and of all folders."""
-        paths = {PurePosixPath(name) for name in self.files}
-        without_suffix = {path.with_suffix("") for path in paths}
-        folders = {folder for path in paths for folder in path.parents}
-        return {"/".join(path.parts[i:]) for path in paths | without_suffix | folders for i in range(len(path.parts))}
+        paths = {it for path in map(PurePosixPath, self.files) for it in (path, path.with_suffix(""), *path.parents)}
+        return {"/".join(path.parts[i:]) for path in paths for i in range(len(path.parts))}
 
     def has_file(self, name):
         """Whether the path of a file or folder ends with these words, or whether they name what is built, or a
@@ -119,7 +112,7 @@ def unproved_blocks(page, text, repository):
 def faults():
     """What is wrong with the documents."""
     repository = Repository()
-    for page in repository.pages:
+    for page in filter(lambda it: it.endswith(".md"), repository.files):
         text = read(TOP / page)
         found = [*broken_links(page, text), *missing_names(page, text, repository), *unproved_blocks(page, text, repository)]
         yield from (f"{page}: {it}" for it in dict.fromkeys(found))
