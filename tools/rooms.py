@@ -62,7 +62,8 @@ class StringRoom:
 
     def __init__(self, memory, capacity=0):
         self.joined = Room(memory, 1, 5 * capacity)
-        self.ends = Room(memory, 8, capacity)
+        # No scenario has 4 GiB of texts, so ends are wide only if there was a capacity for as many.
+        self.ends = Room(memory, 4 if 5 * capacity < 2 ** 32 else 8, capacity)
 
     def add(self, text, _is_static):
         self.joined.add(len(text))

@@ -2,6 +2,7 @@ pub mod Symbol
 pub mod SymbolOrder
 pub mod Text
 pub mod Backend
+pub mod Ends
 pub mod StringBackend
 pub mod BucketBackend
 pub mod ByIndexLaws

@@ -1,33 +1,39 @@
 //! All texts joined in one string, with a list of their ends.
 
+mod ends;
+
 ghost use Rattle.std.specs.Prelude.{◌≡◌, ◌*◌, ◌^◌, max, ◌<◌, ◌≤◌, [], length, slice_get, Some, IfOk, OnOk, refl};
+ghost use Rattle.std.specs.Option.{option_copied};
 ghost use Rattle.std.specs.Cmp.{partial_equiv_from_equiv, on_equiv};
 ghost use Rattle.std.proofs.Common.{rules};
-ghost use Rattle.string_interner.specs.Backend.{Contents, Shrinks};
+ghost use Rattle.string_interner.specs.Backend.{Contents, IsValidList, Shrinks};
 ghost use Rattle.string_interner.specs.Text.{texts_eq, texts_eq-IsEquivalence};
 ghost use Rattle.string_interner.specs.Iter.{iter_over};
-ghost use Rattle.string_interner.specs.StringBackend.{cut, start_at, string_numbering, IsCut};
+ghost use Rattle.string_interner.specs.StringBackend.{string_numbering};
 ghost use Rattle.string_interner.specs.ByIndexLaws.{length_grows, reads_at_length};
 
 use crate::backend::{Backend, CopyBackend, InternError, Iter};
 use crate::symbol::{DefaultSymbol, Symbol};
+use ends::Ends;
 use std::alloc::{AllocError, Global};
 use std::marker::{Model, PhantomData};
 
 /// Stores all texts joined in one string, with the end of each.
 ///
-/// Places are 0, 1, 2, .. without gaps. A text takes its bytes and one `usize`. Interning appends a copy, and may move
-/// the string; resolving reads two ends and makes the slice.
+/// Places are 0, 1, 2, .. without gaps. A text takes its bytes and four bytes for its end, or eight from the first end
+/// on that does not fit 32 bits. Interning appends a copy, and may move the string; resolving reads two ends and makes
+/// the slice.
 #[derive(Drop)]
 pub struct StringBackend<S: Symbol = DefaultSymbol> {
     joined: String,
-    ends: Vec<usize>,
+    ends: Ends,
     symbols: PhantomData<S>,
 }
 
-/// Contracts see the texts, and as room the smaller of the spare bytes and five times the spare ends.
+/// Contracts see the texts, and as room the smallest of the spare bytes, five times the spare ends, and the bytes from
+/// the last end to the greatest that these can store.
 impl<S: Symbol> Model for StringBackend<S> {
-    ghost use Rattle.std.specs.Prelude.{◌-◌, ◌*◌, min, vec_len, vec_capacity};
+    ghost use Rattle.std.specs.Prelude.{◌-◌, ◌*◌, min};
     ghost use Rattle.std.specs.String.{string_bytes, string_len, string_capacity};
     ghost use Rattle.string_interner.specs.Backend.{Contents};
     ghost use Rattle.string_interner.specs.StringBackend.{cut, IsJoined};
@@ -37,30 +43,25 @@ impl<S: Symbol> Model for StringBackend<S> {
     ghost view = { λ b. record {
       texts = cut 0 (string_bytes b.joined) b.ends.items;
       room = min (string_capacity b.joined - string_len b.joined)
-          (5 * (vec_capacity b.ends - vec_len b.ends));
+          (min (5 * b.ends.spare) (b.ends.limit - string_len b.joined));
     } };
 
     ghost invariant = { λ b. IsJoined S.symbol_of (string_bytes b.joined) b.ends.items
         (cut 0 (string_bytes b.joined) b.ends.items) };
 }
 
-/// Returns the byte at which entry `index` begins: the end of the entry before it, or 0.
-#[inline]
-fn start_at(ends: &[usize], index: usize) -> usize
-    requires { index ≤ length ends.now }
-    ensures { result ≡ start_at ends.now index }
-{
-    if index == 0 { 0 } else { ends[index - 1] }
-}
-
-/// Returns the text of entry `index`.
-#[inline]
-fn text_at<'a>(joined: &'a str, ends: &[usize], index: usize) -> &'a str
-    requires parts { IsCut joined.now ends.now (cut 0 joined.now ends.now) }
-    requires within { index < length ends.now }
-    ensures { slice_get (cut 0 joined.now ends.now) index ≡ Some result.now }
-{
-    &joined[start_at(ends, index)..ends[index]]
+impl<S: Symbol> StringBackend<S> {
+    /// Returns the text of entry `index`, and `None` if there are at most `index` entries.
+    #[inline(always)]
+    fn text_at(&self, index: usize) -> Option<&str>
+        ensures text { option_copied result ≡ slice_get self.now.texts index }
+        ensures valid { IsValidList S.symbol_of length self.now.texts }
+    {
+        match self.ends.span_at(index) {
+            Some((start, end)) => Some(&self.joined[start..end]),
+            None => None,
+        }
+    }
 }
 
 #[tactic(auto, using(crate::proofs::Lemmas::StringBackend::IsCut::cut_length))]
@@ -78,7 +79,7 @@ impl<S: Symbol> Backend for StringBackend<S> {
     fn new(alloc: Global) -> Self {
         StringBackend {
             joined: String::new(alloc),
-            ends: Vec::new(alloc),
+            ends: Ends::new(alloc),
             symbols: PhantomData,
         }
     }
@@ -94,7 +95,7 @@ impl<S: Symbol> Backend for StringBackend<S> {
         let bytes = capacity.checked_mul(5).ok_or(AllocError)?;
         Ok(StringBackend {
             joined: String::with_capacity(alloc, bytes)?,
-            ends: Vec::with_capacity(alloc, capacity)?,
+            ends: Ends::with_capacity(alloc, capacity, bytes)?,
             symbols: PhantomData,
         })
     }
@@ -113,27 +114,24 @@ impl<S: Symbol> Backend for StringBackend<S> {
         self.joined
             .reserve(text.len())
             .map_err(InternError::Memory)?;
-        self.ends.reserve(1).map_err(InternError::Memory)?;
+        let end = self.joined.len() + text.len();
+        self.ends.reserve(end).map_err(InternError::Memory)?;
         self.joined.push_str(text).unwrap();
-        self.ends.push_reserved(self.joined.len());
+        self.ends.push_reserved(end);
         Ok(symbol)
     }
 
     fn resolve(&self, symbol: S) -> Option<&str> {
         let index = symbol.to_usize();
-        if index < self.ends.len() {
-            Some(text_at(self.joined.as_str(), &self.ends, index))
-        } else {
-            None
-        }
+        self.text_at(index)
     }
 
     fn resolve_unchecked(&self, symbol: S) -> &str {
-        text_at(self.joined.as_str(), &self.ends, symbol.to_usize())
+        self.text_at(symbol.to_usize()).unwrap()
     }
 
     fn entry_at(&self, at: usize) -> (S, &str, usize) {
-        let text = text_at(self.joined.as_str(), &self.ends, at);
+        let text = self.text_at(at).unwrap();
         (S::try_from_usize(at).unwrap(), text, at + 1)
     }
 
@@ -147,7 +145,7 @@ impl<S: Symbol> Backend for StringBackend<S> {
 
     fn truncate(&mut self, len: usize) {
         if len < self.ends.len() {
-            self.joined.truncate(start_at(&self.ends, len));
+            self.joined.truncate(self.ends.start_at(len));
             self.ends.truncate(len);
         }
     }
@@ -170,7 +168,7 @@ impl<S: Symbol> StringBackend<S> {
     {
         Ok(StringBackend {
             joined: self.joined.clone()?,
-            ends: Vec::from_slice(*self.ends.allocator(), &self.ends)?,
+            ends: self.ends.clone()?,
             symbols: PhantomData,
         })
     }

@@ -99,12 +99,13 @@ pub symbol_at : {S : Type 0} (symbol_of : ℕ → Option S) (texts : List Text) 
 symbol_at symbol_of texts at k h = let l : at ≤ length texts = omega arith in rw length-take-le at (k.has_symbols at h)
 
 -- one more text is stored
-pub stored-more : {S : Type 0} (symbol_of : ℕ → Option S) (bytes ends more_bytes more_ends : List ℕ) (t : Text) → IsJoined symbol_of bytes ends (cut 0 bytes ends) → IsUtf8 t → IsSome (symbol_of (length (cut 0 bytes ends))) → length ends + 1 < 2 ^ 64 → more_bytes ≡ bytes ++ t → more_ends ≡ ends ++ length more_bytes ∷ [] →
+pub stored-more : {S : Type 0} (symbol_of : ℕ → Option S) (bytes ends more_bytes more_ends : List ℕ) (t : Text) → IsJoined symbol_of bytes ends (cut 0 bytes ends) → IsUtf8 t → IsSome (symbol_of (length (cut 0 bytes ends))) → length more_ends < 2 ^ 64 → more_bytes ≡ bytes ++ t → more_ends ≡ ends ++ length more_bytes ∷ [] →
     (cut 0 more_bytes more_ends ≡ cut 0 bytes ends ++ t ∷ []) × IsJoined symbol_of more_bytes more_ends (cut 0 more_bytes more_ends)
 stored-more symbol_of bytes ends more_bytes more_ends t k u s small eb ee =
     let xs = cut 0 bytes ends in
     let n : length more_bytes ≡ length bytes + length t = rw eb (length-append bytes t) in
     let m : IsCut more_bytes more_ends (xs ++ t ∷ []) = rw (ee, n, eb) (cut-more bytes ends xs t k.parts u) in
+    let e : length more_ends ≡ length ends + 1 = rw ee (length_push ends (length more_bytes)) in
     let fits : length (xs ++ t ∷ []) < 2 ^ 64 = omega (arith, length_push xs t, cut_length 0 bytes ends) in
     let is = cut-IsCut more_bytes more_ends (xs ++ t ∷ []) m in
     (is, rw is (record { parts = m; valid = valid-more symbol_of length xs t k.valid u s fits }))

@@ -1,6 +1,6 @@
 -- Two lists are equal exactly where what they lie in is.
 -- Lists of texts that are compared index by index.
-use Rattle.std.proofs.Common.{ℕ, ◌≡◌, ◌∙◌, List, refl, sym, ap, Bool, true, false, ◌+◌, ◌<◌, [], length, take, Some, arith}
+use Rattle.std.proofs.Common.{ℕ, ◌≡◌, ◌∙◌, List, refl, sym, ap, Bool, true, false, ◌+◌, ◌<◌, [], length, take, drop, ◌++◌, Some, arith}
 use Rattle.std.specs.Prelude.{◌&&◌, slice_get, not}
 use Rattle.std.specs.Bool.{Decides}
 use Rattle.std.specs.Str.{bytes_eq}
@@ -8,7 +8,7 @@ use Rattle.std.proofs.lemmas.Slice.Eq.{bytes_eq-Decides, slice_eq-Decides}
 use Rattle.string_interner.specs.Text.{Text, texts_eq}
 use Rattle.string_interner.specs.StringBackend.{cut, joined, ends_of, IsCut}
 use Rattle.std.proofs.lemmas.Bool.{not-true, not-false}
-use Rattle.std.proofs.lemmas.List.{take_all, take_more_same}
+use Rattle.std.proofs.lemmas.List.{take_all, take_more_same, take_at, drop_at}
 use Rattle.std.proofs.lemmas.Option.{get_or_from_slice_get}
 
 pub texts_eq-Decides : (xs ys : List Text) → Decides (texts_eq xs ys) (xs ≡ ys)
@@ -33,9 +33,22 @@ cut_eq b c d e k l = same_tests (bytes_eq b c && bytes_eq d e) (texts_eq (cut 0 
     let g : d ≡ e = k.ends_are ∙ (ap (ends_of 0) s ∙ sym l.ends_are) in
     rw ((bytes_eq-Decides b c).1 f, (bytes_eq-Decides d e).1 g) refl)
 
+-- lists that are divided at the same length are equal exactly where both parts are
+pub bytes_eq-append : (a b c d : List ℕ) → length a ≡ length c → (bytes_eq a c && bytes_eq b d) ≡ bytes_eq (a ++ b) (c ++ d)
+bytes_eq-append a b c d n = same_tests (bytes_eq a c && bytes_eq b d) (bytes_eq (a ++ b) (c ++ d))
+    (λ h. let t = both (bytes_eq a c) (bytes_eq b d) h in (bytes_eq-Decides (a ++ b) (c ++ d)).1 (rw ((bytes_eq-Decides a c).0 t.0, (bytes_eq-Decides b d).0 t.1) refl))
+    (λ h. let s = (bytes_eq-Decides (a ++ b) (c ++ d)).0 h in
+    let f : a ≡ c = sym (take_at a b (length a) refl) ∙ (ap (λ (l : List ℕ). take (length a) l) s ∙ take_at c d (length a) (sym n)) in
+    let g : b ≡ d = sym (drop_at a b (length a) refl) ∙ (ap (λ (l : List ℕ). drop (length a) l) s ∙ drop_at c d (length a) (sym n)) in
+    rw ((bytes_eq-Decides a c).1 f, (bytes_eq-Decides b d).1 g) refl)
+
 false_unless : (b : Bool) → (b ≡ true → false ≡ true) → false ≡ b
 false_unless true h = h refl
 false_unless false h = refl
+
+-- lists of numbers that are the same up to their length
+pub bytes_eq-same : (xs ys : List ℕ) (n : ℕ) → length xs ≡ n → length ys ≡ n → take n xs ≡ take n ys → true ≡ bytes_eq xs ys
+bytes_eq-same xs ys n hx hy same = sym ((bytes_eq-Decides xs ys).1 (sym (take_all n xs (omega arith)) ∙ (same ∙ take_all n ys (omega arith))))
 
 some_same : (x y : Text) → Some x ≡ Some y → x ≡ y
 some_same x y e = cc

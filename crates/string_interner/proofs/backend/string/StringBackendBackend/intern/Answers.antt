@@ -1,4 +1,4 @@
-use Rattle.std.proofs.Common.{◌≡◌, ◌++◌, ◌∷◌, [], arith, rules, ap, ◌∙◌}
+use Rattle.std.proofs.Common.{◌≡◌, ◌++◌, ◌∷◌, [], rules, ap, ◌∙◌}
 use Rattle.std.specs.String.{string_bytes}
 use Rattle.string_interner.specs.StringBackend.{cut, IsJoined}
 use Rattle.string_interner.specs.Backend.{Contents}
@@ -9,7 +9,7 @@ use Rattle.string_interner.proofs.backend.string.StringBackendBackend.intern.Giv
 
 -- the text is stored
 stored : (g : Over) (c : After-push_reserved g) → (cut 0 (string_bytes c.push_str.new.self) c.push_reserved.new.self.items ≡ cut 0 (string_bytes c.self.inside.joined) c.self.inside.ends.items ++ c.args.text.now ∷ []) × IsJoined g.S.Symbol.symbol_of (string_bytes c.push_str.new.self) c.push_reserved.new.self.items (cut 0 (string_bytes c.push_str.new.self) c.push_reserved.new.self.items)
-stored g c = stored-more g.S.Symbol.symbol_of _ _ _ _ _ c.self.invariant c.utf8.text (rw (ap (λ (b : Contents). b.texts) c.self.view_is) (search rules)) (omega (arith, c.push_reserved.new.self.small, c.push_reserved.new.self.ok.1, c.push_reserved.new.self.ok.0, c.push_reserved.ensures.len, c.self.inside.ends.ok.0)) (search rules) (search rules)
+stored g c = stored-more g.S.Symbol.symbol_of _ _ _ _ _ c.self.invariant c.utf8.text (rw (ap (λ (b : Contents). b.texts) c.self.view_is) (search rules)) c.push_reserved.ensures.fits (search rules) (search rules)
 
 pub invariant_of-self-2 : goal.invariant_of-self-2
 invariant_of-self-2 g c = (stored g c).1
