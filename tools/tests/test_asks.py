@@ -23,8 +23,8 @@ class AnswersTest(unittest.TestCase):
 
     def test_another_size(self):
         calls = b"interner string SymbolU32 default\nget_or_intern Tiger\n"
-        self.assertEqual(list(split_asks(calls, b"asks 64\nasks 8\nasks 32\nsymbol 0\n")), [([], [64, 8, 32])])
-        for asks in (b"asks 64\nasks 8\n", b"asks 64\nasks 9\nasks 32\n", b"asks 8\nasks 64\nasks 8\nasks 32\n"):
+        self.assertEqual(list(split_asks(calls, b"asks 64\nasks 8\nasks 16\nsymbol 0\n")), [([], [64, 8, 16])])
+        for asks in (b"asks 64\nasks 8\n", b"asks 64\nasks 9\nasks 16\n", b"asks 8\nasks 64\nasks 8\nasks 16\n"):
             with self.subTest(asks), self.assertRaises(ValueError):
                 list(split_asks(calls, asks + b"symbol 0\n"))
 
@@ -36,7 +36,7 @@ class AnswersTest(unittest.TestCase):
 class TaggedTest(unittest.TestCase):
     def test_three_requests_for_slots(self):
         calls = b"interner string Even default\nwith_capacity 7\n"
-        self.assertEqual(asks_with_tags(calls, b"asks 64\nasks 35\nasks 56\nok\n"), [[16, 32, 24, 35, 56]])
+        self.assertEqual(asks_with_tags(calls, b"asks 64\nasks 35\nasks 28\nok\n"), [[16, 32, 24, 35, 28]])
 
     def test_seven_eighths(self):
         calls = b"interner buffer SymbolU32 default\nextend_numbers 8\n"
@@ -50,18 +50,18 @@ class TaggedTest(unittest.TestCase):
 
     def test_scopes(self):
         calls = b"scopes string SymbolU32 default\nenter\ndeclare b\nleave\n"
-        self.assertEqual(asks_with_tags(calls, b"asks 32\nok\nasks 64\nasks 8\nasks 32\nsymbol 0\ntrue\n"),
-                         [[32], [32, 32, 24, 8, 32], []])
+        self.assertEqual(asks_with_tags(calls, b"asks 32\nok\nasks 64\nasks 8\nasks 16\nsymbol 0\ntrue\n"),
+                         [[32], [32, 32, 24, 8, 16], []])
 
 
 class BadLineTest(unittest.TestCase):
     def test_calls_before_it(self):
         calls = b"interner string SymbolU32 default\nget_or_intern a\nnumbers x\nget_or_intern b\n"
-        self.assertEqual(reckon(calls, b"asks 64\nasks 8\nasks 32\nsymbol 0\nline 3: not a number\n"), [[64, 8, 32]])
+        self.assertEqual(reckon(calls, b"asks 64\nasks 8\nasks 16\nsymbol 0\nline 3: not a number\n"), [[64, 8, 16]])
 
     def test_blocks_before_it(self):
         calls = b"run string SymbolU32 default\nIntern a\n\nLen\nLen\nget a\n"
-        self.assertEqual(reckon(calls, b"symbol 0\n1\nline 6: unknown word\n"), [[32, 64, 8, 32]])
+        self.assertEqual(reckon(calls, b"symbol 0\n1\nline 6: unknown word\n"), [[32, 64, 8, 16]])
         self.assertEqual(reckon(calls, b"line 2: unknown word\n"), [])
 
 
