@@ -1,12 +1,14 @@
 -- What the steps of the index do to its slots.
 -- Cited by the functions of `dedup` that stay within the crate, by `Layout.antt`, and by the clause `vacant` of
 -- `Table::reserve_one`.
-use Rattle.std.specs.Prelude.{◌≡◌, ℕ, ◌<◌, ◌≤◌, ◌%◌, ◌+◌, ◌⊎◌, List, length, slice_index_or, slice_set, Contains, Option, Some, None}
+use Rattle.std.specs.Prelude.{◌≡◌, ℕ, ◌<◌, ◌≤◌, ◌%◌, ◌+◌, ◌⊎◌, Bool, true, false, List, length, slice_index_or, slice_set, Contains, Option, Some, None}
 use Rattle.string_interner.specs.Text.{Text}
 use Rattle.string_interner.specs.Slots.{symbols, filled_run, probed}
 use Rattle.string_interner.specs.LoadFactor.{IsSlotCount}
 use Rattle.string_interner.specs.Index.{Fits}
 use Rattle.string_interner.specs.declared.dedup.probe.Vacancy.{Vacancy}
+use Rattle.string_interner.specs.declared.dedup.probe.Step.{Step}
+use Rattle.string_interner.specs.declared.dedup.probe.Step.TheVariants.{Found, Free, On}
 
 -- the slot count is allowed, and a slot is empty
 pub record HasFreeSlot {S : Type 0} (slots : List (Option S)) : Type 0 where
@@ -25,6 +27,25 @@ pub record FillsSlot {S : Type 0} (old new : List (Option S)) (home : ℕ) (symb
 pub record Follows (count at next : ℕ) : Type 0 where
   pub within : next < count
   pub one_on : (next ≡ at + 1) ⊎ ((next ≡ 0) × (at + 1 ≡ count))
+
+-- the slot is filled, and its symbol fails the test
+pub record Misses {S : Type 0} (test : S → Bool) (slots : List (Option S)) (at : ℕ) : Type 0 where
+  pub symbol : S
+  pub filled : slice_index_or slots at None ≡ Some symbol
+  pub fails : test symbol ≡ false
+
+-- the slots from `at` on and before `to` miss
+pub record Passes {S : Type 0} (test : S → Bool) (slots : List (Option S)) (at to : ℕ) : Type 0 where
+  pub ordered : at ≤ to
+  pub within : to < length slots
+  pub missed : (k : ℕ) → at ≤ k → k < to → Misses test slots k
+
+-- Where a step of a probe leads that begins at slot `at`: to the first slot that does not miss, whose symbol passes the
+-- test or which is empty; or on to a slot before which all miss.
+abbrev pub StepsTo : {S : Type 0} → (S → Bool) → List (Option S) → ℕ → Step S → Type 0
+StepsTo test slots at (Found symbol) = (k : ℕ) × Passes test slots at k × (slice_index_or slots k None ≡ Some symbol) × (test symbol ≡ true)
+StepsTo test slots at (Free k) = Passes test slots at k × (slice_index_or slots k None ≡ None)
+StepsTo test slots at (On next) = (k : ℕ) × Passes test slots at k × Misses test slots k × Follows (length slots) k next
 
 -- the slot is empty, and in the probe cluster from the home on once it is filled
 abbrev pub IsFree : {S : Type 0} → List (Option S) → ℕ → ℕ → Type 0

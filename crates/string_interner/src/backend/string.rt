@@ -108,6 +108,7 @@ impl<S: Symbol> Backend for StringBackend<S> {
         S::try_from_usize(self.ends.len())
     }
 
+    #[inline(always)]
     fn intern(&mut self, text: &str) -> Result<S, InternError> {
         let symbol = self.next_symbol().ok_or(InternError::NoSymbol)?;
         // Allocates before it stores anything, so that nothing changes on `Err`.

@@ -6,7 +6,8 @@ ghost use Rattle.string_interner.specs.Entry.{entry_text};
 ghost use Rattle.string_interner.specs.Slots.{probed, filled_run, first_passing};
 ghost use Rattle.string_interner.specs.LoadFactor.{IsSlotCount};
 ghost use Rattle.string_interner.specs.Index.{has_text};
-ghost use Rattle.string_interner.specs.Probe.{Follows, HasFreeSlot, IsVacant};
+ghost use Rattle.string_interner.specs.Probe.{Follows, HasFreeSlot, IsVacant, StepsTo};
+ghost use Rattle.string_interner.specs.declared.dedup.probe.Step.TheVariants.{On};
 ghost use Rattle.string_interner.specs.TextIndex.{IfVacant, found_by};
 
 use crate::backend::Backend;
@@ -62,56 +63,137 @@ pub fn slot_after(at: usize, count: usize) -> usize
     if at + 1 < count { at + 1 } else { 0 }
 }
 
+/// Where a step of a probe leads.
+#[derive(Drop)]
+pub enum Step<S> {
+    /// To the slot of this symbol, which has the text.
+    Found(S),
+    /// To this empty slot, so no symbol has the text.
+    Free(usize),
+    /// On to this slot: none that was passed has the text.
+    On(usize),
+}
+
 /// How the slots of a layout are searched.
 pub trait Probe<S: Symbol>: Layout<S> {
-    /// Probes for a text with this code from its home on, up to the first slot that has its symbol or is empty.
-    ///
-    /// Takes at most one look more than there are symbols in the probe cluster.
-    fn probe<B: Backend<Symbol = S>>(
+    /// Takes one step of a probe for a text with this code: from slot `at` on, up to a slot that has the text or is empty,
+    /// or past one slot or more. Takes at most one look.
+    fn step<B: Backend<Symbol = S>>(
         &self,
+        at: usize,
         code: u64,
         looks: &mut Looks<'_, B>,
         text: &str,
-    ) -> Entry<S, Vacancy>
-        requires free { HasFreeSlot (Self.layout.slots self.now) }
+    ) -> Step<S>
+        requires within { at < length (Self.layout.slots self.now) }
         requires fits { (of : Text → ℕ) × (Self.layout.fits
             (entry_text B.numbering (B.texts looks.old.backend)) of self.now
             × (code ≡ of text.now)) }
-        ensures found { found_by result ≡ first_passing
+        ensures leads { StepsTo
             (has_text (entry_text B.numbering (B.texts looks.old.backend)) text.now)
-            (filled_run (probed (Self.layout.slots self.now)
-            (code % length (Self.layout.slots self.now)))) }
-        ensures vacant { IfVacant result (IsVacant (Self.layout.slots self.now) code) }
+            (Self.layout.slots self.now) at result }
         ensures backend { looks.new.backend ≡ looks.old.backend }
         ensures counts { looks.old.count ≤ looks.new.count }
-        ensures looks { looks.new.count ≤ looks.old.count
-            + length (filled_run (probed (Self.layout.slots self.now)
-            (code % length (Self.layout.slots self.now)))) + 1 };
+        ensures looks { looks.new.count ≤ looks.old.count + 1 };
 }
 
-impl<S: Symbol> Probe<S> for Slots<S> {
-    #[inline(always)]
-    fn probe<B: Backend<Symbol = S>>(
-        &self,
-        code: u64,
-        looks: &mut Looks<'_, B>,
-        text: &str,
-    ) -> Entry<S, Vacancy> {
-        let count = self.len();
-        let mut at = home_of(code, count);
-        for _step in 0..count {
-            let Some(seen) = looks.look(self.slot(at), text) else {
+/// Probes for a text with this code from its home on, up to the first slot that has its symbol or is empty.
+///
+/// Takes at most one look more than there are symbols in the probe cluster.
+#[inline(always)]
+pub fn probe_for<S: Symbol, L: Probe<S>, B: Backend<Symbol = S>>(
+    slots: &L,
+    code: u64,
+    looks: &mut Looks<'_, B>,
+    text: &str,
+) -> Entry<S, Vacancy>
+    requires free { HasFreeSlot (L.layout.slots slots.now) }
+    requires fits { (of : Text → ℕ) × (L.layout.fits
+        (entry_text B.numbering (B.texts looks.old.backend)) of slots.now
+        × (code ≡ of text.now)) }
+    ensures found { found_by result ≡ first_passing
+        (has_text (entry_text B.numbering (B.texts looks.old.backend)) text.now)
+        (filled_run (probed (L.layout.slots slots.now) (code % length (L.layout.slots slots.now)))) }
+    ensures vacant { IfVacant result (IsVacant (L.layout.slots slots.now) code) }
+    ensures backend { looks.new.backend ≡ looks.old.backend }
+    ensures counts { looks.old.count ≤ looks.new.count }
+    ensures looks { looks.new.count ≤ looks.old.count
+        + length (filled_run (probed (L.layout.slots slots.now)
+        (code % length (L.layout.slots slots.now)))) + 1 }
+{
+    let count = slots.len();
+    let home = home_of(code, count);
+    // Most probes end with their first step. In a loop, what a comparison of texts computes of the length would be
+    // computed before the loop, for each probe.
+    match slots.step(home, code, looks, text) {
+        Step::Found(symbol) => Entry::Occupied(symbol),
+        Step::Free(at) => Entry::Vacant(Vacancy {
+            code,
+            slot_count: count,
+            at,
+        }),
+        Step::On(at) => probe_on(slots, at, code, looks, text),
+    }
+}
+
+/// Goes on with a probe for a text with this code, whose first step led on to slot `from`.
+///
+/// Takes at most as many looks as there are symbols in the probe cluster.
+#[inline(never)]
+fn probe_on<S: Symbol, L: Probe<S>, B: Backend<Symbol = S>>(
+    slots: &L,
+    from: usize,
+    code: u64,
+    looks: &mut Looks<'_, B>,
+    text: &str,
+) -> Entry<S, Vacancy>
+    requires free { HasFreeSlot (L.layout.slots slots.now) }
+    requires fits { (of : Text → ℕ) × (L.layout.fits
+        (entry_text B.numbering (B.texts looks.old.backend)) of slots.now
+        × (code ≡ of text.now)) }
+    requires led { StepsTo (has_text (entry_text B.numbering (B.texts looks.old.backend)) text.now)
+        (L.layout.slots slots.now) (code % length (L.layout.slots slots.now)) (On from) }
+    ensures found { found_by result ≡ first_passing
+        (has_text (entry_text B.numbering (B.texts looks.old.backend)) text.now)
+        (filled_run (probed (L.layout.slots slots.now) (code % length (L.layout.slots slots.now)))) }
+    ensures vacant { IfVacant result (IsVacant (L.layout.slots slots.now) code) }
+    ensures backend { looks.new.backend ≡ looks.old.backend }
+    ensures counts { looks.old.count ≤ looks.new.count }
+    ensures looks { looks.new.count ≤ looks.old.count
+        + length (filled_run (probed (L.layout.slots slots.now)
+        (code % length (L.layout.slots slots.now)))) }
+{
+    let count = slots.len();
+    let mut at = from;
+    for _step in 0..count {
+        match slots.step(at, code, looks, text) {
+            Step::Found(symbol) => return Entry::Occupied(symbol),
+            Step::Free(at) => {
                 return Entry::Vacant(Vacancy {
                     code,
                     slot_count: count,
                     at,
                 });
-            };
-            if seen.matches {
-                return Entry::Occupied(seen.symbol);
             }
-            at = slot_after(at, count);
+            Step::On(next) => at = next,
         }
-        Entry::Vacant(Vacancy::by_code(code))
+    }
+    Entry::Vacant(Vacancy::by_code(code))
+}
+
+impl<S: Symbol> Probe<S> for Slots<S> {
+    #[inline(always)]
+    fn step<B: Backend<Symbol = S>>(
+        &self,
+        at: usize,
+        _code: u64,
+        looks: &mut Looks<'_, B>,
+        text: &str,
+    ) -> Step<S> {
+        match looks.look(self.slot(at), text) {
+            None => Step::Free(at),
+            Some(seen) if seen.matches => Step::Found(seen.symbol),
+            Some(_) => Step::On(slot_after(at, self.len())),
+        }
     }
 }

@@ -16,7 +16,7 @@ ghost use Rattle.string_interner.specs.Table.{CountsLooks, FitsAll, Grows, HasRo
 use crate::backend::Backend;
 use crate::dedup::layout::Layout;
 use crate::dedup::looks::Looks;
-use crate::dedup::probe::{Probe, Vacancy};
+use crate::dedup::probe::{Probe, Vacancy, probe_for};
 use crate::dedup::text_index::{CopyIndex, Entry, TextIndex};
 use crate::hash::TextHasher;
 use crate::symbol::Symbol;
@@ -154,7 +154,7 @@ impl<S: Symbol, L: Probe<S>> Table<S, L> {
         if self.slots.len() == 0 {
             return Entry::Vacant(Vacancy::by_code(code));
         }
-        self.slots.probe(code, looks, text)
+        probe_for(&self.slots, code, looks, text)
     }
 
     /// Returns the symbol whose text this is, if any.
@@ -184,6 +184,7 @@ impl<S: Symbol, L: Probe<S>> Table<S, L> {
     /// 8, or to twice as many, and moves the symbols.
     ///
     /// Returns `Err` only if an allocation fails or the slot count does not fit a `usize`. Nothing changes then.
+    #[inline(always)]
     pub fn reserve_one<H: TextHasher, B: Backend<Symbol = S>>(
         &mut self,
         hasher: &H,
@@ -273,6 +274,7 @@ impl<S: Symbol, L: Probe<S>> Table<S, L> {
     }
 
     /// Moves to bigger slots, into which all symbols were moved.
+    #[inline(never)]
     fn grow(&mut self, bigger: L)
         requires full { ¬ HasRoom L.layout self.old }
         requires count { GrowsTo (slot_count L.layout self.old) (length (L.layout.slots bigger)) }
@@ -331,6 +333,7 @@ impl<S: Symbol, L: Probe<S>> TextIndex<S> for Table<S, L> {
         Table::entry(self, hasher, &mut Looks::new(backend), text)
     }
 
+    #[inline(always)]
     fn reserve_one<H: TextHasher, B: Backend<Symbol = S>>(
         &mut self,
         hasher: &H,

@@ -8,8 +8,7 @@ ghost use Rattle.string_interner.specs.Tagged.{HasAnotherTag};
 use crate::backend::Backend;
 use crate::dedup::layout::Layout;
 use crate::dedup::looks::Looks;
-use crate::dedup::probe::{Probe, Vacancy, home_of, slot_after};
-use crate::dedup::text_index::Entry;
+use crate::dedup::probe::{Probe, Step, slot_after};
 use crate::hash::TextHasher;
 use crate::symbol::Symbol;
 use std::alloc::{AllocError, Global};
@@ -181,6 +180,11 @@ impl<S: Symbol> Layout<S> for TaggedSlots<S> {
     /// Filled slots are passed up to sixteen at once.
     #[inline]
     fn put(&mut self, home: usize, symbol: S, code: u64) {
+        // As slots grow most homes are empty, which one tag tells.
+        if self.symbol_at(home).is_none() {
+            self.set(home, symbol, code);
+            return;
+        }
         let count = self.len();
         let mut at = home;
         for _step in 0..count {
@@ -206,35 +210,25 @@ impl<S: Symbol> Layout<S> for TaggedSlots<S> {
 impl<S: Symbol> Probe<S> for TaggedSlots<S> {
     /// Slots of other tags are passed without a look, up to sixteen at once.
     #[inline(always)]
-    fn probe<B: Backend<Symbol = S>>(
+    fn step<B: Backend<Symbol = S>>(
         &self,
+        at: usize,
         code: u64,
         looks: &mut Looks<'_, B>,
         text: &str,
-    ) -> Entry<S, Vacancy> {
+    ) -> Step<S> {
         let count = self.len();
-        let tag = tag_of(stored_code(code));
-        let mut at = home_of(code, count);
-        for _step in 0..count {
-            let reached = self.pass(at, tag);
-            if reached == count {
-                at = 0;
-            } else if reached - at == LANES {
-                at = reached;
-            } else {
-                let Some(symbol) = self.symbol_at(reached) else {
-                    return Entry::Vacant(Vacancy {
-                        code,
-                        slot_count: count,
-                        at: reached,
-                    });
-                };
-                if looks.has_text(symbol, text) {
-                    return Entry::Occupied(symbol);
-                }
-                at = slot_after(reached, count);
-            }
+        let reached = self.pass(at, tag_of(stored_code(code)));
+        if reached == count {
+            return Step::On(0);
         }
-        Entry::Vacant(Vacancy::by_code(code))
+        if reached - at == LANES {
+            return Step::On(reached);
+        }
+        match self.symbol_at(reached) {
+            None => Step::Free(reached),
+            Some(symbol) if looks.has_text(symbol, text) => Step::Found(symbol),
+            Some(_) => Step::On(slot_after(reached, count)),
+        }
     }
 }

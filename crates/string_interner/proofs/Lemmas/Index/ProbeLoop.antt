@@ -5,7 +5,8 @@ use Rattle.std.proofs.lemmas.List.{drop_more, length-append, length-take-le, len
 use Rattle.string_interner.specs.Slots.{probed, filled_run, first_passing, symbols}
 use Rattle.std.specs.List.{Contains}
 use Rattle.std.specs.Option.{is_some}
-use Rattle.string_interner.specs.Probe.{IsFree, FillsSlot}
+use Rattle.string_interner.specs.Probe.{IsFree, FillsSlot, Follows, Misses, Passes, StepsTo}
+use Rattle.string_interner.specs.declared.dedup.probe.Step.TheVariants.{Found, Free, On}
 use Rattle.string_interner.proofs.Lemmas.Index.Slots.{run-set_end, probe-set, run_within}
 use Rattle.string_interner.specs.Tagged.{TaggedContents, HasAnotherTag, TagTells}
 
@@ -81,8 +82,8 @@ module _ {S : Type 0} where
         }
 
 module _ {S : Type 0} (slots : List (Option S)) (home : ℕ) (h : home < length slots) where
-  abbrev pub On : ℕ → ℕ → Type 0
-  On i at = Walked (λ (_ : S). false) slots home i at
+  abbrev pub Comes : ℕ → ℕ → Type 0
+  Comes i at = Walked (λ (_ : S). false) slots home i at
 
   pub free_at : (test : S → Bool) (i at : ℕ) → Walked test slots home i at → i < length slots → get_or slots at None ≡ None → IsFree slots home at
   free_at test i at w k e =
@@ -99,18 +100,18 @@ module _ {S : Type 0} (slots : List (Option S)) (home : ℕ) (h : home < length 
         },
       )
 
-  pub puts_at : (i at : ℕ) (s : S) → On i at → i < length slots → get_or slots at None ≡ None → FillsSlot slots (set slots at (Some s)) home s
+  pub puts_at : (i at : ℕ) (s : S) → Comes i at → i < length slots → get_or slots at None ≡ None → FillsSlot slots (set slots at (Some s)) home s
   puts_at i at s w k e = (free_at (λ _. false) i at w k e).1 s
 
-  pub passes : (i at next : ℕ) → On i at → i < length slots → is_some (get_or slots at None) ≡ true → next < length slots
-      → (next ≡ at + 1) ⊎ ((next ≡ 0) × (at + 1 ≡ length slots)) → On (i + 1) next
+  pub passes : (i at next : ℕ) → Comes i at → i < length slots → is_some (get_or slots at None) ≡ true → next < length slots
+      → (next ≡ at + 1) ⊎ ((next ≡ 0) × (at + 1 ≡ length slots)) → Comes (i + 1) next
   passes i at next w k e l p =
-      let by : (o : Option S) → get_or slots at None ≡ o → is_some o ≡ true → On (i + 1) next =
+      let by : (o : Option S) → get_or slots at None ≡ o → is_some o ≡ true → Comes (i + 1) next =
       elim [ None ↦ λ q f. absurd (cc) | Some s ↦ λ q f. Walked-more (λ _. false) slots home i at h w s next k q refl l p ] in
       by (get_or slots at None) refl e
 
   -- one slot is empty, so the walk does not come to the end
-  pub comes_to_empty : (i at : ℕ) → On i at → length slots ≤ i → length (symbols slots) < length slots → ⊥
+  pub comes_to_empty : (i at : ℕ) → Comes i at → length slots ≤ i → length (symbols slots) < length slots → ⊥
   comes_to_empty i at w k free = let a = w.run in let b = run_within slots home in omega arith
 
 module _ {S : Type 0} where
@@ -133,80 +134,78 @@ module _ {S : Type 0} where
   pub none_tells : (tagged : TaggedContents S) (tag : ℕ) → TagTells (λ _. false) tagged tag
   none_tells tagged tag k s l e h = absurd (let d : false ≡ true = h in cc)
 
-  module _ (test : S → Bool) (tagged : TaggedContents S) (tag home : ℕ) (h : home < length tagged.slots)
-      (free : length (symbols tagged.slots) < length tagged.slots) (tells : TagTells test tagged tag) where
-    -- one slot is empty, so fewer slots are passed than there are
-    within : (i at : ℕ) → Walked test tagged.slots home i at → i < length tagged.slots
-    within i at w = let r = w.run in let b = run_within tagged.slots home in omega arith
+  -- a slot of another tag misses
+  pub HasAnotherTag-misses : (test : S → Bool) (tagged : TaggedContents S) (tag : ℕ) → TagTells test tagged tag → (k : ℕ) → k < length tagged.slots → HasAnotherTag tagged tag k → Misses test tagged.slots k
+  HasAnotherTag-misses test tagged tag tells k l o =
+      let f = some_from (get_or tagged.slots k None) o.filled in
+      let no : (t : Bool) → test f.0 ≡ t → test f.0 ≡ false = elim [ true ↦ λ e. absurd (o.other (tells k f.0 l f.1 e)) | false ↦ λ e. e ] in
+      record { symbol = f.0; filled = f.1; fails = no (test f.0) refl }
 
-    -- a slot of another tag is passed
-    one : (i at next : ℕ) → Walked test tagged.slots home i at → HasAnotherTag tagged tag at → next < length tagged.slots
-        → (next ≡ at + 1) ⊎ ((next ≡ 0) × (at + 1 ≡ length tagged.slots)) → Walked test tagged.slots home (i + 1) next
-    one i at next w o m q =
-        let by : (x : Option S) → get_or tagged.slots at None ≡ x → Walked test tagged.slots home (i + 1) next = elim [
-          | None ↦ λ e. absurd (let f : false ≡ true = sym (ap is_some e) ∙ o.filled in cc)
-          | Some s ↦ λ e.
-              let no : (t : Bool) → test s ≡ t → test s ≡ false = elim [ true ↦ λ f. absurd (o.other (tells at s w.in_range e f)) | false ↦ λ f. f ] in
-              Walked-more test tagged.slots home i at h w s next (within i at w) e (no (test s) refl) m q
-        ] in
-        by (get_or tagged.slots at None) refl
+  module _ (test : S → Bool) (slots : List (Option S)) (home : ℕ) (h : home < length slots) (free : length (symbols slots) < length slots) where
+    -- one slot is empty, so fewer slots are passed than there are
+    within : (i at : ℕ) → Walked test slots home i at → i < length slots
+    within i at w = let r = w.run in let b = run_within slots home in omega arith
+
+    -- a slot that misses is passed
+    one : (i at next : ℕ) → Walked test slots home i at → Misses test slots at → Follows (length slots) at next → Walked test slots home (i + 1) next
+    one i at next w o f = Walked-more test slots home i at h w o.symbol next (within i at w) o.filled o.fails f.within f.one_on
 
     -- and so are many
-    many : (n i at to : ℕ) → Walked test tagged.slots home i at → to < length tagged.slots → at + n ≡ to
-        → ((k : ℕ) → at ≤ k → k < to → HasAnotherTag tagged tag k) → Walked test tagged.slots home (i + n) to
+    many : (n i at to : ℕ) → Walked test slots home i at → to < length slots → at + n ≡ to
+        → ((k : ℕ) → at ≤ k → k < to → Misses test slots k) → Walked test slots home (i + n) to
     many zero i at to w l e others =
         let q : at ≡ to = omega arith in let z : i ≡ i + 0 = omega arith in
-        subst (λ j. Walked test tagged.slots home j to) z (subst (λ t. Walked test tagged.slots home i t) q w)
+        subst (λ j. Walked test slots home j to) z (subst (λ t. Walked test slots home i t) q w)
     many (suc n) i at to w l e others =
         let z : i + 1 + n ≡ i + suc n = omega arith in
-        subst (λ j. Walked test tagged.slots home j to) z
-        (many n (i + 1) (at + 1) to (one i at (at + 1) w (others at (omega arith) (omega arith)) (omega arith) (inl refl)) l (omega arith) (λ k a b. others k (omega arith) b))
+        subst (λ j. Walked test slots home j to) z
+        (many n (i + 1) (at + 1) to (one i at (at + 1) w (others at (omega arith) (omega arith)) (record { within = omega arith; one_on = inl refl })) l (omega arith) (λ k a b. others k (omega arith) b))
 
-    module _ (steps at : ℕ) (s : Stands test tagged.slots home steps at) where
-      -- the slot where sixteen tags end
-      pub Stands-reached : (to : ℕ) → at ≤ to → to < length tagged.slots → ((k : ℕ) → at ≤ k → k < to → HasAnotherTag tagged tag k) → Stands test tagged.slots home steps to
-      Stands-reached to le l others =
-          let a = s.steps_le in record { passed = s.passed + (to - at); walked = many (to - at) s.passed at to s.walked l (omega arith) others; steps_le = omega arith }
+    pub Stands-start : Stands test slots home 0 home
+    Stands-start = record { passed = 0; walked = Walked-start test slots home h; steps_le = omega arith }
 
-      -- from which the walk goes on
-      pub Stands-on : (to : ℕ) → at < to → to < length tagged.slots → ((k : ℕ) → at ≤ k → k < to → HasAnotherTag tagged tag k) → Stands test tagged.slots home (steps + 1) to
-      Stands-on to le l others =
-          let a = s.steps_le in record { passed = s.passed + (to - at); walked = many (to - at) s.passed at to s.walked l (omega arith) others; steps_le = omega arith }
+    module _ (steps at : ℕ) (s : Stands test slots home steps at) where
+      -- slots that miss are passed
+      pub Stands-passed : (to : ℕ) → Passes test slots at to → Stands test slots home steps to
+      Stands-passed to p =
+          let a = s.steps_le in let b = p.ordered in record { passed = s.passed + (to - at); walked = many (to - at) s.passed at to s.walked p.within (omega arith) p.missed; steps_le = omega arith }
 
-      -- or round the end to the first slot
-      pub Stands-round : ((k : ℕ) → at ≤ k → k < length tagged.slots → HasAnotherTag tagged tag k) → Stands test tagged.slots home (steps + 1) 0
-      Stands-round others =
-          let a = s.steps_le in let r = s.walked.in_range in let n = length tagged.slots - 1 in
-          let w = many (n - at) s.passed at n s.walked (omega arith) (omega arith) (λ k x y. others k x (omega arith)) in
-          record {
-            passed = s.passed + (n - at) + 1;
-            walked = one (s.passed + (n - at)) n 0 w (others n (omega arith) (omega arith)) (omega arith) (inr (refl, omega arith));
-            steps_le = omega arith;
-          }
+      -- and one more, which ends the step
+      pub Stands-missed : (next : ℕ) → Misses test slots at → Follows (length slots) at next → Stands test slots home (steps + 1) next
+      Stands-missed next m f =
+          let a = s.steps_le in record { passed = s.passed + 1; walked = one s.passed at next s.walked m f; steps_le = omega arith }
 
-      -- a slot whose tag agrees and whose text is another is passed as well
-      pub Stands-missed : (u : S) (next : ℕ) → get_or tagged.slots at None ≡ Some u → test u ≡ false → next < length tagged.slots
-          → (next ≡ at + 1) ⊎ ((next ≡ 0) × (at + 1 ≡ length tagged.slots)) → Stands test tagged.slots home (steps + 1) next
-      Stands-missed u next e t m q =
-          let a = s.steps_le in
-          record {
-            passed = s.passed + 1;
-            walked = Walked-more test tagged.slots home s.passed at h s.walked u next (within s.passed at s.walked) e t m q;
-            steps_le = omega arith;
-          }
+      pub Stands-hit : (u : S) → get_or slots at None ≡ Some u → test u ≡ true
+          → (first_passing test (filled_run (probed slots home)) ≡ Some u) × (steps < length (filled_run (probed slots home)))
+      Stands-hit u e t = let a = s.steps_le in let b = Walked-hit test slots home s.passed at h s.walked u (within s.passed at s.walked) e t in let c = b.1 in (b.0, omega arith)
 
-      pub Stands-hit : (u : S) → get_or tagged.slots at None ≡ Some u → test u ≡ true → first_passing test (filled_run (probed tagged.slots home)) ≡ Some u
-      Stands-hit u e t = (Walked-hit test tagged.slots home s.passed at h s.walked u (within s.passed at s.walked) e t).0
+      pub Stands-empty : get_or slots at None ≡ None
+          → (first_passing test (filled_run (probed slots home)) ≡ None) × (steps ≤ length (filled_run (probed slots home)))
+      Stands-empty e = let a = s.steps_le in let b = Walked-empty test slots home s.passed at h s.walked (within s.passed at s.walked) e in let c = b.1 in (b.0, omega arith)
 
-      pub Stands-run : (u : S) → get_or tagged.slots at None ≡ Some u → test u ≡ true → steps < length (filled_run (probed tagged.slots home))
-      Stands-run u e t = let a = s.steps_le in let b = (Walked-hit test tagged.slots home s.passed at h s.walked u (within s.passed at s.walked) e t).1 in omega arith
-
-      pub Stands-empty : get_or tagged.slots at None ≡ None → first_passing test (filled_run (probed tagged.slots home)) ≡ None
-      Stands-empty e = (Walked-empty test tagged.slots home s.passed at h s.walked (within s.passed at s.walked) e).0
-
-      pub Stands-free : get_or tagged.slots at None ≡ None → IsFree tagged.slots home at
-      Stands-free e = free_at tagged.slots home h test s.passed at s.walked (within s.passed at s.walked) e
+      pub Stands-free : get_or slots at None ≡ None → IsFree slots home at
+      Stands-free e = free_at slots home h test s.passed at s.walked (within s.passed at s.walked) e
 
       -- no walk takes as many steps as there are slots
-      pub Stands-ends : length tagged.slots ≤ steps → ⊥
+      pub Stands-ends : length slots ≤ steps → ⊥
       Stands-ends l = let a = s.steps_le in let b = within s.passed at s.walked in omega arith
+
+    -- a step that leads on takes the walk with it
+    pub Stands-on : (steps at next : ℕ) → Stands test slots home steps at → StepsTo test slots at (On next) → Stands test slots home (steps + 1) next
+    Stands-on steps at next s l = Stands-missed steps l.0 (Stands-passed steps at s l.0 l.1) next l.2 l.3
+
+    -- a step that finds a symbol finds that of the look-up
+    pub Stands-found : (steps at : ℕ) (u : S) → Stands test slots home steps at → StepsTo test slots at (Found u)
+        → (first_passing test (filled_run (probed slots home)) ≡ Some u) × (steps < length (filled_run (probed slots home)))
+    Stands-found steps at u s l = Stands-hit steps l.0 (Stands-passed steps at s l.0 l.1) u l.2 l.3
+
+    -- and one that comes to an empty slot ends it there
+    pub record EndsAt (steps at : ℕ) : Type 0 where
+      pub found : first_passing test (filled_run (probed slots home)) ≡ None
+      pub run : steps ≤ length (filled_run (probed slots home))
+      pub is_free : IsFree slots home at
+
+    pub Stands-free_to : (steps at to : ℕ) → Stands test slots home steps at → StepsTo test slots at (Free to) → EndsAt steps to
+    Stands-free_to steps at to s l =
+        let t = Stands-passed steps at s to l.0 in let e = Stands-empty steps to t l.1 in
+        record { found = e.0; run = e.1; is_free = Stands-free steps to t l.1 }

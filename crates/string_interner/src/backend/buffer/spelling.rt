@@ -45,7 +45,7 @@ pub(super) fn push_number(buffer: &mut Vec<u8>, mut number: usize)
 }
 
 /// Decodes the number at the front: `None` unless there is one, of at most ten digits, that fits a `usize`.
-#[inline]
+#[inline(always)]
 pub(super) fn number_at(bytes: &[u8]) -> Option<Spelled>
     ensures { DecodesFront bytes.now result }
 {
@@ -61,6 +61,7 @@ pub(super) fn number_at(bytes: &[u8]) -> Option<Spelled>
 }
 
 /// The same, digit by digit.
+#[inline(never)]
 fn long_number_at(bytes: &[u8]) -> Option<Spelled>
     ensures { DecodesFront bytes.now result }
 {

@@ -9,21 +9,21 @@ use Rattle.string_interner.proofs.Lemmas.Table.IsSoundTable.{HasFreeSlot-sound}
 use Rattle.string_interner.proofs.Lemmas.Table.IsTable.{Fits-of}
 use Rattle.string_interner.proofs.dedup.table.Table.entry.Goals as goal
 
-pub probe-requires-clause-free : goal.probe-requires-clause-free
-probe-requires-clause-free g c = let n = c.len.ensures in HasFreeSlot-sound g.L.Layout.layout g.met.L.Layout.layout_laws.load _ _ c.self.invariant (omega arith)
+pub probe_for-requires-clause-free : goal.probe_for-requires-clause-free
+probe_for-requires-clause-free g c = let n = c.len.ensures in HasFreeSlot-sound g.L.Layout.layout g.met.L.Layout.layout_laws.load _ _ c.self.invariant (omega arith)
 
-pub probe-requires-clause-fits : goal.probe-requires-clause-fits
-probe-requires-clause-fits g c = rw (ap (λ x. x.slots) c.self.view_is) (g.H.TextHasher.code c.args.hasher.now, (c.requires, c.hash_text-code.ensures))
+pub probe_for-requires-clause-fits : goal.probe_for-requires-clause-fits
+probe_for-requires-clause-fits g c = rw (ap (λ x. x.slots) c.self.view_is) (g.H.TextHasher.code c.args.hasher.now, (c.requires, c.hash_text-code.ensures))
 
 pub returns-clause-found : goal.returns-clause-found
 returns-clause-found g c =
     let slots = g.L.Layout.layout.slots c.args.self.now.slots in let test = has_text (entry_text g.B.Backend.numbering (g.B.Backend.texts c.args.looks.now.backend)) c.args.text.now in
-    c.probe.ensures.found ∙ ap (λ x. first_passing test (filled_run (probed (g.L.Layout.layout.slots x.slots) (c.hash_text-code.result % length (g.L.Layout.layout.slots x.slots))))) c.self.view_is
+    c.probe_for.ensures.found ∙ ap (λ x. first_passing test (filled_run (probed (g.L.Layout.layout.slots x.slots) (c.hash_text-code.result % length (g.L.Layout.layout.slots x.slots))))) c.self.view_is
     ∙ ap (λ n. first_passing test (filled_run (probed slots (n % length slots)))) c.hash_text-code.ensures
     ∙ Fits-find _ _ _ (Fits-of g.L.Layout.layout g.met.L.Layout.layout_laws _ _ c.args.self.now.slots c.requires) _
 
 pub returns-clause-vacant : goal.returns-clause-vacant
-returns-clause-vacant g c = rw (← c.self.view_is, ← c.hash_text-code.ensures) c.probe.ensures.vacant
+returns-clause-vacant g c = rw (← c.self.view_is, ← c.hash_text-code.ensures) c.probe_for.ensures.vacant
 
 pub returns-clause-looks : goal.returns-clause-looks
 returns-clause-looks g c =

@@ -1,42 +1,59 @@
-use Rattle.std.proofs.Common.{◌≡◌, None, Some, refl, sym, subst, length, get_or, set, arith, ap, ◌∙◌}
-use Rattle.string_interner.specs.Probe.{Follows}
-use Rattle.string_interner.specs.Tagged.{tagged_layout}
-use Rattle.string_interner.proofs.Lemmas.Index.ProbeLoop.{Walked-start, empty_from, none_tells, some_from, Stands-ends, Stands-free, Stands-missed, Stands-reached, Stands-round}
+use Rattle.std.proofs.Common.{◌≡◌, ℕ, ◌-◌, ◌<◌, inr, None, Some, refl, sym, subst, length, get_or, set, arith, ap, ◌∙◌, false}
+use Rattle.string_interner.specs.Probe.{Follows, Misses, Passes}
+use Rattle.string_interner.specs.Tagged.{HasAnotherTag, tagged_layout}
+use Rattle.string_interner.proofs.Lemmas.Index.ProbeLoop.{empty_from, none_tells, some_from, HasAnotherTag-misses, Stands-start, Stands-passed, Stands-missed, Stands-free, Stands-ends}
 use Rattle.string_interner.proofs.Lemmas.Table.IsCoded.{Fills-free}
 use Rattle.string_interner.proofs.dedup.tagged.TaggedSlotsLayout.put.Goals as goal
-use Rattle.string_interner.proofs.dedup.tagged.TaggedSlotsLayout.put.Goals.{then-reached-count, else-reached-count+else-is_none}
+use Rattle.string_interner.proofs.dedup.tagged.TaggedSlotsLayout.put.Goals.{then-reached-count, else-reached-count+else-is_none-2}
 
 pub loop-step-init : goal.loop-step-init
-loop-step-init g c = record {
-  stands = record { passed = 0; walked = Walked-start _ _ _ c.requires.home; steps_le = omega arith };
-  same = refl;
-}
+loop-step-init g c = record { stands = Stands-start _ _ _ c.requires.home c.requires.free; same = refl }
 
 pub returns-then-is_none : goal.returns-then-is_none
 returns-then-is_none g c =
+    let tagged = c.args.self.now in
+    let e = sym c.symbol_at.ensures ∙ empty_from c.symbol_at.result c.if-is_none.ensures in
+    Fills-free tagged_layout tagged c.set.new.self c.args.home c.args.home c.args.symbol c.args.code
+    (Stands-free (λ _. false) _ _ c.requires.home c.requires.free 0 _ (Stands-start _ _ _ c.requires.home c.requires.free) e)
+    c.set.ensures.slots c.set.ensures.stored c.set.ensures.others
+
+pub returns-then-is_none-2 : goal.returns-then-is_none-2
+returns-then-is_none-2 g c =
     let inv = c.loop-step.invariant in let tagged = c.args.self.now in let same = inv.same in
     let n : c.len-count.result ≡ length tagged.slots = c.len-count.ensures in let m = ap (λ x. length x.slots) same in
     let passed = rw same at c.pass-reached.ensures.passed in
-    let e = ap (λ x. get_or x.slots c.pass-reached.result None) (sym same) ∙ sym c.symbol_at.ensures ∙ empty_from c.symbol_at.result c.if-is_none.ensures in
-    let s = Stands-reached _ tagged 0 _ c.requires.home c.requires.free (none_tells tagged 0) _ _ inv.stands c.pass-reached.result c.pass-reached.ensures.from (omega arith) passed in
-    Fills-free tagged_layout tagged c.set.new.self c.args.home c.pass-reached.result c.args.symbol c.args.code
-    (Stands-free _ tagged 0 _ c.requires.home c.requires.free (none_tells tagged 0) _ _ s e)
-    (c.set.ensures.slots ∙ ap (λ x. set x.slots c.pass-reached.result (Some c.args.symbol)) same) c.set.ensures.stored
-    (λ k ne. c.set.ensures.others k ne ∙ ap (λ x. get_or x.codes k 0) same)
+    let e = ap (λ x. get_or x.slots c.pass-reached.result None) (sym same) ∙ sym c.symbol_at-else-reached-count.ensures ∙ empty_from c.symbol_at-else-reached-count.result c.if-is_none-2.ensures in
+    let p : Passes (λ _. false) tagged.slots c.loop-step.at c.pass-reached.result = record {
+      ordered = c.pass-reached.ensures.from;
+      within = omega arith;
+      missed = λ k a b. HasAnotherTag-misses _ tagged 0 (none_tells tagged 0) k (omega arith) (passed k a b);
+    } in
+    let s = Stands-passed _ tagged.slots _ c.requires.home c.requires.free _ _ inv.stands c.pass-reached.result p in
+    Fills-free tagged_layout tagged c.set-then-is_none-2.new.self c.args.home c.pass-reached.result c.args.symbol c.args.code
+    (Stands-free _ tagged.slots _ c.requires.home c.requires.free _ _ s e)
+    (c.set-then-is_none-2.ensures.slots ∙ ap (λ x. set x.slots c.pass-reached.result (Some c.args.symbol)) same) c.set-then-is_none-2.ensures.stored
+    (λ k ne. c.set-then-is_none-2.ensures.others k ne ∙ ap (λ x. get_or x.codes k 0) same)
 
 pub loop-step-preserved : goal.loop-step-preserved
 loop-step-preserved g c =
     let inv = c.loop-step.invariant in let tagged = c.args.self.now in let same = inv.same in
     let n : c.len-count.result ≡ length tagged.slots = c.len-count.ensures in let m = ap (λ x. length x.slots) same in
     let passed = rw same at c.pass-reached.ensures.passed in
+    let r = inv.stands.walked.in_range in
+    let misses : (k : ℕ) → k < length tagged.slots → HasAnotherTag tagged 0 k → Misses (λ _. false) tagged.slots k = HasAnotherTag-misses (λ _. false) tagged 0 (none_tells tagged 0) in
     record {
       stands = elim c.if-reached-count.branch [
-        | then-reached-count w ↦ rw w.at-is (Stands-round _ tagged 0 _ c.requires.home c.requires.free (none_tells tagged 0) _ _ inv.stands (λ k a b. passed k a (omega arith)))
-        | else-reached-count+else-is_none w ↦
-            let s = Stands-reached _ tagged 0 _ c.requires.home c.requires.free (none_tells tagged 0) _ _ inv.stands c.pass-reached.result c.pass-reached.ensures.from (omega arith) passed in
+        | then-reached-count w ↦
+            let last = length tagged.slots - 1 in
+            let p : Passes (λ _. false) tagged.slots c.loop-step.at last = record { ordered = omega arith; within = omega arith; missed = λ k a b. misses k (omega arith) (passed k a (omega arith)) } in
+            let s = Stands-passed _ tagged.slots _ c.requires.home c.requires.free _ _ inv.stands last p in
+            rw w.at-is (Stands-missed _ tagged.slots _ c.requires.home c.requires.free _ _ s 0 (misses last (omega arith) (passed last (omega arith) (omega arith))) (record { within = omega arith; one_on = inr (refl, omega arith) }))
+        | else-reached-count+else-is_none-2 w ↦
+            let p : Passes (λ _. false) tagged.slots c.loop-step.at c.pass-reached.result = record { ordered = c.pass-reached.ensures.from; within = omega arith; missed = λ k a b. misses k (omega arith) (passed k a b) } in
+            let s = Stands-passed _ tagged.slots _ c.requires.home c.requires.free _ _ inv.stands c.pass-reached.result p in
             let after : Follows (length tagged.slots) c.pass-reached.result w.slot_after-at.result = subst (λ n. Follows n c.pass-reached.result w.slot_after-at.result) c.len-count.ensures w.slot_after-at.ensures in
-            let here = some_from w.symbol_at.result w.if-is_none.ensures in
-            rw w.at-is (Stands-missed _ tagged 0 _ c.requires.home c.requires.free (none_tells tagged 0) _ _ s here.0 _ (ap (λ x. get_or x.slots c.pass-reached.result None) (sym same) ∙ sym w.symbol_at.ensures ∙ here.1) refl after.within after.one_on)
+            let here = some_from w.symbol_at-else-reached-count.result w.if-is_none-2.ensures in
+            rw w.at-is (Stands-missed _ tagged.slots _ c.requires.home c.requires.free _ _ s _ (record { symbol = here.0; filled = ap (λ x. get_or x.slots c.pass-reached.result None) (sym same) ∙ sym w.symbol_at-else-reached-count.ensures ∙ here.1; fails = refl }) after)
       ];
       same = inv.same;
     }
@@ -44,4 +61,4 @@ loop-step-preserved g c =
 pub returns : goal.returns
 returns g c =
     let inv = c.loop-step.invariant in let n : c.len-count.result ≡ length c.args.self.now.slots = c.len-count.ensures in
-    absurd (Stands-ends _ c.args.self.now _ _ c.requires.home c.requires.free (none_tells c.args.self.now 0) _ _ inv.stands (omega arith))
+    absurd (Stands-ends _ c.args.self.now.slots _ c.requires.home c.requires.free _ _ inv.stands (omega arith))
