@@ -1,18 +1,18 @@
 //! Calls on backends, which look for no repeats: `one`, on which calls are made, and `other`.
 
-use crate::counting::signal_backend;
 use crate::fault::{Failure, Mistake, Told};
 use crate::level::Level;
 use crate::line::Call;
-use crate::many::{Interning, intern_empties, to_number};
+use crate::many::intern_empties;
 use crate::own::SuiteBackend;
 use crate::sight::Sight;
 use crate::tell::{
     require, symbol_of, tell, tell_done, tell_entries, tell_found, tell_symbol, tell_text,
 };
+use crate::texts::{Texts, sight_of};
 use std::alloc::Global;
 use std::mem::swap;
-use string_interner::backend::{Backend, InternError};
+use string_interner::backend::{Backend, InternError, Iter};
 use string_interner::symbol::Symbol;
 
 /// Two backends.
@@ -45,8 +45,7 @@ fn tell_places<B: Backend>(rt: &HostRuntime, backend: &B) -> Told {
 /// Prints how many bytes there are, and the first of them.
 fn tell_bytes(rt: &HostRuntime, bytes: &[u8]) -> Told {
     let first = bytes.get(..24).unwrap_or(bytes);
-    println!(rt; "{} bytes, {first:?}", bytes.len())?;
-    Ok(())
+    tell(rt, &format_args!("{} bytes, {first:?}", bytes.len()))
 }
 
 impl<B: SuiteBackend> Level for Backends<B> {
@@ -68,33 +67,29 @@ impl<B: SuiteBackend> Level for Backends<B> {
         }
     }
 
-    fn sight(&self, _text: &str, most: usize) -> Sight {
-        signal_backend(&self.one);
-        let mut sight = Sight::default();
-        for (symbol, text) in self.one.iter() {
-            if sight.count < most {
-                sight = sight.with_entry(symbol, text, self.one.resolve(symbol) == Some(text));
-            }
-        }
-        signal_backend(&self.one);
-        sight
+    fn sight(&self, text: &str, most: usize) -> Sight {
+        sight_of(self, text, most)
             .with_symbol(self.one.next_symbol())
             .with_number(self.one.count())
             .with_number(self.one.bytes().map_or(0, |bytes| bytes.len()))
     }
 }
 
-impl<B: Backend> Interning for Backends<B> {
-    fn count(&self) -> usize {
-        self.one.count()
+impl<B: Backend> Texts<B> for Backends<B> {
+    fn entries(&self) -> Iter<'_, B> {
+        self.one.iter()
     }
 
-    fn finds(&self, _text: &str) -> bool {
-        false
+    fn find(&self, _text: &str) -> Option<B::Symbol> {
+        None
     }
 
-    fn intern_one(&mut self, text: &str) -> Result<usize, InternError> {
-        to_number(self.one.intern(text))
+    fn resolve(&self, symbol: B::Symbol) -> Option<&str> {
+        self.one.resolve(symbol)
+    }
+
+    fn intern(&mut self, text: &str) -> Result<B::Symbol, InternError> {
+        self.one.intern(text)
     }
 }
 

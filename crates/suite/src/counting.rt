@@ -13,11 +13,10 @@ ghost use Rattle.string_interner.specs.Symbol.{number_below};
 ghost use Rattle.string_interner.specs.ByIndexLaws.{length_grows, reads_at_length};
 
 use crate::own::SuiteBackend;
+use crate::texts::Texts;
 use std::alloc::{AllocError, Global};
 use std::cell::Cell;
-use string_interner::StringInterner;
 use string_interner::backend::{Backend, CopyBackend, InternError, StringBackend};
-use string_interner::dedup::{TextHasher, TextIndex};
 use string_interner::symbol::{Symbol, SymbolU32};
 
 /// The number of the last `SymbolU32`.
@@ -53,16 +52,11 @@ impl Counting {
 
     /// Begins to tell the count, or goes on to count. The count that was told is forgotten where all of it was.
     fn take_signal(&self) {
-        let owed = match self.owed.get() {
-            None => Some(self.asked.get().wrapping_mul(2)),
-            Some(owed) => {
-                if owed == 0 {
-                    self.asked.set(0);
-                }
-                None
-            }
-        };
-        self.owed.set(owed);
+        match self.owed.take() {
+            None => self.owed.set(Some(self.asked.get().wrapping_mul(2))),
+            Some(0) => self.asked.set(0),
+            Some(_) => {}
+        }
     }
 
     /// Whether the next text is to be refused.
@@ -169,18 +163,9 @@ impl PartialEq for Counting {
 }
 
 /// Resolves the number that a `Counting` takes as a signal. Other backends have nothing there.
-pub fn signal_backend<B: Backend>(backend: &B) {
+pub fn signal<B: Backend, T: Texts<B>>(texts: &T) {
     if let Some(symbol) = B::Symbol::try_from_usize(SIGNAL) {
-        let _ = backend.resolve(symbol);
-    }
-}
-
-/// The same of an interner.
-pub fn signal<B: Backend, H: TextHasher, I: TextIndex<B::Symbol>>(
-    interner: &StringInterner<B, H, I>,
-) {
-    if let Some(symbol) = B::Symbol::try_from_usize(SIGNAL) {
-        let _ = interner.resolve(symbol);
+        let _ = texts.resolve(symbol);
     }
 }
 

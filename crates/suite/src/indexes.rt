@@ -2,14 +2,14 @@
 
 mod filled;
 
-use crate::counting::signal_backend;
 use crate::fault::{Failure, Mistake, Told};
 use crate::level::Level;
 use crate::line::Call;
-use crate::many::{Interning, intern_many, to_number};
+use crate::many::intern_many;
 use crate::own::{SuiteBackend, SuiteHasher};
 use crate::sight::Sight;
 use crate::tell::{require, tell, tell_done, tell_found, tell_symbol};
+use crate::texts::{Texts, sight_of};
 pub use filled::Filled;
 use std::mem::size_of;
 use string_interner::backend::InternError;
@@ -24,7 +24,7 @@ fn insert<B: SuiteBackend, H: TextHasher>(
     if filled.find(text).is_none() {
         filled.reserve()?;
     }
-    match filled.insert(text) {
+    match filled.intern(text) {
         Err(InternError::Memory(_)) => Err(Failure::Partly),
         answer => tell_symbol(rt, answer),
     }
@@ -61,31 +61,9 @@ impl<B: SuiteBackend, H: SuiteHasher> Level for Filled<B, H> {
     }
 
     fn sight(&self, text: &str, most: usize) -> Sight {
-        signal_backend(self.backend());
-        let mut sight = Sight::default().with_symbol(self.find(text));
-        for (symbol, text) in self.backend().iter() {
-            if sight.count < most {
-                sight = sight.with_entry(symbol, text, self.find(text) == Some(symbol));
-            }
-        }
-        signal_backend(self.backend());
-        sight
+        sight_of(self, text, most)
             .with_number(self.index().slots())
             .with_number(self.index().put_back())
             .with_number(self.index().greatest())
-    }
-}
-
-impl<B: SuiteBackend, H: TextHasher> Interning for Filled<B, H> {
-    fn count(&self) -> usize {
-        self.backend().count()
-    }
-
-    fn finds(&self, text: &str) -> bool {
-        self.find(text).is_some()
-    }
-
-    fn intern_one(&mut self, text: &str) -> Result<usize, InternError> {
-        to_number(self.insert(text))
     }
 }

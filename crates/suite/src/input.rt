@@ -28,9 +28,7 @@ fn line_after(bytes: &[u8]) -> usize {
 /// Reads the text of the whole input, which must be shorter than the buffer.
 pub fn read_text<'b, R: Read>(input: &mut R, buffer: &'b mut [u8]) -> Result<&'b str, Fault> {
     let room = buffer.len();
-    let Ok(len) = fill(input, buffer) else {
-        return Err(Fault::Input);
-    };
+    let len = fill(input, buffer).map_err(|_| Fault::Input)?;
     let bytes = buffer.get(..len).unwrap_or(&[]);
     let (valid, mistake) = match from_utf8(bytes) {
         _ if len == room => (bytes, Mistake::TooLong),

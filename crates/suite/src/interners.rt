@@ -6,12 +6,13 @@ use crate::counting::signal;
 use crate::fault::{Failure, Mistake, Told};
 use crate::level::{Level, is_refused, tell_refusal};
 use crate::line::Call;
-use crate::many::{Interning, as_str, format_number, intern_many, to_number};
+use crate::many::{as_str, format_number, intern_many};
 use crate::own::{SuiteBackend, SuiteHasher};
 use crate::sight::Sight;
 use crate::tell::{
     symbol_of, tell, tell_done, tell_entries, tell_found, tell_hashed, tell_symbol, tell_text,
 };
+use crate::texts::sight_of;
 pub use json::{symbol_from_json, symbol_to_json};
 use json::{parse_json, tell_read};
 use serde_json::Value;
@@ -37,23 +38,6 @@ fn clone_hasher<H: Clone + Default>(hasher: &H) -> H {
     hasher.clone().unwrap_or_default()
 }
 
-/// What is seen of the first texts of an interner, so many at most, and of a text that may be among them.
-pub fn sight_of<B: Backend, H: TextHasher, I: TextIndex<B::Symbol>>(
-    interner: &StringInterner<B, H, I>,
-    text: &str,
-    most: usize,
-) -> Sight {
-    signal(interner);
-    let mut sight = Sight::default().with_symbol(interner.get(text));
-    for (symbol, text) in interner {
-        if sight.count < most {
-            sight = sight.with_entry(symbol, text, interner.get(text) == Some(symbol));
-        }
-    }
-    signal(interner);
-    sight
-}
-
 /// Interns a text and calls `resolve_unchecked` with its symbol.
 fn read_back<'i, B: Backend, H: TextHasher, I: TextIndex<B::Symbol>>(
     interner: &'i mut StringInterner<B, H, I>,
@@ -71,17 +55,6 @@ fn mark_partly(outcome: Result<(), InternError>) -> Told {
     }
 }
 
-/// Whether a text has a symbol which resolves to it.
-fn is_known<B: Backend, H: TextHasher, I: TextIndex<B::Symbol>>(
-    interner: &StringInterner<B, H, I>,
-    text: &str,
-) -> bool {
-    match interner.get(text) {
-        Some(symbol) => interner.resolve(symbol) == Some(text),
-        None => false,
-    }
-}
-
 /// Looks for the decimal numbers below a count, and prints those that have no symbol which resolves to them.
 fn get_numbers<B: Backend, H: TextHasher, I: TextIndex<B::Symbol>>(
     rt: &HostRuntime,
@@ -90,14 +63,15 @@ fn get_numbers<B: Backend, H: TextHasher, I: TextIndex<B::Symbol>>(
 ) -> Told {
     let mut known: usize = 0;
     for number in 0..count {
-        if is_known(interner, as_str(&format_number(number)?)) {
+        let text = format_number(number)?;
+        let symbol = interner.get(as_str(&text));
+        if symbol.and_then(|symbol| interner.resolve(symbol)) == Some(as_str(&text)) {
             known = known.saturating_add(1);
         } else {
             println!(rt; "  {number} is not known")?;
         }
     }
-    println!(rt; "{known} known")?;
-    Ok(())
+    tell(rt, &format_args!("{known} known"))
 }
 
 /// A text that no scenario interns.
@@ -116,14 +90,10 @@ fn tell_asked<B: Backend, H: TextHasher, I: TextIndex<B::Symbol>>(
         return Err(Failure::Line(Mistake::NotOffered));
     }
     let count = interner.len();
-    let mut refusals: usize = 0;
     signal(interner);
-    for _ in 0..MOST_QUESTIONS {
-        if interner.get_or_intern(QUESTION).is_ok() {
-            break;
-        }
-        refusals = refusals.saturating_add(1);
-    }
+    let refusals = (0..MOST_QUESTIONS)
+        .take_while(|_| interner.get_or_intern(QUESTION).is_err())
+        .count();
     interner.truncate(count);
     signal(interner);
     // An odd refusal is one of memory.
@@ -161,7 +131,7 @@ impl<B: SuiteBackend, H: SuiteHasher, I: CopyIndex<B::Symbol> + Drop> Level for 
                 self.one.get_or_intern_static(call.static_text),
             ),
             "resolve_unchecked" => tell_text(rt, Some(read_back(&mut self.one, call.text)?)),
-            "numbers" | "choices" | "distances" => intern_many(rt, self, call),
+            "numbers" | "choices" | "distances" => intern_many(rt, &mut self.one, call),
             "texts_asked" => tell_asked(rt, &mut self.one, call),
             "texts_hashed" => tell_hashed(rt, call.scenario),
             _ => self.change(rt, call),
@@ -170,20 +140,6 @@ impl<B: SuiteBackend, H: SuiteHasher, I: CopyIndex<B::Symbol> + Drop> Level for 
 
     fn sight(&self, text: &str, most: usize) -> Sight {
         sight_of(&self.one, text, most)
-    }
-}
-
-impl<B: Backend, H: TextHasher, I: TextIndex<B::Symbol>> Interning for Interners<B, H, I> {
-    fn count(&self) -> usize {
-        self.one.len()
-    }
-
-    fn finds(&self, text: &str) -> bool {
-        self.one.contains(text)
-    }
-
-    fn intern_one(&mut self, text: &str) -> Result<usize, InternError> {
-        to_number(self.one.get_or_intern(text))
     }
 }
 
@@ -267,11 +223,8 @@ impl<B: SuiteBackend, H: SuiteHasher, I: CopyIndex<B::Symbol> + Drop> Interners<
         if !call.is_again {
             self.symbols = Vec::new(rt.alloc());
         }
-        let done = self.symbols.len();
-        let outcome = mark_partly(
-            self.one
-                .intern_all(call.texts().skip(done), &mut self.symbols),
-        );
+        let texts = call.texts().skip(self.symbols.len());
+        let outcome = mark_partly(self.one.intern_all(texts, &mut self.symbols));
         if !is_refused(&outcome) {
             for symbol in &self.symbols {
                 println!(rt; "  symbol {}", symbol.to_usize())?;

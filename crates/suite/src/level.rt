@@ -18,10 +18,10 @@ pub trait Level {
 
 /// Whether memory was refused.
 pub fn is_refused<T>(ended: &Result<T, Failure>) -> bool {
-    match ended {
-        Err(Failure::Error(JsonError::Memory(_)) | Failure::Partly | Failure::Dropped) => true,
-        _ => false,
-    }
+    matches!(
+        ended,
+        Err(Failure::Error(JsonError::Memory(_)) | Failure::Partly | Failure::Dropped)
+    )
 }
 
 /// Reports a call that was refused memory and made again: on standard output where the refusal changed what is seen,

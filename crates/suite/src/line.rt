@@ -33,10 +33,7 @@ fn parse_number(digits: &str) -> Result<usize, Mistake> {
     if digits.starts_with('+') {
         return Err(Mistake::NotANumber);
     }
-    match digits.parse() {
-        Ok(number) => Ok(number),
-        Err(_) => Err(Mistake::NotANumber),
-    }
+    digits.parse().map_err(|_| Mistake::NotANumber)
 }
 
 /// The calls that take nothing.
@@ -53,12 +50,7 @@ const NUMBERED: &'static str =
 
 /// Whether a name is one of the words.
 fn is_among(words: &'static str, name: &str) -> bool {
-    for word in words.split(' ') {
-        if word == name {
-            return true;
-        }
-    }
-    false
+    words.split(' ').any(|word| word == name)
 }
 
 /// Reads what stands after the name of a call: a text, if nothing else.
@@ -114,10 +106,6 @@ const STATIC_TEXTS: &'static str =
 
 /// The static text that is equal to a text.
 fn find_static_text(text: &str) -> Result<&'static str, Mistake> {
-    for known in STATIC_TEXTS.split(',') {
-        if known == text {
-            return Ok(known);
-        }
-    }
-    Err(Mistake::NotStatic)
+    let known = STATIC_TEXTS.split(',').find(|known| *known == text);
+    known.ok_or(Mistake::NotStatic)
 }

@@ -23,6 +23,7 @@ mod scopes;
 mod sight;
 mod symbols;
 mod tell;
+mod texts;
 
 use fault::{Fault, Mistake};
 use input::read_text;

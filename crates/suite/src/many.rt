@@ -3,12 +3,13 @@
 use crate::fault::{Failure, Told};
 use crate::level::{is_refused, tell_refusal};
 use crate::line::Call;
-use crate::tell::tell_symbol;
+use crate::tell::{tell, tell_symbol};
+use crate::texts::Texts;
 use std::alloc::Global;
 use std::io;
 use std::io::{Cursor, Write};
 use std::str::{Bytes, from_utf8};
-use string_interner::backend::InternError;
+use string_interner::backend::{Backend, InternError};
 use string_interner::symbol::Symbol;
 
 /// A text of at most 96 bytes, which takes no memory.
@@ -56,15 +57,6 @@ fn read_distance(letters: &mut Bytes<'_>) -> usize {
     distance
 }
 
-/// Makes a text of so many letters `a`, which takes no memory but its own.
-fn make_letters(alloc: Global, count: usize) -> Result<String, Failure> {
-    let mut text = String::with_capacity(alloc, count)?;
-    for _ in 0..count {
-        text.push('a')?;
-    }
-    Ok(text)
-}
-
 /// Joins the decimal numbers below a count by commas, in one request for memory: a number below the count has no more
 /// digits than the count.
 pub fn join_numbers(alloc: Global, count: usize) -> Result<String, Failure> {
@@ -82,11 +74,11 @@ pub fn join_numbers(alloc: Global, count: usize) -> Result<String, Failure> {
 /// The text that the program makes for a call, if it makes one.
 fn make_text(alloc: Global, call: Call<'_>) -> Result<Option<String>, Failure> {
     match call.name {
-        "letters" => Ok(Some(make_letters(alloc, call.number)?)),
-        "extend_numbers" | "intern_all_numbers" | "from_iter_numbers" => Ok(Some(join_numbers(
+        "letters" => Ok(Some("a".repeat(alloc, call.number)?)),
+        "extend_numbers" | "intern_all_numbers" | "from_iter_numbers" => join_numbers(
             alloc,
             call.number,
-        )?)),
+        ).map(Some),
         _ => Ok(None),
     }
 }
@@ -102,52 +94,35 @@ pub fn make_text_again(rt: &HostRuntime, call: Call<'_>) -> Result<Option<String
     again
 }
 
-/// What takes in many texts, one by one.
-pub trait Interning {
-    /// How many texts there are.
-    fn count(&self) -> usize;
-
-    /// Whether a text is found, where texts are looked up.
-    fn finds(&self, text: &str) -> bool;
-
-    /// Interns a text.
-    fn intern_one(&mut self, text: &str) -> Result<usize, InternError>;
-}
-
-/// The number of the symbol that was returned.
-pub fn to_number<S: Symbol>(answer: Result<S, InternError>) -> Result<usize, InternError> {
-    Ok(answer?.to_usize())
-}
-
 /// Interns one of many texts, again if memory was refused. After a refusal only the count of texts and that text are
 /// looked at, as a sight of all texts takes too long here.
-fn intern_again<L: Interning>(
+fn intern_again<B: Backend, T: Texts<B>>(
     rt: &HostRuntime,
-    level: &mut L,
+    texts: &mut T,
     call: Call<'_>,
     text: &str,
-) -> Result<Result<usize, InternError>, Failure> {
-    let (before, hashed) = (level.count(), call.scenario.hashed.get());
-    let answer = level.intern_one(text);
+) -> Result<Result<B::Symbol, InternError>, Failure> {
+    let (before, hashed) = (texts.entries().len(), call.scenario.hashed.get());
+    let answer = texts.intern(text);
     if !matches!(answer, Err(InternError::Memory(_))) {
         return Ok(answer);
     }
-    let is_kept = level.count() == before && !level.finds(text);
+    let is_kept = texts.entries().len() == before && texts.find(text).is_none();
     call.scenario.hashed.set(hashed);
-    let again = level.intern_one(text);
-    tell_refusal(
-        rt,
-        call.name,
-        is_kept,
-        !matches!(again, Err(InternError::Memory(_))),
-    )?;
+    let again = texts.intern(text);
+    let is_granted = !matches!(again, Err(InternError::Memory(_)));
+    tell_refusal(rt, call.name, is_kept, is_granted)?;
     Ok(again)
 }
 
 /// Interns the decimal numbers below a count, choices of words by them, or as many numbers as there are distances from each to
 /// the next one. Prints a symbol where the step from the one before is another one than that one's was; the first is to be 0,
 /// and the next one 1.
-pub fn intern_many<L: Interning>(rt: &HostRuntime, level: &mut L, call: Call<'_>) -> Told {
+pub fn intern_many<B: Backend, T: Texts<B>>(
+    rt: &HostRuntime,
+    texts: &mut T,
+    call: Call<'_>,
+) -> Told {
     let mut last = usize::MAX;
     let mut step: usize = 1;
     let mut letters = call.text.bytes();
@@ -161,8 +136,9 @@ pub fn intern_many<L: Interning>(rt: &HostRuntime, level: &mut L, call: Call<'_>
             }
             _ => format_number(number)?,
         };
-        match intern_again(rt, level, call, as_str(&text))? {
+        match intern_again(rt, texts, call, as_str(&text))? {
             Ok(symbol) => {
+                let symbol = symbol.to_usize();
                 if symbol.wrapping_sub(last) != step {
                     step = symbol.wrapping_sub(last);
                     println!(rt; "  {number} has symbol {symbol}, and so on")?;
@@ -172,15 +148,18 @@ pub fn intern_many<L: Interning>(rt: &HostRuntime, level: &mut L, call: Call<'_>
             Err(error) => println!(rt; "  {number}: {error}")?,
         }
     }
-    println!(rt; "last symbol {last}")?;
-    Ok(())
+    tell(rt, &format_args!("last symbol {last}"))
 }
 
 /// Interns the empty text so many times, and prints the last answer.
-pub fn intern_empties<L: Interning>(rt: &HostRuntime, level: &mut L, call: Call<'_>) -> Told {
+pub fn intern_empties<B: Backend, T: Texts<B>>(
+    rt: &HostRuntime,
+    texts: &mut T,
+    call: Call<'_>,
+) -> Told {
     let mut last = Err(InternError::NoSymbol);
     for _ in 0..call.number {
-        last = intern_again(rt, level, call, "")?;
+        last = intern_again(rt, texts, call, "")?;
     }
     tell_symbol(rt, last)
 }

@@ -3,19 +3,18 @@
 mod commands;
 
 use crate::fault::{Failure, Fault, Told};
-use crate::interners::sight_of;
 use crate::level::{Level, end_call, make_call};
-use crate::line::{Call, bare_call, read_call};
+use crate::line::{Call, bare_call};
 use crate::many::join_numbers;
 use crate::scenario::Scenario;
 use crate::sight::Sight;
 use crate::tell::{tell, tell_done, tell_text};
+use crate::texts::sight_of;
 use commands::{Plan, read_commands, read_texts};
 use std::alloc::{AllocError, Global};
 use string_interner::StringInterner;
 use string_interner::backend::{Backend, InternError};
 use string_interner::dedup::{TextHasher, TextIndex};
-use string_interner::json::JsonError;
 use string_interner::run::{Reply, run};
 
 /// An interner, the plan of the block that is run, and how many texts there were before it.
@@ -29,7 +28,7 @@ pub struct Runs<B: Backend, H: TextHasher, I: TextIndex<B::Symbol>> {
 /// Prints a reply.
 fn tell_reply(rt: &HostRuntime, reply: &Reply) -> Told {
     match reply {
-        Reply::Symbol(number) => Ok(println!(rt; "symbol {number}")?),
+        Reply::Symbol(number) => tell(rt, &format_args!("symbol {number}")),
         Reply::Nothing => tell(rt, &"none"),
         Reply::Text(text) => tell_text(rt, Some(text)),
         Reply::Len(count) => tell(rt, count),
@@ -57,7 +56,7 @@ impl<B: Backend, H: TextHasher, I: TextIndex<B::Symbol>> Runs<B, H, I> {
         if self.interner.len() < self.before {
             Failure::Dropped
         } else {
-            Failure::Error(JsonError::Memory(AllocError))
+            AllocError.into()
         }
     }
 }
@@ -86,11 +85,6 @@ impl<B: Backend, H: TextHasher, I: TextIndex<B::Symbol>> Level for Runs<B, H, I>
     }
 }
 
-/// Plans for a line of a block.
-fn add_line(plan: &mut Plan, line: &str, scenario: Scenario<'_>) -> Told {
-    Ok(plan.add(read_call(line, scenario)?)?)
-}
-
 /// Runs the blocks of lines one after another.
 pub fn run_blocks<B: Backend, H: TextHasher, I: TextIndex<B::Symbol>>(
     rt: &HostRuntime,
@@ -102,7 +96,7 @@ pub fn run_blocks<B: Backend, H: TextHasher, I: TextIndex<B::Symbol>>(
         runs.plan = Plan::default();
         for line in lines.split_terminator('\n') {
             number = number.saturating_add(1);
-            let added = add_line(&mut runs.plan, line, scenario);
+            let added = runs.plan.add(line, scenario);
             end_call(rt, number, added)?;
         }
         let ended = make_call(rt, runs, bare_call("run", Some(lines), scenario));

@@ -10,9 +10,9 @@ use crate::linear::LinearIndex;
 use crate::odd::{Bit, ByteCount, Constant, CountingHasher, Even, Keyed, Salted};
 use crate::own::{SuiteBackend, SuiteHasher};
 use crate::runs::{Runs, run_blocks};
-use crate::symbols::Symbols;
 use std::cell::Cell;
 use std::hash::{BuildHasherDefault, DefaultHasher};
+use std::marker::PhantomData;
 use string_interner::StringInterner;
 use string_interner::backend::{BucketBackend, BufferBackend, StringBackend};
 use string_interner::dedup::{CopyIndex, FixedState, FoldState, Index, StdHasher, TaggedIndex};
@@ -92,12 +92,16 @@ fn run_over<B: SuiteBackend, H: SuiteHasher>(
     }
 }
 
-/// Runs a scenario over a backend with these symbols, under the default hasher.
-fn run_with_symbols<S: Symbol>(rt: &HostRuntime, scenario: Scenario<'_>) -> Result<(), Fault> {
+/// Runs a scenario over a backend of the library with these symbols, under a hasher.
+fn run_with_symbols<S: Symbol, H: SuiteHasher>(
+    rt: &HostRuntime,
+    scenario: Scenario<'_>,
+    hasher: H,
+) -> Result<(), Fault> {
     match scenario.backend {
-        "string" => run_over::<StringBackend<S>, FixedState>(rt, scenario, FixedState),
-        "bucket" => run_over::<BucketBackend<S>, FixedState>(rt, scenario, FixedState),
-        "buffer" => run_over::<BufferBackend<S>, FixedState>(rt, scenario, FixedState),
+        "string" => run_over::<StringBackend<S>, H>(rt, scenario, hasher),
+        "bucket" => run_over::<BucketBackend<S>, H>(rt, scenario, hasher),
+        "buffer" => run_over::<BufferBackend<S>, H>(rt, scenario, hasher),
         "counting" | "none" => blame_first_line(Mistake::NotBuilt),
         _ => blame_first_line(Mistake::Backend),
     }
@@ -109,16 +113,10 @@ fn run_under<H: SuiteHasher>(
     scenario: Scenario<'_>,
     hasher: H,
 ) -> Result<(), Fault> {
-    if scenario.symbol != "SymbolU32" {
-        return blame_first_line(Mistake::NotBuilt);
-    }
-    match scenario.backend {
-        "string" => run_over::<StringBackend, H>(rt, scenario, hasher),
-        "bucket" => run_over::<BucketBackend, H>(rt, scenario, hasher),
-        "buffer" => run_over::<BufferBackend, H>(rt, scenario, hasher),
-        "counting" => run_over::<Counting, H>(rt, scenario, hasher),
-        "none" => blame_first_line(Mistake::NotBuilt),
-        _ => blame_first_line(Mistake::Backend),
+    match (scenario.backend, scenario.symbol) {
+        ("counting", "SymbolU32") => run_over::<Counting, H>(rt, scenario, hasher),
+        (_, "SymbolU32") => run_with_symbols::<SymbolU32, H>(rt, scenario, hasher),
+        _ => blame_first_line(Mistake::NotBuilt),
     }
 }
 
@@ -147,12 +145,12 @@ fn run_linear(rt: &HostRuntime, scenario: Scenario<'_>) -> Result<(), Fault> {
 /// Runs a scenario on symbols alone.
 fn run_symbols(rt: &HostRuntime, scenario: Scenario<'_>) -> Result<(), Fault> {
     match (scenario.backend, scenario.symbol) {
-        ("none", "SymbolU16") => run_calls(rt, scenario, &mut Symbols::<SymbolU16>::new()),
-        ("none", "SymbolU32") => run_calls(rt, scenario, &mut Symbols::<SymbolU32>::new()),
-        ("none", "SymbolUsize") => run_calls(rt, scenario, &mut Symbols::<SymbolUsize>::new()),
-        ("none", "usize") => run_calls(rt, scenario, &mut Symbols::<usize>::new()),
-        ("none", "Even") => run_calls(rt, scenario, &mut Symbols::<Even>::new()),
-        ("none", "Bit") => run_calls(rt, scenario, &mut Symbols::<Bit>::new()),
+        ("none", "SymbolU16") => run_calls(rt, scenario, &mut PhantomData::<SymbolU16>),
+        ("none", "SymbolU32") => run_calls(rt, scenario, &mut PhantomData::<SymbolU32>),
+        ("none", "SymbolUsize") => run_calls(rt, scenario, &mut PhantomData::<SymbolUsize>),
+        ("none", "usize") => run_calls(rt, scenario, &mut PhantomData::<usize>),
+        ("none", "Even") => run_calls(rt, scenario, &mut PhantomData::<Even>),
+        ("none", "Bit") => run_calls(rt, scenario, &mut PhantomData::<Bit>),
         _ => blame_first_line(Mistake::NotBuilt),
     }
 }
@@ -162,11 +160,11 @@ fn run_default(rt: &HostRuntime, scenario: Scenario<'_>) -> Result<(), Fault> {
     match (scenario.level, scenario.symbol) {
         ("symbol", _) => run_symbols(rt, scenario),
         ("linear", _) => run_linear(rt, scenario),
-        (_, "SymbolU16") => run_with_symbols::<SymbolU16>(rt, scenario),
-        (_, "SymbolUsize") => run_with_symbols::<SymbolUsize>(rt, scenario),
-        (_, "usize") => run_with_symbols::<usize>(rt, scenario),
-        (_, "Even") => run_with_symbols::<Even>(rt, scenario),
-        (_, "Bit") => run_with_symbols::<Bit>(rt, scenario),
+        (_, "SymbolU16") => run_with_symbols::<SymbolU16, _>(rt, scenario, FixedState),
+        (_, "SymbolUsize") => run_with_symbols::<SymbolUsize, _>(rt, scenario, FixedState),
+        (_, "usize") => run_with_symbols::<usize, _>(rt, scenario, FixedState),
+        (_, "Even") => run_with_symbols::<Even, _>(rt, scenario, FixedState),
+        (_, "Bit") => run_with_symbols::<Bit, _>(rt, scenario, FixedState),
         (_, "SymbolU32") => run_under(rt, scenario, FixedState),
         _ => blame_first_line(Mistake::Symbol),
     }

@@ -1,13 +1,13 @@
 //! Calls on scopes.
 
 use crate::fault::{Failure, Mistake, Told};
-use crate::interners::sight_of;
 use crate::level::Level;
 use crate::line::Call;
 use crate::sight::Sight;
 use crate::tell::{
     symbol_of, tell, tell_done, tell_entries, tell_found, tell_hashed, tell_symbol, tell_text,
 };
+use crate::texts::sight_of;
 use string_interner::backend::Backend;
 use string_interner::dedup::{TextHasher, TextIndex};
 use string_interner::scope::Scopes;

@@ -3,8 +3,8 @@
 use string_interner::dedup::{FixedState, TextHasher};
 use string_interner::symbol::Symbol;
 
-/// How many entries were looked at, one number from their texts, their symbols and whether each is found, and one from
-/// all else.
+/// How many entries were looked at, one number from their texts, their symbols and whether each finds the other, and one
+/// from all else.
 #[derive(Clone, Copy, PartialEq, Eq, Default)]
 pub struct Sight {
     pub count: usize,
@@ -18,13 +18,13 @@ fn mix(seen: u64, next: u64) -> u64 {
 }
 
 impl Sight {
-    /// The same with one more entry: its symbol, its text, and whether the one is found by the other.
-    pub fn with_entry<S: Symbol>(self, symbol: S, text: &str, is_found: bool) -> Self {
-        let seen = mix(self.entries, symbol.to_usize() as u64);
-        let seen = mix(seen, FixedState.hash_text(text));
+    /// The same with one more entry: the number of its symbol, its text, whether the symbol is found by the text, and
+    /// whether the text is read by the symbol.
+    pub fn with_entry(self, symbol: usize, text: &str, is_found: bool, is_read: bool) -> Self {
+        let seen = mix(mix(self.entries, symbol as u64), FixedState.hash_text(text));
         Sight {
             count: self.count.saturating_add(1),
-            entries: mix(seen, u64::from(is_found)),
+            entries: mix(mix(seen, u64::from(is_found)), u64::from(is_read)),
             ..self
         }
     }

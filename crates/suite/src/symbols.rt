@@ -12,19 +12,6 @@ use std::marker::PhantomData;
 use string_interner::dedup::{FixedState, TextHasher};
 use string_interner::symbol::Symbol;
 
-/// A symbol type.
-#[derive(Drop)]
-pub struct Symbols<S: Symbol> {
-    of: PhantomData<S>,
-}
-
-impl<S: Symbol> Symbols<S> {
-    /// The type.
-    pub fn new() -> Self {
-        Symbols { of: PhantomData }
-    }
-}
-
 /// The hash of a symbol.
 fn hash_of<S: Hash>(symbol: &S) -> u64 {
     let mut hasher = DefaultHasher::new();
@@ -45,17 +32,16 @@ fn compare<S: Symbol + Ord + Hash>(rt: &HostRuntime, call: Call<'_>) -> Told {
     } else {
         "other"
     };
-    println!(rt; "{order}, {hash} hash")?;
-    Ok(())
+    tell(rt, &format_args!("{order}, {hash} hash"))
 }
 
 /// Prints the code of a text under the default hasher.
 fn hash_text(rt: &HostRuntime, text: &str) -> Told {
-    println!(rt; "{:x}", FixedState.hash_text(text))?;
-    Ok(())
+    tell(rt, &format_args!("{:x}", FixedState.hash_text(text)))
 }
 
-impl<S: Symbol + Ord + Hash> Level for Symbols<S> {
+/// The calls are made on a symbol type, of which no value is kept.
+impl<S: Symbol + Ord + Hash> Level for PhantomData<S> {
     fn call(&mut self, rt: &HostRuntime, call: Call<'_>) -> Told {
         match call.name {
             "try_from_usize" => tell_found(rt, S::try_from_usize(call.number)),

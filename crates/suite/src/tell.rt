@@ -21,7 +21,7 @@ pub fn tell_done(rt: &HostRuntime) -> Told {
 /// Prints the number of a symbol, or that there is none.
 pub fn tell_found<S: Symbol>(rt: &HostRuntime, symbol: Option<S>) -> Told {
     match symbol {
-        Some(symbol) => Ok(println!(rt; "symbol {}", symbol.to_usize())?),
+        Some(symbol) => tell(rt, &format_args!("symbol {}", symbol.to_usize())),
         None => tell(rt, &"none"),
     }
 }
@@ -34,25 +34,19 @@ pub fn tell_symbol<S: Symbol>(rt: &HostRuntime, answer: Result<S, InternError>) 
 /// Prints a text, or that there is none.
 pub fn tell_text(rt: &HostRuntime, text: Option<&str>) -> Told {
     match text {
-        Some(text) => Ok(println!(rt; "text {text}")?),
+        Some(text) => tell(rt, &format_args!("text {text}")),
         None => tell(rt, &"none"),
     }
 }
 
 /// The symbol with a number.
 pub fn symbol_of<S: Symbol>(number: usize) -> Result<S, Failure> {
-    match S::try_from_usize(number) {
-        Some(symbol) => Ok(symbol),
-        None => Err(Failure::NoSuchSymbol),
-    }
+    S::try_from_usize(number).ok_or(Failure::NoSuchSymbol)
 }
 
 /// What a backend offers, or that the line is wrong because it does not.
 pub fn require<T>(offered: Option<T>) -> Result<T, Failure> {
-    match offered {
-        Some(offered) => Ok(offered),
-        None => Err(Failure::Line(Mistake::NotOffered)),
-    }
+    offered.ok_or(Failure::Line(Mistake::NotOffered))
 }
 
 /// Prints how many texts were hashed since this was last done, where the hasher counts them.
@@ -72,26 +66,15 @@ fn count_left<B: Backend>(rt: &HostRuntime, iter: &Iter<'_, B>) -> Result<usize,
     Ok(left)
 }
 
-/// Prints the next entry, if there is one, and returns whether there was.
-fn step<B: Backend>(rt: &HostRuntime, iter: &mut Iter<'_, B>) -> Result<bool, Failure> {
-    let left = count_left(rt, iter)?;
-    match iter.next() {
-        Some((symbol, text)) => {
-            println!(rt; "  {left} left, symbol {}, text {text}", symbol.to_usize())?;
-            Ok(true)
-        }
-        None => Ok(false),
-    }
-}
-
 /// Prints the entries ahead, and how many are left after the last one.
 pub fn tell_entries<B: Backend>(rt: &HostRuntime, iter: &mut Iter<'_, B>) -> Told {
     for _ in 0..u64::MAX {
-        if !step(rt, iter)? {
+        let left = count_left(rt, iter)?;
+        let Some((symbol, text)) = iter.next() else {
             break;
-        }
+        };
+        println!(rt; "  {left} left, symbol {}, text {text}", symbol.to_usize())?;
     }
     let left = count_left(rt, iter)?;
-    println!(rt; "{left} left")?;
-    Ok(())
+    tell(rt, &format_args!("{left} left"))
 }

@@ -3,9 +3,10 @@
 ghost use Rattle.std.specs.Prelude.{◌≡◌};
 ghost use Rattle.string_interner.specs.Interner.{known_symbol};
 
+use crate::texts::Texts;
 use std::alloc::{AllocError, Global};
 use std::marker::Model;
-use string_interner::backend::{Backend, InternError};
+use string_interner::backend::{Backend, InternError, Iter};
 use string_interner::dedup::{Index, Looks, TextHasher};
 
 /// A backend of distinct texts with an index of them, by the public calls of both alone.
@@ -65,30 +66,9 @@ impl<B: Backend, H: TextHasher> Filled<B, H> {
         &self.index
     }
 
-    /// Calls `find`.
-    pub fn find(&self, text: &str) -> Option<B::Symbol>
-        ensures { result ≡ known_symbol B.numbering self.now text.now }
-    {
-        let mut looks = Looks::new(&self.backend);
-        self.index.find(&self.hasher, &mut looks, text)
-    }
-
     /// Calls `reserve_one`.
     pub fn reserve(&mut self) -> Result<(), AllocError> {
         self.index.reserve_one(&self.hasher, &self.backend)
-    }
-
-    /// Interns a text in the backend and calls `insert` with its symbol, unless the text is there.
-    pub fn insert(&mut self, text: &str) -> Result<B::Symbol, InternError> {
-        if let Some(symbol) = self.find(text) {
-            return Ok(symbol);
-        }
-        self.index
-            .reserve_one(&self.hasher, &self.backend)
-            .map_err(InternError::Memory)?;
-        let symbol = self.backend.intern(text)?;
-        self.index.insert(&self.hasher, &self.backend, symbol);
-        Ok(symbol)
     }
 
     /// Truncates the backend and calls `refill`.
@@ -98,5 +78,36 @@ impl<B: Backend, H: TextHasher> Filled<B, H> {
             self.backend.truncate(len);
             self.index.refill(&self.hasher, &self.backend);
         }
+    }
+}
+
+impl<B: Backend, H: TextHasher> Texts<B> for Filled<B, H> {
+    fn entries(&self) -> Iter<'_, B> {
+        self.backend.iter()
+    }
+
+    /// Calls `find`.
+    fn find(&self, text: &str) -> Option<B::Symbol>
+        ensures { result ≡ known_symbol B.numbering self.now text.now }
+    {
+        let mut looks = Looks::new(&self.backend);
+        self.index.find(&self.hasher, &mut looks, text)
+    }
+
+    fn resolve(&self, symbol: B::Symbol) -> Option<&str> {
+        self.backend.resolve(symbol)
+    }
+
+    /// Interns a text in the backend and calls `insert` with its symbol, unless the text is there.
+    fn intern(&mut self, text: &str) -> Result<B::Symbol, InternError> {
+        if let Some(symbol) = self.find(text) {
+            return Ok(symbol);
+        }
+        self.index
+            .reserve_one(&self.hasher, &self.backend)
+            .map_err(InternError::Memory)?;
+        let symbol = self.backend.intern(text)?;
+        self.index.insert(&self.hasher, &self.backend, symbol);
+        Ok(symbol)
     }
 }

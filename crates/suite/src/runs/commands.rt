@@ -1,7 +1,8 @@
 //! The commands that a block of lines states. The block is the text of a call.
 
-use crate::fault::Mistake;
+use crate::fault::{Failure, Mistake, Told};
 use crate::line::{Call, read_call};
+use crate::scenario::Scenario;
 use std::alloc::{AllocError, Global};
 use string_interner::run::Command;
 
@@ -15,19 +16,21 @@ pub struct Plan {
 
 impl Plan {
     /// Plans for one more line.
-    pub fn add(&mut self, call: Call<'_>) -> Result<(), Mistake> {
+    pub fn add(&mut self, line: &str, scenario: Scenario<'_>) -> Told {
+        let call = read_call(line, scenario)?;
         let commands = match call.name {
-            "InternNumbers" => call.number,
-            "Extend" => 1,
+            "InternNumbers" => {
+                self.numbers = self.numbers.max(call.number);
+                call.number
+            }
+            "Extend" => {
+                self.texts = self.texts.saturating_add(call.texts().count());
+                1
+            }
             _ if read_plain(call).is_some() => 1,
-            _ => return Err(Mistake::Call),
+            _ => return Err(Failure::Line(Mistake::Call)),
         };
         self.commands = self.commands.saturating_add(commands);
-        match call.name {
-            "InternNumbers" => self.numbers = self.numbers.max(call.number),
-            "Extend" => self.texts = self.texts.saturating_add(call.texts().count()),
-            _ => {}
-        }
         Ok(())
     }
 }

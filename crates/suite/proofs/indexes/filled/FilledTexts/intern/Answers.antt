@@ -1,7 +1,7 @@
 use Rattle.std.proofs.Common.{◌∙◌, sym}
 use Rattle.string_interner.proofs.Lemmas.Backend.Numbering.{numbered, injective}
 use Rattle.string_interner.proofs.Lemmas.Interner.IsSoundInterner.{known_none, interned-same, fits-more, absent-more, interned-more}
-use Rattle.suite.proofs.indexes.filled.Filled.insert.Goals as goal
+use Rattle.suite.proofs.indexes.filled.FilledTexts.intern.Goals as goal
 
 pub insert-requires-clause-fits : goal.insert-requires-clause-fits
 insert-requires-clause-fits g c = fits-more g.B.Backend.numbering (numbered g.B.Backend.numbering g.met.B.Backend.symbols g.met.B.Symbol.Symbol.numbered) (injective g.B.Backend.numbering g.met.B.Backend.symbols g.met.B.Symbol.Symbol.injective) g.met.B.Backend.grows _ _ _ (interned-same g.B.Backend.numbering (numbered g.B.Backend.numbering g.met.B.Backend.symbols g.met.B.Symbol.Symbol.numbered) (injective g.B.Backend.numbering g.met.B.Backend.symbols g.met.B.Symbol.Symbol.injective) g.met.B.Backend.grows _ _ _ c.self.invariant _ c.reserve_one.ensures.fits c.reserve_one.ensures.same c.reserve_one.ensures.count)
