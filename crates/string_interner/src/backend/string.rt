@@ -51,11 +51,21 @@ impl<S: Symbol> Model for StringBackend<S> {
 }
 
 impl<S: Symbol> StringBackend<S> {
+    /// Returns the text of entry `index`.
+    #[inline(always)]
+    fn text_at(&self, index: usize) -> &str
+        requires { index < length self.now.texts }
+        ensures text { slice_get self.now.texts index ≡ Some result.now }
+        ensures valid { IsValidList S.symbol_of length self.now.texts }
+    {
+        let (start, end) = self.ends.span(index);
+        &self.joined[start..end]
+    }
+
     /// Returns the text of entry `index`, and `None` if there are at most `index` entries.
     #[inline(always)]
-    fn text_at(&self, index: usize) -> Option<&str>
-        ensures text { option_copied result ≡ slice_get self.now.texts index }
-        ensures valid { IsValidList S.symbol_of length self.now.texts }
+    fn find_text(&self, index: usize) -> Option<&str>
+        ensures { option_copied result ≡ slice_get self.now.texts index }
     {
         match self.ends.span_at(index) {
             Some((start, end)) => Some(&self.joined[start..end]),
@@ -123,16 +133,15 @@ impl<S: Symbol> Backend for StringBackend<S> {
     }
 
     fn resolve(&self, symbol: S) -> Option<&str> {
-        let index = symbol.to_usize();
-        self.text_at(index)
+        self.find_text(symbol.to_usize())
     }
 
     fn resolve_unchecked(&self, symbol: S) -> &str {
-        self.text_at(symbol.to_usize()).unwrap()
+        self.text_at(symbol.to_usize())
     }
 
     fn entry_at(&self, at: usize) -> (S, &str, usize) {
-        let text = self.text_at(at).unwrap();
+        let text = self.text_at(at);
         (S::try_from_usize(at).unwrap(), text, at + 1)
     }
 

@@ -123,8 +123,8 @@ pub fn probe_for<S: Symbol, L: Probe<S>, B: Backend<Symbol = S>>(
 {
     let count = slots.len();
     let home = home_of(code, count);
-    // Most probes end with their first step. In a loop, what a comparison of texts computes of the length would be
-    // computed before the loop, for each probe.
+    // Most probes end with their first step, so it stands before the loop: in the loop, what a comparison of texts
+    // computes of the length would be computed before the first step.
     match slots.step(home, code, looks, text) {
         Step::Found(symbol) => Entry::Occupied(symbol),
         Step::Free(at) => Entry::Vacant(Vacancy {
@@ -139,7 +139,7 @@ pub fn probe_for<S: Symbol, L: Probe<S>, B: Backend<Symbol = S>>(
 /// Goes on with a probe for a text with this code, whose first step led on to slot `from`.
 ///
 /// Takes at most as many looks as there are symbols in the probe cluster.
-#[inline(never)]
+#[inline(always)]
 fn probe_on<S: Symbol, L: Probe<S>, B: Backend<Symbol = S>>(
     slots: &L,
     from: usize,

@@ -44,6 +44,16 @@ fn is_narrow(end: usize, wide: &Vec<usize>) -> bool
     end <= u32::MAX as usize && wide.capacity() == 0
 }
 
+/// Returns the start and the end of text `index`, by a list of ends that has both.
+#[inline(always)]
+fn span_in(ends: &[u32], index: usize) -> (usize, usize)
+    requires { index < length ends.now }
+    ensures { result ≡ (start_at ends.now index, slice_index ends.now index) }
+{
+    let start = if index == 0 { 0 } else { ends[index - 1] };
+    (start as usize, ends[index] as usize)
+}
+
 impl Ends {
     /// Makes an empty list. Allocates nothing.
     pub fn new(alloc: Global) -> Self
@@ -107,24 +117,30 @@ impl Ends {
         }
     }
 
+    /// Returns the start and the end of text `index`.
+    #[inline(always)]
+    pub fn span(&self, index: usize) -> (usize, usize)
+        requires { index < length self.now.items }
+        ensures { result ≡ (start_at self.now.items index, slice_index self.now.items index) }
+    {
+        // The same for each text, so that a loop over all of them tests it once.
+        if self.wide.is_empty() {
+            return span_in(&self.narrow, index);
+        }
+        (self.start_at(index), self.end_at(index))
+    }
+
     /// Returns the start and the end of text `index`, and `None` if there are at most `index` texts.
     #[inline(always)]
     pub fn span_at(&self, index: usize) -> Option<(usize, usize)>
         ensures { SomeIff result (index < length self.now.items)
             (start_at self.now.items index, slice_index self.now.items index) }
     {
-        match self.narrow.get(index) {
-            Some(&end) => {
-                // The end before lies in `narrow` too, so there is nothing else to test.
-                let start = if index == 0 {
-                    0
-                } else {
-                    self.narrow[index - 1]
-                };
-                Some((start as usize, end as usize))
-            }
-            None => self.wide_span_at(index),
+        // The end before one in `narrow` lies there too, so there is nothing else to test.
+        if index < self.narrow.len() {
+            return Some(span_in(&self.narrow, index));
         }
+        self.wide_span_at(index)
     }
 
     /// Returns what `span_at` does, for an index past `narrow`.
