@@ -39,6 +39,10 @@ module _ {S L : Type 0} (layout : SlotLayout S L) where
     pub stored : layout.stored new slot.at ≡ layout.stores code
     pub others : (k : ℕ) → k ≢ slot.at → layout.stored new k ≡ layout.stored old k
 
+  -- The slots fit the entries and a hasher that gives this text this code.
+  abbrev pub FitsCode : (S → Option Text) → L → ℕ → Text → Type 0
+  FitsCode entry x code text = (of : Text → ℕ) × (layout.fits entry of x × (code ≡ of text))
+
   -- the laws of a layout
   pub record IsLayout : Type 0 where
     -- the slots fit if their symbols do, and what is stored beside them

@@ -3,9 +3,11 @@
 -- `Table::reserve_one`.
 use Rattle.std.specs.Prelude.{◌≡◌, ℕ, ◌<◌, ◌≤◌, ◌%◌, ◌+◌, ◌⊎◌, Bool, true, false, List, length, slice_index_or, slice_set, Contains, Option, Some, None}
 use Rattle.string_interner.specs.Text.{Text}
-use Rattle.string_interner.specs.Slots.{symbols, filled_run, probed}
+use Rattle.string_interner.specs.Slots.{symbols, filled_run, first_passing, probe_cluster, probed}
 use Rattle.string_interner.specs.LoadFactor.{IsSlotCount}
 use Rattle.string_interner.specs.Index.{Fits}
+use Rattle.string_interner.specs.TextIndex.{IfVacant, found_by}
+use Rattle.string_interner.specs.declared.dedup.text_index.Entry.{Entry}
 use Rattle.string_interner.specs.declared.dedup.probe.Vacancy.{Vacancy}
 use Rattle.string_interner.specs.declared.dedup.probe.Step.{Step}
 use Rattle.string_interner.specs.declared.dedup.probe.Step.TheVariants.{Found, Free, On}
@@ -64,3 +66,11 @@ pub record Rebuilt {S : Type 0} (entry : S → Option Text) (code : Text → ℕ
   pub count : length (symbols new) ≡ length (symbols old)
   pub to : (symbol : S) → Contains old (Some symbol) → Contains new (Some symbol)
   pub from : (symbol : S) → Contains new (Some symbol) → Contains old (Some symbol)
+
+-- What a probe for a code found is the first symbol of the code's probe cluster that passes the test.
+abbrev pub FindsFirst : {S V : Type 0} → (S → Bool) → List (Option S) → ℕ → Entry S V → Type 0
+FindsFirst test slots code result = found_by result ≡ first_passing test (probe_cluster slots code)
+
+-- A probe for a code that found nothing tells where a symbol with that code goes.
+abbrev pub NamesVacancy : {S : Type 0} → List (Option S) → ℕ → Entry S Vacancy → Type 0
+NamesVacancy slots code result = IfVacant result (IsVacant slots code)

@@ -30,6 +30,10 @@ filled_run (Some symbol ∷ rest) = symbol ∷ filled_run rest
 abbrev pub probed : {S : Type 0} → List (Option S) → ℕ → List (Option S)
 probed slots home = drop home slots ++ take home slots
 
+-- the symbols of the probe cluster from the home of a code on
+abbrev pub probe_cluster : {S : Type 0} → List (Option S) → ℕ → List S
+probe_cluster slots code = filled_run (probed slots (code % length slots))
+
 -- the first symbol that passes the test
 abbrev pub first_passing : {S : Type 0} → (S → Bool) → List S → Option S
 first_passing test [] = None

@@ -30,6 +30,10 @@ abbrev pub start_at : List ℕ → ℕ → ℕ
 start_at ends zero = 0
 start_at ends (suc i) = slice_index ends i
 
+-- where text `i` begins and ends
+abbrev pub span_of : List ℕ → ℕ → ℕ × ℕ
+span_of ends i = (start_at ends i, slice_index ends i)
+
 -- the bytes and the ends are those of the texts
 pub record IsCut (bytes ends : List ℕ) (texts : List Text) : Type 0 where
   pub bytes_are : bytes ≡ joined texts

@@ -3,12 +3,12 @@
 ghost use Rattle.std.specs.Prelude.{◌≡◌, ℕ, ◌+◌, ◌<◌, ◌≤◌, ◌%◌, length};
 ghost use Rattle.string_interner.specs.Text.{Text};
 ghost use Rattle.string_interner.specs.Entry.{entry_text};
-ghost use Rattle.string_interner.specs.Slots.{probed, filled_run, first_passing};
+ghost use Rattle.string_interner.specs.Slots.{probe_cluster};
 ghost use Rattle.string_interner.specs.LoadFactor.{IsSlotCount};
 ghost use Rattle.string_interner.specs.Index.{has_text};
-ghost use Rattle.string_interner.specs.Probe.{Follows, HasFreeSlot, IsVacant, StepsTo};
+ghost use Rattle.string_interner.specs.Layout.{FitsCode};
+ghost use Rattle.string_interner.specs.Probe.{FindsFirst, Follows, HasFreeSlot, NamesVacancy, StepsTo};
 ghost use Rattle.string_interner.specs.declared.dedup.probe.Step.TheVariants.{On};
-ghost use Rattle.string_interner.specs.TextIndex.{IfVacant, found_by};
 
 use crate::backend::Backend;
 use crate::dedup::layout::Layout;
@@ -86,9 +86,8 @@ pub trait Probe<S: Symbol>: Layout<S> {
         text: &str,
     ) -> Step<S>
         requires within { at < length (Self.layout.slots self.now) }
-        requires fits { (of : Text → ℕ) × (Self.layout.fits
-            (entry_text B.numbering (B.texts looks.old.backend)) of self.now
-            × (code ≡ of text.now)) }
+        requires fits { FitsCode Self.layout
+            (entry_text B.numbering (B.texts looks.old.backend)) self.now code text.now }
         ensures leads { StepsTo
             (has_text (entry_text B.numbering (B.texts looks.old.backend)) text.now)
             (Self.layout.slots self.now) at result }
@@ -108,18 +107,16 @@ pub fn probe_for<S: Symbol, L: Probe<S>, B: Backend<Symbol = S>>(
     text: &str,
 ) -> Entry<S, Vacancy>
     requires free { HasFreeSlot (L.layout.slots slots.now) }
-    requires fits { (of : Text → ℕ) × (L.layout.fits
-        (entry_text B.numbering (B.texts looks.old.backend)) of slots.now
-        × (code ≡ of text.now)) }
-    ensures found { found_by result ≡ first_passing
+    requires fits { FitsCode L.layout
+        (entry_text B.numbering (B.texts looks.old.backend)) slots.now code text.now }
+    ensures found { FindsFirst
         (has_text (entry_text B.numbering (B.texts looks.old.backend)) text.now)
-        (filled_run (probed (L.layout.slots slots.now) (code % length (L.layout.slots slots.now)))) }
-    ensures vacant { IfVacant result (IsVacant (L.layout.slots slots.now) code) }
+        (L.layout.slots slots.now) code result }
+    ensures vacant { NamesVacancy (L.layout.slots slots.now) code result }
     ensures backend { looks.new.backend ≡ looks.old.backend }
     ensures counts { looks.old.count ≤ looks.new.count }
-    ensures looks { looks.new.count ≤ looks.old.count
-        + length (filled_run (probed (L.layout.slots slots.now)
-        (code % length (L.layout.slots slots.now)))) + 1 }
+    ensures looks { looks.new.count
+        ≤ looks.old.count + length (probe_cluster (L.layout.slots slots.now) code) + 1 }
 {
     let count = slots.len();
     let home = home_of(code, count);
@@ -148,20 +145,18 @@ fn probe_on<S: Symbol, L: Probe<S>, B: Backend<Symbol = S>>(
     text: &str,
 ) -> Entry<S, Vacancy>
     requires free { HasFreeSlot (L.layout.slots slots.now) }
-    requires fits { (of : Text → ℕ) × (L.layout.fits
-        (entry_text B.numbering (B.texts looks.old.backend)) of slots.now
-        × (code ≡ of text.now)) }
+    requires fits { FitsCode L.layout
+        (entry_text B.numbering (B.texts looks.old.backend)) slots.now code text.now }
     requires led { StepsTo (has_text (entry_text B.numbering (B.texts looks.old.backend)) text.now)
         (L.layout.slots slots.now) (code % length (L.layout.slots slots.now)) (On from) }
-    ensures found { found_by result ≡ first_passing
+    ensures found { FindsFirst
         (has_text (entry_text B.numbering (B.texts looks.old.backend)) text.now)
-        (filled_run (probed (L.layout.slots slots.now) (code % length (L.layout.slots slots.now)))) }
-    ensures vacant { IfVacant result (IsVacant (L.layout.slots slots.now) code) }
+        (L.layout.slots slots.now) code result }
+    ensures vacant { NamesVacancy (L.layout.slots slots.now) code result }
     ensures backend { looks.new.backend ≡ looks.old.backend }
     ensures counts { looks.old.count ≤ looks.new.count }
-    ensures looks { looks.new.count ≤ looks.old.count
-        + length (filled_run (probed (L.layout.slots slots.now)
-        (code % length (L.layout.slots slots.now)))) }
+    ensures looks { looks.new.count
+        ≤ looks.old.count + length (probe_cluster (L.layout.slots slots.now) code) }
 {
     let count = slots.len();
     let mut at = from;

@@ -5,7 +5,7 @@ ghost use Rattle.std.specs.Str.{bytes_eq};
 ghost use Rattle.std.specs.Cmp.{partial_equiv_from_equiv, on_equiv};
 ghost use Rattle.std.proofs.lemmas.Cmp.{nat_list_eq_equiv};
 ghost use Rattle.string_interner.specs.Ends.{EndList};
-ghost use Rattle.string_interner.specs.StringBackend.{start_at};
+ghost use Rattle.string_interner.specs.StringBackend.{span_of, start_at};
 
 use std::alloc::{AllocError, Global};
 use std::marker::Model;
@@ -48,7 +48,7 @@ fn is_narrow(end: usize, wide: &Vec<usize>) -> bool
 #[inline(always)]
 fn span_in(ends: &[u32], index: usize) -> (usize, usize)
     requires { index < length ends.now }
-    ensures { result ≡ (start_at ends.now index, slice_index ends.now index) }
+    ensures { result ≡ span_of ends.now index }
 {
     let start = if index == 0 { 0 } else { ends[index - 1] };
     (start as usize, ends[index] as usize)
@@ -121,39 +121,38 @@ impl Ends {
     #[inline(always)]
     pub fn span(&self, index: usize) -> (usize, usize)
         requires { index < length self.now.items }
-        ensures { result ≡ (start_at self.now.items index, slice_index self.now.items index) }
+        ensures { result ≡ span_of self.now.items index }
     {
         // The same for each text, so that a loop over all of them tests it once.
         if self.wide.is_empty() {
-            return span_in(&self.narrow, index);
+            span_in(&self.narrow, index)
+        } else {
+            self.span_in_both(index)
         }
-        (self.start_at(index), self.end_at(index))
     }
 
     /// Returns the start and the end of text `index`, and `None` if there are at most `index` texts.
     #[inline(always)]
     pub fn span_at(&self, index: usize) -> Option<(usize, usize)>
-        ensures { SomeIff result (index < length self.now.items)
-            (start_at self.now.items index, slice_index self.now.items index) }
+        ensures { SomeIff result (index < length self.now.items) (span_of self.now.items index) }
     {
         // The end before one in `narrow` lies there too, so there is nothing else to test.
         if index < self.narrow.len() {
-            return Some(span_in(&self.narrow, index));
-        }
-        self.wide_span_at(index)
-    }
-
-    /// Returns what `span_at` does, for an index past `narrow`.
-    #[cold]
-    fn wide_span_at(&self, index: usize) -> Option<(usize, usize)>
-        ensures { SomeIff result (index < length self.now.items)
-            (start_at self.now.items index, slice_index self.now.items index) }
-    {
-        if index < self.len() {
-            Some((self.start_at(index), self.end_at(index)))
+            Some(span_in(&self.narrow, index))
+        } else if index < self.len() {
+            Some(self.span_in_both(index))
         } else {
             None
         }
+    }
+
+    /// Returns what `span` does, wherever the two ends lie.
+    #[cold]
+    fn span_in_both(&self, index: usize) -> (usize, usize)
+        requires { index < length self.now.items }
+        ensures { result ≡ span_of self.now.items index }
+    {
+        (self.start_at(index), self.end_at(index))
     }
 
     /// Makes sure that `push_reserved` can store this end. Allocates only if it goes beyond what is spare.
