@@ -13,6 +13,9 @@ SECONDS = 60
 # What the library says at the end of a run that gave back all memory, and what stands for that line where it is missing.
 HELD_NOTHING, HELD = b"holds 0\n", b"not all memory was given back\n"
 
+# What the library says when it refuses a request for memory.
+REFUSED = b"request refused\n"
+
 End = namedtuple("End", "status output error")
 
 
@@ -46,7 +49,9 @@ class Program:
                                        preexec_fn=before, close_fds=False, check=False)
             except subprocess.TimeoutExpired:
                 return End(None, b"", b"not done after %d seconds\n" % seconds)
-        printed, told = ended.stdout or b"", (ended.stderr or b"").replace(b"request refused\n", b"")
+        printed, told = ended.stdout or b"", ended.stderr or b""
+        if "REFUSE" in settings:
+            told = b"".join(line for line in told.splitlines(keepends=True) if line != REFUSED)
         if "TELL_HELD" in settings:
             printed, told = (without_held(printed), told) if is_joined else (printed, without_held(told))
         return End(ended.returncode, printed, told)

@@ -273,7 +273,7 @@ STREAMS = Streams(
         ([b"encode"], b"red\ngreen\nred", b'{"dictionary":["red","green"],"final_newline":false,"lines":[0,1,0]}\n'),
         ([b"decode"], '{"dictionary":["é",""],"final_newline":true,"lines":[1,0,0]}'.encode(), "\né\né\n".encode()),
     ),
-    failing=(([b"count"], b"\xff"), ([b"decode"], b"{}")),
+    failing=(([b"count"], b"\xff", failed(2, b"line 1 is not UTF-8")), ([b"decode"], b"{}", failed(2, b'no array "dictionary"'))),
     long=([b"count"], LONG, answer([b"count"], LONG)[1]),
     unreadable=unreadable,
     unwritable=unwritable,
@@ -297,6 +297,7 @@ def parts():
             *((try_both_ways, *given) for given in large_inputs()),
             *((try_distant_fault, *given) for given in distant_faults()),
             (try_small_file_of_much,),
-            (try_chosen_lines,),
         ],
+        # Alone, since it compares times.
+        "chosen": [(try_chosen_lines,)],
     }

@@ -250,7 +250,7 @@ STREAMS = Streams(
         ([b"bucket"], b"i \nr 0\n", b"symbol 0\ntext \n"),
         ([b"string"], b"", b""),
     ),
-    failing=(([b"string"], b"x\n"), ([b"string"], b"i a\nx\ni \xc3\xa9\nlen\n\xff\n")),
+    failing=(([b"string"], b"x\n", bad_line(1)), ([b"string"], b"i a\nx\ni \xc3\xa9\nlen\n\xff\n", UNREADABLE)),
     long=([b"string"], LONG, answer([b"string"], LONG)[1]),
     unreadable=unreadable,
     unwritable=unwritable,

@@ -21,7 +21,7 @@ ERRORS = (errno.EPIPE, errno.ENOMEM, 0)
 
 def packets():
     """The two ends of a pipe that hands on each write by itself. Each takes a page of it."""
-    reading, writing = os.pipe2(os.O_DIRECT)
+    reading, writing = os.pipe2(os.O_DIRECT | os.O_CLOEXEC)
     fcntl.fcntl(writing, fcntl.F_SETPIPE_SZ, 1 << 20)
     return reading, writing
 
@@ -37,7 +37,8 @@ class Streams:
     """Arguments and inputs of a program, and how it tells of an error by its number.
 
     `answered` has short inputs with what is written for them, and `long` one with more than a buffer or a pipe takes. `failing`
-    has inputs that are wrong. If the program writes on where the buffer of its output is refused, `buffer` is its size.
+    has inputs that are wrong, with how a run over them ends. If the program writes on where the buffer of its output is refused,
+    `buffer` is its size.
     """
 
     answered: tuple
@@ -54,8 +55,8 @@ class Streams:
             output_in_pieces, output_in_few_writes, closed_error)]
 
     def inputs(self):
-        """The arguments and inputs."""
-        return [*((words, data) for words, data, _ in self.answered), *self.failing]
+        """The arguments and inputs, each with how a run over it ends."""
+        return [*((words, data, (0, whole, b"")) for words, data, whole in self.answered), *self.failing]
 
     def buffers(self, program, words, data):
         """Settings under which the output has its buffer, and those under which it has none."""
@@ -74,7 +75,7 @@ def failing_input(program, streams):
     yield "a folder as input", program.run(words, folder), (1, b"", streams.unreadable(errno.EISDIR))
     os.close(folder)
     yield "a closed input", program.run(words, None, before=lambda: os.close(0)), (1, b"", streams.unreadable(errno.EBADF))
-    for words, data in streams.inputs():
+    for words, data, _ in streams.inputs():
         for count in range(len(data) + 1):
             name = f"{words}, input {data!r} that breaks off after {count} bytes"
             yield name, program.run(words, data, READ_BYTES=count), (1, b"", streams.unreadable(errno.ECONNRESET))
@@ -82,13 +83,12 @@ def failing_input(program, streams):
 
 def failing_output(program, streams):
     """A full disk and a closed output, which matter only where there is something to write."""
-    for words, data in streams.inputs():
-        plain = program.run(words, data)
+    for words, data, plain in streams.inputs():
         with open("/dev/full", "wb") as full:
             found = program.run(words, data, full)
-        yield f"{words}, a full disk after {data!r}", found, streams.unwritten(errno.ENOSPC) if plain.output else plain
+        yield f"{words}, a full disk after {data!r}", found, streams.unwritten(errno.ENOSPC) if plain[1] else plain
         found = program.run(words, data, None, before=lambda: os.close(1))
-        yield f"{words}, a closed output after {data!r}", found, streams.unwritten(errno.EBADF) if plain.output else plain
+        yield f"{words}, a closed output after {data!r}", found, streams.unwritten(errno.EBADF) if plain[1] else plain
 
 
 def output_of_any_length(program, streams):
@@ -162,6 +162,6 @@ def output_in_few_writes(program, streams):
 
 def closed_error(program, streams):
     """The status and the output stay."""
-    for words, data in streams.inputs():
+    for words, data, (status, whole, _) in streams.inputs():
         found = program.run(words, data, before=lambda: os.close(2))
-        yield f"{words}, a closed standard error after {data!r}", found, program.run(words, data)._replace(error=b"")
+        yield f"{words}, a closed standard error after {data!r}", found, (status, whole, b"")
