@@ -1,8 +1,8 @@
 -- The ends of texts that are joined in one string.
--- Cited by the model of `Ends`, and by that of `StringBackend`.
+-- Cited by the model of `Ends`.
 use Rattle.std.specs.Prelude.{ℕ, List}
 
--- what contracts see: the ends, how many more are stored without an allocation, and up to which
+-- what contracts see: the ends, how many more fit without an allocation, and the greatest end that fits
 pub record EndList : Type 0 where
   pub items : List ℕ
   pub spare : ℕ

@@ -1,6 +1,6 @@
 -- How slots lie in memory: what they hold, what is stored beside them, and how many of them may be filled.
--- Cited by the trait `Layout`, by `Table` and by its layouts. Below, `entry` gives the text of the entry that has a
--- symbol, if one has, and `code` the code of a text under a hasher.
+-- Cited by the traits `Layout` and `Probe`, by `Table` and by its layouts. Below, `entry` gives the text of the entry
+-- that has a symbol, if one has, and `code` the code of a text under a hasher.
 use Rattle.std.specs.Prelude.{◌≡◌, ◌≢◌, ◌↔◌, ℕ, ◌<◌, List, length, slice_index_or, Option, Some, None}
 use Rattle.string_interner.specs.Text.{Text}
 use Rattle.string_interner.specs.LoadFactor.{IsLoadFactor, IsWithinThreeQuarters}

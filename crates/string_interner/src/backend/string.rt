@@ -21,8 +21,9 @@ use std::marker::{Model, PhantomData};
 /// Stores all texts joined in one string, with the end of each.
 ///
 /// Places are 0, 1, 2, .. without gaps. A text takes its bytes and four bytes for its end, or eight from the first end
-/// on that does not fit 32 bits. Interning appends a copy, and may move the string; resolving reads two ends and makes
-/// the slice.
+/// on that does not fit 32 bits. A backend that was made with a capacity for more than 4 GiB of texts takes eight for
+/// each, and one that was truncated from beyond 4 GiB for each new one, until shrinking releases that room. Interning
+/// appends a copy, and may move the string; resolving reads two ends and makes the slice.
 #[derive(Drop)]
 pub struct StringBackend<S: Symbol = DefaultSymbol> {
     joined: String,

@@ -74,7 +74,7 @@ pub enum Step<S> {
     On(usize),
 }
 
-/// How the slots of a layout are searched.
+/// One step of a search through the slots of a layout.
 pub trait Probe<S: Symbol>: Layout<S> {
     /// Takes one step of a probe for a text with this code: from slot `at` on, up to a slot that has the text or is empty,
     /// or past one slot or more. Takes at most one look.
@@ -120,8 +120,8 @@ pub fn probe_for<S: Symbol, L: Probe<S>, B: Backend<Symbol = S>>(
 {
     let count = slots.len();
     let home = home_of(code, count);
-    // Most probes end with their first step, so it stands before the loop: in the loop, what a comparison of texts
-    // computes of the length would be computed before the first step.
+    // Most probes end with their first step, so it stands before the loop. Inside, the compiler would compute what a
+    // comparison needs of the text's length before the loop, and so for each probe.
     match slots.step(home, code, looks, text) {
         Step::Found(symbol) => Entry::Occupied(symbol),
         Step::Free(at) => Entry::Vacant(Vacancy {

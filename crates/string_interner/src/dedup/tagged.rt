@@ -180,7 +180,7 @@ impl<S: Symbol> Layout<S> for TaggedSlots<S> {
     /// Filled slots are passed up to sixteen at once.
     #[inline]
     fn put(&mut self, home: usize, symbol: S, code: u64) {
-        // As slots grow most homes are empty, which one tag tells.
+        // When a table grows, most homes are empty, which one tag tells.
         if self.symbol_at(home).is_none() {
             self.set(home, symbol, code);
             return;
