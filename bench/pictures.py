@@ -40,8 +40,8 @@ for name in BACKENDS:
     OF_BACKENDS[f"original, {name}"] = ORIGINAL[name]
 OF_CHOICES = {
     "Tagged, Fold": FAST["string"],
-    "Index, Fixed": DEFAULT["string"],
-    "Tagged, Fixed": TAGGED,
+    "Index, Fnv1a": DEFAULT["string"],
+    "Tagged, Fnv1a": TAGGED,
     "Index, Fold": ("ours", "string", "Index", "FoldState"),
     "Tagged, Random": KEYED,
     "Index, Random": ("ours", "string", "Index", "RandomState"),
@@ -124,6 +124,8 @@ def panels(results, folder, file, title, kinds, parts, columns=2):
     for axes, (name, phase) in zip(all_axes.flat, parts):
         draw_lines(axes, results.counts[name], kinds, lambda kind, count: results.value(kind, name, count, phase))
         axes.set_title(PHASES[phase] if is_of_one_input else f"{phase}, {name}", fontsize=8, loc="left")
+    for axes in all_axes.flat[len(parts) :]:
+        axes.set_visible(False)
     save(figure, results.line("times"), file, folder)
 
 
@@ -137,7 +139,7 @@ def draw_memory(results, folder):
     names = [name for name in TEXTS if results.counts[name]]
     figure, all_axes = plot.subplots(1, len(names), figsize=(9, 3.4), sharey=True, squeeze=False)
     figure.subplots_adjust(left=0.2, right=0.985, top=0.83, bottom=0.16, wspace=0.12)
-    title = "Bytes a text: black lives once all are in, white is the most at once; dashed: the bytes of the texts alone"
+    title = "Bytes per text: black once all texts are in, white the most while filling; dashed: the bytes of the texts alone"
     entitle(figure, title)
     for axes, name in zip(all_axes.flat, names):
         count = max(results.counts[name])
@@ -173,18 +175,14 @@ def main():
     folder = PICTURES["docs" if "--docs" in sys.argv else "out"]
     folder.mkdir(parents=True, exist_ok=True)
     most = [("identifiers", phase) for phase in ("fill", "known", "unknown", "shuffled")]
-    panels(results, folder, "interning", "Nanoseconds a call, by the count of identifiers of 10 bytes", PEERS, most)
-    for name in TEXTS:
-        if results.counts[name]:
-            parts = [(name, phase) for phase in PHASES]
-            panels(
-                results, folder, f"calls-{name}", f"Nanoseconds a call, by the count of {INPUTS[name]}", PEERS, parts
-            )
+    panels(results, folder, "interning", "Nanoseconds per call, by the count of identifiers", PEERS, most)
     parts = [("identifiers", phase) for phase in PHASES]
-    title = "The backends: ours (TaggedIndex, FoldState) and the original's (its default hasher), nanoseconds a call"
+    title = f"Nanoseconds per call, by the count of {INPUTS['identifiers']}"
+    panels(results, folder, "calls-identifiers", title, PEERS, parts)
+    title = "The backends: ours (TaggedIndex, FoldState) and the original's (its default hasher), nanoseconds per call"
     panels(results, folder, "backends", title, OF_BACKENDS, parts)
     parts = [(name, phase) for phase in ("fill", "known", "unknown") for name in ("identifiers", "long")]
-    title = "Indexes and hashers over the string backend: nanoseconds a call, by the count of texts"
+    title = "Indexes and hashers over the string backend: nanoseconds per call, by the count of texts"
     panels(results, folder, "index-and-hasher", title, OF_CHOICES, parts)
     draw_memory(results, folder)
     if results.counts["chosen"]:

@@ -1,7 +1,6 @@
 """What bench/run measured, as the files of its parts in bench/out have it."""
 import collections
 import pathlib
-import re
 
 HERE = pathlib.Path(__file__).resolve().parent
 DOCS = HERE.parent / "docs"
@@ -19,13 +18,16 @@ PHASES = {
     "shuffled": "resolve, shuffled",
     "iterate": "iterate",
     "clone": "clone",
-    "copy": "try_copy, beside clone",
+    "copy": "copy: try_copy, or the original's clone",
+    "together": "together: intern_all of known texts, or one by one",
 }
+# What a kind without a phase does in its place.
+IN_PLACE_OF = {"copy": "clone", "together": "known"}
 INPUTS = {
-    "identifiers": "identifiers of 10 bytes in the mean",
+    "identifiers": "identifiers of 10 bytes on average",
     "words": "words of Debian's list",
     "long": "texts of 200 bytes",
-    "chosen": "texts that were chosen against FNV-1a",
+    "chosen": "texts chosen against FNV-1a",
 }
 NOUNS = {"identifiers": "identifiers", "words": "words", "long": "texts of 200 bytes"}
 # What the programs read.
@@ -71,9 +73,13 @@ class Results:
                 self.bytes[name, int(count)] = float(size)
 
     def value(self, kind, name, count, measure):
-        """The value, or none. What copies is `try_copy` where there is one, and else `clone`."""
+        """The value, or none. A kind without `try_copy` has that of `clone`, and one without `intern_all` that of known texts."""
         row = self.values.get((kind, name, count), {})
-        return row.get(measure, row.get(re.sub("^copy", "clone", measure)))
+        # The library has all phases, so one that it lacks was not measured.
+        if measure in row or kind[0] == "ours":
+            return row.get(measure)
+        phase, *unit = measure.split(" ", 1)
+        return row.get(" ".join([IN_PLACE_OF.get(phase, phase), *unit]))
 
     def ratio(self, kind, other, name, count, measure):
         """The value over another kind's, or none."""
@@ -96,4 +102,4 @@ class Results:
         for part in parts:
             said["commit {commit}, {date}, {machine}; {load}".format(**self.heads[part])].append(part)
         lines = (f"{' and '.join(of).capitalize()}: {head}" for head, of in said.items())
-        return f"{'. '.join(lines)}. Beside {self.heads[parts[0]]['original']}."
+        return f"{'. '.join(lines)}. The original is {self.heads[parts[0]]['original']}."

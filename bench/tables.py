@@ -1,17 +1,26 @@
 #!/usr/bin/env python3
-"""tables.py [--docs]: makes tables of what bench/run measured, in bench/out/tables.md.
+"""tables.py [--docs]: makes tables of what bench/run measured, in bench/out/tables.md: those of the documents, and more.
 
-With --docs it also puts each block between its two marker lines in README.md and docs/PERFORMANCE.md, and the results beside
+With --docs it also puts each block between its two marker lines in README.md and docs/PERFORMANCE.md, and the results next to
 the pictures."""
 import re
 import shutil
 import sys
 
-from results import BACKENDS, BY_C, DEFAULT, DOCS, FAST, FNV, HERE, INPUTS, KEYED, LINES, MAP, NOUNS, ORIGINAL, PHASES, SET
+from results import BACKENDS, BY_C, DEFAULT, DOCS, FAST, FNV, HERE, INPUTS, KEYED, LINES, MAP, ORIGINAL, PHASES, SET
 from results import PARTS, PICTURES, TEXTS, TAGGED, Results
 
 MEASURES = (*PHASES, "live", "peak")
 CALLS = ("fill", "known", "unknown")
+# What each picture shows, for whoever cannot see it.
+SHOWN = {
+    "interning": "Time per call of four calls, by the count of texts",
+    "calls-identifiers": "Time per call of each call, by the count of texts",
+    "backends": "Time per call over each backend, by the count of texts",
+    "index-and-hasher": "Time per call with each index and hasher, by the count of texts",
+    "memory": "Bytes per text of each interner",
+    "chosen": "Time to fill an interner with chosen texts, by their count",
+}
 PAIRS = {
     **{f"`Index`, `Fnv1a`, {name}": (DEFAULT[name], FNV[name]) for name in BACKENDS},
     "`TaggedIndex`, `Fnv1a`, string": (TAGGED, FNV["string"]),
@@ -39,8 +48,12 @@ def name_of(kind):
     return library if backend == "-" else f"{library}, {backend}, {hasher}"
 
 
-def picture(file, below, folder="pictures"):
-    return f"![{file}]({folder}/{file}.svg)\n\n{below}"
+def image(file, folder="pictures"):
+    return f"![{SHOWN[file]}]({folder}/{file}.svg)"
+
+
+def picture(file, below):
+    return f"{image(file)}\n\n{below}"
 
 
 def cycles(measure):
@@ -48,37 +61,33 @@ def cycles(measure):
     return f"{measure} cycles" if measure in PHASES else measure
 
 
-def calls(results, name, said, measures):
-    """The two interners over the original under the same kind of hasher, by these measures: each a word, and the name that it
-    gives to a phase."""
-    pairs = [(FAST["string"], ORIGINAL["string"]), (DEFAULT["string"], FNV["string"])]
-    rows = [
-        (f"{count:,} | {word}", [results.ratio(*pair, name, count, of(phase)) for pair in pairs for phase in CALLS])
-        for word, of in measures.items()
-        for count in (results.counted(name) if word == "cycles" else results.counts[name])
-    ]
-    said += (
-        " to intern new texts (fill), to intern them again (known) and to look for others (unknown), divided by the "
-        "original's; lower is better. *Fast* is `FastStringInterner` beside the original under its default hasher, "
-        "*default* is `DefaultStringInterner` beside the original under FNV"
-    )
-    head = [f"{kind}{phase}" for kind in ("*fast* ", "*default* ") for phase in CALLS]
-    return table(said, [NOUNS[name], "", *head], rows)
+def calls(results):
+    """Both interners over the original under the same kind of hasher: a table of times for each input, and of estimated cycles
+    where they were counted."""
+    pairs = {"fast": (FAST["string"], ORIGINAL["string"]), "default": (DEFAULT["string"], FNV["string"])}
+    head = ["texts", *(f"*{kind}* {call}" for kind in pairs for call in CALLS)]
+    shown = []
+    for said, of, counts in (("Time", str, results.counts.get), ("Estimated cycles", cycles, results.counted)):
+        for name in filter(counts, TEXTS):
+            rows = [
+                (f"{count:,}", [results.ratio(*pair, name, count, of(call)) for pair in pairs.values() for call in CALLS])
+                for count in counts(name)
+            ]
+            shown.append(table(f"{said} divided by the original's, {INPUTS[name]}; lower is better", head, rows))
+    return "\n\n".join([picture("calls-identifiers", shown[0]), *shown[1:]])
 
 
 def with_backends(results):
-    """The fast interner over the original with the same backend, at each count."""
-    columns = [(backend, phase) for backend in BACKENDS for phase in ("fill", "shuffled")]
+    """The fast interner over the original with the same backend, at each count: estimated cycles, and bytes."""
+    cases = [(backend, count) for backend in BACKENDS for count in results.counted("identifiers")]
 
-    def ratio(count, backend, phase):
-        return results.ratio(FAST[backend], ORIGINAL[backend], "identifiers", count, cycles(phase))
+    def row(backend, count):
+        pair = (FAST[backend], ORIGINAL[backend])
+        return [results.ratio(*pair, "identifiers", count, cycles(measure)) for measure in MEASURES]
 
-    rows = [(f"{count:,}", [ratio(count, *column) for column in columns]) for count in results.counted("identifiers")]
-    said = (
-        "Estimated cycles of `FastStringInterner` to intern new texts (fill) and to resolve all symbols in any order "
-        "(shuffled), divided by the original's with the same backend; lower is better. The original uses its default hasher"
-    )
-    return table(said, [NOUNS["identifiers"], *(f"*{backend}* {phase}" for backend, phase in columns)], rows)
+    rows = [(f"{backend} | {count:,}", row(backend, count)) for backend, count in cases]
+    said = "Estimated cycles, and bytes, divided by those of the original with the same backend, identifiers; lower is better"
+    return picture("backends", table(said, ["backend", "texts", *MEASURES], rows))
 
 
 def choices(results):
@@ -91,11 +100,11 @@ def choices(results):
         for label, kind in kinds.items()
     ]
     said = (
-        "Estimated cycles to look for identifiers that were not interned (unknown) and to intern new texts of 200 bytes "
-        "(fill), for each number of texts, divided by those of the default, `Index` under `Fnv1a`; lower is better. All use "
-        "the string backend"
+        "Estimated cycles divided by those of `Index` under `Fnv1a`, for unknown identifiers (unknown) and new texts of 200 "
+        "bytes (fill), with a string backend; lower is better"
     )
-    return table(said, ["", *(f"*{phase}* {count:,}" for _, count, phase in columns)], rows)
+    head = ["", *(f"*{phase}* {count:,}" for _, count, phase in columns)]
+    return picture("index-and-hasher", table(said, head, rows))
 
 
 def memory(results):
@@ -103,17 +112,28 @@ def memory(results):
     kinds = {"`TaggedIndex`": FAST["string"], "`Index`": DEFAULT["string"], "the original": FNV["string"]}
     kinds |= {"`IndexSet`": SET, "`HashMap` and `Vec`": MAP}
     row = [results.value(kind, "identifiers", count, "live") for kind in kinds.values()]
-    said = f"Bytes per text at {count:,} identifiers of 10 bytes on average; the first three have a string backend"
-    return table(said, ["", *kinds], [("bytes", row)])
+    said = f"Bytes per text, {count:,} {INPUTS['identifiers']}; the first three have a string backend"
+    return picture("memory", table(said, ["", *kinds], [("bytes", row)]))
 
 
-def pictures(results):
-    both = ("Estimated cycles and least time", {"cycles": cycles, "time": str})
-    shown = [picture(f"calls-{name}", calls(results, name, *both)) for name in TEXTS if results.counts[name]]
-    shown.append(picture("backends", with_backends(results)))
-    shown.append(picture("index-and-hasher", choices(results)))
-    shown.append(picture("memory", memory(results)))
-    return "\n\n".join([results.line("times", "cycles", "memory"), *shown])
+def spread(results):
+    """How far rounds spread, in the mean over the calls of both interners and of the original."""
+    kinds = (FAST["string"], ORIGINAL["string"], DEFAULT["string"], FNV["string"])
+    shares = []
+    for kind in kinds:
+        for count in results.counts["identifiers"]:
+            row = results.values.get((kind, "identifiers", count), {})
+            shares += [row[f"{call} spread"] / row[f"{call} median"] for call in CALLS if f"{call} spread" in row]
+    return f"The middle half of the rounds spreads over {sum(shares) / len(shares):.0%} of the median time." if shares else ""
+
+
+def measured(results):
+    """Which commit was measured on which machine, and how sure times are."""
+    keys = ("commit", "date", "machine", "load")
+    rows = [f"| {part} | {' | '.join(results.heads[part][key] for key in keys)} |" for part in PARTS]
+    head = ["What was measured, and where:\n", f"| | {' | '.join(keys)} |", "|---|---|---|---|---|"]
+    said = f"The original is {results.heads['times']['original']}. {spread(results)}".rstrip()
+    return "\n".join([*head, *rows, "", said])
 
 
 def ratios(results):
@@ -162,13 +182,23 @@ def estimated(results):
     return "\n\n".join(shown) or "Cycles were not estimated."
 
 
+def kinds(results):
+    """The library's own kinds: estimated cycles of a call, and bytes of a text."""
+    count = max(results.counted("identifiers"), default=results.middle_count())
+    ours = [kind for kind in results.kinds() if kind[0] == "ours"]
+    found = [(kind, [results.value(kind, "identifiers", count, cycles(measure)) for measure in MEASURES]) for kind in ours]
+    rows = [(" | ".join((backend, f"`{index}`", f"`{hasher}`")), row) for (_, backend, index, hasher), row in found]
+    said = f"Estimated cycles per call, and bytes per text, {count:,} identifiers"
+    return table(said, ["backend", "index", "hasher", *MEASURES], rows)
+
+
 def by_c(results):
     """The library beside its calls through C."""
     count, name = min(results.counts["identifiers"]), "identifiers"
-    shown = {"Estimated cycles": cycles, "Instructions": "{} instructions".format, "Least nanoseconds": str}
+    shown = {"Estimated cycles": cycles, "Least nanoseconds": str}
     kinds = [FAST["string"], *BY_C]
     tables = (
-        of_kinds(results, f"{said} a call, for {count:,} {name}", name, count, {it: of(it) for it in PHASES}, kinds)
+        of_kinds(results, f"{said} per call, {count:,} {name}", name, count, {it: of(it) for it in PHASES}, kinds)
         for said, of in shown.items()
     )
     return "\n\n".join(filter(None, tables)) or "Not measured."
@@ -183,8 +213,8 @@ def columns(results):
     # Cycles are of the lesser count, where there are any.
     least, most = (of(results.counts["shuffled"], default=0) for of in (min, max))
     said = (
-        f"Per line, estimated cycles for {least:,} lines; and for {most:,} lines nanoseconds (the least and the median of all "
-        "runs, and how far the middle half of them spreads) and bytes of memory, the most that one process held at once"
+        f"Per line: estimated cycles for {least:,} lines; nanoseconds and bytes for {most:,} lines (the least and the median of "
+        "all runs, how far the middle half of them spreads, and the most memory that one process had)"
     )
     return table(said, ["", "lines", *measures], [(label, map(row.get, measures.values())) for label, row in rows.items()])
 
@@ -204,41 +234,53 @@ def chosen(results):
     return picture("chosen", table(said, ["", *(f"{count:,}" for count in counts), "*growth*"], rows))
 
 
-def backends(results):
-    """For the README: the backends, and what a user would take else."""
+def peers(results):
+    """The fast interner, and what a user would take instead."""
     count = max(results.counted("identifiers"), default=results.middle_count())
-    kinds = {f"`FastStringInterner`, {name}": FAST[name] for name in BACKENDS}
-    kinds |= {"`DefaultStringInterner`, string": DEFAULT["string"], "the original, string": ORIGINAL["string"]}
-    kinds |= {"`IndexSet`": SET, "`HashMap` and `Vec`": MAP}
+    kinds = {"`FastStringInterner`": FAST["string"], "`DefaultStringInterner`": DEFAULT["string"]}
+    kinds |= {"the original": ORIGINAL["string"], "`IndexSet`": SET, "`HashMap` and `Vec`": MAP}
     measures = ("fill", "known", "unknown", "shuffled", "iterate", "live", "peak")
     rows = [
         (label, [results.value(kind, "identifiers", count, cycles(measure)) for measure in measures])
         for label, kind in kinds.items()
     ]
-    said = f"Estimated cycles per call, and bytes per text, at {count:,} identifiers"
-    head = ["", "fill", "known", "unknown", "resolve, shuffled", "iterate", "bytes", "most bytes while filling"]
-    return f"{table(said, head, rows)}\n\n![memory](docs/pictures/memory.svg)"
+    return table(f"Estimated cycles per call, and bytes per text, {count:,} identifiers", ["", *measures], rows)
 
 
 def speed(results):
-    """For the README: the figures that hold."""
-    said = "The picture shows times, the table [estimated cycles](docs/PERFORMANCE.md)"
-    return picture("interning", calls(results, "identifiers", said, {"cycles": cycles}), "docs/pictures")
+    """For the README: the fast interner over the original, a row for each count of texts and a column for each call."""
+    shown = {"fill": "intern new texts", "known": "intern known texts", "unknown": "look up unknown texts"}
+    shown |= {"shuffled": "resolve", "iterate": "iterate"}
+    pair = (FAST["string"], ORIGINAL["string"])
+    rows = [
+        (f"{count:,}", [results.ratio(*pair, "identifiers", count, phase) for phase in shown])
+        for count in results.counts["identifiers"]
+    ]
+    said = "`FastStringInterner`: time divided by the original's; lower is better"
+    return table(said, ["identifiers", *shown.values()], rows)
 
 
 def blocks(results):
     """The blocks of the documents, by name."""
     return {
-        "pictures": pictures(results),
-        "ratios": ratios(results),
-        "nanoseconds": nanoseconds(results),
-        "cycles": estimated(results),
+        "measured": measured(results),
+        "calls": calls(results),
+        "backends": with_backends(results),
+        "index and hasher": choices(results),
+        "memory": memory(results),
+        "peers": peers(results),
+        "kinds": kinds(results),
         "through C": by_c(results),
         "columns": columns(results),
         "chosen": chosen(results),
+        "picture": image("interning", "docs/pictures"),
         "speed": speed(results),
-        "backends": backends(results),
     }
+
+
+def details(results):
+    """More than the documents show, by name."""
+    return {"ratios": ratios(results), "nanoseconds": nanoseconds(results), "cycles": estimated(results)}
 
 
 def put(text, made):
@@ -251,15 +293,15 @@ def put(text, made):
 
 def main():
     results = Results()
-    made = blocks(results)
-    (HERE / "out/tables.md").write_text("\n\n".join(made.values()) + "\n", encoding="utf-8")
+    made, more = blocks(results), details(results)
+    (HERE / "out/tables.md").write_text("\n\n".join([*made.values(), *more.values()]) + "\n", encoding="utf-8")
     if "--docs" in sys.argv:
         for document in (DOCS.parent / "README.md", DOCS / "PERFORMANCE.md"):
             document.write_text(put(document.read_text(encoding="utf-8"), made), encoding="utf-8")
         PICTURES["docs"].mkdir(exist_ok=True)
         for part in PARTS:
             shutil.copy(HERE / f"out/{part}.tsv", PICTURES["docs"])
-    print(f"{made['nanoseconds']}\n\n{results.line(*PARTS)}")
+    print(f"{more['nanoseconds']}\n\n{results.line(*PARTS)}")
 
 
 if __name__ == "__main__":

@@ -1,5 +1,5 @@
 #!/usr/bin/env python3
-"""Prints what is wrong with the contracts and their quotes in docs/CALLING.md, and fails if anything is:
+"""Prints what is wrong with the contracts and their quotes in docs/CONTRACTS.md, and fails if anything is:
 
 - a call that a user makes first and that the page does not quote;
 - a quote that is not the signature and the clauses of its call as they stand in the library. It is the fenced block
@@ -27,7 +27,7 @@ from edits import TOP
 from files import read, write
 from source import block_around, functions
 
-PAGE = "docs/CALLING.md"
+PAGE = "docs/CONTRACTS.md"
 LIBRARY = "crates/string_interner/src"
 METHODS = "new with_capacity len get get_or_intern resolve iter truncate extend intern_all"
 CALLS = [*(f"interner::StringInterner::{name}" for name in METHODS.split()), "run::run"]

@@ -4,8 +4,10 @@
 - a link that leads to no file, or to no heading of its page;
 - a file in a code span or a command that is not there;
 - an identifier in a code span that no file of the repository has, if it has a capital or two words, except what
-  docs/DIFFERENCES.md names of the original;
-- a block of Rattle that stands in no crate to the word, at the margin or indented as a method, so that nothing proves it.
+  docs/PORTING.md names of the original;
+- a block of Rattle that stands in no crate to the word, at the margin or indented as a method, so that nothing proves it; so
+  in the front page of the library, too;
+- a README of more than 120 lines, or more than 14,000 words on all pages for readers, besides tables and docs/promises.md.
 """
 
 import re
@@ -19,8 +21,12 @@ from edits import TOP
 from files import read
 
 # Pages whose examples in Rattle are parts of crates.
-SHOWS_RATTLE = ("README.md", "docs/CALLING.md", "docs/USING.md")
-NAMES_THE_ORIGINAL = "docs/DIFFERENCES.md"
+SHOWS_RATTLE = ("README.md", "crates/string_interner/README.md", "docs/CONTRACTS.md", "docs/GUIDE.md")
+FRONT_PAGE = "crates/string_interner/src/lib.rt"
+NAMES_THE_ORIGINAL = "docs/PORTING.md"
+PROMISES = "docs/promises.md"
+MOST_LINES = 120
+MOST_WORDS = 14_000
 LINK = re.compile(r"\]\(([^)\s]+)\)")
 SPAN = re.compile(r"(?<!`)`([^`\n]+)`(?!`)")
 BLOCK = re.compile(r"^```(\w*)\n(.*?)^```$", re.M | re.S)
@@ -98,22 +104,47 @@ def missing_names(page, text, repository):
             yield f"no file {command}"
 
 
+def comment_of(source):
+    """What a source says of itself at its top."""
+    return "".join(re.findall(r"^//! ?(.*\n)", source, re.M))
+
+
 def unproved_blocks(page, text, repository):
-    if page not in SHOWS_RATTLE:
+    if page not in (*SHOWS_RATTLE, FRONT_PAGE):
         return
-    blocks = [block for language, block in BLOCK.findall(text) if language == "rattle"]
+    named = "" if page == FRONT_PAGE else "rattle"
+    blocks = [block for language, block in BLOCK.findall(text) if language == named]
     if not blocks:
         yield "no block of Rattle"
     for block in blocks:
-        if not any(block in source or indent(block, "    ") in source for source in repository.sources):
+        written = (f"\n{block}", f"\n{indent(block, '    ')}")
+        if not any(it in f"\n{source}" for source in repository.sources for it in written):
             yield f"in no crate: {block.splitlines()[0]}"
+
+
+def count_words(text):
+    """How many words a page has besides its tables."""
+    return sum(len(line.split()) for line in text.splitlines() if not line.startswith("|"))
+
+
+def long_pages(texts):
+    """What is too long of the pages for readers: those at the top, and those in docs/."""
+    if (lines := len(texts.get("README.md", "").splitlines())) > MOST_LINES:
+        yield f"README.md: {lines} lines, and {MOST_LINES} may be"
+    pages = [page for page in texts if PurePosixPath(page).parent in map(PurePosixPath, (".", "docs")) and page != PROMISES]
+    if (words := sum(count_words(texts[page]) for page in pages)) > MOST_WORDS:
+        yield f"{words} words in {', '.join(sorted(pages))}, and {MOST_WORDS} may be"
 
 
 def faults():
     """What is wrong with the documents."""
     repository = Repository()
-    for page in filter(lambda it: it.endswith(".md"), repository.files):
-        text = read(TOP / page)
+    texts = {page: read(TOP / page) for page in repository.files if page.endswith(".md")}
+    yield from long_pages(texts)
+    if FRONT_PAGE in repository.files:
+        found = unproved_blocks(FRONT_PAGE, comment_of(read(TOP / FRONT_PAGE)), repository)
+        yield from (f"{FRONT_PAGE}: {it}" for it in found)
+    for page, text in texts.items():
         found = [*broken_links(page, text), *missing_names(page, text, repository), *unproved_blocks(page, text, repository)]
         yield from (f"{page}: {it}" for it in dict.fromkeys(found))
 

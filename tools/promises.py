@@ -1,5 +1,5 @@
 #!/usr/bin/env python3
-"""Writes the columns of docs/PROMISES.md that name planted bugs.
+"""Writes the columns of docs/promises.md that name planted bugs.
 
     tools/promises.py           rewrites the page in place
     tools/promises.py --check   fails if the page is not what would be written
@@ -18,7 +18,7 @@ from dataclasses import dataclass, field
 from edits import CAUGHT, REFUSED, TOP, crates, edits_of
 from files import read, write
 
-PAGE = TOP / "docs" / "PROMISES.md"
+PAGE = TOP / "docs" / "promises.md"
 LIBRARY = "string_interner"
 HEAD = "| Promise | Function, clause | Planted bugs |"
 # The table of the bugs that runs catch.

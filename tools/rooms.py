@@ -3,6 +3,8 @@ texts and nothing that was run. `asks.py` makes the calls of scenarios on it.
 """
 
 WIDTHS = {"SymbolU16": 2, "SymbolU32": 4, "SymbolUsize": 8, "usize": 8, "Even": 2, "Bit": 1}
+# The symbol types that say that no number from 2^32 - 1 on has a symbol.
+NARROW = {"SymbolU16", "SymbolU32"}
 # Which numbers have a symbol.
 HAS_SYMBOL = {
     "SymbolU16": lambda number: number < 2 ** 16 - 1,
@@ -43,10 +45,13 @@ class Room:
         memory.ask(capacity * width)
 
     def add(self, count=1):
-        self.length += count
-        if self.length > self.capacity:
-            self.capacity = max(self.length, 2 * self.capacity, 8 if self.width == 1 else 4)
+        if self.length + count > self.capacity:
+            self.capacity = self.grown_by(count)
             self.memory.ask(self.capacity * self.width)
+        self.length += count
+
+    def grown_by(self, count):
+        return max(self.length + count, 2 * self.capacity, 8 if self.width == 1 else 4)
 
     def shrink(self):
         if self.length < self.capacity:
@@ -54,16 +59,25 @@ class Room:
             self.memory.ask(self.capacity * self.width)
 
     def copy(self):
-        return Room(self.memory, self.width, self.length, self.length)
+        return type(self)(self.memory, self.width, self.length, self.length)
+
+
+class BackendRoom(Room):
+    """A list of a backend, which grows by a quarter once it takes 1 MiB."""
+
+    def grown_by(self, count):
+        if self.length * self.width < 2 ** 20:
+            return super().grown_by(count)
+        return self.length + max(count, self.length // 4)
 
 
 class StringRoom:
     """The memory of a `StringBackend`."""
 
     def __init__(self, memory, capacity=0):
-        self.joined = Room(memory, 1, 5 * capacity)
+        self.joined = BackendRoom(memory, 1, 5 * capacity)
         # No scenario has 4 GiB of texts, so ends are wide only if there was a capacity for as many.
-        self.ends = Room(memory, 4 if 5 * capacity < 2 ** 32 else 8, capacity)
+        self.ends = BackendRoom(memory, 4 if 5 * capacity < 2 ** 32 else 8, capacity)
 
     def add(self, text, _is_static):
         self.joined.add(len(text))
@@ -86,10 +100,11 @@ class StringRoom:
 
 
 class BucketRoom:
-    """The memory of a `BucketBackend`, and of each entry how many bytes it has in a bucket."""
+    """The memory of a `BucketBackend`, and of each entry how many bytes it has in a bucket: None, where it is static."""
 
     def __init__(self, memory, capacity=0):
-        self.entries = Room(memory, 24, capacity)
+        self.entries = BackendRoom(memory, 16, capacity)
+        self.others = Room(memory, 24, capacity)
         self.older = Room(memory, 32)
         self.head = Room(memory, 1, capacity)
         self.older_bytes = 0
@@ -97,26 +112,30 @@ class BucketRoom:
 
     def add(self, text, is_static):
         self.entries.add()
-        self.lengths.append(0 if is_static else len(text))
-        if self.head.length + self.lengths[-1] > self.head.capacity:
+        self.lengths.append(None if is_static else len(text))
+        if is_static:
+            self.others.add()
+            return
+        if self.head.length + len(text) > self.head.capacity:
             self.older.add()
             self.older_bytes += self.head.length
             least = max(self.head.capacity, len(text)) + 1
             self.head = Room(self.head.memory, 1, 1 << (least - 1).bit_length())
-        self.head.length += self.lengths[-1]
+        self.head.length += len(text)
 
     def keep(self, texts):
         del self.lengths[len(texts):]
-        self.entries.length = len(texts)
+        self.entries.length, self.others.length = len(texts), self.lengths.count(None)
 
     def shrink(self):
         self.entries.shrink()
+        self.others.shrink()
         self.older.shrink()
 
     def copy(self, memory):
         made = BucketRoom(memory)
-        made.entries, made.lengths = self.entries.copy(), list(self.lengths)
-        made.head = Room(memory, 1, self.head.capacity + self.older_bytes, sum(self.lengths))
+        made.entries, made.others, made.lengths = self.entries.copy(), self.others.copy(), list(self.lengths)
+        made.head = Room(memory, 1, self.head.capacity + self.older_bytes, sum(filter(None, self.lengths)))
         return made
 
     def next_number(self):
@@ -127,7 +146,7 @@ class BufferRoom:
     """The memory of a `BufferBackend`."""
 
     def __init__(self, memory, capacity=0):
-        self.bytes = Room(memory, 1, 13 * capacity)
+        self.bytes = BackendRoom(memory, 1, 13 * capacity)
 
     @staticmethod
     def size(text):
@@ -160,15 +179,22 @@ class Slots:
 
     def __init__(self, memory, symbol, is_tagged, count=0):
         self.memory, self.symbol, self.is_tagged, self.count = memory, symbol, is_tagged, count
-        width = WIDTHS[symbol]
         if not count:
             return
-        for size in (width * count, 4 * count, count + 16) if is_tagged else (2 * width * count,):
+        # A number in four bytes, unless 2^32 - 1 is a symbol's; and an `Option` of a symbol, unless the numbers are narrow.
+        plain = 4 * count * (not HAS_SYMBOL[symbol](2 ** 32 - 1)), 2 * WIDTHS[symbol] * count * (symbol not in NARROW)
+        for size in (self.coded_width() * count, count + 16) if is_tagged else plain:
             memory.ask(size)
+
+    def coded_width(self):
+        """How many bytes a symbol and a code of 4 take together: a multiple of what the wider one takes."""
+        width = WIDTHS[self.symbol]
+        widest = max(width, 4)
+        return -(-(width + 4) // widest) * widest
 
     def holds(self, count, texts):
         """Whether so many slots hold so many texts."""
-        return 8 * texts <= 7 * count if self.is_tagged else 4 * texts <= 3 * count
+        return 8 * texts <= 7 * count if self.is_tagged else 2 * texts <= count
 
     def with_capacity(self, capacity):
         """New slots, the least that hold so many texts."""

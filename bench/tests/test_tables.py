@@ -7,7 +7,7 @@ from pathlib import Path
 
 sys.path.insert(0, str(Path(__file__).resolve().parents[1]))
 import tables
-from results import BY_C, FAST, FNV, ORIGINAL, PARTS, Results
+from results import BY_C, DEFAULT, FAST, FNV, ORIGINAL, PARTS, Results
 
 HEAD = {"commit": "c0ffee", "date": "2026-01-01", "machine": "a machine", "original": "the original", "load": "busy"}
 
@@ -36,6 +36,12 @@ class Tables(unittest.TestCase):
         self.assertEqual(results.value(FNV["string"], "words", 10, "copy cycles"), 9)
         self.assertEqual(results.value(FAST["string"], "words", 10, "copy"), 3)
 
+    def test_known_texts_are_interned_one_by_one_where_there_is_no_call_for_many(self):
+        results = results_of((FNV["string"], "words", 10, "known", 5), (FAST["string"], "words", 10, "together", 2))
+        self.assertEqual(results.value(FNV["string"], "words", 10, "together"), 5)
+        self.assertEqual(results.value(FAST["string"], "words", 10, "together"), 2)
+        self.assertIsNone(results_of((FAST["string"], "words", 10, "known", 5)).value(FAST["string"], "words", 10, "together"))
+
     def test_counts_with_cycles(self):
         rows = [("words", 20, "fill cycles", 1), ("words", 10, "fill cycles", 1), ("long", 5, "fill cycles", 1)]
         results = results_of(*((FAST["string"], *row) for row in (*rows, ("words", 30, "fill", 1))))
@@ -55,6 +61,39 @@ class Tables(unittest.TestCase):
         self.assertNotIn("cycles", shown)
         self.assertEqual(shown.count("| 7.00 |"), 3)
 
+    def test_the_readme_has_a_row_for_each_count_and_a_column_for_each_call(self):
+        rows = [(FAST["string"], "identifiers", 10, "fill", 30), (ORIGINAL["string"], "identifiers", 10, "fill", 60)]
+        rows += [(FAST["string"], "identifiers", 2000, "known", 9), (ORIGINAL["string"], "identifiers", 2000, "known", 6)]
+        shown = tables.speed(results_of(*rows)).splitlines()
+        self.assertIn("time divided by the original's; lower is better:", shown[0])
+        self.assertEqual(shown[-2:], ["| 10 | 0.50 |  |  |  |  |", "| 2,000 |  | 1.50 |  |  |  |"])
+
+    def test_both_interners_are_beside_the_original_under_a_like_hasher(self):
+        kinds = {FAST["string"]: 3, ORIGINAL["string"]: 4, DEFAULT["string"]: 6, FNV["string"]: 2}
+        shown = tables.calls(results_of(*((kind, "long", 10, "fill", time) for kind, time in kinds.items())))
+        self.assertEqual(shown.splitlines()[-1], "| 10 | 0.75 |  |  | 3.00 |  |  |")
+        self.assertNotIn("cycles", shown)
+
+    def test_spread_is_told_in_percent_of_the_median(self):
+        rows = [(FAST["string"], "identifiers", 10, f"fill {of}", value) for of, value in (("median", 50), ("spread", 2))]
+        rows += [(ORIGINAL["string"], "identifiers", 10, f"fill {of}", value) for of, value in (("median", 50), ("spread", 4))]
+        self.assertEqual(tables.spread(results_of(*rows)), "The middle half of the rounds spreads over 6% of the median time.")
+        self.assertEqual(tables.spread(results_of()), "")
+
+    def test_each_part_has_its_commit(self):
+        results = results_of()
+        results.heads["cycles"] = {**HEAD, "commit": "f00d"}
+        shown = tables.measured(results).splitlines()
+        self.assertIn("| times | c0ffee | 2026-01-01 | a machine | busy |", shown)
+        self.assertIn("| cycles | f00d | 2026-01-01 | a machine | busy |", shown)
+        self.assertEqual(shown[-1], "The original is the original.")
+
+    def test_kinds_are_those_of_the_library(self):
+        rows = [(kind, "identifiers", 10, "fill cycles", 7) for kind in (FAST["string"], ORIGINAL["string"])]
+        shown = tables.kinds(results_of(*rows)).splitlines()
+        self.assertEqual(len(shown), 5)
+        self.assertTrue(shown[-1].startswith("| string | `TaggedIndex` | `FoldState` | 7.00 |"))
+
     def test_a_program_has_a_row_for_both_counts(self):
         sort = ("sort | uniq -c", "-", "-", "-")
         rows = [(sort, "shuffled", 10, "run cycles", 70), (sort, "shuffled", 100, "run", 300)]
@@ -66,7 +105,7 @@ class Tables(unittest.TestCase):
         results = results_of()
         results.heads["cycles"] = {**HEAD, "commit": "f00d"}
         said = "Times and memory: commit c0ffee, 2026-01-01, a machine; busy. Cycles: commit f00d, 2026-01-01, a machine; busy"
-        self.assertEqual(results.line("times", "cycles", "memory"), f"{said}. Beside the original.")
+        self.assertEqual(results.line("times", "cycles", "memory"), f"{said}. The original is the original.")
 
     def test_numbers_are_short(self):
         shown = [tables.short(value) for value in (None, 1234.4, 99.94, 9.944)]

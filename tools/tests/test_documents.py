@@ -58,8 +58,8 @@ class DocumentsTest(SmallRepository):
         self.assertEqual(self.faults_after("`double`", "`doubles`"), [])
 
     def test_the_original(self):
-        self.write("docs/DIFFERENCES.md", "The original has `Treble`, and `src/treble.rs`.\n")
-        self.assertEqual(list(documents.faults()), ["docs/DIFFERENCES.md: no file `src/treble.rs`"])
+        self.write("docs/PORTING.md", "The original has `Treble`, and `src/treble.rs`.\n")
+        self.assertEqual(list(documents.faults()), ["docs/PORTING.md: no file `src/treble.rs`"])
 
     def test_blocks(self):
         self.assertEqual(self.faults_after("fn half(", "fn third("), ["README.md: in no crate: fn third(number: u32) -> u32"])
@@ -70,3 +70,27 @@ class DocumentsTest(SmallRepository):
         area = "fn area(&self) -> u32\n    ensures { AreaOf self.now result };\n"
         self.assertEqual(self.faults_after(half, area), [])
         self.assertEqual(self.faults_after(half, area.replace("    ensures", "ensures")), ["README.md: in no crate: fn area(&self) -> u32"])
+
+    def test_a_long_readme(self):
+        self.write("README.md", README + "\n" * (120 - len(README.splitlines())))
+        self.assertEqual(list(documents.faults()), [])
+        self.write("README.md", README + "\n" * (121 - len(README.splitlines())))
+        self.assertEqual(list(documents.faults()), ["README.md: 121 lines, and 120 may be"])
+
+    def test_many_words(self):
+        words = documents.count_words(README) + documents.count_words("# Words\n\n## What *they* mean\n")
+        self.write("docs/MORE.md", "word " * (14_000 - words) + "\n| a | table |\n")
+        self.write("docs/promises.md", "word " * 20_000)
+        self.write("low/MORE.md", "word " * 20_000)
+        self.assertEqual(list(documents.faults()), [])
+        self.write("docs/MORE.md", "word " * (14_001 - words))
+        self.assertEqual(list(documents.faults()), ["14001 words in README.md, docs/MORE.md, docs/WORDS.md, and 14000 may be"])
+
+    def test_the_front_page(self):
+        page = "crates/string_interner/src/lib.rt"
+        self.write(page, "//! Halves.\n//!\n//! ```\n//! number / 2\n//! ```\n\n/// ```\n/// number / 3\n/// ```\n")
+        self.assertEqual(list(documents.faults()), [])
+        self.write(page, "//! Halves.\n//!\n//! ```\n//! number / 3\n//! ```\n")
+        self.assertEqual(list(documents.faults()), [f"{page}: in no crate: number / 3"])
+        self.write(page, "//! Halves.\n")
+        self.assertEqual(list(documents.faults()), [f"{page}: no block of Rattle"])

@@ -1,4 +1,4 @@
-"""Which row of docs/PROMISES.md takes up a planted bug, and what of the page is written by hand."""
+"""Which row of docs/promises.md takes up a planted bug, and what of the page is written by hand."""
 
 import unittest
 from unittest import mock
@@ -77,13 +77,13 @@ class PageTest(SmallRepository):
 
     def setUp(self):
         super().setUp()
-        for name, value in (("TOP", self.top), ("PAGE", self.top / "docs/PROMISES.md")):
+        for name, value in (("TOP", self.top), ("PAGE", self.top / "docs/promises.md")):
             patch = mock.patch.object(promises, name, value)
             patch.start()
             self.addCleanup(patch.stop)
 
     def faults_of(self, listed):
-        self.write("docs/PROMISES.md", self.ROWS.replace("{}", listed))
+        self.write("docs/promises.md", self.ROWS.replace("{}", listed))
         return promises.faults()
 
     def test_nothing_is_wrong(self):
@@ -91,14 +91,14 @@ class PageTest(SmallRepository):
 
     def test_a_stale_page(self):
         faults = self.faults_of("`halves_twice`; a word")
-        self.assertEqual(faults[0], "docs/PROMISES.md is stale: tools/promises.py writes it anew")
+        self.assertEqual(faults[0], "docs/promises.md is stale: tools/promises.py writes it anew")
         self.assertTrue(faults[1].startswith("line 6 is stale: | other numbers"))
 
     def test_writing(self):
         self.faults_of("`halves_twice`; a word")
         with mock.patch("sys.argv", ["promises.py"]):
             self.assertEqual(promises.main(), 0)
-        self.assertEqual((self.top / "docs/PROMISES.md").read_text(), self.ROWS.replace("{}", f"{self.LISTED}; a word"))
+        self.assertEqual((self.top / "docs/promises.md").read_text(), self.ROWS.replace("{}", f"{self.LISTED}; a word"))
 
     def test_a_bug_of_no_row(self):
         self.write_edit("thirds", "number / 4", "number / 3", "third", "returns")

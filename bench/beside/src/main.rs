@@ -106,9 +106,12 @@ fn compare(kinds: &[&Kind], all: &[Results]) -> Result<(), Fault> {
                 .into());
             }
         }
-        // A copy has as many texts as a clone.
-        if !results.times(7).is_empty() && results.sums[7] != results.sums[6] {
-            return Err(format!("the copy of {} differs from its clone", kind.word()).into());
+        // Known texts have the same symbols together as one by one, and a copy has as many texts as a clone.
+        for (phase, same) in [(8, 1), (7, 6)] {
+            if !results.times(phase).is_empty() && results.sums[phase] != results.sums[same] {
+                let (name, other) = (PHASES[phase], PHASES[same]);
+                return Err(format!("{} differs in {name} and {other}", kind.word()).into());
+            }
         }
     }
     Ok(())

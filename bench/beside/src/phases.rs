@@ -4,9 +4,9 @@ use crate::interner::Interner;
 use crate::texts::Inputs;
 use std::hint::black_box;
 
-/// The names of the phases. No peer has the last one.
-pub const PHASES: [&str; 8] = [
-    "fill", "known", "unknown", "resolve", "shuffled", "iterate", "clone", "copy",
+/// The names of the phases. No peer has the last two.
+pub const PHASES: [&str; 9] = [
+    "fill", "known", "unknown", "resolve", "shuffled", "iterate", "clone", "copy", "together",
 ];
 
 /// More rounds than these say nothing new.

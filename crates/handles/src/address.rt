@@ -1,4 +1,4 @@
-//! Addresses of handles, as C keeps them.
+//! Addresses of handles, which C stores.
 
 ghost use Rattle.std.specs.Prelude.{◌≡◌, Some, Option};
 ghost use Rattle.std.specs.Coded.{coded_option};
@@ -13,8 +13,8 @@ use crate::loose::Loose;
 use std::alloc::Global;
 use std::marker::Model;
 
-/// Where a call writes the address of a handle that it makes: what `si_interner **` of C leads to. Before that it may hold
-/// anything.
+/// Where a call writes the address of a handle that it makes: what `si_interner **` points to in C. Before the call it may
+/// hold anything.
 #[derive(Drop)]
 #[repr(C)]
 pub struct Slot {

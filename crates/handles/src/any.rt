@@ -24,7 +24,7 @@ use string_interner::dedup::TaggedIndex;
 use string_interner::json::JsonError;
 use string_interner::symbol::{Symbol, SymbolU32};
 
-/// An interner over a backend as a `FastStringInterner` is, but for its hasher, which is chosen.
+/// A `FastStringInterner` over a backend, except for its hasher, which is chosen.
 type HashedInterner<B> = StringInterner<B, ChosenHasher, TaggedIndex<<B as Backend>::Symbol>>;
 
 /// An interner of one of the kinds.
@@ -35,7 +35,7 @@ pub enum AnyInterner {
     Buffer(HashedInterner<BufferBackend<SymbolU32>>),
 }
 
-/// What the expression says of the interner, of whatever kind that is.
+/// The value of an expression for the interner, of whatever kind it is.
 macro_rules! each {
     ($any:expr, $interner:ident => $value:expr) => {
         match $any {
@@ -79,7 +79,7 @@ fn number_given(outcome: Result<SymbolU32, InternError>) -> Result<usize, Intern
     }
 }
 
-/// Returns the number of the symbol that a text was interned under, or why a call tells that it was not.
+/// Returns the number of the symbol that a text was interned under, or the status that says why it was not.
 #[inline(always)]
 fn status_given(outcome: Result<SymbolU32, InternError>) -> Result<usize, Status>
     ensures { result ≡ outcome_of outcome }
@@ -89,8 +89,8 @@ fn status_given(outcome: Result<SymbolU32, InternError>) -> Result<usize, Status
 
 /// Writes the number of a text, and returns the code of the outcome. A new text is appended.
 ///
-/// One function for each kind, which a call of C jumps to. The library's own is inlined in it, and it calls nothing for a
-/// known text.
+/// There is one function for each kind, and a call from C jumps to it. The library's `get_or_intern` is inlined in it, so it
+/// calls nothing for a known text.
 #[inline(never)]
 fn write_number_in<B: Backend<Symbol = SymbolU32>>(
     interner: &mut HashedInterner<B>,

@@ -118,7 +118,7 @@ pub fn resolve<'a>(h: &'a mut Handle, number: usize) -> Result<Text<'a>, Status>
     }
 }
 
-/// Copies bytes to the front of a room, if it is long enough, and tells how many there are.
+/// Copies bytes to the front of a buffer, if it is long enough. Returns how many there are.
 fn copy_out(bytes: &[u8], room: &mut [u8], len: &mut usize) -> Result<(), Status>
     ensures { CopiesOut bytes.now result room.old room.new len.new }
 {
@@ -130,7 +130,7 @@ fn copy_out(bytes: &[u8], room: &mut [u8], len: &mut usize) -> Result<(), Status
     Ok(())
 }
 
-/// Copies the text at a number to a room.
+/// Copies the text at a number to a buffer.
 pub fn copy(h: &mut Handle, number: usize, room: &mut [u8], len: &mut usize) -> Result<(), Status>
     ensures copies { CopiesText number h.old.value (room.old, len.old) result (room.new, len.new) }
     ensures same { h.new.value ≡ h.old.value }
@@ -225,7 +225,7 @@ pub fn equal(h: &mut Handle, other: &mut Handle) -> bool
     h.interner().equals(other.interner())
 }
 
-/// Interns texts that lie end to end in the bytes, and writes their numbers, until one is refused.
+/// Interns texts that are end to end in the bytes, and writes their numbers, until one fails.
 pub fn intern_all(
     h: &mut Handle,
     bytes: &[u8],
@@ -239,7 +239,7 @@ pub fn intern_all(
     h.interner().intern_all(bytes, ends, numbers, done)
 }
 
-/// Writes all texts, each with its number, to the front of a room. They live until the next call on the handle.
+/// Writes all texts, each with its number, to the front of a buffer. They live until the next call on the handle.
 pub fn entries<'a>(
     h: &'a mut Handle,
     room: &mut [Entry<'a>],

@@ -12,7 +12,7 @@ use crate::loose::Loose;
 use std::alloc::Global;
 use std::marker::Model;
 
-/// An interner behind a pointer: what `si_interner *` of C leads to.
+/// An interner behind a pointer: what `si_interner *` points to in C.
 #[repr(C)]
 pub struct Handle {
     at: *mut u8,
@@ -61,5 +61,5 @@ impl Handle {
     }
 }
 
-/// A handle may go to another thread, as the interner that it holds may.
+/// A handle may go to another thread, because the interner that it holds may.
 unsafe impl Send for Handle {}

@@ -1,4 +1,4 @@
-//! The hasher of an interner, which is chosen when the interner is made.
+//! The hasher of an interner. It is chosen when the interner is made.
 
 ghost use Rattle.std.specs.Prelude.{◌≡◌};
 ghost use Rattle.string_interner.specs.Text.{Text};
@@ -6,12 +6,12 @@ ghost use Rattle.handles.specs.Hasher.{chosen_code, fold_code, sip_code};
 
 use string_interner::dedup::{FoldState, KeyedHasher, KeyedState, TextHasher};
 
-/// How an interner hashes its texts. What it answers does not depend on that, but how fast it is does.
+/// How an interner hashes its texts. This decides how fast it is, and changes no result.
 #[derive(Clone, Copy)]
 pub enum ChosenHasher {
-    /// The fast one, with the same codes in each run: someone who chooses the texts can make the interner slow.
+    /// The fast one, with the same hash codes in each run. It is not for texts from strangers.
     Fixed(FoldState),
-    /// SipHash-1-3 under two keys: without them nobody can foresee its codes.
+    /// SipHash-1-3 under two keys. Without them nobody can foresee its hash codes.
     Keyed(KeyedHasher),
 }
 
@@ -33,7 +33,7 @@ impl ChosenHasher {
 
 /// Returns the code of a text under keys.
 ///
-/// Not inlined, so that the look-up of a text under the fast hasher gets no longer by it than a branch.
+/// Not inlined, so that it costs a look-up under the fast hasher only a branch.
 #[inline(never)]
 fn keyed_code(hasher: &KeyedHasher, text: &str) -> u64
     ensures { result ≡ sip_code hasher.now.builder.key0 hasher.now.builder.key1 text.now }

@@ -4,12 +4,12 @@ ghost use Rattle.handles.specs.Kind.{HasCode};
 
 use crate::status::Status;
 
-/// How the texts of an interner lie in memory.
+/// How an interner stores its texts.
 #[derive(Clone, Copy)]
 pub enum Kind {
     /// Joined in one string.
     String,
-    /// In buckets that are never moved.
+    /// In blocks that never move.
     Bucket,
     /// In one buffer of bytes, each behind its length.
     Buffer,

@@ -1,7 +1,7 @@
 //! Interners behind a handle, as the library for C exports them.
 //!
-//! A [`Handle`](handle::Handle) holds an interner of a [`kind`](kind::Kind): how its texts lie in memory, and so how they are
-//! numbered. C knows it by its [`address`] alone. One set of [`calls`] serves all kinds.
+//! A [`Handle`](handle::Handle) holds an interner of a [`kind`](kind::Kind), which says how texts are stored and numbered. C
+//! knows the handle by its [`address`]. One set of [`calls`] serves all kinds.
 #![tactic(auto)]
 
 pub mod address;

@@ -7,22 +7,22 @@ use std::alloc::AllocError;
 use string_interner::backend::InternError;
 use string_interner::json::JsonError;
 
-/// Why a call did not do what it was asked for.
+/// Why a call failed.
 #[derive(Clone, Copy)]
 pub enum Status {
-    /// The bytes are not UTF-8, or not JSON where JSON is read.
+    /// The bytes are not UTF-8, or not JSON if JSON is read.
     BadText,
     /// The numbers of this kind have run out.
     NoSymbol,
-    /// Memory was refused.
+    /// An allocation failed.
     NoMemory,
     /// There is no such text.
     Nothing,
-    /// The room that was handed over is too short.
+    /// The buffer is too small.
     NoRoom,
     /// No kind has this code.
     BadKind,
-    /// The ends fall, or pass the bytes.
+    /// An end is less than the one before it, or passes the bytes.
     BadEnds,
     /// The JSON value is not an array.
     NotAList,
@@ -32,7 +32,7 @@ pub enum Status {
     Repeated,
 }
 
-/// The code of a call that did what it was asked for.
+/// The code of a call that succeeded.
 pub const OK: u32 = 0;
 
 impl Status {
@@ -94,7 +94,7 @@ impl From<JsonError> for Status {
     }
 }
 
-/// Returns the code of an outcome, and writes out what it holds.
+/// Returns the code of an outcome, and writes its value.
 #[inline(always)]
 pub fn tell<T: Copy>(outcome: Result<T, Status>, out: &mut T) -> u32
     ensures { Tells outcome result out.old out.new }
@@ -108,7 +108,7 @@ pub fn tell<T: Copy>(outcome: Result<T, Status>, out: &mut T) -> u32
     }
 }
 
-/// Returns the code of an outcome that holds nothing.
+/// Returns the code of an outcome without a value.
 #[inline(always)]
 pub fn finish(outcome: Result<(), Status>) -> u32
     ensures { result ≡ code_of_done outcome }

@@ -1,10 +1,10 @@
-//! What crosses to C beside numbers, and bytes that are texts.
+//! Texts and entries as C sees them, and texts from bytes.
 
 ghost use Rattle.handles.specs.Calls.{IsTextOf};
 
 use crate::status::Status;
 
-/// A text that an interner lends, or that a caller hands over.
+/// A text that an interner lends, or that a caller passes.
 #[derive(Clone, Copy)]
 #[repr(C)]
 pub struct Text<'a> {
@@ -19,7 +19,7 @@ pub struct Entry<'a> {
     pub text: Text<'a>,
 }
 
-/// Returns the text that the bytes are.
+/// Returns the bytes as a text, if they are UTF-8.
 #[inline(always)]
 pub fn text_of(bytes: &[u8]) -> Result<&str, Status>
     ensures { IsTextOf bytes.now result }

@@ -10,11 +10,11 @@ use std::io::{BufWriter, ErrorKind, Stdout, Write};
 use std::process::ExitCode;
 use std::{env, io};
 
-/// The exit status where the output is closed. It is what a shell tells of `cat` or `sort` there: 128 and the number of
+/// The exit status if the output is closed. It is what a shell reports for `cat` or `sort` then: 128 and the number of
 /// SIGPIPE.
 const CLOSED: u8 = 141;
 
-/// Standard output, which notes whether it is closed: whether a write failed since nobody reads any more.
+/// Standard output, which notes whether it is closed: whether a write failed because nobody reads any more.
 #[derive(Drop)]
 struct Output {
     stdout: Stdout,

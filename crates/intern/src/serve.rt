@@ -22,7 +22,7 @@ use string_interner::StringInterner;
 use string_interner::backend::{Backend, BucketBackend, BufferBackend, StringBackend};
 use string_interner::run::{Command, Reply, run};
 
-/// Which backend the interner keeps its texts in.
+/// Which backend the interner stores its texts in.
 #[derive(Clone, Copy)]
 enum Choice {
     String,
@@ -76,7 +76,7 @@ fn find_bad_line(text: &str) -> Option<usize>
     split_lines(text).position(|line| line::parse_command(line).is_none())
 }
 
-/// Returns the fault where the commands cannot be allocated: the first bad line, if there is one, and else `Memory`.
+/// Returns the fault if the commands cannot be allocated: the first bad line, if there is one, and otherwise `Memory`.
 fn find_line_fault(text: &str) -> Fault
     ensures { IsLineFault (lines_of text.now) result }
 {
@@ -86,7 +86,7 @@ fn find_line_fault(text: &str) -> Fault
     }
 }
 
-/// Parses each line. A bad line is reported even where the commands cannot be allocated.
+/// Parses each line. A bad line is reported even if the commands cannot be allocated.
 fn parse_commands(alloc: Global, text: &str) -> Result<Vec<Command<'_>>, Fault>
     ensures stated { IfOk result (λ commands. AllZip States commands.items (lines_of text.now)) }
     ensures fault { IfErr result (IsLineFault (lines_of text.now)) }

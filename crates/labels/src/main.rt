@@ -1,4 +1,4 @@
-//! Labels, each kept once, under symbols of one byte.
+//! Labels, each stored once, under symbols of one byte.
 #![tactic(auto)]
 
 ghost use Rattle.std.specs.Prelude.{ℕ, ◌<◌, length};
@@ -53,7 +53,7 @@ impl Symbol for Label {
     ghost injective = { λ a b same. same };
 }
 
-/// Few labels have one length, so that serves as their code.
+/// Few labels have the same length, so it serves as their hash code.
 #[derive(Clone, Copy, Default)]
 struct ByLength;
 

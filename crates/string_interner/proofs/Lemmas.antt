@@ -1,5 +1,6 @@
 pub mod Backend
 pub mod BucketBackend
+pub mod BucketEntries
 pub mod BufferBackend
 pub mod Index
 pub mod Interner

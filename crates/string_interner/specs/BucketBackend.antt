@@ -8,6 +8,7 @@ use Rattle.string_interner.specs.Text.{Text}
 use Rattle.string_interner.specs.Numbering.{Numbering, by_index}
 use Rattle.string_interner.specs.Backend.{AppendsInto, Bucket, IsValidList}
 use Rattle.string_interner.specs.declared.backend.InternError.{InternError}
+use Rattle.string_interner.specs.declared.backend.bucket.copies.Run.{Run}
 use Rattle.string_interner.specs.declared.backend.bucket.interned_str.InternedStr.{InternedStr}
 use Rattle.string_interner.specs.declared.backend.bucket.interned_str.InternedStr.TheVariants.{InBucket, Static}
 
@@ -160,12 +161,26 @@ pub record IsInBuckets {S : Type 0} (symbol_of : ℕ → Option S) (full : List 
   pub tight : IsTight full head
   pub valid : IsValidList symbol_of length (map (interned_text (buckets_of full head)) entries)
 
+-- a run is a part of a bucket
+abbrev pub IsRun : List Bucket → Run → Type 0
+IsRun buckets run = IsEntry buckets (InBucket run.bucket run.span)
+
+-- the bucket with the texts of a run after its bytes
+abbrev pub after_run : List Bucket → Run → Bucket → Bucket
+after_run buckets run bucket = record bucket { bytes = bucket.bytes ++ interned_text buckets (InBucket run.bucket run.span) }
+
 -- An entry is copied: a text stored in a bucket is appended to this one, and a static text stays a reference.
 abbrev pub IsBucketCopy : List Bucket → InternedStr → Bucket → Bucket → InternedStr → Type 0
 IsBucketCopy buckets (InBucket bucket span) old new copy =
     let text = interned_text buckets (InBucket bucket span) in
     (new ≡ record old { bytes = old.bytes ++ text }) × IsLast text [] new copy
 IsBucketCopy buckets (Static text) old new copy = (new ≡ old) × (copy ≡ Static text)
+
+-- the copy of an entry was pushed
+pub record PushesCopy (buckets : List Bucket) (entry : InternedStr) (old new : Bucket) (copies more : List InternedStr) : Type 0 where
+  pub copy : InternedStr
+  pub copied : IsBucketCopy buckets entry old new copy
+  pub pushed : more ≡ copies ++ copy ∷ []
 
 -- the copies have the texts of the entries, of which those in buckets were appended to this one in order
 pub record AreCopies (buckets : List Bucket) (entries copies : List InternedStr) (bucket : Bucket) : Type 0 where

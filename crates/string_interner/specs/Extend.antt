@@ -1,5 +1,5 @@
 -- Interning many texts in order: all of them, or those before the first that fails.
--- Cited by `StringInterner::extend`, `StringInterner::from_iter` and `run`.
+-- Cited by `StringInterner::extend`, `from_iter` and `intern_all`, and by `run`.
 use Rattle.std.specs.Prelude.{◌≡◌, ◌+◌, ◌≤◌, List, [], ◌∷◌, ◌++◌, length, map, Option, Some, None, Result, Ok, Err, MatchResult, ⊤}
 use Rattle.std.specs.Borrow.{Bor}
 use Rattle.std.specs.Iterator.{YieldsThen}

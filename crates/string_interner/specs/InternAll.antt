@@ -1,17 +1,52 @@
 -- Interning many texts and appending their symbols to a list.
 -- Cited by `StringInterner::intern_all`.
-use Rattle.std.specs.Prelude.{◌≡◌, ℕ, ◌≤◌, ◌⊎◌, List, ◌++◌, length, Option, Some, None, Result, MatchResult, Vec, vec_capacity}
+use Rattle.std.specs.Prelude.{◌≡◌, ℕ, ◌<◌, ◌≤◌, ◌⊎◌, List, ◌∷◌, ◌++◌, length, slice_index_or, Option, Some, None, IfSome, IsSome, Result, MatchResult, Vec, vec_capacity}
 use Rattle.std.specs.Borrow.{Bor}
 use Rattle.std.specs.declared.alloc.Global.{Global}
 use Rattle.string_interner.specs.Text.{Text}
 use Rattle.string_interner.specs.Numbering.{Numbering}
 use Rattle.string_interner.specs.SlotRule.{SlotRule, GrowsFor}
 use Rattle.string_interner.specs.Interner.{InternerContents}
-use Rattle.string_interner.specs.StandsFor.{StandInOrder}
+use Rattle.string_interner.specs.StandsFor.{StandsFor, StandInOrder}
 use Rattle.string_interner.specs.Extend.{texts_of, IsMemory, TakesIn, StopsAt}
 use Rattle.string_interner.specs.declared.backend.InternError.{InternError}
 
--- A list of symbols, which had this capacity, has no room for one more, and memory for it is refused. The interner is
+-- the list begins with these items, and then has this one or ends
+abbrev pub Lists : {A : Type 0} → List A → List A → Option A → Type 0
+Lists all items None = all ≡ items
+Lists {A} all items (Some next) = (rest : List A) × (all ≡ items ++ next ∷ rest)
+
+-- the codes are those of the texts, in their order
+abbrev pub AreCodes : (Text → ℕ) → List (Bor Text) → List ℕ → Type 0
+AreCodes code texts codes = (k : ℕ) → k < length texts → (text : Bor Text) → slice_index_or codes k 0 ≡ code (slice_index_or texts k text).now
+
+-- the number is that of no symbol, or the symbol is an entry's
+abbrev pub IsGuess : {S : Type 0} → (ℕ → Option S) → (S → Option Text) → Option ℕ → Type 0
+IsGuess symbol_of entry guess = IfSome guess (λ number. IfSome (symbol_of number) (λ symbol. IsSome (entry symbol)))
+
+-- each number is a guess
+abbrev pub AreGuesses : {S : Type 0} → (ℕ → Option S) → (S → Option Text) → List (Option ℕ) → Type 0
+AreGuesses symbol_of entry guesses = (k : ℕ) → k < length guesses → IsGuess symbol_of entry (slice_index_or guesses k None)
+
+-- the number is that of no symbol, or the text is the entry's
+abbrev pub IsResolved : {S : Type 0} → (ℕ → Option S) → (S → Option Text) → Option ℕ → Text → Type 0
+IsResolved symbol_of entry guess text = IfSome guess (λ number. IfSome (symbol_of number) (λ symbol. entry symbol ≡ Some text))
+
+-- each text is that of the number at its index
+abbrev pub AreResolved : {S : Type 0} → (ℕ → Option S) → (S → Option Text) → List (Option ℕ) → List (Bor Text) → Type 0
+AreResolved symbol_of entry guesses found = (k : ℕ) → k < length guesses → (text : Bor Text)
+    → IsResolved symbol_of entry (slice_index_or guesses k None) (slice_index_or found k text).now
+
+-- the number is that of no symbol, or the symbol stands for the text
+abbrev pub IsKnown : {S : Type 0} → (ℕ → Option S) → Numbering S → List Text → Text → Option ℕ → Type 0
+IsKnown symbol_of numbering entries text known = IfSome known (λ number. IfSome (symbol_of number) (λ symbol. StandsFor numbering entries symbol text))
+
+-- each number is known of the text at its index
+abbrev pub AreKnown : {S : Type 0} → (ℕ → Option S) → Numbering S → List Text → List (Bor Text) → List (Option ℕ) → Type 0
+AreKnown symbol_of numbering entries texts known = (k : ℕ) → k < length texts → (text : Bor Text)
+    → IsKnown symbol_of numbering entries (slice_index_or texts k text).now (slice_index_or known k None)
+
+-- A list of symbols, which had this capacity, is full, and allocating memory for one more symbol failed. The interner is
 -- unchanged.
 pub record IsFull {S : Type 0} (capacity : ℕ) (symbols : List S) (mid : InternerContents) (error : InternError) (new : InternerContents) : Type 0 where
   pub memory : IsMemory error

@@ -19,6 +19,10 @@ pub record InternerContents : Type 0 where
   -- the slot count of the index
   pub slot_count : ℕ
 
+-- what contracts see of an interner, by the parts of its backend and the slot count of its index
+abbrev pub contents_of : List Text → List Bucket → ℕ → ℕ → InternerContents
+contents_of texts buckets room slot_count = record { texts = texts; buckets = buckets; room = room; slot_count = slot_count }
+
 -- a new interner
 pub record IsNew (interner : InternerContents) : Type 0 where
   pub texts : interner.texts ≡ []
@@ -106,3 +110,7 @@ module _ {S : Type 0} (numbering : Numbering S) where
     pub texts : IsInternerList list
     pub whole : indexes (entry_text numbering list)
     pub count : entries ≡ length list
+
+  -- The same of an index: of what it holds under these codes, and of how many entries.
+  abbrev pub IsSoundIndex : {X : Type 0} → (X → (S → Option Text) → (Text → ℕ) → Type 0) → (Text → ℕ) → (X → ℕ) → X → List Text → Type 0
+  IsSoundIndex indexes code entries index list = IsSoundInterner (λ entry. indexes index entry code) (entries index) list

@@ -2,9 +2,11 @@ pub mod Symbol
 pub mod SymbolOrder
 pub mod Text
 pub mod Backend
+pub mod Growth
 pub mod Ends
 pub mod StringBackend
 pub mod BucketBackend
+pub mod BucketEntries
 pub mod ByIndexLaws
 pub mod Spelling
 pub mod BufferBackend

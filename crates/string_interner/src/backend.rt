@@ -1,8 +1,13 @@
-//! Backends: how the texts lie in memory, and which symbol each gets.
+//! Backends: how texts are stored, and which symbol each gets.
+//!
+//! A backend is a list of texts. It neither looks texts up nor notices repeats: the interner over it does. Choose one of
+//! the three by memory and by speed, or write your own by the trait [`Backend`]. A program that has interned its last text
+//! may keep the backend alone, by `StringInterner::into_backend`.
 
 mod bucket;
 mod buffer;
 mod iter;
+mod reserve;
 mod string;
 
 ghost use Rattle.std.specs.Prelude.{◌≡◌, ℕ, ◌+◌, ◌^◌, ◌<◌, ◌≤◌, List, [], ◌∷◌, ◌++◌, length, take, slice_get, Option, Some, IfOk, OnOk};

@@ -1,9 +1,12 @@
-//! Looks up the symbol of a text: what an interner asks of an index, and a hash table of a backend's entries over two
-//! layouts of its slots.
+//! Indexes: they find the symbol of a text.
+//!
+//! An interner looks texts up by the trait [`TextIndex`]. Take one of the two indexes here, or write your own: every
+//! contract of an interner holds for each that keeps the laws of the trait. Both are a hash table, [`Table`], over a layout
+//! of its slots. Called by itself, [`Table::find`] also bounds how many texts it reads.
 //!
 //! | Index | A slot holds | Load factor at most |
 //! |---|---|---|
-//! | [`Index`], the default | a symbol | three quarters |
+//! | [`Index`], the default | a symbol | one half |
 //! | [`TaggedIndex`], the fast one | a symbol, a tag, 32 bits of a code | seven eighths |
 
 mod count;

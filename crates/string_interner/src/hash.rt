@@ -1,4 +1,7 @@
-//! Hashers of texts.
+//! Hashers: they compute the hash code by which an index finds a text.
+//!
+//! An index is correct under every hasher. The hasher decides how fast look-ups are, and whether someone who chooses the
+//! texts can make them slow: take [`KeyedHasher`] for texts from strangers, and [`FoldState`] for all others.
 
 ghost use Rattle.std.specs.Prelude.{◌≡◌, ℕ};
 ghost use Rattle.std.specs.Hash.DefaultHasher.{with_keys};

@@ -1,5 +1,7 @@
 //! An interner: each text once, with the symbol that stands for it.
 
+mod block;
+mod coded;
 mod extend;
 mod given;
 mod intern_all;
@@ -19,6 +21,7 @@ use crate::backend::{Backend, CopyBackend, InternError, Iter};
 use crate::dedup::{CopyIndex, DefaultIndex, Entry, TextIndex};
 use crate::hash::{DefaultHashBuilder, TextHasher};
 use crate::symbol::Symbol;
+use coded::intern_coded;
 use given::Given;
 use std::alloc::{AllocError, Global};
 use std::marker::Model;
@@ -147,7 +150,8 @@ impl<B: Backend, H: TextHasher, I: TextIndex<B::Symbol>> StringInterner<B, H, I>
     pub fn get(&self, text: &str) -> Option<B::Symbol>
         ensures { Finds B.numbering self.now.texts text.now result }
     {
-        match self.index.entry(&self.hasher, &self.backend, text) {
+        let code = self.hasher.hash_text(text);
+        match self.index.entry(code, &self.backend, text) {
             Entry::Occupied(symbol) => Some(symbol),
             Entry::Vacant(_vacancy) => None,
         }
@@ -194,20 +198,15 @@ impl<B: Backend, H: TextHasher, I: TextIndex<B::Symbol>> StringInterner<B, H, I>
     fn intern_given(&mut self, given: Given<'_>) -> Result<B::Symbol, InternError>
         ensures { InternsInto B.numbering I.rule self.old (given_text given.entry) result self.new }
     {
-        let vacancy = match self.index.entry(&self.hasher, &self.backend, given.text()) {
-            Entry::Occupied(symbol) => return Ok(symbol),
-            Entry::Vacant(vacancy) => vacancy,
-        };
-        // Without a symbol no memory is asked for.
-        if self.backend.next_symbol().is_none() {
-            return Err(InternError::NoSymbol);
-        }
-        if let Err(error) = self.index.reserve_one(&self.hasher, &self.backend) {
-            return Err(InternError::Memory(error));
-        }
-        let symbol = given.store_in(&mut self.backend)?;
-        self.index.insert_at(vacancy, symbol);
-        Ok(symbol)
+        let code = self.hasher.hash_text(given.text());
+        intern_coded(
+            &mut self.backend,
+            &self.hasher,
+            &mut self.index,
+            given,
+            code,
+            None,
+        )
     }
 
     /// Releases memory of the backend that no text needs, if it can. Texts, symbols, buckets and slot count are
@@ -268,8 +267,7 @@ impl<B: Backend + Drop, H: TextHasher + Drop, I: TextIndex<B::Symbol> + Drop> St
     /// Returns the backend, with all texts and their symbols, and drops the index and the hasher. This is for a program
     /// that has interned its last text, and from then on resolves symbols.
     ///
-    /// Releases the memory of the slots: with `Index`, for each slot the size of an `Option<B::Symbol>`. Allocates
-    /// nothing.
+    /// Releases the memory of the slots: with `Index` and the default symbol, four bytes for each slot. Allocates nothing.
     pub fn into_backend(self) -> B
         ensures texts { B.texts result ≡ self.texts }
         ensures buckets { B.buckets result ≡ self.buckets }

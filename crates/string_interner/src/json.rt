@@ -1,4 +1,7 @@
 //! JSON: an interner is the array of its texts, and a symbol its number.
+//!
+//! This is for saving an interner and loading it again. Over the same backend the texts keep their symbols, so numbers
+//! that were saved elsewhere stay valid.
 
 ghost use Rattle.std.specs.Prelude.{◌≡◌, length, Ok, IfOk, IsOkAnd};
 ghost use Rattle.serde_json.specs.View.{view, items_view};

@@ -1,8 +1,77 @@
-//! A string interner: each text is stored once, and small `Copy` symbols stand for the texts.
+//! A string interner: it stores each distinct text once, and gives it a small symbol.
 //!
-//! A [`StringInterner`] returns a symbol for each text: the same for equal texts, another for different ones. Texts are
-//! then compared, hashed and stored as symbols. A [`backend`] chooses how the texts lie in memory, and a [`Symbol`]
-//! type which numbers symbols may have.
+//! Two texts are equal exactly if their symbols are. So a program compares, hashes and stores symbols, which are
+//! numbers, and resolves a symbol only to show its text. Every function has a contract, and is proved to keep it.
+//!
+//! # Examples
+//!
+//! Intern texts, and compare them by symbol. The second call returns the symbol of the first:
+//!
+//! ```
+//! let mut interner = <FastStringInterner>::new(alloc);
+//! let width = interner.get_or_intern("width")?;
+//! let again = interner.get_or_intern("width")?;
+//! ```
+//!
+//! Look a text up without interning it, and resolve a symbol:
+//!
+//! ```
+//! Ok(interner.get("Horse") == Some(horse) && interner.resolve(horse) == Some("Horse"))
+//! ```
+//!
+//! Iterate over the texts in insertion order:
+//!
+//! ```
+//! for (_, text) in interner {
+//!     bytes = bytes.saturating_add(text.len());
+//! }
+//! ```
+//!
+//! Turn a column of texts into its symbols, here three for two texts:
+//!
+//! ```
+//! let mut codes = Vec::new(alloc);
+//! colors.intern_all(["red", "green", "red"].iter().copied(), &mut codes)?;
+//! ```
+//!
+//! Collect texts over another backend, and add more:
+//!
+//! ```
+//! let mut names = StringInterner::<BufferBackend>::from_iter(alloc, elements.iter().copied())?;
+//! names.extend(["Fire", "Water", "Air"].iter().copied())?;
+//! ```
+//!
+//! Hash under secret random keys, if strangers choose the texts:
+//!
+//! ```
+//! let hasher = KeyedHasher::new(KeyedState::new(key0, key1));
+//! let mut interner = StringInterner::<DefaultBackend, KeyedHasher>::with_hasher(alloc, hasher);
+//! ```
+//!
+//! # What to take
+//!
+//! [`FastStringInterner`] is the fastest. [`DefaultStringInterner`] hashes by FNV-1a, and its slots hold symbols alone. Any
+//! other interner names its parts: `StringInterner<Backend, Hasher, Index>`.
+//!
+//! | Backend | How texts are stored | Take it if |
+//! |---|---|---|
+//! | [`StringBackend`](backend::StringBackend), the default | joined in one string, with the end of each | in most cases |
+//! | [`BucketBackend`](backend::BucketBackend) | in blocks that never move; static texts as references | texts are long or static |
+//! | [`BufferBackend`](backend::BufferBackend) | in one buffer, each behind its length | memory counts most |
+//!
+//! | Module | What it has |
+//! |---|---|
+//! | [`symbol`] | which numbers symbols may have |
+//! | [`hash`] | hashers, and which of them are safe with texts from strangers |
+//! | [`dedup`] | indexes, which find the symbol of a text |
+//! | [`json`] | writing an interner to JSON, and reading it back with the same symbols |
+//! | [`scope`] | names in nested scopes |
+//! | [`run`] | a list of commands, with one reply for each |
+//!
+//! # Errors
+//!
+//! Anything that allocates takes the allocator when it is made, and returns a `Result`. A failed call changes no text and
+//! no symbol; `extend` and `intern_all` keep the texts before the one that failed.
 #![tactic(auto)]
 
 pub mod backend;
@@ -26,11 +95,10 @@ pub use symbol::{DefaultSymbol, Symbol};
 /// An interner over the default backend, under the default hasher.
 pub type DefaultStringInterner<B = DefaultBackend, H = DefaultHashBuilder> = StringInterner<B, H>;
 
-/// An interner for speed: the default backend, with an index that compares tags before it compares texts, under a hasher
-/// that reads 16 bytes at a time.
+/// An interner for speed: its index compares tags before it compares texts, and its hasher reads 16 bytes at a time.
 ///
-/// Its codes are the same in each run, and it is easy to choose texts that have one code. Where they come from someone who
-/// may do so, take `StringInterner<B, KeyedHasher, TaggedIndex<S>>` under random keys, where `S` is the symbol type.
+/// Its hash codes are the same in each run, and it is easy to choose texts that have one code. If strangers choose the
+/// texts, take `StringInterner<B, KeyedHasher, TaggedIndex<S>>` under random keys, where `S` is the symbol type.
 pub type FastStringInterner<B = DefaultBackend> = StringInterner<
     B,
     FoldState,

@@ -1,4 +1,7 @@
-//! Running a list of commands on an interner, with one reply for each.
+//! Commands: [`run`] runs a list of them on an interner, and returns one reply for each.
+//!
+//! This is for programs that read requests as data, and for statements about a whole session: one contract says what all
+//! replies are, for every backend.
 
 ghost use Rattle.std.specs.Prelude.{◌≡◌, [], All, slice_get, Option, Some, None, IfOk, OnErr};
 ghost use Rattle.std.specs.Option.{option_copied};

@@ -1,4 +1,7 @@
 //! Nested scopes over an interner: leaving a scope drops the texts that were declared in it.
+//!
+//! This is for compilers and interpreters whose names live as long as a block. An inner scope shares the names of the
+//! outer ones. If inner names should hide outer ones, use an interner for each open block instead.
 
 ghost use Rattle.std.specs.Prelude.{◌≡◌, ◌+◌, ◌↔◌, [], ◌∷◌, ◌++◌, length, None, IsTrue, IsSome, OnOk, OnErr};
 ghost use Rattle.std.specs.Option.{option_copied};

@@ -1,13 +1,13 @@
 //! Symbols: small `Copy` values that stand for texts. A symbol is determined by its number.
 //!
-//! The symbol types here have all numbers below a limit, and check it before they cast: 70,000 has a symbol in
-//! [`SymbolU32`], and none in [`SymbolU16`].
+//! Choose the type by how many texts there may be, or write your own by the trait [`Symbol`]. The types here have all
+//! numbers below a limit, and check it before they cast: 70,000 has a symbol in [`SymbolU32`], and none in [`SymbolU16`].
 
 mod law;
 
 ghost use Rattle.std.specs.Prelude.{◌≡◌, ℕ, ◌^◌, ◌<◌, ◌-◌, ◌↔◌, Option, Some, IsTrue};
 ghost use Rattle.std.proofs.Common.{rules, lit≤};
-ghost use Rattle.string_interner.specs.Symbol.{number_below, number_below-some};
+ghost use Rattle.string_interner.specs.Symbol.{AreNarrow, number_below, number_below-some};
 
 pub use law::order_law;
 use std::marker::Model;
@@ -31,6 +31,17 @@ pub trait Symbol: Copy + Eq {
     fn to_usize(self) -> usize
         ensures value { result ≡ number self }
         ensures found_again { symbol_of result ≡ Some self };
+
+    /// Returns `true` only if all numbers of the type are below 2^32 - 1.
+    ///
+    /// A slot of an [`Index`](crate::dedup::Index) then takes four bytes. Otherwise it takes an `Option` of a symbol, and
+    /// four bytes more if the number 2^32 - 1 has no symbol.
+    #[inline(always)]
+    fn has_narrow_numbers() -> bool
+        ensures { IsTrue result → AreNarrow symbol_of }
+    {
+        false
+    }
 
     /// The symbol with a number has that number, and the number fits a `usize`.
     ghost numbered: { (i : ℕ) (s : Self) → symbol_of i ≡ Some s → (number s ≡ i) × (i < 2 ^ 64) };
@@ -78,6 +89,11 @@ impl Symbol for SymbolU16 {
         usize::from(self.value)
     }
 
+    #[inline(always)]
+    fn has_narrow_numbers() -> bool {
+        true
+    }
+
     ghost numbered = { number_below-some (2 ^ 16 - 1) (lit≤ tt) };
 
     ghost equal_by_number = { Prim.search rules };
@@ -119,6 +135,11 @@ impl Symbol for SymbolU32 {
 
     fn to_usize(self) -> usize {
         self.value as usize
+    }
+
+    #[inline(always)]
+    fn has_narrow_numbers() -> bool {
+        true
     }
 
     ghost numbered = { number_below-some (2 ^ 32 - 1) (lit≤ tt) };

@@ -16,7 +16,7 @@ use handles::status::{finish, tell};
 use handles::text::{Entry, Text};
 use std::alloc::Global;
 
-/// Counts the changes of the interface after which a program has to be compiled again: `SI_VERSION` in C.
+/// The version of the interface, `SI_VERSION` in C. It changes if a program has to be compiled again.
 pub const VERSION: u32 = 0;
 
 /// Returns the version of the interface.
@@ -72,7 +72,7 @@ pub extern "C" fn si_with_capacity_keyed(
     finish(calls::make_with_capacity(alloc, out, kind, capacity, ChosenHasher::keyed(key0, key1)))
 }
 
-/// Frees a handle and what it holds. Null is no handle, and nothing happens.
+/// Frees a handle and its interner. Does nothing if the handle is null.
 #[unsafe(no_mangle)]
 pub extern "C" fn si_free(h: Returned) {
     drop(h);
@@ -87,7 +87,7 @@ pub extern "C" fn si_len(h: &mut Handle) -> usize
     calls::len(h)
 }
 
-/// Tells the number of a text, and appends the text if it is new.
+/// Writes the number of a text, and appends the text if it is new.
 #[unsafe(no_mangle)]
 pub extern "C" fn si_get_or_intern(h: &mut Handle, text: &[u8], number: &mut usize) -> u32
     ensures { Changes (InternsBytes text.now) h.old h.new result number.old number.new }
@@ -95,7 +95,7 @@ pub extern "C" fn si_get_or_intern(h: &mut Handle, text: &[u8], number: &mut usi
     calls::get_or_intern_bytes(h, text, number)
 }
 
-/// The same, where the caller owes that the bytes are UTF-8, which is not looked at.
+/// The same, but does not check that the bytes are UTF-8: they must be.
 #[unsafe(no_mangle)]
 pub unsafe extern "C" fn si_get_or_intern_utf8(
     h: &mut Handle,
@@ -109,7 +109,7 @@ pub unsafe extern "C" fn si_get_or_intern_utf8(
     calls::get_or_intern(h, text, number)
 }
 
-/// The same as `si_get_or_intern`, of bytes that stay where they are.
+/// The same as `si_get_or_intern`, for bytes that stay where they are.
 #[unsafe(no_mangle)]
 pub extern "C" fn si_get_or_intern_static(
     h: &mut Handle,
@@ -121,7 +121,7 @@ pub extern "C" fn si_get_or_intern_static(
     tell(calls::get_or_intern_static(h, text), number)
 }
 
-/// Tells the number of a part of the text at a number, and appends the part if it is new.
+/// Writes the number of a part of the text at a number, and appends the part if it is new.
 #[unsafe(no_mangle)]
 pub extern "C" fn si_get_or_intern_part(
     alloc: Global,
@@ -136,7 +136,7 @@ pub extern "C" fn si_get_or_intern_part(
     tell(calls::get_or_intern_part(alloc, h, number, from, to), part)
 }
 
-/// Tells the number of a known text.
+/// Writes the number of a known text.
 #[unsafe(no_mangle)]
 pub extern "C" fn si_get(h: &mut Handle, text: &[u8], number: &mut usize) -> u32
     ensures found { Queries (FindsBytes text.now) h.old result number.old number.new }
@@ -145,7 +145,7 @@ pub extern "C" fn si_get(h: &mut Handle, text: &[u8], number: &mut usize) -> u32
     tell(calls::get_bytes(h, text), number)
 }
 
-/// The same, where the caller owes that the bytes are UTF-8, which is not looked at.
+/// The same, but does not check that the bytes are UTF-8: they must be.
 #[unsafe(no_mangle)]
 pub unsafe extern "C" fn si_get_utf8(h: &mut Handle, text: &[u8], number: &mut usize) -> u32
     requires { IsUtf8 text.now }
@@ -173,7 +173,7 @@ pub extern "C" fn si_resolve<'a>(h: &'a mut Handle, number: usize, text: &mut Te
     tell(calls::resolve(h, number), text)
 }
 
-/// Copies the text at a number to a room, if that is long enough, and tells how long the text is.
+/// Copies the text at a number to a buffer, if that is long enough, and writes its length.
 #[unsafe(no_mangle)]
 pub extern "C" fn si_copy(h: &mut Handle, number: usize, room: &mut [u8], len: &mut usize) -> u32
     ensures copies { Writes (CopiesText number h.old.value)
@@ -218,7 +218,7 @@ pub extern "C" fn si_equal(h: &mut Handle, other: &mut Handle) -> bool
     calls::equal(h, other)
 }
 
-/// Copies the JSON array of the texts to a room, if that is long enough, and tells how long it is.
+/// Copies the JSON array of the texts to a buffer, if that is long enough, and writes its length.
 #[unsafe(no_mangle)]
 pub extern "C" fn si_to_json(alloc: Global, h: &mut Handle, room: &mut [u8], len: &mut usize) -> u32
     ensures writes { Writes (CopiesJson h.old.value)
@@ -251,7 +251,7 @@ pub extern "C" fn si_from_json_keyed(
     finish(calls::json::from_json(alloc, out, kind, json, ChosenHasher::keyed(key0, key1)))
 }
 
-/// The same as `si_from_json`, of an array in which all texts differ.
+/// The same as `si_from_json`, for an array in which all texts differ.
 #[unsafe(no_mangle)]
 pub extern "C" fn si_from_json_exact(alloc: Global, out: &mut Slot, kind: u32, json: &[u8]) -> u32
     ensures { Opens (ReadsJson ReadsAsExactly kind json.now) out.old out.new result }
@@ -274,7 +274,7 @@ pub extern "C" fn si_from_json_exact_keyed(
     finish(calls::json::from_json_exact(alloc, out, kind, json, ChosenHasher::keyed(key0, key1)))
 }
 
-/// Interns many texts, which lie end to end, and writes their numbers.
+/// Interns many texts, which are end to end, and writes their numbers.
 #[unsafe(no_mangle)]
 pub extern "C" fn si_intern_all(
     h: &mut Handle,

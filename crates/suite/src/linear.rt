@@ -105,12 +105,7 @@ impl<S: Symbol> TextIndex<S> for LinearIndex<S> {
         self.symbols.len()
     }
 
-    fn entry<H: TextHasher, B: Backend<Symbol = S>>(
-        &self,
-        _hasher: &H,
-        backend: &B,
-        text: &str,
-    ) -> Entry<S, ()> {
+    fn entry<B: Backend<Symbol = S>>(&self, _code: u64, backend: &B, text: &str) -> Entry<S, ()> {
         match find(&self.symbols, backend, text) {
             Some(symbol) => Entry::Occupied(symbol),
             None => Entry::Vacant(()),

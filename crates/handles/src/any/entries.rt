@@ -22,7 +22,7 @@ fn entry_of<'a>(symbol: SymbolU32, text: &'a str) -> Entry<'a>
     }
 }
 
-/// Writes each entry to the front of a room that is long enough.
+/// Writes each entry to the front of a buffer that is long enough.
 fn list<'a, B: Backend<Symbol = SymbolU32>>(walk: Iter<'a, B>, room: &mut [Entry<'a>])
     requires { (walk.behind ≡ []) × (length walk.ahead ≤ length room.old) }
     ensures front { map number_and_text (take (length walk.entry.ahead) room.new)
@@ -38,7 +38,7 @@ fn list<'a, B: Backend<Symbol = SymbolU32>>(walk: Iter<'a, B>, room: &mut [Entry
 }
 
 impl AnyInterner {
-    /// Writes all texts, each with its number, to the front of a room, if it is long enough, and tells how many there are.
+    /// Writes all texts, each with its number, to the front of a buffer, if it is long enough. Returns how many there are.
     pub fn entries<'a>(&'a self, room: &mut [Entry<'a>], count: &mut usize) -> Result<(), Status>
         ensures { ListsEntries self.now (room.old, count.old) result (room.new, count.new) }
     {

@@ -7,7 +7,7 @@ use super::AnyInterner;
 use crate::status::Status;
 use crate::text::text_of;
 
-/// Returns the text that the bytes between these two ends are.
+/// Returns the bytes between these two ends as a text.
 fn text_between(bytes: &[u8], from: usize, end: usize) -> Result<&str, Status>
     ensures { IsTextBetween bytes.now from end result }
 {
@@ -18,8 +18,8 @@ fn text_between(bytes: &[u8], from: usize, end: usize) -> Result<&str, Status>
 }
 
 impl AnyInterner {
-    /// Interns the texts that lie end to end in the bytes, each up to its end, and writes their numbers. Stops at the first
-    /// that is refused, and tells how many went before it.
+    /// Interns the texts that are end to end in the bytes, each up to its end, and writes their numbers. Stops at the first
+    /// that fails, and returns how many were interned before it.
     pub fn intern_all(
         &mut self,
         bytes: &[u8],

@@ -8,9 +8,9 @@ use crate::text::text_of;
 use std::alloc::Global;
 
 impl AnyInterner {
-    /// Returns the number of a part of the text at a number: the bytes between two places. A new part is appended.
+    /// Returns the number of a part of the text at a number: the bytes between two offsets. A new part is appended.
     ///
-    /// The part is copied first, since its bytes may move where the interner grows.
+    /// The part is copied first, because its bytes may move if the interner grows.
     pub fn get_or_intern_part(
         &mut self,
         alloc: Global,

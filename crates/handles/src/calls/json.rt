@@ -26,7 +26,7 @@ fn json_of(alloc: Global, h: &mut Handle) -> Result<Vec<u8>, Status>
     }
 }
 
-/// Copies the JSON array of the texts to a room.
+/// Copies the JSON array of the texts to a buffer.
 pub fn to_json(
     alloc: Global,
     h: &mut Handle,
@@ -42,7 +42,7 @@ pub fn to_json(
     }
 }
 
-/// Returns the JSON value that the bytes are.
+/// Parses the bytes as a JSON value.
 fn value_of(alloc: Global, bytes: &[u8]) -> Result<Value, Status>
     ensures { IsValueOf bytes.now result }
 {

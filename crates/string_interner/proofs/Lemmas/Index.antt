@@ -10,5 +10,6 @@ pub mod SlotCount
 pub mod SlotRule
 pub mod Slots
 pub mod Steps
+pub mod Stored
 pub mod Vacancy
 pub mod ProbeLoop

@@ -1,4 +1,5 @@
 pub mod IsTagged
 pub mod StoredCode
+pub mod SymbolsIn
 pub mod Tags
 pub mod TagTells

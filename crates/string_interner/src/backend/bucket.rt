@@ -2,6 +2,7 @@
 
 mod buckets;
 mod copies;
+mod entries;
 mod fixed_str;
 mod full_bucket;
 mod interned_str;
@@ -19,6 +20,7 @@ use crate::backend::{Backend, CopyBackend, InternError, Iter};
 use crate::symbol::{DefaultSymbol, Symbol};
 use buckets::{interned_text, store};
 use copies::{copies_of, joint_capacity};
+use entries::{Entries, is_far};
 use fixed_str::FixedString;
 use full_bucket::FullBucket;
 use interned_str::InternedStr;
@@ -28,8 +30,8 @@ use std::marker::{Model, PhantomData};
 /// Stores texts in append-only buckets of bytes, and static texts by reference.
 ///
 /// Best where texts are long or many, since a text is copied once and not moved after that, and where static texts are
-/// common, since those are not copied at all. Places are 0, 1, 2, .. without gaps. An entry takes three `usize`, and a
-/// text that is not static also its bytes. Resolving reads the entry and makes the slice.
+/// common, since those are not copied at all. Places are 0, 1, 2, .. without gaps. An entry takes 16 bytes, and that of a
+/// static text 24 more; a text that is not static also takes its bytes. Resolving reads the entry and makes the slice.
 ///
 /// A text is appended to the last bucket, the head, if it fits the head's capacity. Else it begins a new head, whose
 /// capacity in bytes is the least power of two above both the old head's capacity and the text's length: the rule of
@@ -39,16 +41,16 @@ use std::marker::{Model, PhantomData};
 /// So after `new`, `"abc"` begins a head of capacity 4, and `"de"`, for which one byte is left, one of 8.
 #[derive(Drop)]
 pub struct BucketBackend<S: Symbol = DefaultSymbol> {
-    entries: Vec<InternedStr>,
+    entries: Entries,
     full: Vec<FullBucket>,
     head: FixedString,
     symbols: PhantomData<S>,
 }
 
-/// Contracts see the texts, which of them are static, the buckets, and as room the smaller of the head's spare bytes
-/// and the spare entries.
+/// Contracts see the texts, which of them are static, the buckets, and as room the least of the head's spare bytes, the
+/// spare entries, and the spare entries of static texts.
 impl<S: Symbol> Model for BucketBackend<S> {
-    ghost use Rattle.std.specs.Prelude.{◌-◌, min, length, map, vec_len, vec_capacity};
+    ghost use Rattle.std.specs.Prelude.{◌-◌, min, length, map};
     ghost use Rattle.string_interner.specs.BucketBackend.{BucketContents, buckets_of, interned_text, is_static, IsInBuckets};
 
     ghost Value = { BucketContents };
@@ -59,7 +61,7 @@ impl<S: Symbol> Model for BucketBackend<S> {
       full = b.full.items;
       head = b.head;
       room = min (b.head.capacity - length b.head.bytes)
-          (vec_capacity b.entries - vec_len b.entries);
+          (min b.entries.spare b.entries.other_spare);
     } };
 
     ghost invariant = { λ b. IsInBuckets S.symbol_of b.full.items b.head b.entries.items };
@@ -73,7 +75,9 @@ impl<S: Symbol> BucketBackend<S> {
         ensures text { slice_get self.now.texts index ≡ Some result.now }
         ensures valid { IsValidList S.symbol_of length self.now.texts }
     {
-        interned_text(&self.full, &self.head, self.entries[index])
+        let text = interned_text(&self.full, &self.head, self.entries.get(index));
+        // The entry has the length of its text, so a caller that needs only the length reads no bucket.
+        &text[..self.entries.text_len(index)]
     }
 }
 
@@ -95,14 +99,15 @@ impl<S: Symbol> Backend for BucketBackend<S> {
         ensures { result ≡ empty_contents 0 0 }
     {
         BucketBackend {
-            entries: Vec::new(alloc),
+            entries: Entries::new(alloc),
             full: Vec::new(alloc),
             head: FixedString::new(alloc),
             symbols: PhantomData,
         }
     }
 
-    /// Makes an empty backend with capacity for `capacity` entries, and a head of `capacity` bytes.
+    /// Makes an empty backend with capacity for `capacity` entries, all of which may be static, and a head of `capacity`
+    /// bytes: 41 bytes for each.
     ///
     /// Returns `Err` only if an allocation fails or a size does not fit a `usize`.
     fn with_capacity(alloc: Global, capacity: usize) -> Result<Self, AllocError>
@@ -111,7 +116,7 @@ impl<S: Symbol> Backend for BucketBackend<S> {
         ensures empty { IfOk result (λ backend. backend ≡ empty_contents capacity backend.room) }
     {
         Ok(BucketBackend {
-            entries: Vec::with_capacity(alloc, capacity)?,
+            entries: Entries::with_capacity(alloc, capacity, capacity)?,
             full: Vec::new(alloc),
             head: FixedString::with_capacity(alloc, capacity)?,
             symbols: PhantomData,
@@ -133,6 +138,7 @@ impl<S: Symbol> Backend for BucketBackend<S> {
         S::try_from_usize(self.entries.len())
     }
 
+    #[inline(always)]
     fn intern(&mut self, text: &str) -> Result<S, InternError>
         ensures appends { AppendsText S.symbol_of S.number self.old text.now result self.new }
 
@@ -146,7 +152,8 @@ impl<S: Symbol> Backend for BucketBackend<S> {
     {
         // Asks for the symbol and allocates before it stores anything, so that nothing changes on `Err`.
         let symbol = self.next_symbol().ok_or(InternError::NoSymbol)?;
-        self.entries.reserve(1).map_err(InternError::Memory)?;
+        let is_far = is_far(self.head.len());
+        self.entries.reserve(is_far).map_err(InternError::Memory)?;
         let interned = store(&mut self.full, &mut self.head, text).map_err(InternError::Memory)?;
         self.entries.push_reserved(interned);
         Ok(symbol)
@@ -161,8 +168,9 @@ impl<S: Symbol> Backend for BucketBackend<S> {
         ensures err { OnErr result (self.new ≡ record self.old { room = self.new.room }) }
     {
         let symbol = self.next_symbol().ok_or(InternError::NoSymbol)?;
-        self.entries.reserve(1).map_err(InternError::Memory)?;
-        self.entries.push_reserved(InternedStr::Static(text));
+        self.entries
+            .push(InternedStr::Static(text))
+            .map_err(InternError::Memory)?;
         Ok(symbol)
     }
 
@@ -227,7 +235,7 @@ impl<S: Symbol> BucketBackend<S> {
     pub fn clone(&self) -> Result<Self, AllocError>
         ensures { IfOk result (JoinsBuckets self.now) }
     {
-        let alloc = *self.entries.allocator();
+        let alloc = *self.full.allocator();
         let capacity = joint_capacity(&self.full, &self.head).ok_or(AllocError)?;
         let (entries, head) = copies_of(alloc, &self.entries, &self.full, &self.head, capacity)?;
         Ok(BucketBackend {

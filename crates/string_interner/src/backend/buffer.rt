@@ -12,6 +12,7 @@ ghost use Rattle.string_interner.specs.Spelling.{digits, IsLeastDigitCount};
 ghost use Rattle.string_interner.specs.BufferBackend.{buffer_numbering, entry_of, bytes_of, entry_len, place_of, Reads, read_front, read_at, HasEntryAt};
 ghost use Rattle.string_interner.specs.BufferLaws.{entry_len-positive, place_grows, reads_at_place};
 
+use crate::backend::reserve::reserve_items;
 use crate::backend::{Backend, CopyBackend, InternError, Iter};
 use crate::symbol::{DefaultSymbol, Symbol};
 use spelling::{digit_count, number_at, push_number};
@@ -164,7 +165,7 @@ impl<S: Symbol> Backend for BufferBackend<S> {
             .checked_add(text.len())
             .ok_or(InternError::Memory(AllocError))?;
         // Allocates before it stores anything, so that nothing changes on `Err`.
-        self.bytes.reserve(len).map_err(InternError::Memory)?;
+        reserve_items(&mut self.bytes, len).map_err(InternError::Memory)?;
         push_number(&mut self.bytes, text.len());
         self.bytes.extend_from_slice(text.as_bytes()).unwrap();
         self.count += 1;

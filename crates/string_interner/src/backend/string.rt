@@ -12,6 +12,7 @@ ghost use Rattle.string_interner.specs.Iter.{iter_over};
 ghost use Rattle.string_interner.specs.StringBackend.{string_numbering};
 ghost use Rattle.string_interner.specs.ByIndexLaws.{length_grows, reads_at_length};
 
+use crate::backend::reserve::grow_bytes;
 use crate::backend::{Backend, CopyBackend, InternError, Iter};
 use crate::symbol::{DefaultSymbol, Symbol};
 use ends::Ends;
@@ -123,9 +124,9 @@ impl<S: Symbol> Backend for StringBackend<S> {
     fn intern(&mut self, text: &str) -> Result<S, InternError> {
         let symbol = self.next_symbol().ok_or(InternError::NoSymbol)?;
         // Allocates before it stores anything, so that nothing changes on `Err`.
-        self.joined
-            .reserve(text.len())
-            .map_err(InternError::Memory)?;
+        if text.len() > self.joined.capacity() - self.joined.len() {
+            grow_bytes(&mut self.joined, text.len()).map_err(InternError::Memory)?;
+        }
         let end = self.joined.len() + text.len();
         self.ends.reserve(end).map_err(InternError::Memory)?;
         self.joined.push_str(text).unwrap();

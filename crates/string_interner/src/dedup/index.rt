@@ -4,13 +4,17 @@ use crate::dedup::slots::Slots;
 use crate::dedup::table::Table;
 use crate::dedup::tagged::TaggedSlots;
 
-/// A hash index that holds symbols alone: a slot takes the bytes of an `Option` of a symbol.
+/// A hash index that holds symbols alone.
+///
+/// A slot takes four bytes if the symbol type says that all its numbers are below 2^32 - 1
+/// ([`Symbol::has_narrow_numbers`](crate::symbol::Symbol::has_narrow_numbers)). Otherwise it takes an `Option` of a symbol,
+/// and four bytes more if the number 2^32 - 1 has no symbol.
 ///
 /// A look-up compares the text of each symbol from the text's home on, and growth hashes each text anew. The load
-/// factor is at most three quarters.
+/// factor is at most one half.
 ///
 /// ```
-/// let mut index = Index::<DefaultSymbol>::with_capacity(alloc, 6)?;
+/// let mut index = Index::<DefaultSymbol>::with_capacity(alloc, 4)?;
 /// assert_eq!(index.slots(), 8);
 /// ```
 pub type Index<S> = Table<S, Slots<S>>;
@@ -24,7 +28,7 @@ pub type Index<S> = Table<S, Slots<S>>;
 ///   text looked for.
 /// - Growth moves symbols by the stored codes. It hashes no text as long as there are at most 2^32 slots.
 ///
-/// The load factor is at most seven eighths. A slot takes the bytes of a symbol and five more.
+/// The load factor is at most seven eighths. A slot takes 9 bytes, and 17 with a symbol of eight bytes.
 ///
 /// Every symbol type will do, one without a symbol 0 as well: no symbol stands for an empty slot.
 ///

@@ -1,7 +1,7 @@
 //! Slots with symbols alone.
 
-ghost use Rattle.std.specs.Prelude.{◌≡◌, ◌<◌, length, slice_index_or, [], None};
-ghost use Rattle.string_interner.specs.Slots.{symbols};
+ghost use Rattle.std.specs.Prelude.{◌≡◌, ◌<◌, ◌^◌, ◌-◌, ◌↔◌, length, slice_index_or, IfNone, IfSome, IsNone, IsTrue, None, Some};
+ghost use Rattle.string_interner.specs.Symbol.{AreNarrow};
 
 use crate::backend::Backend;
 use crate::dedup::layout::Layout;
@@ -12,28 +12,48 @@ use crate::symbol::Symbol;
 use std::alloc::{AllocError, Global};
 use std::marker::Model;
 
-/// Slots with symbols alone, at most three quarters of which are filled.
+/// Slots with symbols alone, at most half of which are filled.
+///
+/// If 2^32 - 1 is no symbol's number, each slot has four bytes in `numbers`: the number of its symbol, or `u32::MAX`. A slot
+/// with `u32::MAX` has what `others` has for it: a symbol with a greater number, or nothing. `others` is empty if the type
+/// has no greater numbers. If 2^32 - 1 is a symbol's number, all slots are in `others`.
 #[derive(Drop)]
 pub struct Slots<S: Symbol> {
-    items: Vec<Option<S>>,
+    numbers: Vec<u32>,
+    others: Vec<Option<S>>,
 }
 
 /// Contracts see the list of slots.
 impl<S: Symbol> Model for Slots<S> {
     ghost use Rattle.std.specs.Prelude.{List, Option};
+    ghost use Rattle.string_interner.specs.Slots.{AreStored, slots_stored};
 
     ghost Value = { List (Option S) };
 
-    ghost view = { λ s. s.items.items };
+    ghost view = { λ s. slots_stored S.symbol_of s.numbers.items s.others.items };
+
+    ghost invariant = { λ s. AreStored S.symbol_of s.numbers.items s.others.items };
 }
 
-/// Empties all slots.
-fn empty_all<S: Symbol>(slots: &mut [Option<S>])
-    ensures empty { symbols slots.new ≡ [] }
-    ensures count { length slots.new ≡ length slots.old }
+/// Reports whether 2^32 - 1 is no symbol's number, and so can stand for an empty slot.
+#[inline(always)]
+fn has_numbers<S: Symbol>() -> bool
+    ensures { IsTrue result ↔ IsNone (S.symbol_of (2 ^ 32 - 1)) }
 {
-    for slot in slots.iter_mut() {
-        *slot = None;
+    S::try_from_usize(u32::MAX as usize).is_none()
+}
+
+/// Returns the number of a symbol, if it is below 2^32 - 1.
+#[inline(always)]
+fn narrow_number<S: Symbol>(symbol: S) -> Option<u32>
+    ensures some { IfSome result (λ number. S.symbol_of number ≡ Some symbol) }
+    ensures none { IfNone result (¬ AreNarrow S.symbol_of) }
+{
+    let number = symbol.to_usize();
+    if S::has_narrow_numbers() || number < u32::MAX as usize {
+        Some(number as u32)
+    } else {
+        None
     }
 }
 
@@ -49,11 +69,18 @@ impl<S: Symbol> Slots<S> {
 
     /// Returns the symbol of a slot, if any.
     #[inline(always)]
-    fn symbol_at(&self, at: usize) -> Option<S>
+    pub fn symbol_at(&self, at: usize) -> Option<S>
         requires { at < length self.now }
         ensures { result ≡ slice_index_or self.now at None }
     {
-        self.items[at]
+        if !has_numbers::<S>() {
+            return self.others[at];
+        }
+        match S::try_from_usize(self.numbers[at] as usize) {
+            Some(symbol) => Some(symbol),
+            None if S::has_narrow_numbers() || self.others.is_empty() => None,
+            None => self.others[at],
+        }
     }
 }
 
@@ -65,31 +92,41 @@ impl<S: Symbol> Layout<S> for Slots<S> {
 
     #[inline(always)]
     fn has_room(count: usize, entries: usize) -> bool {
-        // Three quarters, since a slot count is a multiple of 4.
-        entries < count - count / 4
+        // A probe compares the text of each slot that it reads, so half of the slots stay empty to end it soon.
+        entries < count / 2
     }
 
     fn new(alloc: Global) -> Self {
         Slots {
-            items: Vec::new(alloc),
+            numbers: Vec::new(alloc),
+            others: Vec::new(alloc),
         }
     }
 
     fn empty(alloc: Global, count: usize) -> Result<Self, AllocError> {
+        let numbers = if has_numbers::<S>() { count } else { 0 };
+        let others = if S::has_narrow_numbers() { 0 } else { count };
         Ok(Slots {
-            items: Vec::from_elem(alloc, None, count)?,
+            numbers: Vec::from_elem(alloc, u32::MAX, numbers)?,
+            others: Vec::from_elem(alloc, None, others)?,
         })
     }
 
     fn try_copy(&self) -> Result<Self, AllocError> {
+        let alloc = *self.numbers.allocator();
         Ok(Slots {
-            items: Vec::from_slice(*self.items.allocator(), &self.items)?,
+            numbers: Vec::from_slice(alloc, &self.numbers)?,
+            others: Vec::from_slice(alloc, &self.others)?,
         })
     }
 
     #[inline(always)]
     fn len(&self) -> usize {
-        self.items.len()
+        if has_numbers::<S>() {
+            self.numbers.len()
+        } else {
+            self.others.len()
+        }
     }
 
     #[inline(always)]
@@ -106,7 +143,17 @@ impl<S: Symbol> Layout<S> for Slots<S> {
 
     #[inline(always)]
     fn set(&mut self, at: usize, symbol: S, _code: u64) {
-        self.items[at] = Some(symbol);
+        if !has_numbers::<S>() {
+            self.others[at] = Some(symbol);
+            return;
+        }
+        match narrow_number(symbol) {
+            Some(number) => self.numbers[at] = number,
+            None => {
+                self.numbers[at] = u32::MAX;
+                self.others[at] = Some(symbol);
+            }
+        }
     }
 
     fn put(&mut self, home: usize, symbol: S, code: u64) {
@@ -122,7 +169,8 @@ impl<S: Symbol> Layout<S> for Slots<S> {
     }
 
     fn clear(&mut self) {
-        empty_all(&mut self.items);
+        self.numbers.fill(u32::MAX);
+        self.others.fill(None);
     }
 
     ghost layout_laws = { plain_layout-laws };

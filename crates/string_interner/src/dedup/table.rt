@@ -3,7 +3,7 @@
 mod growing;
 
 ghost use Rattle.std.specs.Prelude.{◌≡◌, ℕ, ◌+◌, ◌<◌, ◌^◌, ◌↔◌, length, [], IsOk, IsTrue, IfOk, OnOk, OnErr};
-ghost use Rattle.string_interner.specs.Text.{IsDistinct};
+ghost use Rattle.string_interner.specs.Text.{Text, IsDistinct};
 ghost use Rattle.string_interner.specs.Entry.{entry_text};
 ghost use Rattle.string_interner.specs.Slots.{symbols};
 ghost use Rattle.string_interner.specs.SlotRule.{IsLeastSlotCount};
@@ -81,7 +81,7 @@ impl<S: Symbol, L: Probe<S>> Table<S, L> {
     }
 
     /// Makes an index without entries, with the least slot count that the load factor allows for `capacity` of them:
-    /// none for 0, and else a power of two from 8 on. With three quarters, 8 for 6 entries and 16 for 7; with seven
+    /// none for 0, and else a power of two from 8 on. With one half, 8 for 4 entries and 16 for 5; with seven
     /// eighths, 8 for 7 and 16 for 8.
     ///
     /// Returns `Err` only if an allocation fails or that count does not fit a `usize`.
@@ -132,32 +132,30 @@ impl<S: Symbol, L: Probe<S>> Table<S, L> {
         self.peak.max(self.len)
     }
 
-    /// Looks for a text, hashing it once, and returns its symbol, or where the symbol of a text that is not there goes.
+    /// Looks for a text with this code, and returns its symbol, or where the symbol of a text that is not there goes.
     #[inline(always)]
-    fn entry<H: TextHasher, B: Backend<Symbol = S>>(
+    fn entry<B: Backend<Symbol = S>>(
         &self,
-        hasher: &H,
+        code: u64,
         looks: &mut Looks<'_, B>,
         text: &str,
     ) -> Entry<S, Vacancy>
-        requires { L.layout.fits (entry_text B.numbering (B.texts looks.old.backend))
-            (H.code hasher.now) self.now.slots }
+        requires { (of : Text → ℕ)
+            × (L.layout.fits (entry_text B.numbering (B.texts looks.old.backend)) of
+            self.now.slots × (code ≡ of text.now)) }
         ensures found { found_by result
             ≡ look_up (entry_text B.numbering (B.texts looks.old.backend))
             (L.layout.slots self.now.slots) text.now }
-        ensures vacant { IfVacant result
-            (IsVacant (L.layout.slots self.now.slots) (H.code hasher.now text.now)) }
-        ensures looks { CountsLooks L.layout self.now (H.code hasher.now text.now)
-            looks.old looks.new }
+        ensures vacant { IfVacant result (IsVacant (L.layout.slots self.now.slots) code) }
+        ensures looks { CountsLooks L.layout self.now code looks.old looks.new }
     {
-        let code = hasher.hash_text(text);
         if self.slots.len() == 0 {
             return Entry::Vacant(Vacancy::by_code(code));
         }
         probe_for(&self.slots, code, looks, text)
     }
 
-    /// Returns the symbol whose text this is, if any.
+    /// Returns the symbol whose text this is, if any. Hashes the text once.
     ///
     /// Takes at most one look more than there are slots in the probe cluster from the text's home on, and so at most
     /// one more than there are entries; takes none if there are no slots.
@@ -174,7 +172,7 @@ impl<S: Symbol, L: Probe<S>> Table<S, L> {
         ensures looks { CountsLooks L.layout self.now (H.code hasher.now text.now)
             looks.old looks.new }
     {
-        match Table::entry(self, hasher, looks, text) {
+        match Table::entry(self, hasher.hash_text(text), looks, text) {
             Entry::Occupied(symbol) => Some(symbol),
             Entry::Vacant(_) => None,
         }
@@ -324,13 +322,21 @@ impl<S: Symbol, L: Probe<S>> TextIndex<S> for Table<S, L> {
     }
 
     #[inline(always)]
-    fn entry<H: TextHasher, B: Backend<Symbol = S>>(
+    fn entry<B: Backend<Symbol = S>>(
         &self,
-        hasher: &H,
+        code: u64,
         backend: &B,
         text: &str,
     ) -> Entry<S, Vacancy> {
-        Table::entry(self, hasher, &mut Looks::new(backend), text)
+        Table::entry(self, code, &mut Looks::new(backend), text)
+    }
+
+    #[inline(always)]
+    fn guess(&self, code: u64) -> Option<S> {
+        if self.slots.len() == 0 {
+            return None;
+        }
+        self.slots.guess(code)
     }
 
     #[inline(always)]

@@ -2,13 +2,13 @@
 
 mod tags;
 
-ghost use Rattle.std.specs.Prelude.{◌≡◌, ◌+◌, ◌<◌, ◌≤◌, ℕ, length, slice_index_or, replicate, vec_capacity, vec_len, None};
-ghost use Rattle.string_interner.specs.Tagged.{HasAnotherTag};
+ghost use Rattle.std.specs.Prelude.{◌≡◌, ◌≢◌, ◌+◌, ◌<◌, ◌≤◌, ℕ, length, slice_index_or, replicate, vec_capacity, vec_len, IfNone, IfSome, None, Some};
+ghost use Rattle.string_interner.specs.Tagged.{HasAnotherTag, tag_of};
 
 use crate::backend::Backend;
 use crate::dedup::layout::Layout;
 use crate::dedup::looks::Looks;
-use crate::dedup::probe::{Probe, Step, slot_after};
+use crate::dedup::probe::{Probe, Step, home_of, slot_after};
 use crate::hash::TextHasher;
 use crate::symbol::Symbol;
 use std::alloc::{AllocError, Global};
@@ -18,37 +18,43 @@ use tags::{LANES, lanes_passed, stored_code, tag_of};
 /// Up to this slot count a home is known by the 32 bits of a stored code.
 const MOST_SLOTS_BY_STORED_CODE: usize = 0x1_0000_0000;
 
+/// A symbol and the stored code of its text, which lie together because whoever writes or moves one does so with both.
+#[derive(Clone, Copy)]
+pub struct CodedSymbol<S> {
+    symbol: S,
+    code: u32,
+}
+
 /// Slots with a tag and 32 bits of a code beside each symbol, at most seven eighths of which are filled.
 ///
-/// A slot is empty if its tag is 0; what else is stored of it says nothing then. There are sixteen more tags than
-/// slots, so that sixteen can be read from each slot on; those behind the last slot are read and make no difference.
+/// A slot is empty if its tag is 0; what else is stored of it says nothing then. Sixteen more tags stand behind those
+/// of the slots, so that sixteen can be read from each slot on. They are 0, so none of them is passed.
 ///
-/// The list of symbols is empty until the first one is put, which is then written to all slots at once; its memory is
-/// asked for with the rest. So no symbol is made up for an empty slot, and a symbol type need not have the number 0, or
-/// any other.
+/// The list of symbols with their codes is empty until the first one is put, which is then written to all slots at
+/// once; its memory is asked for with that of the tags. So no symbol is made up for an empty slot, and a symbol type
+/// need not have the number 0, or any other.
 #[derive(Drop)]
 pub struct TaggedSlots<S: Symbol> {
-    items: Vec<S>,
-    codes: Vec<u32>,
+    count: usize,
+    items: Vec<CodedSymbol<S>>,
     tags: Vec<u8>,
 }
 
-/// Contracts see the list of slots, and the list of stored codes.
+/// Contracts see the list of slots, each empty or with a symbol and its stored code.
 impl<S: Symbol> Model for TaggedSlots<S> {
     ghost use Rattle.std.specs.Prelude.{vec_capacity};
-    ghost use Rattle.string_interner.specs.Tagged.{IsTagged, TaggedContents, contents_of};
+    ghost use Rattle.string_interner.specs.Tagged.{IsTagged, TaggedContents, slots_of};
 
     ghost Value = { TaggedContents S };
 
-    ghost view = { λ s. contents_of s.items.items s.codes.items s.tags.items };
+    ghost view = { λ s. slots_of s.count s.tags.items s.items.items };
 
-    ghost invariant = { λ s. IsTagged s.items.items s.codes.items s.tags.items
-        (vec_capacity s.items) };
+    ghost invariant = { λ s. IsTagged s.count s.tags.items s.items.items (vec_capacity s.items) };
 }
 
 /// Fills an empty list up to `count` with this item. Allocates nothing, since the capacity is there.
 #[inline(never)]
-fn fill_empty<S: Symbol>(items: &mut Vec<S>, count: usize, item: S)
+fn fill_empty<S: Symbol>(items: &mut Vec<CodedSymbol<S>>, count: usize, item: CodedSymbol<S>)
     requires room { count ≤ vec_capacity items.old }
     requires empty { vec_len items.old ≡ 0 }
     ensures filled { items.new.items ≡ replicate count item }
@@ -59,7 +65,7 @@ fn fill_empty<S: Symbol>(items: &mut Vec<S>, count: usize, item: S)
 
 /// Fills the list up to `count` with this item if it has none. Allocates nothing, since the capacity is there.
 #[inline(always)]
-fn fill_items<S: Symbol>(items: &mut Vec<S>, count: usize, item: S)
+fn fill_items<S: Symbol>(items: &mut Vec<CodedSymbol<S>>, count: usize, item: CodedSymbol<S>)
     requires room { count ≤ vec_capacity items.old }
     ensures filled { vec_len items.old ≡ 0 → items.new.items ≡ replicate count item }
     ensures same { 0 < vec_len items.old → items.new.items ≡ items.old.items }
@@ -71,11 +77,11 @@ fn fill_items<S: Symbol>(items: &mut Vec<S>, count: usize, item: S)
 }
 
 impl<S: Symbol> TaggedSlots<S> {
-    /// Returns the symbol of a slot, if any.
+    /// Returns what is in a slot, if anything.
     #[inline(always)]
-    fn symbol_at(&self, at: usize) -> Option<S>
-        requires { at < length self.now.slots }
-        ensures { result ≡ slice_index_or self.now.slots at None }
+    fn item_at(&self, at: usize) -> Option<CodedSymbol<S>>
+        requires { at < length self.now }
+        ensures { result ≡ slice_index_or self.now at None }
     {
         if self.tags[at] == 0 {
             return None;
@@ -83,25 +89,33 @@ impl<S: Symbol> TaggedSlots<S> {
         Some(self.items[at])
     }
 
-    /// Returns the stored code beside a slot.
+    /// Returns what is in a slot, if it has this tag. The slot behind the last one has none.
     #[inline(always)]
-    fn code_at(&self, at: usize) -> u32
-        requires { at < length self.now.slots }
-        ensures { result ≡ slice_index_or self.now.codes at 0 }
+    fn item_with(&self, at: usize, tag: u8) -> Option<CodedSymbol<S>>
+        requires within { at ≤ length self.now }
+        requires some { 0 < length self.now }
+        requires set { 0 < tag }
+        ensures within { IfSome result (λ item. at < length self.now) }
+        ensures filled { IfSome result (λ item. slice_index_or self.now at None ≡ Some item) }
+        ensures other { IfNone result ((item : CodedSymbol S)
+            → slice_index_or self.now at None ≡ Some item → tag_of item.code ≢ tag) }
     {
-        self.codes[at]
+        if self.tags[at] == tag {
+            return Some(self.items[at]);
+        }
+        None
     }
 
     /// Returns the first slot from `at` on that is empty or has this tag, as far as sixteen tags tell: the slot behind
     /// them if none of these is, and the slot count if the slots end before. All slots that it passes have other tags.
     #[inline(always)]
     fn pass(&self, at: usize, tag: u8) -> usize
-        requires { at < length self.now.slots }
+        requires { at < length self.now }
         ensures from { at ≤ result }
-        ensures within { result ≤ length self.now.slots }
+        ensures within { result ≤ length self.now }
         ensures passed { (k : ℕ) → at ≤ k → k < result → HasAnotherTag self.now tag k }
     {
-        (at + lanes_passed(&self.tags, at, tag)).min(self.codes.len())
+        at + lanes_passed(&self.tags, at, tag)
     }
 }
 
@@ -119,8 +133,8 @@ impl<S: Symbol> Layout<S> for TaggedSlots<S> {
 
     fn new(alloc: Global) -> Self {
         TaggedSlots {
+            count: 0,
             items: Vec::new(alloc),
-            codes: Vec::new(alloc),
             tags: Vec::new(alloc),
         }
     }
@@ -130,8 +144,8 @@ impl<S: Symbol> Layout<S> for TaggedSlots<S> {
             return Ok(TaggedSlots::new(alloc));
         }
         Ok(TaggedSlots {
+            count,
             items: Vec::with_capacity(alloc, count)?,
-            codes: Vec::from_elem(alloc, 0u32, count)?,
             tags: Vec::from_elem(alloc, 0u8, count + LANES)?,
         })
     }
@@ -139,18 +153,18 @@ impl<S: Symbol> Layout<S> for TaggedSlots<S> {
     fn try_copy(&self) -> Result<Self, AllocError> {
         let alloc = *self.items.allocator();
         // While no symbol was put this list is empty, and yet has the capacity for all slots.
-        let mut items = Vec::with_capacity(alloc, self.codes.len())?;
+        let mut items = Vec::with_capacity(alloc, self.count)?;
         items.extend_from_slice(&self.items)?;
         Ok(TaggedSlots {
+            count: self.count,
             items,
-            codes: Vec::from_slice(alloc, &self.codes)?,
             tags: Vec::from_slice(alloc, &self.tags)?,
         })
     }
 
     #[inline(always)]
     fn len(&self) -> usize {
-        self.codes.len()
+        self.count
     }
 
     #[inline(always)]
@@ -161,27 +175,30 @@ impl<S: Symbol> Layout<S> for TaggedSlots<S> {
         hasher: &H,
         backend: &B,
     ) -> Option<(u64, S)> {
-        let symbol = self.symbol_at(at)?;
+        let item = self.item_at(at)?;
         if count <= MOST_SLOTS_BY_STORED_CODE {
-            return Some((u64::from(self.code_at(at)), symbol));
+            return Some((u64::from(item.code), item.symbol));
         }
-        Some((hasher.hash_text(backend.resolve_unchecked(symbol)), symbol))
+        Some((
+            hasher.hash_text(backend.resolve_unchecked(item.symbol)),
+            item.symbol,
+        ))
     }
 
     #[inline]
     fn set(&mut self, at: usize, symbol: S, code: u64) {
-        fill_items(&mut self.items, self.codes.len(), symbol);
-        let stored = stored_code(code);
-        self.items[at] = symbol;
-        self.codes[at] = stored;
-        self.tags[at] = tag_of(stored);
+        let code = stored_code(code);
+        let item = CodedSymbol { symbol, code };
+        fill_items(&mut self.items, self.count, item);
+        self.items[at] = item;
+        self.tags[at] = tag_of(code);
     }
 
     /// Filled slots are passed up to sixteen at once.
     #[inline]
     fn put(&mut self, home: usize, symbol: S, code: u64) {
         // When a table grows, most homes are empty, which one tag tells.
-        if self.symbol_at(home).is_none() {
+        if self.item_at(home).is_none() {
             self.set(home, symbol, code);
             return;
         }
@@ -191,7 +208,7 @@ impl<S: Symbol> Layout<S> for TaggedSlots<S> {
             let reached = self.pass(at, 0);
             if reached == count {
                 at = 0;
-            } else if self.symbol_at(reached).is_none() {
+            } else if self.item_at(reached).is_none() {
                 self.set(reached, symbol, code);
                 return;
             } else {
@@ -218,17 +235,22 @@ impl<S: Symbol> Probe<S> for TaggedSlots<S> {
         text: &str,
     ) -> Step<S> {
         let count = self.len();
-        let reached = self.pass(at, tag_of(stored_code(code)));
-        if reached == count {
-            return Step::On(0);
-        }
-        if reached - at == LANES {
-            return Step::On(reached);
-        }
-        match self.symbol_at(reached) {
-            None => Step::Free(reached),
-            Some(symbol) if looks.has_text(symbol, text) => Step::Found(symbol),
+        let tag = tag_of(stored_code(code));
+        let reached = self.pass(at, tag);
+        // A known text is most often here, so what else may stop a step is tested behind it.
+        match self.item_with(reached, tag) {
+            Some(item) if looks.has_text(item.symbol, text) => Step::Found(item.symbol),
             Some(_) => Step::On(slot_after(reached, count)),
+            None if reached == count => Step::On(0),
+            None if self.item_at(reached).is_none() => Step::Free(reached),
+            None => Step::On(slot_after(reached, count)),
         }
+    }
+
+    #[inline(always)]
+    fn guess(&self, code: u64) -> Option<S> {
+        let tag = tag_of(stored_code(code));
+        let reached = self.pass(home_of(code, self.len()), tag);
+        Some(self.item_with(reached, tag)?.symbol)
     }
 }

@@ -1,6 +1,6 @@
 //! What an interner asks of an index of its texts.
 
-ghost use Rattle.std.specs.Prelude.{◌≡◌, ℕ, ◌+◌, ◌<◌, ◌^◌, length, Option, Some, None, IsOk, IfOk, OnOk, OnErr};
+ghost use Rattle.std.specs.Prelude.{◌≡◌, ℕ, ◌+◌, ◌<◌, ◌^◌, length, Option, Some, None, IsOk, IsSome, IfOk, IfSome, OnOk, OnErr};
 ghost use Rattle.string_interner.specs.Text.{Text, IsDistinct};
 ghost use Rattle.string_interner.specs.Entry.{entry_text};
 ghost use Rattle.string_interner.specs.SlotRule.{SlotRule, IsLoaded, IsLeastSlotCount, IsSlotRule};
@@ -14,9 +14,9 @@ use std::alloc::{AllocError, Global};
 /// What a look-up found.
 #[derive(Drop)]
 pub enum Entry<S, V> {
-    /// The symbol that has the text.
+    /// The text is that of this symbol.
     Occupied(S),
-    /// No symbol has it; a new one goes here.
+    /// The text is new, and its symbol goes here.
     Vacant(V),
 }
 
@@ -26,7 +26,7 @@ pub enum Entry<S, V> {
 /// counts there are, how many entries these hold, and what they grow to. [`DefaultIndex`](super::DefaultIndex) is the one
 /// that an interner has if no other is named.
 ///
-/// Its calls take the backend and the hasher of the entries that it has.
+/// Its calls take the backend of the entries that it has, and their hasher or the code that it gives the text.
 pub trait TextIndex<S: Symbol> {
     /// Where the symbol of a text goes that was not found.
     type Vacancy: Drop;
@@ -71,20 +71,34 @@ pub trait TextIndex<S: Symbol> {
         // What holds of every index.
         ensures loaded { IsLoaded rule (slots self.now) (entries self.now) };
 
-    /// Looks for a text, and returns its symbol, or where the symbol of a text that is not there goes.
-    fn entry<H: TextHasher, B: Backend<Symbol = S>>(
+    /// Looks a text up, which has this code. Returns its symbol or, if it is new, where its symbol goes.
+    fn entry<B: Backend<Symbol = S>>(
         &self,
-        hasher: &H,
+        code: u64,
         backend: &B,
         text: &str,
     ) -> Entry<S, Self::Vacancy>
-        requires { indexes self.now (entry_text B.numbering (B.texts backend.now))
-            (H.code hasher.now) }
+        requires { (of : Text → ℕ)
+            × (indexes self.now (entry_text B.numbering (B.texts backend.now)) of
+            × (code ≡ of text.now)) }
         ensures occupied { IfOccupied result
             (λ symbol. entry_text B.numbering (B.texts backend.now) symbol ≡ Some text.now) }
         ensures new_text { IfVacant result
             (λ _. IsNewText (entry_text B.numbering (B.texts backend.now)) text.now) }
-        ensures vacant { IfVacant result (is_vacant self.now (H.code hasher.now text.now)) };
+        ensures vacant { IfVacant result (is_vacant self.now code) };
+
+    /// Returns the symbol that a look-up of a text with this code is likely to find, if any. Reads no text, so the symbol
+    /// may have another one; but it is that of an entry.
+    ///
+    /// To look up many texts, ask for all guesses first, and then read the texts of the symbols, so that they wait for
+    /// memory at the same time. By default there is no guess.
+    fn guess(&self, code: u64) -> Option<S>
+        ensures { (entry : S → Option Text) (of : Text → ℕ) → indexes self.now entry of
+            → IfSome result (λ symbol. IsSome (entry symbol)) }
+    {
+        let _ = code;
+        None
+    }
 
     /// Makes room for one more entry: does nothing if the load factor allows one more, and else grows once.
     ///

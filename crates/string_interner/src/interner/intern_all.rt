@@ -1,13 +1,18 @@
 //! Interning the texts of an iterator into a list of their symbols.
 
+ghost use Rattle.std.specs.Prelude.{◌≤◌, [], ◌∷◌, length, vec_capacity};
 ghost use Rattle.std.specs.Iterator.{IsFiniteIterable};
 ghost use Rattle.string_interner.specs.Extend.{YieldedBy};
-ghost use Rattle.string_interner.specs.InternAll.{InternsEach};
+ghost use Rattle.string_interner.specs.InternAll.{InternsEach, Lists};
 
 use super::StringInterner;
+use super::block::{BLOCK_LEN, check_each, guess_each, hash_each, intern_each};
 use crate::backend::{Backend, InternError};
 use crate::dedup::TextIndex;
 use crate::hash::TextHasher;
+
+/// An interner of fewer texts is taken to fit the processor's cache. There a block takes longer than its texts one by one.
+const FEWEST_FOR_BLOCKS: usize = 1 << 15;
 
 impl<B: Backend, H: TextHasher, I: TextIndex<B::Symbol>> StringInterner<B, H, I> {
     /// Interns the texts of a finite iterator in order, as `extend` does, and appends the symbol of each to a list: a
@@ -15,8 +20,11 @@ impl<B: Backend, H: TextHasher, I: TextIndex<B::Symbol>> StringInterner<B, H, I>
     ///
     /// On `Err` the list has one symbol more for each text before that one, and these texts stay interned; so how much
     /// longer the list is tells how many were done. Memory for a symbol is asked for before its text is interned, so
-    /// that no text is interned whose symbol is lost. Beyond what `extend` returns `Err` for, this returns `Memory` if
-    /// the list is full and cannot grow: never, if it has spare capacity for all texts.
+    /// that no text is interned whose symbol is lost. Beyond what `extend` returns `Err` for, this returns `Memory` if the
+    /// list is full and cannot grow: never, if it has spare capacity for all texts.
+    ///
+    /// In a large interner 32 texts are looked for together, which takes less time than one after another. So the iterator
+    /// may have been advanced past the text that fails, by up to 31 texts.
     ///
     /// ```
     /// let mut symbols = Vec::new(alloc);
@@ -35,12 +43,71 @@ impl<B: Backend, H: TextHasher, I: TextIndex<B::Symbol>> StringInterner<B, H, I>
     {
         // For the proof: states the load factor before the first text.
         let _ = self.len();
+        let mut block = [""; BLOCK_LEN];
+        let mut len = 0;
         for text in texts {
-            symbols.reserve(1)?;
-            let symbol = self.get_or_intern(text)?;
-            let _ = self.len();
-            symbols.push_reserved(symbol);
+            // A block that has begun is filled first, so that texts stay in order.
+            if len == 0 && self.len() < FEWEST_FOR_BLOCKS {
+                self.intern_next(text, symbols)?;
+                continue;
+            }
+            block[len] = text;
+            len += 1;
+            if len == BLOCK_LEN {
+                self.intern_block(&block, symbols)?;
+                len = 0;
+            }
         }
+        if len == 0 {
+            return Ok(());
+        }
+        self.intern_block(&block[..len], symbols)
+    }
+
+    /// Interns a text, and appends its symbol to a list.
+    #[inline(always)]
+    fn intern_next(&mut self, text: &str, symbols: &mut Vec<B::Symbol>) -> Result<(), InternError>
+        ensures interns { InternsEach B.numbering I.rule (Lists (text.entry ∷ []))
+            (self.old, symbols.old) result (self.new, symbols.new) }
+        ensures capacity { vec_capacity symbols.old ≤ vec_capacity symbols.new }
+    {
+        // For the proof: states the load factor before the text and after it.
+        let _ = self.len();
+        symbols.reserve(1)?;
+        let symbol = self.get_or_intern(text)?;
+        let _ = self.len();
+        symbols.push_reserved(symbol);
         Ok(())
+    }
+
+    /// Interns the texts of a block in order, and appends the symbol of each to a list. Stops at the first text that fails.
+    ///
+    /// Hashes each text once. A text whose guess was wrong or missing is then looked up by itself.
+    fn intern_block(
+        &mut self,
+        texts: &[&str],
+        symbols: &mut Vec<B::Symbol>,
+    ) -> Result<(), InternError>
+        requires { length texts.now ≤ 32 }
+        ensures interns { InternsEach B.numbering I.rule (Lists texts.now)
+            (self.old, symbols.old) result (self.new, symbols.new) }
+        ensures capacity { vec_capacity symbols.old ≤ vec_capacity symbols.new }
+    {
+        let mut codes = [0; BLOCK_LEN];
+        let codes = &mut codes[..texts.len()];
+        hash_each(&self.hasher, texts, codes);
+        let mut known = [None; BLOCK_LEN];
+        let known = &mut known[..texts.len()];
+        guess_each(&self.index, codes, known);
+        check_each(&self.backend, texts, known);
+        intern_each(
+            &mut self.backend,
+            &self.hasher,
+            &mut self.index,
+            texts,
+            codes,
+            known,
+            symbols,
+        )
     }
 }

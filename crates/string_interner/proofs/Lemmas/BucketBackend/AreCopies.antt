@@ -8,7 +8,7 @@ use Rattle.std.proofs.lemmas.List.Elements.{All-push, All-get_or}
 use Rattle.std.proofs.lemmas.List.Sums.{sum_by_push}
 use Rattle.string_interner.specs.Text.{Text}
 use Rattle.string_interner.specs.Backend.{Bucket}
-use Rattle.string_interner.specs.BucketBackend.{buckets_of, bucket_at, byte_count, Puts, is_static, copied_bytes, interned_text, IsEntry, interned_len, IsInBuckets, IsBucketCopy, AreCopies, BucketContents, JoinsBuckets, CopiesBuckets}
+use Rattle.string_interner.specs.BucketBackend.{buckets_of, bucket_at, byte_count, Puts, is_static, copied_bytes, interned_text, IsEntry, interned_len, IsInBuckets, IsBucketCopy, PushesCopy, AreCopies, BucketContents, JoinsBuckets, CopiesBuckets}
 use Rattle.string_interner.specs.declared.backend.bucket.interned_str.InternedStr.{InternedStr}
 use Rattle.string_interner.specs.declared.backend.bucket.interned_str.InternedStr.TheVariants.{InBucket, Static}
 use Rattle.string_interner.proofs.Lemmas.BucketBackend.Stays.{length-slice_range, Grow, grow-head}
@@ -51,11 +51,11 @@ copy_capacity buckets old new (InBucket bucket span) copy is = rw is.0 refl
 copy_capacity buckets old new (Static text) copy is = rw is.0 refl
 
 -- the same in a loop over the entries, which leaves the capacity of the bucket
-pub AreCopies-step : (buckets : List Bucket) (entries copies more : List InternedStr) (old new : Bucket) (i : ℕ) (d copy : InternedStr) → i < length entries → All (IsEntry buckets) entries → All IsUtf8 (map (interned_text buckets) entries)
-    → AreCopies buckets (take i entries) copies old → IsBucketCopy buckets (get_or entries i d) old new copy → more ≡ copies ++ copy ∷ [] → (new.capacity ≡ old.capacity) × AreCopies buckets (take (i + 1) entries) more new
-AreCopies-step buckets entries copies more old new i d copy within standing utf8 are is m =
+pub AreCopies-step : (buckets : List Bucket) (entries copies more : List InternedStr) (old new : Bucket) (i : ℕ) (d : InternedStr) → i < length entries → All (IsEntry buckets) entries → All IsUtf8 (map (interned_text buckets) entries)
+    → AreCopies buckets (take i entries) copies old → PushesCopy buckets (get_or entries i d) old new copies more → (new.capacity ≡ old.capacity) × AreCopies buckets (take (i + 1) entries) more new
+AreCopies-step buckets entries copies more old new i d within standing utf8 are is =
     let text : IsUtf8 (interned_text buckets (get_or entries i d)) = rw (← get_or-map (interned_text buckets) entries i d [] within) (All-get_or IsUtf8 (map (interned_text buckets) entries) i [] (omega (arith, length-map entries (interned_text buckets))) utf8) in
-    (copy_capacity buckets old new (get_or entries i d) copy is, rw (m, take_more entries i d within) (AreCopies-more buckets (take i entries) copies old new (get_or entries i d) copy (All-get_or (IsEntry buckets) entries i d within standing) text are is))
+    (copy_capacity buckets old new (get_or entries i d) is.copy is.copied, rw (is.pushed, take_more entries i d within) (AreCopies-more buckets (take i entries) copies old new (get_or entries i d) is.copy (All-get_or (IsEntry buckets) entries i d within standing) text are is.copied))
 
 -- the copies are stored, in one bucket
 pub stored-copies : {S : Type 0} (symbol_of : ℕ → Option S) (full : List Bucket) (head : Bucket) (entries copies : List InternedStr) (bucket : Bucket) → IsInBuckets symbol_of full head entries → AreCopies (buckets_of full head) entries copies bucket → bucket.capacity ≡ head.capacity + byte_count full → IsInBuckets symbol_of [] bucket copies

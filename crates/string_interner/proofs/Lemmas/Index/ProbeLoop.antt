@@ -8,7 +8,8 @@ use Rattle.std.specs.Option.{is_some}
 use Rattle.string_interner.specs.Probe.{IsFree, FillsSlot, Follows, Misses, Passes, StepsTo}
 use Rattle.string_interner.specs.declared.dedup.probe.Step.TheVariants.{Found, Free, On}
 use Rattle.string_interner.proofs.Lemmas.Index.Slots.{run-set_end, probe-set, run_within}
-use Rattle.string_interner.specs.Tagged.{TaggedContents, HasAnotherTag, TagTells}
+use Rattle.string_interner.proofs.Lemmas.TaggedSlots.SymbolsIn.{symbols_in-at}
+use Rattle.string_interner.specs.Tagged.{TaggedContents, HasAnotherTag, TagTells, symbols_in}
 
 module _ {S : Type 0} where
   pub length-probe : (slots : List (Option S)) (home : ℕ) → home ≤ length slots → length (probed slots home) ≡ length slots
@@ -132,14 +133,13 @@ module _ {S : Type 0} where
 
   -- no symbol passes the test of a walk to the first empty slot, so any tag tells that
   pub none_tells : (tagged : TaggedContents S) (tag : ℕ) → TagTells (λ _. false) tagged tag
-  none_tells tagged tag k s l e h = absurd (let d : false ≡ true = h in cc)
+  none_tells tagged tag k item l e h = absurd (let d : false ≡ true = h in cc)
 
   -- a slot of another tag misses
-  pub HasAnotherTag-misses : (test : S → Bool) (tagged : TaggedContents S) (tag : ℕ) → TagTells test tagged tag → (k : ℕ) → k < length tagged.slots → HasAnotherTag tagged tag k → Misses test tagged.slots k
+  pub HasAnotherTag-misses : (test : S → Bool) (tagged : TaggedContents S) (tag : ℕ) → TagTells test tagged tag → (k : ℕ) → k < length tagged → HasAnotherTag tagged tag k → Misses test (symbols_in tagged) k
   HasAnotherTag-misses test tagged tag tells k l o =
-      let f = some_from (get_or tagged.slots k None) o.filled in
-      let no : (t : Bool) → test f.0 ≡ t → test f.0 ≡ false = elim [ true ↦ λ e. absurd (o.other (tells k f.0 l f.1 e)) | false ↦ λ e. e ] in
-      record { symbol = f.0; filled = f.1; fails = no (test f.0) refl }
+      let no : (t : Bool) → test o.item.symbol ≡ t → test o.item.symbol ≡ false = elim [ true ↦ λ e. absurd (o.other (tells k o.item l o.filled e)) | false ↦ λ e. e ] in
+      record { symbol = o.item.symbol; filled = symbols_in-at tagged k (Some o.item) o.filled; fails = no (test o.item.symbol) refl }
 
   module _ (test : S → Bool) (slots : List (Option S)) (home : ℕ) (h : home < length slots) (free : length (symbols slots) < length slots) where
     -- one slot is empty, so fewer slots are passed than there are

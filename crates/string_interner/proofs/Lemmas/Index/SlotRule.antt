@@ -1,5 +1,5 @@
 -- Slot counts as entries come one by one, under any rule that keeps its laws.
-use Rattle.std.proofs.Common.{◌≡◌, ℕ, ◌+◌, ◌⊎◌, inl, inr, arith, refl, sym, subst, ◌∙◌, Result, Ok, Err}
+use Rattle.std.proofs.Common.{◌≡◌, ℕ, ◌+◌, ◌≤◌, ◌⊎◌, inl, inr, arith, refl, sym, subst, ◌∙◌, Result, Ok, Err}
 use Rattle.std.specs.Prelude.{OnOk, OnErr}
 use Rattle.string_interner.specs.SlotRule.{SlotRule, IsLeastSlotCount, GrowsIfFull, GrowsFor, IsSlotRule}
 
@@ -43,6 +43,18 @@ module _ (rule : SlotRule) (laws : IsSlotRule rule) where
         | inl room ↦ subst (IsLeastSlotCount rule (len + 1)) (sym (grows.allowed room)) (least-same len old h room)
         | inr is_full ↦ least-full len old new h.allowed is_full grows load
       ]
+
+  -- slots that grew for a list, and then for a longer one, grew for the longer one
+  pub GrowsFor-joined : (len more old mid new : ℕ) → len ≤ more → GrowsFor rule len old mid → GrowsFor rule more mid new → GrowsFor rule more old new
+  GrowsFor-joined len more old mid new less before after = record {
+    allowed = λ room. let e = before.allowed (laws.fewer old more len room less) in after.allowed (subst (λ n. rule.holds n more) (sym e) room) ∙ e;
+    least = λ none. elim (laws.decided mid more) as (λ _. IsLeastSlotCount rule more new) [
+      | inl room ↦
+          (let h = before.least (λ r. none (subst (λ n. rule.holds n more) (before.allowed r) room)) in
+          subst (IsLeastSlotCount rule more) (sym (after.allowed room)) (record { allowed = h.allowed; room = room; least = λ m allowed fits. h.least m allowed (laws.fewer m more len fits less) }))
+      | inr is_full ↦ after.least is_full
+    ];
+  }
 
   -- slots that grew for a list grow for one more entry
   pub grown-more : (len old mid new : ℕ) → rule.allowed mid → GrowsFor rule len old mid → GrowsIfFull rule len mid new → rule.holds new (len + 1) → GrowsFor rule (len + 1) old new

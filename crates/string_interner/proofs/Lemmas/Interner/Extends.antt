@@ -69,6 +69,26 @@ module _ {S : Type 0} (numbering : Numbering S) where
   all-more old [] mid text symbol new h i = (new, (symbol, subst (λ (xs : List Text). Interns numbering xs text (Ok symbol) new) h i), refl)
   all-more old (t ∷ ts) mid text symbol new h i = (h.0, h.1, all-more h.0 ts mid text symbol new h.2 i)
 
+  -- more texts are interned
+  all-append : (old xs mid ys new : List Text) → InternsAll numbering old xs mid → InternsAll numbering mid ys new → InternsAll numbering old (xs ++ ys) new
+  all-append old [] mid ys new h i = subst (λ (zs : List Text). InternsAll numbering zs ys new) h i
+  all-append old (x ∷ xs) mid ys new h i = (h.0, h.1, all-append h.0 xs mid ys new h.2 i)
+
+  -- texts make a list no shorter
+  pub all-longer : (old texts new : List Text) → InternsAll numbering old texts new → length old ≤ length new
+  all-longer old texts new h = let n = ap length (all-fresh old texts new h) ∙ length-append old (fresh old texts) in omega (arith, n)
+
+  -- texts go in after others
+  pub taken-append : (old mid new : InternerContents) (xs ys : List Text) → TakesIn numbering old xs mid → TakesIn numbering mid ys new → TakesIn numbering old (xs ++ ys) new
+  taken-append old mid new xs ys before after =
+      let parts : fresh old.texts (xs ++ ys) ≡ fresh old.texts xs ++ fresh mid.texts ys = fresh-append old.texts xs ys ∙ ap (λ zs. fresh old.texts xs ++ fresh zs ys) (sym (all-fresh old.texts xs mid.texts before.interned)) in
+      let cost = ap (sum_by numbering.cost) parts ∙ sum_by-append numbering.cost (fresh old.texts xs) (fresh mid.texts ys) in record {
+        interned = all-append old.texts xs mid.texts ys new.texts before.interned after.interned;
+        keeps = λ s t stands. after.keeps s t (before.keeps s t stands);
+        spent = omega (arith, before.spent, after.spent, cost);
+        known = λ none. let empty = append-empty _ _ (sym parts ∙ none) in after.known empty.1 ∙ before.known empty.0;
+      }
+
   module _ where
     -- what is so of a length and a count of slots, where one more entry keeps it, is so once a text was interned
     pub interned-slots : (rule : SlotRule) (P : ℕ → ℕ → Type 0) (mid new : InternerContents) (text : Text) (symbol : S) → InternsInto numbering rule mid text (Ok symbol) new → IsLoaded rule new.slot_count (length new.texts)
@@ -168,6 +188,23 @@ module _ {S : Type 0} (numbering : Numbering S) where
 -- an iteration that is drained yields its items and ends
 pub drained-by : {I W A : Type 0} (becomes : I → W → Type 0) (steps : W → Option A → W → Type 0) (iter : I) (walk : W) (items : List A) → becomes iter walk → Drains steps walk items → YieldedBy becomes steps iter items None
 drained-by becomes steps iter walk items b drains = (walk, b, drains.0, drains.1)
+
+-- an iteration goes on to one more item
+pub yields-more : {W A : Type 0} (steps : W → Option A → W → Type 0) (xs : List A) (x : A) (s t u : W) → Yields steps s xs t → steps t (Some x) u → Yields steps s (xs ++ x ∷ []) u
+yields-more steps [] x s t u e st = (u, subst (λ k. steps k (Some x) u) (sym e) st, refl)
+yields-more steps (z ∷ zs) x s t u (j, sj, more) st = (j, sj, yields-more steps zs x j t u more st)
+
+-- an iteration over a list went over each front of it
+pub yields-front : {W A : Type 0} (steps : W → Option A → W → Type 0) (xs : List A) (x : A) (after : List A) (s u : W) → Yields steps s (xs ++ x ∷ after) u → (rest : W) × YieldsThen steps s xs (Some x) rest
+yields-front steps [] x after s u (j, sj, more) = (j, (s, refl, sj))
+yields-front steps (z ∷ zs) x after s u (j, sj, more) = let r = yields-front steps zs x after j u more in (r.0, (r.1.0, (j, sj, r.1.1), r.1.2))
+
+-- so it yields each front of what waits behind other items
+pub yielded-front : {I W A : Type 0} (becomes : I → W → Type 0) (steps : W → Option A → W → Type 0) (iter : I) (walk u : W) (done block all : List A) → becomes iter walk → all ≡ done ++ block → Yields steps walk all u
+    → (front : List A) (x : A) (rest : List A) → block ≡ front ++ x ∷ rest → YieldedBy becomes steps iter (done ++ front) (Some x)
+yielded-front {A = A} becomes steps iter walk u done block all b e y front x rest is =
+    let f = yields-front steps (done ++ front) x rest walk u (subst (λ (xs : List A). Yields steps walk xs u) (e ∙ ap (λ zs. done ++ zs) is ∙ sym (append_assoc done front (x ∷ rest))) y) in
+    (walk, b, f.0, f.1)
 
 -- an iteration that ended went over the whole list
 drained : {W A : Type 0} (steps : W → Option A → W → Type 0) (xs : List A) (s t u : W) (all : List A) → Yields steps s xs t → steps t None u → AlwaysYields steps (λ x. x) s all → all ≡ xs

@@ -1,26 +1,57 @@
 -- Interning text after text into a list of their symbols.
-use Rattle.std.proofs.Common.{◌≡◌, ℕ, ◌+◌, ◌≤◌, ◌<◌, List, [], ◌∷◌, ◌++◌, length, refl, sym, ap, ◌∙◌, arith, inl, inr, Option, Some, Ok, Err, Bor}
-use Rattle.std.specs.Prelude.{Result, Vec, vec_capacity}
+use Rattle.std.proofs.Common.{◌≡◌, ℕ, ◌+◌, ◌≤◌, ◌<◌, zero, suc, List, [], ◌∷◌, ◌++◌, length, take, set, get_or, refl, sym, ap, subst, ◌∙◌, arith, inl, inr, Option, Some, None, Ok, Err, Bor}
+use Rattle.std.specs.Prelude.{Result, Vec, IsOk, IfSome, option_and_then, vec_capacity}
 use Rattle.std.specs.declared.alloc.Global.{Global}
-use Rattle.std.specs.Iterator.{YieldsThen}
-use Rattle.std.proofs.lemmas.List.{append_assoc, append-nil, map_push}
+use Rattle.std.proofs.lemmas.List.{append_assoc, append-nil, map_push, map-append, take_more, take_more_set, take_all, length-set, get_or_default}
 use Rattle.string_interner.specs.Text.{Text}
 use Rattle.string_interner.specs.SlotRule.{SlotRule, IsLoaded, GrowsFor, IsSlotRule}
 use Rattle.string_interner.specs.Interner.{InternerContents, InternsInto}
 use Rattle.string_interner.specs.StandsFor.{StandsFor, KeepsSymbols, StandInOrder, none, next}
-use Rattle.string_interner.specs.Extend.{texts_of, IsMemory, YieldedBy}
-use Rattle.string_interner.specs.InternAll.{AppendsSymbols, InternsEach}
-use Rattle.string_interner.proofs.Lemmas.Index.SlotRule.{grown-more}
-use Rattle.string_interner.proofs.Lemmas.Interner.Extends.{item-taken, interned-slots, stopped}
+use Rattle.string_interner.specs.Extend.{texts_of, IsMemory}
+use Rattle.string_interner.specs.InternAll.{AppendsSymbols, InternsEach, Lists, AreKnown, IsKnown}
+use Rattle.string_interner.proofs.Lemmas.Index.SlotRule.{grown-more, GrowsFor-joined}
+use Rattle.string_interner.proofs.Lemmas.Interner.Extends.{item-taken, interned-slots, stopped, taken-append, all-longer}
 use Rattle.string_interner.specs.declared.backend.InternError.{InternError}
 use Rattle.string_interner.specs.Numbering.{Numbering}
 
+-- a list goes on with each of its items
+pub split-at : {X : Type 0} (xs : List X) (i : ℕ) → i < length xs → (x : X) × (rest : List X) × (xs ≡ take i xs ++ x ∷ rest) × ((d : X) → get_or xs i d ≡ x)
+split-at [] i within = absurd (omega arith)
+split-at (x ∷ xs) zero within = (x, xs, refl, λ d. refl)
+split-at (x ∷ xs) (suc i) within = let r = split-at xs i (omega arith) in (r.0, r.1, ap (λ l. x ∷ l) r.2, r.3)
+
+-- items whose last ones wait in the front of a block go on with the item that fills it
+pub filled : {X : Type 0} (items done block : List X) (len : ℕ) (x : X) → items ≡ done ++ take len block → len + 1 ≡ length block → items ++ x ∷ [] ≡ done ++ set block len x
+filled items done block len x is full =
+    ap (λ xs. xs ++ x ∷ []) is ∙ append_assoc done (take len block) (x ∷ []) ∙ ap (λ xs. done ++ xs) (sym (take_more_set block len x (omega (arith, full))) ∙ take_all (len + 1) (set block len x) (omega (arith, full, length-set block len x)))
+
 module _ {S : Type 0} (numbering : Numbering S) where
+  -- what is known of a text at the start is known of it later
+  pub known-at : (symbol_of : ℕ → Option S) (start now : List Text) → KeepsSymbols numbering start now → (texts : List (Bor Text)) (known : List (Option ℕ)) (at : ℕ) (d : Option ℕ) (found : Option S) (text : Bor Text)
+      → at < length texts → length known ≡ length texts → AreKnown symbol_of numbering start texts known → found ≡ option_and_then symbol_of (get_or known at d) → IfSome found (λ symbol. StandsFor numbering now symbol (get_or texts at text).now)
+  known-at symbol_of start now keeps texts known at d found text within count are is =
+      rw (is ∙ ap (option_and_then symbol_of) (get_or_default known at d None (omega (arith, count)))) (of (get_or known at None) (are at within text))
+    where
+      kept : (o : Option S) → IfSome o (λ symbol. StandsFor numbering start symbol (get_or texts at text).now) → IfSome o (λ symbol. StandsFor numbering now symbol (get_or texts at text).now)
+      kept None h = tt
+      kept (Some symbol) h = keeps symbol _ h
+
+      of : (k : Option ℕ) → IsKnown symbol_of numbering start (get_or texts at text).now k → IfSome (option_and_then symbol_of k) (λ symbol. StandsFor numbering now symbol (get_or texts at text).now)
+      of None h = tt
+      of (Some number) h = kept (symbol_of number) h
+
   -- symbols that stand for texts still do where another is interned, and so does its own after them
   stand-more : (old new : List Text) → KeepsSymbols numbering old new → (symbols : List S) (texts : List Text) (symbol : S) (text : Text)
       → StandInOrder numbering old symbols texts → StandsFor numbering new symbol text → StandInOrder numbering new (symbols ++ symbol ∷ []) (texts ++ text ∷ [])
   stand-more old new keeps _ _ symbol text none is = next is none
   stand-more old new keeps _ _ symbol text (next {symbol = s} {text = t} {symbols = symbols} {rest = rest} first more) is = next (keeps s t first) (stand-more old new keeps symbols rest symbol text more is)
+
+  -- and so do those of more texts
+  stand-append : (old new : List Text) → KeepsSymbols numbering old new → (symbols : List S) (texts : List Text) (more : List S) (rest : List Text)
+      → StandInOrder numbering old symbols texts → StandInOrder numbering new more rest → StandInOrder numbering new (symbols ++ more) (texts ++ rest)
+  stand-append old new keeps _ _ more rest none after = after
+  stand-append old new keeps _ _ more rest (next {symbol = s} {text = t} {symbols = symbols} {rest = texts} first before) after =
+      next (keeps s t first) (stand-append old new keeps symbols texts more rest before after)
 
   module _ (rule : SlotRule) (laws : IsSlotRule rule) where
     -- before the first text
@@ -47,24 +78,94 @@ module _ {S : Type 0} (numbering : Numbering S) where
       appended = is ∙ ap (λ xs. xs ++ symbol ∷ []) before.appended ∙ append_assoc symbols before.added (symbol ∷ []);
     }
 
+    -- after one more item of a list
+    pub each-at : (old : InternerContents) (symbols : List S) (xs : List (Bor Text)) (i : ℕ) (d : Bor Text) (mid new : InternerContents) (so_far longer : List S) (symbol : S)
+        → i < length xs → IsLoaded rule mid.slot_count (length mid.texts) → IsLoaded rule new.slot_count (length new.texts)
+        → AppendsSymbols numbering rule old symbols (texts_of (take i xs)) mid so_far → InternsInto numbering rule mid (get_or xs i d).now (Ok symbol) new
+        → longer ≡ so_far ++ symbol ∷ [] → AppendsSymbols numbering rule old symbols (texts_of (take (i + 1) xs)) new longer
+    each-at old symbols xs i d mid new so_far longer symbol within was_loaded loaded before call is =
+        rw (take_more xs i d within) (each-more old symbols (take i xs) mid new so_far longer (get_or xs i d) symbol was_loaded loaded before call is)
+
     -- where an item is refused
-    pub each-refused : {I W : Type 0} (becomes : I → W → Type 0) (steps : W → Option (Bor Text) → W → Type 0) (iter : I) (walk rest : W) (items : List (Bor Text)) (item : Bor Text) (old mid new : InternerContents) (was is : Vec S Global) (longer : List S) (error : InternError) (outcome : Result (Unit {0}) InternError)
-        → becomes iter walk → YieldsThen steps walk items (Some item) rest → outcome ≡ Err error → AppendsSymbols numbering rule old was.items (texts_of items) mid longer → InternsInto numbering rule mid item.now (Err error) new
-        → is.items ≡ longer → InternsEach numbering rule (YieldedBy becomes steps iter) (old, was) outcome (new, is)
-    each-refused becomes steps iter walk rest items item old mid new was is longer error outcome b y e before call same = rw (e, same) (
+    pub each-refused : (yields : List (Bor Text) → Option (Bor Text) → Type 0) (items : List (Bor Text)) (item : Bor Text) (old mid new : InternerContents) (was is : Vec S Global) (longer : List S) (error : InternError) (outcome : Result (Unit {0}) InternError)
+        → yields items (Some item) → outcome ≡ Err error → AppendsSymbols numbering rule old was.items (texts_of items) mid longer → InternsInto numbering rule mid item.now (Err error) new
+        → is.items ≡ longer → InternsEach numbering rule yields (old, was) outcome (new, is)
+    each-refused yields items item old mid new was is longer error outcome y e before call same = rw (e, same) (
       items,
       mid,
       before,
-      (item, (walk, b, rest, y), inl (stopped numbering rule laws old mid new (texts_of items) item.now error before.taken call before.grown)),
+      (item, y, inl (stopped numbering rule laws old mid new (texts_of items) item.now error before.taken call before.grown)),
     )
 
+    -- where an item of a list is refused
+    pub refused-at : (xs : List (Bor Text)) (i : ℕ) (d : Bor Text) (old mid new : InternerContents) (was is : Vec S Global) (longer : List S) (error : InternError) (outcome : Result (Unit {0}) InternError)
+        → i < length xs → outcome ≡ Err error → AppendsSymbols numbering rule old was.items (texts_of (take i xs)) mid longer → InternsInto numbering rule mid (get_or xs i d).now (Err error) new
+        → is.items ≡ longer → InternsEach numbering rule (Lists xs) (old, was) outcome (new, is)
+    refused-at xs i d old mid new was is longer error outcome within e before call same = let s = split-at xs i within in
+        each-refused (Lists xs) (take i xs) s.0 old mid new was is longer error outcome (s.1, s.2) e before (subst (λ (b : Bor Text). InternsInto numbering rule mid b.now (Err error) new) (s.3 d) call) same
+
     -- where the list is full
-    pub each-full : {I W : Type 0} (becomes : I → W → Type 0) (steps : W → Option (Bor Text) → W → Type 0) (iter : I) (walk rest : W) (items : List (Bor Text)) (item : Bor Text) (old mid : InternerContents) (was is : Vec S Global) (longer : List S) (now : ℕ) (error : InternError) (outcome : Result (Unit {0}) InternError)
-        → becomes iter walk → YieldsThen steps walk items (Some item) rest → outcome ≡ Err error → IsMemory error → AppendsSymbols numbering rule old was.items (texts_of items) mid longer → is.items ≡ longer → vec_capacity was ≤ now → now < length longer + 1
-        → InternsEach numbering rule (YieldedBy becomes steps iter) (old, was) outcome (mid, is)
-    each-full becomes steps iter walk rest items item old mid was is longer now error outcome b y e memory before same less full = rw (e, same) (
+    pub each-full : (yields : List (Bor Text) → Option (Bor Text) → Type 0) (items : List (Bor Text)) (item : Bor Text) (old mid : InternerContents) (was is : Vec S Global) (longer : List S) (now : ℕ) (error : InternError) (outcome : Result (Unit {0}) InternError)
+        → yields items (Some item) → outcome ≡ Err error → IsMemory error → AppendsSymbols numbering rule old was.items (texts_of items) mid longer → is.items ≡ longer → vec_capacity was ≤ now → now < length longer + 1
+        → InternsEach numbering rule yields (old, was) outcome (mid, is)
+    each-full yields items item old mid was is longer now error outcome y e memory before same less full = rw (e, same) (
       items,
       mid,
       before,
-      (item, (walk, b, rest, y), inr (record { memory = memory; full = omega (arith, less, full); same = refl })),
+      (item, y, inr (record { memory = memory; full = omega (arith, less, full); same = refl })),
     )
+
+    -- items after others
+    pub each-append : (old : InternerContents) (symbols : List S) (items more : List (Bor Text)) (mid new : InternerContents) (so_far longer : List S)
+        → AppendsSymbols numbering rule old symbols (texts_of items) mid so_far → AppendsSymbols numbering rule mid so_far (texts_of more) new longer
+        → AppendsSymbols numbering rule old symbols (texts_of (items ++ more)) new longer
+    each-append old symbols items more mid new so_far longer before after =
+        subst (λ (ts : List Text). AppendsSymbols numbering rule old symbols ts new longer) (sym (map-append (λ (b : Bor Text). b.now) items more)) (record {
+          taken = taken-append numbering old mid new (texts_of items) (texts_of more) before.taken after.taken;
+          grown = GrowsFor-joined rule laws _ _ _ _ _ (all-longer numbering mid.texts (texts_of more) new.texts after.taken.interned) before.grown after.grown;
+          added = before.added ++ after.added;
+          stand = stand-append mid.texts new.texts after.taken.keeps before.added (texts_of items) after.added (texts_of more) before.stand after.stand;
+          appended = after.appended ∙ ap (λ xs. xs ++ after.added) before.appended ∙ append_assoc symbols before.added after.added;
+        })
+
+    -- a block after other items went in
+    pub block-done : (done block : List (Bor Text)) (old mid new : InternerContents) (was had is : Vec S Global) (outcome : Result (Unit {0}) InternError) → outcome ≡ Ok tt
+        → AppendsSymbols numbering rule old was.items (texts_of done) mid had.items → InternsEach numbering rule (Lists block) (mid, had) outcome (new, is)
+        → AppendsSymbols numbering rule old was.items (texts_of (done ++ block)) new is.items
+    block-done done block old mid new was had is outcome ok before each = of (rw ok at each)
+      where
+        of : InternsEach numbering rule (Lists block) (mid, had) (Ok tt) (new, is) → AppendsSymbols numbering rule old was.items (texts_of (done ++ block)) new is.items
+        of (items, all, after, (whole, same)) = rw (whole, same) (each-append old was.items done items mid all had.items is.items before after)
+
+    -- what comes of a block after other items comes of all
+    pub block-last : (yields : List (Bor Text) → Option (Bor Text) → Type 0) (done block : List (Bor Text)) (old mid new : InternerContents) (was had is : Vec S Global) (outcome : Result (Unit {0}) InternError)
+        → (IsOk outcome → yields (done ++ block) None) → ((front : List (Bor Text)) (item : Bor Text) (rest : List (Bor Text)) → block ≡ front ++ item ∷ rest → yields (done ++ front) (Some item))
+        → vec_capacity was ≤ vec_capacity had → AppendsSymbols numbering rule old was.items (texts_of done) mid had.items → InternsEach numbering rule (Lists block) (mid, had) outcome (new, is)
+        → InternsEach numbering rule yields (old, was) outcome (new, is)
+    block-last yields done block old mid new was had is (Ok u) ends stops less before (items, all, after, (whole, same)) = (
+      done ++ items,
+      all,
+      each-append old was.items done items mid all had.items is.items before after,
+      (subst (λ xs. yields (done ++ xs) None) whole (ends refl), same),
+    )
+    block-last yields done block old mid new was had is (Err error) ends stops less before (items, all, after, (item, (rest, goes_on), why)) =
+        let joined = each-append old was.items done items mid all had.items is.items before after in (
+          done ++ items,
+          all,
+          joined,
+          (
+            item,
+            stops items item rest goes_on,
+            elim why [
+              | inl refused ↦ inl (stopped numbering rule laws old all new (texts_of (done ++ items)) item.now error joined.taken refused.refuses joined.grown)
+              | inr full ↦ inr (record { memory = full.memory; full = omega (arith, less, full.full); same = full.same })
+            ],
+          ),
+        )
+
+    -- the same, where the block ended with an error
+    pub block-stopped : (yields : List (Bor Text) → Option (Bor Text) → Type 0) (done block : List (Bor Text)) (old mid new : InternerContents) (was had is : Vec S Global) (error : InternError) (outcome : Result (Unit {0}) InternError) → outcome ≡ Err error
+        → ((front : List (Bor Text)) (item : Bor Text) (rest : List (Bor Text)) → block ≡ front ++ item ∷ rest → yields (done ++ front) (Some item))
+        → vec_capacity was ≤ vec_capacity had → AppendsSymbols numbering rule old was.items (texts_of done) mid had.items → InternsEach numbering rule (Lists block) (mid, had) (Err error) (new, is)
+        → InternsEach numbering rule yields (old, was) outcome (new, is)
+    block-stopped yields done block old mid new was had is error outcome e stops less before each = rw e (block-last yields done block old mid new was had is (Err error) (λ ok. absurd (cc)) stops less before each)

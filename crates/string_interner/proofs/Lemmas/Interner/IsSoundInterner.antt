@@ -1,7 +1,7 @@
 -- What an interner keeps to, when a text is looked for and when one is put last.
 use Rattle.std.proofs.Common.{◌≡◌, ℕ, ◌+◌, ◌<◌, List, [], ◌∷◌, ◌++◌, length, refl, sym, ap, subst, ◌∙◌, arith, Option, Some, None, Ok, IsSome}
-use Rattle.std.specs.Prelude.{◌↔◌, option_and_then, ◌≢◌, ◌^◌, slice_get, take}
-use Rattle.std.proofs.lemmas.Option.{slice_get-get_or, get_or_from_slice_get}
+use Rattle.std.specs.Prelude.{◌↔◌, IfSome, option_and_then, ◌≢◌, ◌^◌, slice_get, take}
+use Rattle.std.proofs.lemmas.Option.{slice_get-get_or, slice_get_within, get_or_from_slice_get}
 use Rattle.std.proofs.lemmas.Grind.{common_steps}
 use Rattle.std.proofs.lemmas.List.{length_push}
 use Rattle.std.proofs.lemmas.List.Quantifiers.{all_pairs_push}
@@ -12,6 +12,8 @@ use Rattle.string_interner.specs.Slots.{symbols}
 use Rattle.string_interner.specs.TextIndex.{Adds, AddsEntry, IsNewText}
 use Rattle.string_interner.specs.Index.{AddsPair, Fits, IsAbsent, SameMap, look_up, text_of}
 use Rattle.string_interner.specs.Interner.{Finds, IsSoundInterner, entry_symbol, known_symbol}
+use Rattle.string_interner.specs.InternAll.{IsKnown, IsResolved}
+use Rattle.string_interner.specs.StandsFor.{StandsFor}
 use Rattle.string_interner.specs.EntryLaws.{entry_text-adds, entry_text-at, entry_text-is}
 use Rattle.string_interner.proofs.Lemmas.Texts.First.{first_within, first_is, first_none}
 use Rattle.string_interner.proofs.Lemmas.Interner.StandsFor.{one_entry, finds-known}
@@ -34,6 +36,19 @@ module _ {S : Type 0} (numbering : Numbering S) where
       of : (o : Option ℕ) → first texts t ≡ o → IsSome (option_and_then (entry_symbol numbering texts) o) ↔ IsSome o
       of None e = (λ h. h, λ h. h)
       of (Some i) e = (λ _. refl, λ _. valid.has_symbols i (first_within texts t i e))
+
+  -- the symbol that stands for a text is its known symbol
+  pub known-stands : (texts : List Text) → IsDistinct texts → (t : Text) (s : S) → StandsFor numbering texts s t → known_symbol numbering texts t ≡ Some s
+  known-stands texts distinct t s stands =
+      let within = slice_get_within texts stands.index t stands.entry in
+      let of : (o : Option ℕ) → first texts t ≡ o → option_and_then (entry_symbol numbering texts) o ≡ Some s = elim [
+        | None ↦ λ f. absurd (first_none texts t f stands.index [] within (get_or_from_slice_get texts stands.index t [] stands.entry))
+        | Some j ↦ λ f.
+            let here : slice_get texts j ≡ Some t = slice_get-get_or texts j [] (first_within texts t j f) ∙ ap Some (first_is texts t j f) in
+            let same = one_entry texts t stands.index j distinct stands.entry here in
+            ap (λ n. numbering.symbol_of (numbering.place (take n texts))) (sym same) ∙ stands.symbol_is
+      ] in
+      of (first texts t) refl
 
   -- a new text has no known symbol
   pub known-none : (texts : List Text) (t : Text) → first texts t ≡ None → known_symbol numbering texts t ≡ None
@@ -81,6 +96,15 @@ module _ {S : Type 0} (numbering : Numbering S)
         | Some j ↦ λ f. at j f (entry_symbol numbering texts j) (valid.has_symbols j (first_within texts t j f)) refl
       ] in
       of (first texts t) refl
+
+  -- a number whose entry has the text is known of it
+  pub resolved-known : (symbol_of : ℕ → Option S) (guess : Option ℕ) (t : Text) → IsResolved symbol_of entry guess t → IsKnown symbol_of numbering texts t guess
+  resolved-known symbol_of None t is = tt
+  resolved-known symbol_of (Some number) t is = of (symbol_of number) is
+    where
+      of : (o : Option S) → IfSome o (λ s. entry s ≡ Some t) → IfSome o (λ s. StandsFor numbering texts s t)
+      of None is = tt
+      of (Some s) is = finds-known numbering texts t (Some s) valid (sym (known-entry t s is))
 
   -- a text that is no entry's is new
   pub new-text : (t : Text) → IsNewText entry t → first texts t ≡ None

@@ -12,7 +12,7 @@ use std::mem;
 
 /// Returns the text of a bucket by its number: the older buckets come first, then the head.
 #[inline]
-fn bucket_text<'a>(full: &'a [FullBucket], head: &'a FixedString, bucket: u8) -> &'a str
+pub fn bucket_text<'a>(full: &'a [FullBucket], head: &'a FixedString, bucket: u8) -> &'a str
     requires { bucket < length (buckets_of full.now head.now) }
     ensures { result.now ≡ (bucket_at (buckets_of full.now head.now) bucket).bytes }
 {
@@ -45,6 +45,7 @@ pub fn interned_text<'a>(
 ///
 /// Its capacity in bytes is the least power of two above both `before` and the text's length. Returns `Err` only if an
 /// allocation fails or that capacity does not fit a `usize`.
+#[cold]
 pub fn new_head(alloc: Global, before: usize, text: &str) -> Result<(FixedString, Span), AllocError>
     ensures bytes { IfOk result (λ made. made.0.bytes ≡ text.now) }
     ensures capacity { IfOk result (λ made. IsNextPowerOfTwo (max before (length text.now) + 1)
@@ -59,10 +60,12 @@ pub fn new_head(alloc: Global, before: usize, text: &str) -> Result<(FixedString
 }
 
 /// Returns the number of the head, which comes after the older buckets.
+#[inline]
 #[tactic(auto, using(crate::proofs::Lemmas::BucketBackend::IsTight::few_below))]
 fn head_number(full: &[FullBucket], head: &FixedString) -> u8
     requires { AreFew full.now head.now }
-    ensures { result ≡ length full.now }
+    ensures value { result ≡ length full.now }
+    ensures few { result < 64 }
 {
     // For the proof: states that the capacity is a `usize`, so that the buckets before the head are fewer than 64.
     let _ = head.capacity();
@@ -72,6 +75,7 @@ fn head_number(full: &[FullBucket], head: &FixedString) -> u8
 /// Appends a text to the head if it fits the head's capacity, else to a new head, and returns its entry.
 ///
 /// Allocates before it stores anything, so that nothing changes on `Err`.
+#[inline(always)]
 #[tactic(auto, using(crate::proofs::Lemmas::BucketBackend::IsTight::few_begins))]
 pub fn store(
     full: &mut Vec<FullBucket>,
@@ -81,6 +85,7 @@ pub fn store(
     requires few { AreFew full.old.items head.old }
     ensures puts { OnOk result (Puts text.now full.old.items head.old full.new.items head.new) }
     ensures last { IfOk result (IsLast text.now full.new.items head.new) }
+    ensures few { OnOk result (length full.new.items < 64) }
     ensures err { OnErr result ((full.new.items ≡ full.old.items) × (head.new ≡ head.old)) }
     ensures granted { length head.old.bytes + length text.now ≤ head.old.capacity → IsOk result }
 {

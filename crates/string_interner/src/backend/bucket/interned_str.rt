@@ -1,7 +1,8 @@
 //! Where the text of an entry is stored.
 
+ghost use Rattle.std.specs.Prelude.{◌≡◌};
+
 use crate::backend::bucket::fixed_str::Span;
-use std::mem::size_of;
 
 /// Where the text of an entry is stored: in a bucket, or, if it is static, outside all buckets.
 #[derive(Clone, Copy)]
@@ -13,5 +14,16 @@ pub enum InternedStr {
     Static(&'static str),
 }
 
-// The number of a bucket lies beside the tag, so an entry takes three words.
-const _: () = prove!(size_of::<InternedStr>() == 24);
+impl InternedStr {
+    ghost use Rattle.string_interner.specs.BucketEntries.{text_len};
+
+    /// Returns how many bytes the text has.
+    pub fn text_len(self) -> usize
+        ensures { result ≡ text_len self }
+    {
+        match self {
+            InternedStr::InBucket { span, .. } => span.to.saturating_sub(span.from),
+            InternedStr::Static(text) => text.len(),
+        }
+    }
+}

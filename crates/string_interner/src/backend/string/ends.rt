@@ -7,6 +7,7 @@ ghost use Rattle.std.proofs.lemmas.Cmp.{nat_list_eq_equiv};
 ghost use Rattle.string_interner.specs.Ends.{EndList};
 ghost use Rattle.string_interner.specs.StringBackend.{span_of, start_at};
 
+use crate::backend::reserve::reserve_items;
 use std::alloc::{AllocError, Global};
 use std::marker::Model;
 
@@ -167,9 +168,9 @@ impl Ends {
         ensures err { OnErr result (self.new ≡ self.old) }
     {
         if is_narrow(end, &self.wide) {
-            self.narrow.reserve(1)
+            reserve_items(&mut self.narrow, 1)
         } else {
-            self.wide.reserve(1)
+            reserve_items(&mut self.wide, 1)
         }
     }
 

@@ -1,38 +1,62 @@
-use Rattle.std.proofs.Common.{refl, rules, arith, vec_capacity}
-use Rattle.string_interner.specs.declared.backend.InternError.TheVariants.{Memory}
-use Rattle.string_interner.proofs.Lemmas.Interner.InternsEach.{each-none, each-more, each-refused, each-full}
-use Rattle.string_interner.proofs.Lemmas.Interner.Extends.{drained-by}
+use Rattle.std.proofs.Common.{◌≡◌, ℕ, List, refl, rules, arith, sym, ap, subst, ◌∙◌, ◌++◌, [], ◌∷◌, Ok, None, slice_set, take}
+use Rattle.std.proofs.lemmas.List.{append-nil}
+use Rattle.string_interner.specs.Extend.{YieldedBy}
+use Rattle.string_interner.proofs.Lemmas.Interner.InternsEach.{each-none, block-done, block-last, block-stopped, filled}
+use Rattle.string_interner.proofs.Lemmas.Interner.Extends.{yields-more, yielded-front, drained-by}
 use Rattle.string_interner.proofs.interner.StringInterner.intern_all.Goals as goal
 
 pub loop-text-init : goal.loop-text-init
-loop-text-init g c = record {
-  appended = each-none g.B.Backend.numbering g.I.TextIndex.rule g.met.I.TextIndex.rule_laws _ _ c.len.ensures.loaded;
-  loaded = c.len.ensures.loaded;
-  capacity = omega arith;
-}
+loop-text-init g c = ([], refl, each-none g.B.Backend.numbering g.I.TextIndex.rule g.met.I.TextIndex.rule_laws _ _ c.len.ensures.loaded, omega arith, omega arith, refl)
 
-pub loop-text-preserved : goal.loop-text-preserved
-loop-text-preserved g c =
-    let mid = c.loop-text.invariant in let call = c.in_ok-symbol.ensures in record {
-      appended = each-more g.B.Backend.numbering g.I.TextIndex.rule g.met.I.TextIndex.rule_laws _ _ _ _ _ _ _ _ _ mid.loaded c.len-in-loop-text.ensures.loaded mid.appended call (search rules);
-      loaded = c.len-in-loop-text.ensures.loaded;
-      capacity = search rules;
-    }
+-- where the block is empty, all items so far went in
+all-in : {X : Type 0} (items done block : List X) (len : ℕ) → items ≡ done ++ take len block → len ≡ 0 → items ≡ done
+all-in items done block len is empty = is ∙ ap (λ n. done ++ take n block) empty ∙ append-nil done
 
-pub returns-in_err-reserve : goal.returns-in_err-reserve
-returns-in_err-reserve g c = each-full g.B.Backend.numbering g.I.TextIndex.rule g.met.I.TextIndex.rule_laws g.T.IntoIterator.into_iter_gives g.T.IntoIter.Iterator.next_gives _ c.into_iter-text-iterator.result c.next.new.self c.loop-text.yielded c.in-Some.text _ _ c.args.symbols.now c.reserve.new.self c.loop-text.symbols.items (vec_capacity c.loop-text.symbols) (Memory c.in_err-reserve.field-0.0) c.from_residual.result
-    c.into_iter-text-iterator.ensures.into_iter_gives (search rules) (search rules) tt
-    c.loop-text.invariant.appended (search rules) c.loop-text.invariant.capacity (search rules)
+pub returns-in_err-intern_next : goal.returns-in_err-intern_next
+returns-in_err-intern_next g c =
+    let inv = c.loop-text.invariant in let block = c.in-Some.text ∷ [] in
+    block-stopped g.B.Backend.numbering g.I.TextIndex.rule g.met.I.TextIndex.rule_laws (YieldedBy g.T.IntoIterator.into_iter_gives g.T.IntoIter.Iterator.next_gives c.args.texts) inv.0 block _ c.loop-text.self _ c.args.symbols.now c.loop-text.symbols c.intern_next.new.symbols c.in_err-intern_next.field-0.0 c.from_residual.result (search rules)
+    (yielded-front g.T.IntoIterator.into_iter_gives g.T.IntoIter.Iterator.next_gives c.args.texts c.into_iter-text-iterator.result c.next.new.self inv.0 block (c.loop-text.yielded ++ block) c.into_iter-text-iterator.ensures.into_iter_gives
+    (ap (λ xs. xs ++ block) (all-in c.loop-text.yielded inv.0 c.loop-text.block c.loop-text.len inv.1 (search rules)))
+    (yields-more g.T.IntoIter.Iterator.next_gives c.loop-text.yielded c.in-Some.text c.into_iter-text-iterator.result _ c.next.new.self c.loop-text.yielded_by c.in-Some.ensures.steps))
+    inv.3 inv.2 c.in_err-intern_next.ensures.interns
 
-pub returns-in_err-symbol : goal.returns-in_err-symbol
-returns-in_err-symbol g c = each-refused g.B.Backend.numbering g.I.TextIndex.rule g.met.I.TextIndex.rule_laws g.T.IntoIterator.into_iter_gives g.T.IntoIter.Iterator.next_gives _ c.into_iter-text-iterator.result c.next.new.self c.loop-text.yielded c.in-Some.text _ _ _ c.args.symbols.now c.reserve.new.self c.loop-text.symbols.items c.in_err-symbol.field-0.0 c.from_residual-in_err-symbol.result
-    c.into_iter-text-iterator.ensures.into_iter_gives (search rules) (search rules)
-    c.loop-text.invariant.appended c.in_err-symbol.ensures (search rules)
+pub loop-text-preserved-then-len-lt-FEWEST_FOR_BLOCKS : goal.loop-text-preserved-then-len-lt-FEWEST_FOR_BLOCKS
+loop-text-preserved-then-len-lt-FEWEST_FOR_BLOCKS g c =
+    let inv = c.loop-text.invariant in let block = c.in-Some.text ∷ [] in let empty : c.loop-text.len ≡ 0 = search rules in (
+      inv.0 ++ block,
+      ap (λ xs. xs ++ block) (all-in c.loop-text.yielded inv.0 c.loop-text.block c.loop-text.len inv.1 empty) ∙ sym (all-in _ (inv.0 ++ block) c.loop-text.block c.loop-text.len refl empty),
+      block-done g.B.Backend.numbering g.I.TextIndex.rule g.met.I.TextIndex.rule_laws inv.0 block _ c.loop-text.self _ c.args.symbols.now c.loop-text.symbols c.intern_next.new.symbols (Ok tt) refl inv.2 c.in_ok-intern_next.ensures.interns,
+      omega (arith, inv.3, c.in_ok-intern_next.ensures.capacity),
+      inv.4,
+      inv.5,
+    )
+
+pub returns-in_err-intern_block : goal.returns-in_err-intern_block
+returns-in_err-intern_block g c =
+    let inv = c.loop-text.invariant in let block = slice_set c.loop-text.block c.loop-text.len c.in-Some.text in
+    block-stopped g.B.Backend.numbering g.I.TextIndex.rule g.met.I.TextIndex.rule_laws (YieldedBy g.T.IntoIterator.into_iter_gives g.T.IntoIter.Iterator.next_gives c.args.texts) inv.0 block _ c.loop-text.self _ c.args.symbols.now c.loop-text.symbols c.intern_block.new.symbols c.in_err-intern_block.field-0.0 c.from_residual-in_err-intern_block.result (search rules)
+    (yielded-front g.T.IntoIterator.into_iter_gives g.T.IntoIter.Iterator.next_gives c.args.texts c.into_iter-text-iterator.result c.next.new.self inv.0 block (c.loop-text.yielded ++ c.in-Some.text ∷ []) c.into_iter-text-iterator.ensures.into_iter_gives
+    (filled c.loop-text.yielded inv.0 c.loop-text.block c.loop-text.len c.in-Some.text inv.1 (search rules))
+    (yields-more g.T.IntoIter.Iterator.next_gives c.loop-text.yielded c.in-Some.text c.into_iter-text-iterator.result _ c.next.new.self c.loop-text.yielded_by c.in-Some.ensures.steps))
+    inv.3 inv.2 c.in_err-intern_block.ensures.interns
+
+pub loop-text-preserved-then-len-eq-BLOCK_LEN : goal.loop-text-preserved-then-len-eq-BLOCK_LEN
+loop-text-preserved-then-len-eq-BLOCK_LEN g c =
+    let inv = c.loop-text.invariant in let block = slice_set c.loop-text.block c.loop-text.len c.in-Some.text in (
+      inv.0 ++ block,
+      filled c.loop-text.yielded inv.0 c.loop-text.block c.loop-text.len c.in-Some.text inv.1 (search rules) ∙ sym (append-nil (inv.0 ++ block)),
+      block-done g.B.Backend.numbering g.I.TextIndex.rule g.met.I.TextIndex.rule_laws inv.0 block _ c.loop-text.self _ c.args.symbols.now c.loop-text.symbols c.intern_block.new.symbols (Ok tt) refl inv.2 c.in_ok-intern_block.ensures.interns,
+      omega (arith, inv.3, c.in_ok-intern_block.ensures.capacity),
+      omega arith,
+      search rules,
+    )
 
 pub returns : goal.returns
-returns g c = (
-  c.loop-text.yielded,
-  c.loop-text.self,
-  c.loop-text.invariant.appended,
-  (drained-by g.T.IntoIterator.into_iter_gives g.T.IntoIter.Iterator.next_gives _ c.into_iter-text-iterator.result _ c.into_iter-text-iterator.ensures.into_iter_gives (search rules), refl),
-)
+returns g c =
+    let inv = c.loop-text.invariant in let block = take c.loop-text.len c.loop-text.block in
+    let by = YieldedBy g.T.IntoIterator.into_iter_gives g.T.IntoIter.Iterator.next_gives c.args.texts in
+    block-last g.B.Backend.numbering g.I.TextIndex.rule g.met.I.TextIndex.rule_laws by inv.0 block _ c.loop-text.self _ c.args.symbols.now c.loop-text.symbols c.intern_block-2.new.symbols c.intern_block-2.result
+    (λ ok. subst (λ xs. by xs None) inv.1 (drained-by g.T.IntoIterator.into_iter_gives g.T.IntoIter.Iterator.next_gives c.args.texts c.into_iter-text-iterator.result c.loop-text.yielded c.into_iter-text-iterator.ensures.into_iter_gives (search rules)))
+    (yielded-front g.T.IntoIterator.into_iter_gives g.T.IntoIter.Iterator.next_gives c.args.texts c.into_iter-text-iterator.result _ inv.0 block c.loop-text.yielded c.into_iter-text-iterator.ensures.into_iter_gives inv.1 c.loop-text.yielded_by)
+    inv.3 inv.2 c.intern_block-2.ensures.interns

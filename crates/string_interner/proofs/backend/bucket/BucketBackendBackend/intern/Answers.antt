@@ -1,9 +1,10 @@
-use Rattle.std.proofs.Common.{◌≡◌, List, false, ◌+◌, ◌-◌, ◌≤◌, ◌++◌, ◌∷◌, [], map, vec_len, vec_capacity, arith, rules, refl, ap, ◌∙◌}
-use Rattle.std.proofs.lemmas.List.{map_push}
+use Rattle.std.proofs.Common.{◌≡◌, List, true, false, length, ◌<◌, ◌+◌, ◌≤◌, ◌++◌, ◌∷◌, [], map, min, arith, rules, refl, ap, ◌∙◌}
+use Rattle.std.proofs.lemmas.List.{map_push, length_push}
 use Rattle.string_interner.specs.BucketBackend.{BucketContents, Puts, buckets_of, interned_text, is_static, IsLast, IsInBuckets}
 use Rattle.string_interner.specs.declared.backend.bucket.interned_str.InternedStr.{InternedStr}
 use Rattle.string_interner.proofs.Lemmas.BucketBackend.IsInBuckets.{stored-puts}
 use Rattle.string_interner.proofs.Lemmas.BucketBackend.AreCopies.{spent-puts}
+use Rattle.string_interner.proofs.Lemmas.BucketBackend.IsEntry.{last_span, last_packs-unless}
 use Rattle.string_interner.proofs.Lemmas.BucketBackend.Stays.{Stays-puts, Stays-same}
 use Rattle.string_interner.proofs.Lemmas.Results.{OnOk-passed, OnErr-failed, OnErr-always}
 use Rattle.string_interner.proofs.backend.bucket.BucketBackendBackend.intern.Goals as goal
@@ -27,7 +28,20 @@ more g c = c.push_reserved.ensures.items ∙ ap (λ (entries : List InternedStr)
 
 -- the text is stored
 stored : (g : Over) (c : After-push_reserved g) → (map (interned_text (buckets_of c.store.new.full.items c.store.new.head)) c.push_reserved.new.self.items ≡ map (interned_text (buckets_of c.self.inside.full.items c.self.inside.head)) c.self.inside.entries.items ++ c.args.text.now ∷ []) × IsInBuckets g.S.Symbol.symbol_of c.store.new.full.items c.store.new.head c.push_reserved.new.self.items
-stored g c = stored-puts g.S.Symbol.symbol_of c.args.text.now _ _ _ _ c.in_ok-interned.interned _ _ c.self.invariant c.utf8.text (rw (ap (λ (b : BucketContents). b.texts) c.self.view_is) (search rules)) (omega (arith, c.push_reserved.new.self.small, c.push_reserved.new.self.ok.1, c.push_reserved.new.self.ok.0, c.push_reserved.ensures.len, c.self.inside.entries.ok.0)) (puts g c) (last g c) (more g c)
+stored g c = stored-puts g.S.Symbol.symbol_of c.args.text.now _ _ _ _ c.in_ok-interned.interned _ _ c.self.invariant c.utf8.text (rw (ap (λ (b : BucketContents). b.texts) c.self.view_is) (search rules)) (omega (arith, c.push_reserved.ensures.fits, ap length (more g c), length_push c.self.inside.entries.items c.in_ok-interned.interned)) (puts g c) (last g c) (more g c)
+
+pub push_reserved-requires-clause-span : goal.push_reserved-requires-clause-span
+push_reserved-requires-clause-span g c =
+    let few : length c.store.new.full.items < 64 = OnOk-passed c.store.result _ c.in_ok-interned.ensures.variant c.store.ensures.few in
+    last_span c.args.text.now c.store.new.full.items c.store.new.head c.in_ok-interned.interned few (search rules)
+
+pub push_reserved-requires-clause-other : goal.push_reserved-requires-clause-other
+push_reserved-requires-clause-other g c =
+    let puts : Puts c.args.text.now c.self.inside.full.items c.self.inside.head c.store.new.full.items c.store.new.head = OnOk-passed c.store.result _ c.in_ok-interned.ensures.variant c.store.ensures.puts in
+    let few : length c.store.new.full.items < 64 = OnOk-passed c.store.result _ c.in_ok-interned.ensures.variant c.store.ensures.few in
+    let last : IsLast c.args.text.now c.store.new.full.items c.store.new.head c.in_ok-interned.interned = search rules in
+    let room : c.is_far-is_far.result ≡ true → 0 < c.reserve.new.self.other_spare = OnOk-passed c.reserve.result _ c.in_ok-map_err.ensures.variant c.reserve.ensures.other in
+    last_packs-unless c.is_far-is_far.result _ c.args.text.now c.self.inside.full.items c.self.inside.head c.store.new.full.items c.store.new.head _ few (λ near. omega (arith, c.is_far-is_far.ensures.near near, c.len.ensures.value)) room puts last
 
 pub returns-in_err-interned-clause-appends : goal.returns-in_err-interned-clause-appends
 returns-in_err-interned-clause-appends g c =
@@ -49,8 +63,8 @@ invariant_of-self-2 g c = (stored g c).1
 
 pub returns-clause-appends : goal.returns-clause-appends
 returns-clause-appends g c =
-    let free = vec_capacity c.self.inside.entries - vec_len c.self.inside.entries in
-    let left = vec_capacity c.push_reserved.new.self - vec_len c.push_reserved.new.self in
+    let free = min c.self.inside.entries.spare c.self.inside.entries.other_spare in
+    let left = min c.push_reserved.new.self.spare c.push_reserved.new.self.other_spare in
     let entry : free ≤ left + 1 = omega arith in
     let spent = spent-puts c.args.text.now _ _ _ _ free left (puts g c) entry in
     record {

@@ -1,20 +1,22 @@
-use Rattle.std.proofs.Common.{◌≡◌, List, refl, ◌++◌, ◌∷◌, [], map, arith, rules, ap, ◌∙◌}
-use Rattle.std.proofs.lemmas.List.{map_push}
-use Rattle.string_interner.specs.declared.backend.bucket.interned_str.InternedStr.{InternedStr}
+use Rattle.std.proofs.Common.{◌≡◌, ◌^◌, ◌<◌, length, refl, ◌++◌, ◌∷◌, [], map, arith, rules, ap, ◌∙◌}
+use Rattle.std.proofs.lemmas.List.{map_push, length_push}
 use Rattle.string_interner.specs.declared.backend.bucket.interned_str.InternedStr.TheVariants.{Static}
 use Rattle.string_interner.specs.BucketBackend.{BucketContents, buckets_of, interned_text, IsInBuckets}
 use Rattle.string_interner.proofs.Lemmas.BucketBackend.IsInBuckets.{stored-static}
+use Rattle.string_interner.proofs.Lemmas.Results.{OnOk-passed}
 use Rattle.string_interner.proofs.backend.bucket.BucketBackendBackend.intern_static.Goals as goal
-use Rattle.string_interner.proofs.backend.bucket.BucketBackendBackend.intern_static.Goals.{After-push_reserved}
+use Rattle.string_interner.proofs.backend.bucket.BucketBackendBackend.intern_static.Goals.{In_ok-map_err}
 use Rattle.string_interner.proofs.backend.bucket.BucketBackendBackend.intern_static.Given.{Over}
 
 -- the entry comes last
-more : (g : Over) (c : After-push_reserved g) → c.push_reserved.new.self.items ≡ c.self.inside.entries.items ++ Static c.args.text ∷ []
-more g c = c.push_reserved.ensures.items ∙ ap (λ (entries : List InternedStr). entries ++ Static c.args.text ∷ []) c.reserve.ensures.items
+more : (g : Over) (c : In_ok-map_err g) → c.push.new.self.items ≡ c.self.inside.entries.items ++ Static c.args.text ∷ []
+more g c = OnOk-passed c.push.result _ c.in_ok-map_err.ensures.variant c.push.ensures.items
 
 -- the text is stored
-stored : (g : Over) (c : After-push_reserved g) → IsInBuckets g.S.Symbol.symbol_of c.self.inside.full.items c.self.inside.head c.push_reserved.new.self.items
-stored g c = stored-static g.S.Symbol.symbol_of c.args.text _ _ _ _ c.self.invariant c.utf8.text (rw (ap (λ (b : BucketContents). b.texts) c.self.view_is) (search rules)) (omega (arith, c.push_reserved.new.self.small, c.push_reserved.new.self.ok.1, c.push_reserved.new.self.ok.0, c.push_reserved.ensures.len, c.self.inside.entries.ok.0)) (more g c)
+stored : (g : Over) (c : In_ok-map_err g) → IsInBuckets g.S.Symbol.symbol_of c.self.inside.full.items c.self.inside.head c.push.new.self.items
+stored g c =
+    let small : length c.push.new.self.items < 2 ^ 64 = OnOk-passed c.push.result _ c.in_ok-map_err.ensures.variant c.push.ensures.fits in
+    stored-static g.S.Symbol.symbol_of c.args.text _ _ _ _ c.self.invariant c.utf8.text (rw (ap (λ (b : BucketContents). b.texts) c.self.view_is) (search rules)) (omega (arith, small, ap length (more g c), length_push c.self.inside.entries.items (Static c.args.text))) (more g c)
 
 pub invariant_of-self-2 : goal.invariant_of-self-2
 invariant_of-self-2 g c = stored g c

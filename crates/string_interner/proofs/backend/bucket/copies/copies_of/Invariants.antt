@@ -1,11 +1,11 @@
-use Rattle.std.proofs.Common.{◌≡◌, ◌+◌, ◌≤◌, length, take, vec_len, vec_capacity}
-use Rattle.string_interner.specs.BucketBackend.{buckets_of, AreCopies}
+use Rattle.std.proofs.Common.{◌≡◌, take}
+use Rattle.string_interner.specs.BucketBackend.{buckets_of, IsRun, after_run, AreCopies}
 use Rattle.string_interner.proofs.backend.bucket.copies.copies_of.Given as goal
 
--- the entries so far were copied, and there is room for all
-abbrev pub invariant-loop-interned : goal.invariant-loop-interned
-invariant-loop-interned l = record {
+-- the entries so far were copied, of which the texts of the run come last
+abbrev pub invariant-loop-index : goal.invariant-loop-index
+invariant-loop-index l = record {
   capacity : l.bucket.capacity ≡ l.capacity;
-  copies : AreCopies (buckets_of l.full l.head) (take l.interned-index l.entries) l.copies.items l.bucket;
-  room : vec_len l.copies + length l.entries ≤ vec_capacity l.copies + l.interned-index;
+  run : IsRun (buckets_of l.full l.head) l.run;
+  copies : AreCopies (buckets_of l.full l.head) (take l.index l.entries.items) l.copies.items (after_run (buckets_of l.full l.head) l.run l.bucket);
 }

@@ -13,26 +13,26 @@ pub probe_for-requires-clause-free : goal.probe_for-requires-clause-free
 probe_for-requires-clause-free g c = let n = c.len.ensures in HasFreeSlot-sound g.L.Layout.layout g.met.L.Layout.layout_laws.load _ _ c.self.invariant (omega arith)
 
 pub probe_for-requires-clause-fits : goal.probe_for-requires-clause-fits
-probe_for-requires-clause-fits g c = rw (ap (λ x. x.slots) c.self.view_is) (g.H.TextHasher.code c.args.hasher.now, (c.requires, c.hash_text-code.ensures))
+probe_for-requires-clause-fits g c = rw (ap (λ x. x.slots) c.self.view_is) c.requires
 
 pub returns-clause-found : goal.returns-clause-found
 returns-clause-found g c =
     let slots = g.L.Layout.layout.slots c.args.self.now.slots in let test = has_text (entry_text g.B.Backend.numbering (g.B.Backend.texts c.args.looks.now.backend)) c.args.text.now in
-    c.probe_for.ensures.found ∙ ap (λ x. first_passing test (filled_run (probed (g.L.Layout.layout.slots x.slots) (c.hash_text-code.result % length (g.L.Layout.layout.slots x.slots))))) c.self.view_is
-    ∙ ap (λ n. first_passing test (filled_run (probed slots (n % length slots)))) c.hash_text-code.ensures
-    ∙ Fits-find _ _ _ (Fits-of g.L.Layout.layout g.met.L.Layout.layout_laws _ _ c.args.self.now.slots c.requires) _
+    c.probe_for.ensures.found ∙ ap (λ x. first_passing test (filled_run (probed (g.L.Layout.layout.slots x.slots) (c.args.code % length (g.L.Layout.layout.slots x.slots))))) c.self.view_is
+    ∙ ap (λ n. first_passing test (filled_run (probed slots (n % length slots)))) c.requires.1.1
+    ∙ Fits-find _ _ _ (Fits-of g.L.Layout.layout g.met.L.Layout.layout_laws _ _ c.args.self.now.slots c.requires.1.0) _
 
 pub returns-clause-vacant : goal.returns-clause-vacant
-returns-clause-vacant g c = rw (← c.self.view_is, ← c.hash_text-code.ensures) c.probe_for.ensures.vacant
+returns-clause-vacant g c = rw (← c.self.view_is) c.probe_for.ensures.vacant
 
 pub returns-clause-looks : goal.returns-clause-looks
 returns-clause-looks g c =
     let slots = g.L.Layout.layout.slots c.self.inside.slots in let n = c.len.ensures in
-    let run = run_within slots (c.hash_text-code.result % length slots) in
-    rw (← c.self.view_is, ← c.hash_text-code.ensures) (record {
+    let run = run_within slots (c.args.code % length slots) in
+    rw (← c.self.view_is) (record {
       backend = search rules;
       counts = search rules;
-      run = λ f r. let le = run-le slots (c.hash_text-code.result % length slots) f (omega arith) r in omega arith;
+      run = λ f r. let le = run-le slots (c.args.code % length slots) f (omega arith) r in omega arith;
       at_most = omega arith;
       no_slots = search rules;
     })

@@ -10,5 +10,5 @@ returns-clause-occupied g c = found-occupied (entry_text g.B.Backend.numbering (
     (c.entry.ensures.found ∙ ap (λ (b : g.row.B.Denot). look_up (entry_text g.B.Backend.numbering (g.B.Backend.texts b)) (g.L.Layout.layout.slots c.args.self.now.slots) c.args.text.now) c.new.ensures.backend)
 
 pub returns-clause-new_text : goal.returns-clause-new_text
-returns-clause-new_text g c = found-vacant _ _ _ _ _ (IsWhole-of g.L.Layout.layout g.met.L.Layout.layout_laws _ _ c.args.self.now.slots c.requires)
+returns-clause-new_text g c = found-vacant _ _ _ _ _ (IsWhole-of g.L.Layout.layout g.met.L.Layout.layout_laws _ _ c.args.self.now.slots c.requires.1.0)
     (c.entry.ensures.found ∙ ap (λ (b : g.row.B.Denot). look_up (entry_text g.B.Backend.numbering (g.B.Backend.texts b)) (g.L.Layout.layout.slots c.args.self.now.slots) c.args.text.now) c.new.ensures.backend)
