@@ -19,6 +19,8 @@ A column of texts is encoded in one call, which takes about as long as a dict do
 >>> list(animals)
 ['Tiger', 'Horse', 'Elephant']
 
+A `Column` keeps the rows, too, and exchanges them with numpy, pandas and other processes.
+
 The library is `libstring_interner.so` in the folder that STRING_INTERNER_LIB names, or in the package, as a wheel has it, or
 in `clients/out`, where `clients/build` puts it. Without one that it can use, the import raises ImportError.
 """
@@ -40,10 +42,10 @@ from ._library import BAD_TEXT, LIMIT, NO_ROOM, UNKNOWN, address_of, check, libr
 if TYPE_CHECKING:
     from _typeshed import ReadableBuffer
 
-__all__ = ["Backend", "Hasher", "Interner", "Typecode"]
+__all__ = ["Backend", "Column", "Hasher", "Interner", "Typecode"]
 
 Backend = Literal["string", "bucket", "buffer"]
-"""How the texts lie in memory: joined in one string, in buckets that are never moved, or in one buffer of bytes.
+"""How texts are stored: joined in one string, in blocks that never move, or in one buffer of bytes.
 
 Numbers are 0, 1, 2, .. on `string` and `bucket`. On `buffer`, which takes the least memory, they count bytes.
 """
@@ -52,8 +54,8 @@ Hasher = Literal["keyed", "fixed"] | tuple[SupportsIndex, SupportsIndex]
 """How texts are hashed, which changes no answer, and only how long a call takes.
 
 `keyed` is SipHash-1-3 under two random keys of this process, so nobody can choose texts that all hash alike, which would make
-each call slow. Two numbers below 2 ** 64 are keys of your own: let them be random, and secret. `fixed` has no keys, and is
-faster, above all for long texts. It is for texts that no attacker chooses, because any number with one hash are easily found.
+each call slow. Two numbers below 2 ** 64 are keys of your own: they should be random and secret. `fixed` has no keys, and is
+faster, above all for long texts. Do not use it for texts from strangers, who easily find any number with one hash.
 """
 
 Typecode = Literal["I", "Q"]
@@ -317,3 +319,7 @@ class Interner:
         with handle.lock:
             what = f"of {len(self)} texts, backend {handle.backend!r}" if handle.is_open else "that is closed"
         return f"<{type(self).__name__} {what}>"
+
+
+# Below, because a column has an interner.
+from ._column import Column  # noqa: E402

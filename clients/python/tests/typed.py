@@ -4,7 +4,7 @@ from array import array
 from collections.abc import Iterator
 from typing import Literal, assert_type
 
-from string_interner import Backend, Hasher, Interner
+from string_interner import Backend, Column, Hasher, Interner
 
 
 class Named(Interner):
@@ -30,6 +30,26 @@ with Named() as named:
     assert_type(named, Named)
 assert_type(list(names), list[str])
 
+
+class Colors(Column):
+    name: str = ""
+
+
+colors = Column(["red", None], hasher=hasher)
+assert_type(Colors.from_values(["red"], hasher="fixed"), Colors)
+assert_type(Colors.encode(colors), Colors)
+assert_type(Colors.from_parts(names, array("b", [0, -1])), Colors)
+assert_type(colors[0], str | None)
+assert_type(colors[1:], Column)
+assert_type(list(colors), list[str | None])
+assert_type(colors.dictionary, list[str])
+assert_type(colors.codes.tolist(), list[int])
+assert_type(colors.counts(), "array[int]")
+assert_type(colors.distinct, int)
+colors.append(None)
+colors.extend(names)
+colors.merge(Colors())
+
 names.intern(b"a")  # type: ignore[arg-type]
 names.intern_all([1])  # type: ignore[list-item]
 names.intern_all(["a"], typecode="d")  # type: ignore[arg-type]
@@ -39,3 +59,9 @@ names["a"]  # type: ignore[index]
 Interner(backend="tree")  # type: ignore[arg-type]
 Interner(hasher="sip")  # type: ignore[arg-type]
 Interner.from_json(b"[]")  # type: ignore[arg-type]
+Column([1])  # type: ignore[list-item]
+colors.append(b"red")  # type: ignore[arg-type]
+colors.merge(["red"])  # type: ignore[arg-type]
+colors["red"]  # type: ignore[call-overload]
+Column.from_parts(["red", None], [0])  # type: ignore[list-item]
+Column.from_parts(["red"], [0.5])  # type: ignore[list-item]

@@ -4,8 +4,8 @@
 //! |---|---|---|
 //! | [`DefaultHashBuilder`] | those of random keys of the process | in most cases |
 //! | [`RandomState`], or another [`BuildHasher`] of yours | those of keys that it gives | each interner is to have keys of its own, or the same in each process |
-//! | [`KeyedHashBuilder`] | those of keys that you hand in | the keys come from elsewhere |
-//! | [`FixedHashBuilder`] | the same in each process | speed counts, and nobody who may wish you harm chooses the texts |
+//! | [`KeyedHashBuilder`] | those of keys that you pass | the keys come from elsewhere |
+//! | [`FixedHashBuilder`] | the same in each process | speed counts, and no stranger chooses the texts |
 //!
 //! ```
 //! use string_interner::{hasher::FixedHashBuilder, DefaultBackend, StringInterner};
@@ -46,7 +46,7 @@ impl BuildHasher for DefaultHashBuilder {
 /// The fast hasher of an interner, with the same codes in each process.
 ///
 /// Any number of texts with one code are found in less than a second, and interning them takes time that grows with the square
-/// of their count. So nobody who may wish you harm may choose the texts.
+/// of their count. So do not use it for texts from strangers.
 #[derive(Clone, Copy, Debug, Default)]
 pub struct FixedHashBuilder;
 

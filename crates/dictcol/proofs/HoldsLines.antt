@@ -22,7 +22,7 @@ use Rattle.string_interner.specs.declared.backend.InternError.TheVariants.{NoSym
 use Rattle.string_interner.specs.declared.json.JsonError.{JsonError}
 use Rattle.string_interner.specs.declared.json.JsonError.TheVariants.{NoSymbol, Memory}
 use Rattle.string_interner.proofs.Lemmas.Json.Reads.{new_text}
-use Rattle.uses.specs.Column.{AreNumbersOf}
+use Rattle.string_column.specs.Column.{AreCodes}
 use Rattle.dictcol.specs.File.{IsFileOf, indexed_texts, HoldsLines, HoldsText, IsColumnFile, DecodesFile}
 use Rattle.dictcol.specs.Lines.{has_newline, text_of_lines, AreLines}
 use Rattle.dictcol.proofs.Lines.{text-of-lines, lines-plain, fresh-plain, texts_of-append}
@@ -67,7 +67,7 @@ holds-once value lines lines' is_ended is_ended' holds holds' =
     let same = same_Some lines lines' (sym holds.picked ∙ ap (λ d. indexed_texts d holds.numbers) texts ∙ ap (indexed_texts holds'.dictionary) items ∙ holds'.picked) in
     ap (λ ls. text_of_lines ls is_ended) same ∙ ap (text_of_lines lines') truth
 
-indexed_texts-numbers : (dictionary : List Text) (numbers : List ℕ) (lines : List Text) → AreNumbersOf dictionary numbers lines → indexed_texts dictionary (items_of (map json_of_number numbers)) ≡ Some lines
+indexed_texts-numbers : (dictionary : List Text) (numbers : List ℕ) (lines : List Text) → AreCodes dictionary numbers lines → indexed_texts dictionary (items_of (map json_of_number numbers)) ≡ Some lines
 indexed_texts-numbers dictionary [] [] are = refl
 indexed_texts-numbers dictionary [] (l ∷ ls) are = absurd are
 indexed_texts-numbers dictionary (n ∷ ns) [] are = absurd are

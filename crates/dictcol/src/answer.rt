@@ -15,8 +15,8 @@ use crate::hasher::LineHasher;
 use crate::{count, file};
 use std::alloc::Global;
 use std::io::{Read, Write};
+use string_column::Column;
 use string_interner::backend::{Backend, BucketBackend, BufferBackend, InternError, StringBackend};
-use uses::column::Column;
 
 /// Reads the whole input.
 pub fn read<R: Read>(alloc: Global, input: &mut R) -> Result<Vec<u8>, Fault>
@@ -51,7 +51,7 @@ fn check_utf8(bytes: &[u8]) -> Result<&str, Fault>
     }
 }
 
-/// Cuts the newline at the very end off, and returns whether there was one.
+/// Removes the newline at the very end, and returns whether there was one.
 fn strip_final_newline(bytes: &[u8]) -> (&[u8], bool)
     ensures whole { bytes.now ≡ result.0.now ++ newline_if result.1 }
     ensures end { (front : List ℕ) → bytes.now ≡ front ++ 10 ∷ [] → result.1 ≡ true }
@@ -96,7 +96,7 @@ fn split_lines<B: Backend + Drop>(
     Ok((make_column(alloc, hasher, text)?, is_ended))
 }
 
-/// Returns the file of the lines of the input, which are kept in the backend `B`.
+/// Returns the file of the lines of the input, which are stored in the backend `B`.
 fn encode<B: Backend + Drop>(
     alloc: Global,
     hasher: LineHasher,
@@ -112,7 +112,7 @@ fn encode<B: Backend + Drop>(
     }
 }
 
-/// Returns how often each line of the input comes, where lines are kept in the backend `B`.
+/// Returns how often each line of the input occurs. Lines are stored in the backend `B`.
 fn count_lines<B: Backend + Drop>(
     alloc: Global,
     hasher: LineHasher,
@@ -125,7 +125,7 @@ fn count_lines<B: Backend + Drop>(
     count::format_counts(alloc, &lines, is_sorted).map_err(|_| Fault::Memory)
 }
 
-/// Returns what is written for the lines of the input, which are kept in the backend `B`.
+/// Returns what is written for the lines of the input, which are stored in the backend `B`.
 fn format_lines<B: Backend + Drop>(
     alloc: Global,
     hasher: LineHasher,
@@ -142,7 +142,7 @@ fn format_lines<B: Backend + Drop>(
     }
 }
 
-/// Returns what is written for the lines of the input, which are kept in the backend of this name.
+/// Returns what is written for the lines of the input, which are stored in the backend of this name.
 fn format_lines_over(
     alloc: Global,
     hasher: LineHasher,
@@ -189,7 +189,7 @@ fn write_form<W: Write>(
     write_text(output, text)
 }
 
-/// Writes what the task asks for. Nothing is written before all that can go wrong but writing has gone well.
+/// Writes what the task asks for. Nothing is written before everything else has succeeded.
 pub fn answer<W: Write>(
     alloc: Global,
     hasher: LineHasher,

@@ -2,7 +2,7 @@
 
 use thiserror::Error;
 
-/// Which backend the texts are kept in.
+/// Which backend the texts are stored in.
 #[derive(Clone, Copy)]
 pub enum Choice {
     String,
@@ -15,7 +15,7 @@ pub enum Choice {
 pub enum Form {
     /// The file that `decode` reads.
     File,
-    /// Each distinct line with how often it comes, in the order of first appearance.
+    /// Each distinct line with how often it occurs, in the order of first appearance.
     Counts,
     /// The same, the most frequent first.
     SortedCounts,
@@ -155,7 +155,7 @@ impl<'a> Given<'a> {
     }
 }
 
-/// Returns what the arguments ask for, or the first thing that is wrong with them. Options may stand anywhere before `--`.
+/// Returns what the arguments ask for, or the first thing that is wrong with them. Options may be anywhere before `--`.
 pub fn parse_arguments(arguments: &[String]) -> Result<Request<'_>, Misuse<'_>> {
     let mut given = Given {
         command: None,

@@ -1,33 +1,17 @@
-//! How often each line comes.
+//! How often each line occurs.
 
 use crate::hasher::LineHasher;
 use std::alloc::{AllocError, Global};
 use std::fmt::Write;
+use string_column::Column;
 use string_interner::backend::Backend;
-use uses::column::Column;
 
-/// Returns how often each number below `distinct` comes.
-fn count_numbers(
-    alloc: Global,
-    numbers: &[usize],
-    distinct: usize,
-) -> Result<Vec<usize>, AllocError> {
-    let mut counts = vec![in alloc; 0_usize; distinct]?;
-    for number in numbers {
-        if let Some(count) = counts.get_mut(*number) {
-            *count = count.saturating_add(1);
-        }
-    }
-    Ok(counts)
-}
-
-/// Returns each distinct line with how often it comes, in the order of first appearance.
+/// Returns each distinct line with how often it occurs, in the order of first appearance.
 fn list_counts<B: Backend>(
     alloc: Global,
     lines: &Column<B, LineHasher>,
 ) -> Result<Vec<(usize, &str)>, AllocError> {
-    let numbers = lines.numbers(alloc)?;
-    let counts = count_numbers(alloc, &numbers, lines.count_distinct())?;
+    let counts = lines.counts(alloc)?;
     let mut rows = Vec::with_capacity(alloc, counts.len())?;
     for (count, (_, text)) in counts.iter().zip(lines.dictionary()) {
         rows.push((*count, text))?;
@@ -35,8 +19,8 @@ fn list_counts<B: Backend>(
     Ok(rows)
 }
 
-/// Returns a line for each distinct line of the input: how often it comes, a space, and the line. They stand in the
-/// order of first appearance, or the most frequent first, where equally frequent ones keep that order.
+/// Returns a line for each distinct line of the input: how often it occurs, a space, and the line. They are in the order
+/// of first appearance, or the most frequent first, and equally frequent ones keep that order.
 pub fn format_counts<B: Backend>(
     alloc: Global,
     lines: &Column<B, LineHasher>,

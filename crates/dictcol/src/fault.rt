@@ -26,16 +26,16 @@ pub enum Fault {
     /// The file ends within its JSON, at this place (1-based, in bytes).
     #[error("JSON ends too early, at line {line} column {column}")]
     EndsEarly { line: usize, column: usize },
-    /// A byte order mark stands before the JSON.
+    /// There is a byte order mark before the JSON.
     #[error("a byte order mark stands before the JSON")]
     ByteOrderMark,
     /// The file is no object with an array of this name.
     #[error("no array \"dictionary\"")]
     NoDictionary,
-    /// The text at this index (0-based) of the dictionary is none.
+    /// The element at this index (0-based) of the dictionary is no text.
     #[error("dictionary[{0}] is not a text")]
     NotAText(usize),
-    /// The text at this index (0-based) of the dictionary stands there before.
+    /// The text at this index (0-based) of the dictionary is there twice.
     #[error("dictionary[{0}] is repeated")]
     Repeated(usize),
     /// The text at this index (0-based) of the dictionary is more than one line.
@@ -68,7 +68,7 @@ pub enum Fault {
 }
 
 impl Fault {
-    /// Returns the fault of arguments that cannot be had.
+    /// Returns the fault of arguments that cannot be read.
     pub fn of_arguments(error: io::Error) -> Fault
         ensures { result ≡ arguments_fault (error_kind error) }
     {
@@ -102,7 +102,7 @@ impl Fault {
     }
 
     /// Returns the exit status: 2 if the arguments or the input are wrong, 1 if the system failed or there is too much. If
-    /// the output is closed it is 141, as a shell tells of `cat` or `sort` there: 128 and the number of SIGPIPE.
+    /// the output is closed it is 141, as a shell reports for `cat` or `sort` then: 128 and the number of SIGPIPE.
     pub fn status(&self) -> u8
         ensures { result ≡ status_of self.now }
     {

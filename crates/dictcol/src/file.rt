@@ -20,23 +20,23 @@ use crate::hasher::LineHasher;
 use serde_json::{Value, json};
 use std::alloc::{AllocError, Global};
 use std::io::Write;
+use string_column::{Codes, Column};
 use string_interner::backend::{Backend, DefaultBackend};
 use string_interner::dedup::TaggedIndex;
 use string_interner::json::JsonError;
 use string_interner::{DefaultSymbol, StringInterner};
-use uses::column::Column;
 
 /// The texts of a file.
 type Dictionary = StringInterner<DefaultBackend, LineHasher, TaggedIndex<DefaultSymbol>>;
 
-/// Returns the array of the numbers.
-fn build_array(alloc: Global, numbers: &[usize]) -> Result<Value, AllocError>
+/// Returns the array of the codes.
+fn build_array(alloc: Global, codes: &Codes) -> Result<Value, AllocError>
     ensures { IfOk result (λ value.
-        view value ≡ array (items_of (map json_of_number numbers.now))) }
+        view value ≡ array (items_of (map json_of_number codes.now.items))) }
 {
-    let mut elements = Vec::with_capacity(alloc, numbers.len())?;
-    for number in numbers {
-        elements.push_reserved(Value::from(*number));
+    let mut elements = Vec::with_capacity(alloc, codes.len())?;
+    for row in 0..codes.len() {
+        elements.push_reserved(Value::from(codes.at(row)));
     }
     Ok(Value::from(elements))
 }
@@ -53,7 +53,7 @@ fn build_file<B: Backend>(
     // For the proof: states that the texts are distinct.
     let _ = lines.dictionary().len();
     let dictionary = lines.dictionary().to_json(alloc)?;
-    let numbers = build_array(alloc, &lines.numbers(alloc)?)?;
+    let numbers = build_array(alloc, lines.codes())?;
     json!(in alloc; {"dictionary": dictionary, "lines": numbers, "final_newline": is_ended})
 }
 

@@ -4,15 +4,15 @@ use crate::fault::Fault;
 use std::hash::RandomState;
 use string_interner::dedup::{StdHasher, TextHasher};
 
-/// SipHash-1-3 under random keys. Who does not know them cannot choose lines that have one code, which would make the
-/// program slow.
+/// SipHash-1-3 under random keys. Without them nobody can choose lines with one hash code, which would make the program
+/// slow.
 #[derive(Clone, Copy)]
 pub struct LineHasher {
     keyed: StdHasher<RandomState>,
 }
 
 impl LineHasher {
-    /// Draws keys, and returns the hasher that has them.
+    /// Draws keys, and returns the hasher with them.
     pub fn draw(rt: &HostRuntime) -> Result<LineHasher, Fault> {
         let keys = RandomState::new(rt).map_err(Fault::NoKeys)?;
         Ok(LineHasher {

@@ -38,23 +38,23 @@ The status is 2 for wrong arguments, lines that are not UTF-8 and a damaged file
 with no message, if nobody reads the output any more.
 ";
 
-/// What stands behind a message about arguments.
+/// What follows a message about arguments.
 const USAGE: &str =
     "usage: dictcol encode|decode|count [OPTION ..] [FILE] (dictcol --help tells more)";
 
-/// The status where the arguments are wrong.
+/// The status if the arguments are wrong.
 const MISUSED: u8 = 2;
 
 /// What `--version` prints.
 const VERSION: &str = "dictcol 0.19.0\n";
 
-/// So many bytes are written at once.
+/// How many bytes are written at once.
 const BUFFER: usize = 1 << 16;
 
-/// Input of so many bytes is long: a terminal is told how far the work is.
+/// Input of this many bytes is long: progress is reported on a terminal.
 const LONG: usize = 1 << 24;
 
-/// Tells a terminal how far the work on a long input is.
+/// Reports on a terminal how far the work on a long input is.
 fn tell(rt: &HostRuntime, bytes: usize, what: &str) {
     if bytes >= LONG && rt.stderr().is_terminal() {
         // Nothing is lost if standard error is closed.
@@ -100,7 +100,7 @@ fn print(rt: &HostRuntime, text: &str) -> Result<(), Fault> {
         .map_err(Fault::of_write)
 }
 
-/// Says on standard error what failed, if something did, and returns the status.
+/// Prints on standard error what failed, if something did, and returns the status.
 fn end(rt: &HostRuntime, source: Source<'_>, outcome: Result<(), Fault>) -> ExitCode {
     let Err(fault) = outcome else {
         return ExitCode::SUCCESS;

@@ -13,8 +13,8 @@ use string_interner::StringInterner;
 use string_interner::backend::{Backend, DefaultBackend, InternError};
 use string_interner::dedup::{DefaultHashBuilder, TextHasher};
 
-/// The open blocks of a source. Each has an interner of its own, so that it may declare anew a name that one around it
-/// has; `Scopes` would return that one's symbol.
+/// The open blocks of a source. Each has an interner of its own, so it may declare again a name of a block around it, where
+/// `Scopes` would return that one's symbol.
 #[derive(Drop)]
 pub struct Blocks<B: Backend = DefaultBackend, H: TextHasher = DefaultHashBuilder> {
     innermost: StringInterner<B, H>,
@@ -95,7 +95,7 @@ impl<B: Backend, H: TextHasher> Blocks<B, H> {
     }
 }
 
-/// Looks for a name in a block, and then in those around it, which stand the outermost first.
+/// Looks for a name in a block, and then in those around it, which are in the list the outermost first.
 fn resolve_in<B: Backend, H: TextHasher>(
     block: &StringInterner<B, H>,
     outer: &[StringInterner<B, H>],

@@ -1,4 +1,4 @@
-//! A lexer whose tokens are symbols: equal words have one token, and keywords are told by their numbers.
+//! A lexer whose tokens are symbols: equal words have one token, and keywords are recognised by their numbers.
 
 ghost use Rattle.std.specs.Prelude.{◌≤◌, ◌↔◌, IsTrue, IfOk};
 ghost use Rattle.string_interner.specs.Text.{Text};
@@ -10,8 +10,8 @@ use string_interner::backend::{Backend, InternError};
 use string_interner::dedup::TextHasher;
 use string_interner::{StringInterner, Symbol};
 
-/// Returns a token for each word of a source, in their order: the word's symbol. Words stand between single blanks, so
-/// that between two blanks there is an empty one.
+/// Returns a token for each word of a source, in order: the word's symbol. A single blank separates words, so between two
+/// blanks there is an empty word.
 ///
 /// Fails as `intern_all` does. Words that were there keep their symbols, on `Err` too.
 pub fn lex<B: Backend, H: TextHasher>(
@@ -29,7 +29,7 @@ pub fn lex<B: Backend, H: TextHasher>(
 }
 
 /// Reports whether a token is a keyword, by its number alone. The caller interns the keywords before all other words, and
-/// `last` is the symbol of the last of them: the keywords are the words that stand no later.
+/// `last` is the symbol of the last of them: the keywords are the words up to that one.
 pub fn is_keyword<B: Backend, H: TextHasher>(
     words: &StringInterner<B, H>,
     last: B::Symbol,

@@ -4,7 +4,6 @@
 #![tactic(auto)]
 
 pub mod blocks;
-pub mod column;
 pub mod lexer;
 pub mod lines;
 pub mod same_text;

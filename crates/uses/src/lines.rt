@@ -1,4 +1,4 @@
-//! The lines of use that docs/USING.md shows, and the first of them the README.
+//! The examples that docs/GUIDE.md, the README and the front page of `string_interner` show.
 
 ghost use Rattle.std.specs.Prelude.{◌≡◌, [], take, true, IfOk};
 
@@ -32,7 +32,7 @@ pub fn find_and_resolve(interner: &mut DefaultStringInterner) -> Result<bool, In
     Ok(interner.get("Horse") == Some(horse) && interner.resolve(horse) == Some("Horse"))
 }
 
-/// Walks over all texts in the order of first interning, and counts their bytes.
+/// Iterates over all texts in insertion order, and counts their bytes.
 pub fn count_bytes(interner: &DefaultStringInterner) -> usize {
     let mut bytes = 0_usize;
     for (_, text) in interner {
@@ -53,7 +53,7 @@ pub fn intern_fast(alloc: Global) -> Result<bool, InternError>
     Ok(again == width)
 }
 
-/// The same calls under keys. If they are random and secret, texts that an attacker chooses make it no slower.
+/// The same calls under keys. If these are random and secret, texts from strangers make it no slower.
 pub fn intern_keyed(alloc: Global, key0: u64, key1: u64) -> Result<bool, InternError>
     ensures { IfOk result (λ same. same ≡ true) }
 {
@@ -66,7 +66,7 @@ pub fn intern_keyed(alloc: Global, key0: u64, key1: u64) -> Result<bool, InternE
     Ok(tiger == again)
 }
 
-/// Collects over another backend. Stops at the first text that is refused; those before it stay.
+/// Collects over another backend. Stops at the first text that fails; those before it stay.
 pub fn collect(alloc: Global) -> Result<StringInterner<BufferBackend>, InternError> {
     let elements = ["Earth", "Water"];
     let mut names = StringInterner::<BufferBackend>::from_iter(alloc, elements.iter().copied())?;
@@ -74,7 +74,7 @@ pub fn collect(alloc: Global) -> Result<StringInterner<BufferBackend>, InternErr
     Ok(names)
 }
 
-/// Encodes a column: each text is kept once, and the list gets a symbol for each row.
+/// Encodes a column: each text is stored once, and the list gets a symbol for each row.
 pub fn encode(alloc: Global) -> Result<usize, InternError> {
     let mut colors = <DefaultStringInterner>::new(alloc);
     let mut codes = Vec::new(alloc);
@@ -82,7 +82,7 @@ pub fn encode(alloc: Global) -> Result<usize, InternError> {
     Ok(codes.len())
 }
 
-/// Reserves once: within this room no text is refused for memory.
+/// Reserves once: within this capacity no text fails for memory.
 pub fn reserve(alloc: Global) -> Result<StringInterner<BufferBackend>, InternError>
     ensures { IfOk result (λ names. names.texts ≡ []) }
 {
@@ -90,7 +90,7 @@ pub fn reserve(alloc: Global) -> Result<StringInterner<BufferBackend>, InternErr
     Ok(names)
 }
 
-/// Keeps the first text alone; the others are new again.
+/// Keeps only the first text; the others are new again.
 pub fn keep_the_first(names: &mut StringInterner<BufferBackend>) -> bool
     ensures { names.new.texts ≡ take 1 names.old.texts }
 {
@@ -98,7 +98,7 @@ pub fn keep_the_first(names: &mut StringInterner<BufferBackend>) -> bool
     names.contains("Water")
 }
 
-/// All texts are in: keeps them with their symbols, and lets the index go.
+/// All texts are in: keeps them with their symbols, and drops the index.
 pub fn finish(names: StringInterner<BufferBackend>) -> BufferBackend
     ensures { result.texts ≡ names.texts }
 {

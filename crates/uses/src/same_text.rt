@@ -1,4 +1,4 @@
-//! Whether two texts are equal, told by their symbols.
+//! Whether two texts are equal, by their symbols.
 
 ghost use Rattle.std.specs.Prelude.{◌≡◌, ◌↔◌, IsTrue, IfOk};
 

@@ -1,7 +1,9 @@
-//! The callers of the crate `uses` at work, each once.
+//! The callers of the crate `uses` and the calls of `string_column` at work, each once.
 //!
 //! They stand apart, since a crate with a test is proved twice.
 #![tactic(auto)]
 
+#[cfg(test)]
+mod columns;
 #[cfg(test)]
 mod tests;

@@ -5,7 +5,6 @@ use string_interner::backend::{Backend, BucketBackend, BufferBackend, InternErro
 use string_interner::dedup::KeyedState;
 use string_interner::symbol::Symbol;
 use uses::blocks::Blocks;
-use uses::column::Column;
 use uses::lexer::{is_keyword, lex};
 use uses::lines::{
     collect, encode, intern_and_compare, intern_fast, intern_keyed, keep_the_first, nested_scopes,
@@ -32,20 +31,6 @@ fn compares(alloc: Global) -> Result<bool, InternError> {
 #[test]
 fn equal_texts_have_one_symbol(rt: HostRuntime) -> Result<(), Fail> {
     check_answer(compares(rt.alloc()))
-}
-
-fn decodes(alloc: Global) -> Result<bool, InternError> {
-    let mut colors = <Column>::new(alloc);
-    colors.encode(["red", "green", "red"].iter().copied())?;
-    let is_counted = (colors.len(), colors.count_distinct()) == (3, 2);
-    let is_read = (colors.text(1), colors.text(2), colors.text(3))
-        == (Some("green"), Some("red"), None);
-    Ok(is_counted & is_read)
-}
-
-#[test]
-fn rows_are_decoded(rt: HostRuntime) -> Result<(), Fail> {
-    check_answer(decodes(rt.alloc()))
 }
 
 fn lexes(alloc: Global) -> Result<bool, InternError> {

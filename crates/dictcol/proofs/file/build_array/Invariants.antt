@@ -3,10 +3,10 @@ use Rattle.serde_json.specs.View.{view}
 use Rattle.string_interner.specs.Json.{json_of_number}
 use Rattle.dictcol.proofs.file.build_array.Given as goal
 
--- the elements are the numbers so far, and there is room for the rest
-abbrev pub invariant-loop-number : goal.invariant-loop-number
-invariant-loop-number l = record {
-  so_far : map view l.elements.items ≡ map json_of_number (take l.number-index l.numbers);
-  count : vec_len l.elements ≡ l.number-index;
-  room : length l.numbers ≤ vec_capacity l.elements;
+-- the elements are the codes so far, and there is room for the rest
+abbrev pub invariant-loop-row : goal.invariant-loop-row
+invariant-loop-row l = record {
+  so_far : map view l.elements.items ≡ map json_of_number (take l.row l.codes.items);
+  count : vec_len l.elements ≡ l.row;
+  room : length l.codes.items ≤ vec_capacity l.elements;
 }

@@ -1,0 +1,689 @@
+"""Tests of columns: random calls beside a plain list of rows, with and without numpy, and each refusal.
+
+EXAMPLES=10000 makes as many runs of each, each time others. Else there are fifty, always the same.
+"""
+
+import copy
+import doctest
+import os
+import pickle
+import signal
+import sys
+import threading
+import unittest
+from array import array
+from unittest import mock
+
+from hypothesis import settings, strategies
+from hypothesis.stateful import RuleBasedStateMachine, initialize, invariant, rule
+from test_protocols import Number
+from test_safety import LyingStr, collecting, run_apart, running
+
+from string_interner import Column, Interner, _column
+
+try:
+    import numpy
+except ImportError:
+    numpy = None
+try:
+    import pandas
+except ImportError:
+    pandas = None
+
+# Few texts, so that they repeat, and are known to the other column or not.
+TEXTS = strategies.text("abß語", max_size=2) | strategies.text(max_size=3)
+VALUES = strategies.none() | TEXTS
+ROWS = strategies.lists(VALUES, max_size=12)
+DICTIONARIES = strategies.lists(TEXTS, max_size=6, unique=True)
+FORMS = strategies.sampled_from((list, tuple, iter, dict.fromkeys, Column))
+PLACES = strategies.none() | strategies.integers(-20, 20)
+WRONG_VALUES = (b"a", 1, 1.5, ["a"], object())
+WRONG_NUMBERS = (1.5, "1", None, [1])
+
+
+def first_appearances(texts):
+    """The distinct texts of some rows."""
+    return list(dict.fromkeys(text for text in texts if text is not None))
+
+
+class BesideAList(RuleBasedStateMachine):
+    """A column, its rows, and the texts of its dictionary."""
+
+    # How many texts a dictionary may have for codes of 4 bytes, and whether numpy is used if it is there.
+    most, with_numpy = _column._MOST_OF_4_BYTES, True
+
+    def __init__(self):
+        super().__init__()
+        self.patches = [mock.patch.multiple(_column, _MOST_OF_4_BYTES=self.most, _AT_ONCE=3)]
+        if not self.with_numpy:
+            self.patches.append(mock.patch.object(_column, "_find_numpy", lambda: None))
+        for patch in self.patches:
+            patch.start()
+        self.column, self.rows, self.texts, self.lent = Column(), [], [], []
+
+    def teardown(self):
+        for patch in self.patches:
+            patch.stop()
+
+    def add(self, rows, texts=None):
+        """Notes that rows were added, and texts if these are not only those of the rows."""
+        self.rows = self.rows + rows
+        self.texts = first_appearances(self.texts + (rows if texts is None else texts))
+
+    @initialize(rows=ROWS, make=strategies.sampled_from((Column, Column.from_values, Column.encode)))
+    def make(self, rows, make):
+        self.column = make(rows)
+        self.add(rows)
+
+    @rule(value=VALUES)
+    def append(self, value):
+        self.column.append(value)
+        self.add([value])
+
+    @rule(rows=ROWS, form=FORMS)
+    def extend(self, rows, form):
+        self.column.extend(form(rows))
+        self.add(list(form(rows)))
+
+    @rule(texts=DICTIONARIES, codes=strategies.lists(strategies.integers(-1, 5), max_size=12))
+    def merge(self, texts, codes):
+        codes = [code for code in codes if code < len(texts)]
+        other = Column.from_parts(texts, codes)
+        rows = [None if code < 0 else texts[code] for code in codes]
+        self.column.merge(other)
+        assert (list(other), other.dictionary) == (rows, texts)
+        self.add(rows, texts)
+
+    @rule()
+    def merge_with_itself(self):
+        # No more than that, because each time doubles it.
+        if len(self.rows) < 40:
+            self.column.merge(self.column)
+            self.add(self.rows)
+
+    @rule(rows=ROWS, wrong=strategies.sampled_from((*WRONG_VALUES, "lone \ud800")), place=strategies.integers(0, 12))
+    def extend_by_what_is_no_text(self, rows, wrong, place):
+        for call in (lambda: self.column.append(wrong), lambda: self.column.extend([*rows[:place], wrong, *rows[place:]])):
+            try:
+                call()
+            except (TypeError, UnicodeEncodeError):
+                continue
+            raise AssertionError("a wrong value was taken")
+
+    @rule(start=PLACES, stop=PLACES, step=PLACES.filter(lambda step: step != 0))
+    def slice(self, start, stop, step):
+        part = self.column[start:stop:step]
+        assert list(part) == self.rows[start:stop:step] and part.dictionary == self.texts
+        part.extend(["new", None])
+        assert list(part) == self.rows[start:stop:step] + ["new", None]
+
+    @rule(start=PLACES, stop=PLACES)
+    def go_on_with_a_slice(self, start, stop):
+        self.column, self.rows = self.column[start:stop], self.rows[start:stop]
+
+    @rule(make=strategies.sampled_from((
+        copy.copy, copy.deepcopy, lambda it: pickle.loads(pickle.dumps(it)), lambda it: pickle.loads(pickle.dumps(it, 0)),
+        lambda it: Column.from_parts(it.dictionary, it.codes),
+        lambda it: Column.from_parts(Interner(it.dictionary), iter(it.codes)),
+    )))
+    def go_on_with_a_copy(self, make):
+        before, self.column = self.column, make(self.column)
+        assert before == self.column
+        before.extend(["only there", None])
+
+    @rule()
+    def lend(self):
+        self.lent.append((self.column.codes, self.column.codes.tolist(), iter(self.column), self.rows))
+
+    @rule(rows=ROWS, change=strategies.integers(0, 20))
+    def compare(self, rows, change):
+        assert (self.column == Column(rows)) == (rows == self.rows)
+        # The same rows, under another dictionary and its codes, and then with one changed.
+        other = Column(["x", *reversed(self.rows)])[:0]
+        other.extend(self.rows)
+        assert self.column == other and other == self.column
+        if self.rows:
+            rows = self.rows[:]
+            rows[change % len(rows)] = "not here" if change % 2 else None
+            assert (self.column == Column(rows)) == (rows == self.rows)
+
+    @invariant()
+    def holds_the_rows(self):
+        column, rows = self.column, self.rows
+        codes = [-1 if row is None else self.texts.index(row) for row in rows]
+        assert (list(column), len(column), column.dictionary, column.distinct) == (rows, len(rows), self.texts, len(self.texts))
+        assert column.codes.tolist() == codes and column.codes.readonly
+        assert column.codes.itemsize == (4 if len(self.texts) <= self.most else 8)
+        assert [column[row] for row in range(-len(rows), len(rows))] == rows + rows
+        assert column.counts() == array("Q", map(rows.count, self.texts))
+        for place in (len(rows), -len(rows) - 1, 2**70):
+            try:
+                column[place]
+            except IndexError:
+                continue
+            raise AssertionError("there is no such row")
+
+    @invariant()
+    def what_was_lent_stays(self):
+        for view, codes, _, _ in self.lent:
+            assert view.tolist() == codes
+        while self.lent and len(self.lent) > 3:
+            _, _, walk, rows = self.lent.pop(0)
+            assert list(walk) == rows
+
+
+class WithoutNumpy(BesideAList):
+    with_numpy = False
+
+
+class InEightBytes(BesideAList):
+    most = 2
+
+
+class InEightBytesWithoutNumpy(BesideAList):
+    most, with_numpy = 2, False
+
+
+TestBesideAList, TestWithoutNumpy = BesideAList.TestCase, WithoutNumpy.TestCase
+TestInEightBytes, TestInEightBytesWithoutNumpy = InEightBytes.TestCase, InEightBytesWithoutNumpy.TestCase
+for case in (TestBesideAList, TestWithoutNumpy, TestInEightBytes, TestInEightBytesWithoutNumpy):
+    case.settings = settings(max_examples=int(os.environ.get("EXAMPLES", 50)), stateful_step_count=30, deadline=None,
+                             derandomize="EXAMPLES" not in os.environ, database=None)
+
+
+class Named(Column):
+    """A subclass whose constructor takes something else."""
+
+    def __init__(self, name, values):
+        super().__init__(values)
+        self.name = name
+
+
+class Refusals(unittest.TestCase):
+    def test_a_repeated_entry(self):
+        for dictionary, said in (
+            (["a", "b", "a", "b"], "entry 2 of the dictionary repeats entry 0"),
+            (["a", "b", "c", "b", "a", "d"], "entry 3 of the dictionary repeats entry 1"),
+            (["", ""], "entry 1 of the dictionary repeats entry 0"),
+        ):
+            for codes in ([0], [7], []):
+                with self.assertRaisesRegex(ValueError, f"^{said}$"):
+                    Column.from_parts(dictionary, codes)
+
+    def codes_of(self, *codes):
+        """The same codes in each form that has a place for them."""
+        yield from (list(codes), iter(codes), [Number(code) for code in codes])
+        for typecode in "bBhHiIlLqQ":
+            try:
+                numbers = array(typecode, codes)
+            except OverflowError:
+                continue
+            yield from (numbers, memoryview(numbers))
+            if numpy:
+                yield from (numpy.array(numbers), numpy.array(numbers).byteswap().newbyteorder())
+
+    def test_a_code_outside(self):
+        limits = (2**31 - 1, 2**31, -(2**31), 2**32 - 1, 2**32, 2**63, -(2**63), 2**64 - 1, 2**64, -(2**64))
+        for bad in (2, -2, 127, -128, *limits):
+            for given in self.codes_of(0, 1, bad, -3) if bad < 0 else self.codes_of(0, 1, bad, 9):
+                with self.assertRaisesRegex(ValueError, f"^row 2 has code {bad}, and the dictionary has 2 texts$"):
+                    Column.from_parts(["a", "b"], given)
+        for bad in (0, -2):
+            with self.assertRaisesRegex(ValueError, f"^row 1 has code {bad}, and the dictionary has 0 texts$"):
+                Column.from_parts([], [-1, bad])
+
+    def test_codes_in_each_form(self):
+        for given in self.codes_of(1, 0, 1):
+            self.assertEqual(list(Column.from_parts(["a", "b"], given)), ["b", "a", "b"])
+        for given in self.codes_of(1, -1, 0):
+            self.assertEqual(list(Column.from_parts(["a", "b"], given)), ["b", None, "a"])
+
+    def test_what_is_no_code(self):
+        for wrong in WRONG_NUMBERS:
+            with self.assertRaises(TypeError):
+                Column.from_parts(["a"], [0, wrong])
+        for wrong in (None, 1, array("d", [0.0])):
+            with self.assertRaises(TypeError):
+                Column.from_parts(["a"], wrong)
+
+    def test_what_is_no_text(self):
+        for wrong in (*WRONG_VALUES, None):
+            with self.assertRaises(TypeError):
+                Column.from_parts(["a", wrong], [0])
+        for wrong in WRONG_VALUES:
+            for rows in ([wrong], ["a", wrong], [None, wrong], ["a", None, wrong]):
+                with self.assertRaises(TypeError):
+                    Column(rows)
+        for call in (Column, Column.from_values, Column().extend):
+            with self.assertRaises(TypeError):
+                call(1)
+        with self.assertRaises(UnicodeEncodeError):
+            Column(["a", None, "\ud800"])
+
+    def test_merging_what_is_no_column(self):
+        column = Column(["a"])
+        for wrong in (["a"], Interner(["a"]), None):
+            with self.assertRaisesRegex(TypeError, f"^a column is merged with a column, not {type(wrong).__name__}$"):
+                column.merge(wrong)
+        self.assertEqual(list(column), ["a"])
+
+    def test_what_is_no_row(self):
+        column = Column(["a", None])
+        for wrong in WRONG_NUMBERS:
+            with self.assertRaises(TypeError):
+                column[wrong]
+        self.assertEqual([column[True], column[Number(-2)]], [None, "a"])
+
+    def test_what_is_no_hasher(self):
+        def make_of_parts(texts, hasher):
+            Column.from_parts(texts, [], hasher=hasher)
+
+        for make in (Column, Column.from_values, Column.encode, make_of_parts):
+            with self.assertRaisesRegex(ValueError, "^no hasher 'none'$"):
+                make([], hasher="none")
+
+    def test_a_failed_call_adds_no_row(self):
+        column = Column(["a", None])
+        for error in (MemoryError, OverflowError):
+            with mock.patch.multiple(Interner, intern=mock.Mock(side_effect=error), intern_all=mock.Mock(side_effect=error)):
+                for call in (lambda: column.append("b"), lambda: column.extend(["b"]), lambda: column.merge(Column())):
+                    with self.assertRaises(error):
+                        call()
+            self.assertEqual(list(column), ["a", None])
+
+
+class Calls(unittest.TestCase):
+    def test_hashers(self):
+        for hasher in ("keyed", "fixed", (1, 2)):
+            for column in (Column(["a", None, "a"], hasher=hasher), Column.encode(["a", None, "a"], hasher=hasher),
+                           Column.from_parts(["a"], [0, -1, 0], hasher=hasher)):
+                self.assertEqual(list(column), ["a", None, "a"])
+                self.assertEqual(column._names.hasher, "fixed" if hasher == "fixed" else "keyed")
+
+    def test_a_dictionary_of_any_backend(self):
+        for backend in ("string", "bucket", "buffer"):
+            names = Interner(["b", "a" * 200, "c"], backend=backend)
+            column = Column.from_parts(names, [2, -1, 0])
+            names.truncate(0)
+            self.assertEqual((list(column), column.dictionary), (["c", None, "b"], ["b", "a" * 200, "c"]))
+
+    def test_a_sequence(self):
+        column = Column(["a", None, "b", "a"])
+        self.assertTrue("b" in column and None in column and "c" not in column and 7 not in column)
+        self.assertEqual((column.index("b"), column.count("a"), list(reversed(column))), (2, 2, ["a", "b", None, "a"]))
+        self.assertEqual(repr(column), "<Column of 4 rows, 2 distinct texts>")
+        self.assertFalse(Column())
+        self.assertNotEqual(column, ["a", None, "b", "a"])
+        with self.assertRaises(TypeError):
+            hash(column)
+
+    def test_its_size_has_codes_and_dictionary(self):
+        column = Column()
+        empty = sys.getsizeof(column)
+        column.extend([None] * 1000)
+        self.assertEqual(sys.getsizeof(column) - empty, 4000)
+        column.extend(map(str, range(1000)))
+        self.assertEqual(sys.getsizeof(column) - empty, 8000 + 64 * 1000)
+
+    def test_a_text_is_what_it_holds(self):
+        self.assertEqual(list(Column([LyingStr("Tiger"), None])), ["Tiger", None])
+
+    def test_a_row_is_read_without_the_whole_dictionary(self):
+        column, fails = Column(["a", None, "b"]), mock.Mock(side_effect=AssertionError)
+        with mock.patch.multiple(Interner, __iter__=fails, resolve_all=fails):
+            self.assertEqual([column[0], column[1], column[-1]], ["a", None, "b"])
+        self.assertEqual(column.dictionary, ["a", "b"])
+        column.append("c")
+        with mock.patch.multiple(Interner, __iter__=fails, resolve_all=fails):
+            self.assertEqual([column[0], column[-1]], ["a", "c"])
+
+    def test_merging_looks_up_each_text_once(self):
+        intern_all, given = Interner.intern_all, []
+
+        def note(self, texts, **options):
+            given.append(list(texts))
+            return intern_all(self, given[-1], **options)
+
+        for add in (Column.merge, Column.extend):
+            one, other = Column(["a", "b"] * 50), Column(["b", "c", None] * 50)
+            given.clear()
+            with mock.patch.multiple(Interner, intern_all=note, intern=mock.Mock(side_effect=AssertionError)):
+                add(one, other)
+            self.assertEqual(given, [["b", "c"]])
+            self.assertEqual(list(one), ["a", "b"] * 50 + ["b", "c", None] * 50)
+
+    def test_texts_of_an_iterator_are_not_all_in_memory(self):
+        alive, most = 0, 0
+
+        class Counted(str):
+            def __init__(self, _):
+                nonlocal alive, most
+                alive += 1
+                most = max(most, alive)
+
+            def __del__(self):
+                nonlocal alive
+                alive -= 1
+
+        with mock.patch.object(_column, "_AT_ONCE", 100):
+            column = Column(Counted(row % 7) for row in range(2000))
+        self.assertEqual(list(column), [str(row % 7) for row in range(2000)])
+        self.assertLess(most, 250)
+
+    def test_an_iterator_that_fails_adds_no_row(self):
+        def rows(last):
+            yield from "abcde"
+            yield last
+
+        with mock.patch.object(_column, "_AT_ONCE", 2):
+            for last, error in ((7, TypeError), (b"a", TypeError), ("\ud800", UnicodeEncodeError)):
+                column = Column(["x", None])
+                with self.assertRaises(error):
+                    column.extend(rows(last))
+                self.assertEqual(list(column), ["x", None])
+            with self.assertRaises(ZeroDivisionError):
+                column.extend(str(1 // (3 - row)) for row in range(5))
+            self.assertEqual(list(column), ["x", None])
+            column.extend(rows(None))
+        self.assertEqual((list(column), column.distinct >= 6), (["x", None, *"abcde", None], True))
+
+    def test_merging_is_associative(self):
+        parts = [["a", None, "b"], ["c", "a"], ["d", "c", "b", None]]
+        first, last = Column(parts[0]), Column(parts[1])
+        first.merge(Column(parts[1]))
+        first.merge(Column(parts[2]))
+        last.merge(Column(parts[2]))
+        whole = Column(parts[0])
+        whole.merge(last)
+        self.assertEqual((list(whole), whole.dictionary, whole.codes), (list(first), first.dictionary, first.codes))
+        self.assertEqual(list(whole), sum(parts, []))
+
+    def test_copies_keep_class_and_attributes(self):
+        column = Named("n", ["a", None])
+        pickles = [pickle.loads(pickle.dumps(column, protocol)) for protocol in range(pickle.HIGHEST_PROTOCOL + 1)]
+        for other in (copy.copy(column), copy.deepcopy(column), *pickles):
+            self.assertEqual((type(other), other.name, list(other)), (Named, "n", ["a", None]))
+            other.append("b")
+            self.assertEqual(list(column), ["a", None])
+        for other in (Named.from_values(["a", None]), Named.from_parts(["a"], [0, -1])):
+            self.assertIs(type(other), Named)
+            self.assertEqual(other, column)
+
+    def test_another_process_reads_a_pickle(self):
+        written = pickle.dumps(Column(["a", None, "ß", "a"]))
+        self.assertEqual(run_apart(f"""
+            import pickle
+            column = pickle.loads({written!r})
+            column.append("b")
+            print(ascii(list(column)), column.codes.tolist())
+            """), (0, "['a', None, '\\xdf', 'a', 'b'] [0, -1, 1, 0, 2]", ""))
+
+    def test_neither_numpy_nor_pandas_is_imported(self):
+        self.assertEqual(run_apart("""
+            import sys
+            from string_interner import Column
+            column = Column(["a", None, "b"])
+            column.merge(Column(["b", "c"]))
+            column == Column.from_parts(["a", "c", "b"], column.codes), column.counts(), column[1:], list(column)
+            print(*{"numpy", "pandas"} & {*sys.modules})
+            sys.modules |= {"numpy": None, "pandas": None}
+            print(column.counts().tolist(), column == column[:])
+            for call in (column.to_pandas, lambda: Column.from_pandas([])):
+                try:
+                    call()
+                except ImportError:
+                    print("ImportError")
+            """), (0, "[1, 2, 1] True\nImportError\nImportError", ""))
+
+
+class Buffers(unittest.TestCase):
+    def test_the_codes_are_lent(self):
+        column = Column(["a", None, "b"])
+        view = column.codes
+        self.assertIs(view.obj, column.codes.obj)
+        self.assertEqual((view.format, view.nbytes, view.readonly), ("i", 12, True))
+        with self.assertRaises(TypeError):
+            view[0] = 1
+        column.extend("ab")
+        self.assertEqual(view.tolist(), [0, -1, 1])
+        self.assertEqual(column.codes.tolist(), [0, -1, 1, 0, 1])
+
+    def test_the_dictionary_is_a_list_of_its_own(self):
+        column = Column(["a", None, "b"])
+        column.dictionary.clear()
+        column.dictionary.append("c")
+        self.assertEqual((list(column), column.dictionary, column[2]), (["a", None, "b"], ["a", "b"], "b"))
+
+    def test_codes_grow_in_place_if_nobody_has_them(self):
+        column = Column(["a"])
+        codes = column._codes
+        column.append("b")
+        column.extend([None, "a"])
+        column.merge(Column("xy"))
+        self.assertIs(column._codes, codes)
+        self.assertEqual(codes.tolist(), [0, 1, -1, 0, 2, 3])
+
+    @unittest.skipUnless(numpy, "no numpy")
+    def test_numpy_shares_the_codes(self):
+        column = Column(["a", None, "b"] * 100)
+        address, _ = column._codes.buffer_info()
+        for codes in (numpy.frombuffer(column.codes, numpy.int32), numpy.asarray(column.codes)):
+            self.assertEqual((codes.dtype, codes.tolist()), (numpy.int32, [0, -1, 1] * 100))
+            self.assertEqual(codes.__array_interface__["data"], (address, True))
+            self.assertFalse(codes.flags.writeable)
+        self.assertTrue(numpy.shares_memory(numpy.frombuffer(column.codes, numpy.int32), numpy.asarray(column.codes)))
+        with mock.patch.object(_column, "_MOST_OF_4_BYTES", 1):
+            column.append("c")
+        self.assertEqual((numpy.asarray(column.codes).dtype, codes.dtype), (numpy.int64, numpy.int32))
+        self.assertEqual(numpy.asarray(Column().codes).tolist(), [])
+
+    @unittest.skipUnless(numpy, "no numpy")
+    def test_codes_of_numpy(self):
+        for kind in ("i1", "u1", "i2", "u4", "i8", "u8", ">i4", ">u8"):
+            codes = numpy.array([1, 0, 1], kind)
+            column = Column.from_parts(["a", "b"], codes)
+            codes[:] = 0
+            self.assertEqual(list(column), ["b", "a", "b"])
+            self.assertEqual(list(Column.from_parts(["a", "b"], codes[::2])), ["a", "a"])
+            with self.assertRaisesRegex(ValueError, "^row 1 has code 2, "):
+                Column.from_parts(["a", "b"], numpy.array([1, 2, 3], kind))
+        for wrong in (numpy.array([1.0]), numpy.array([[1]])):
+            with self.assertRaises(TypeError):
+                Column.from_parts(["a", "b"], wrong)
+
+
+@unittest.skipUnless(pandas, "no pandas")
+class Pandas(unittest.TestCase):
+    def test_there_and_back(self):
+        for rows in ([], [None], ["a"], ["b", None, "a", "b"], [f"text {number % 300}" for number in range(1000)]):
+            column = Column(rows)
+            there = column.to_pandas()
+            self.assertIsInstance(there, pandas.Categorical)
+            self.assertEqual([None if value is numpy.nan else value for value in there], rows)
+            self.assertEqual((there.categories.tolist(), there.codes.tolist()), (column.dictionary, column.codes.tolist()))
+            for given in (there, pandas.Series(there), pandas.CategoricalIndex(there)):
+                back = Column.from_pandas(given)
+                self.assertEqual((list(back), back.dictionary), (rows, column.dictionary))
+
+    def test_other_than_categorical(self):
+        rows = ["b", None, "a", "b", ""]
+        for given in (rows, numpy.array(rows, object), pandas.Index(rows), pandas.Series(rows), pandas.Series(rows, dtype="string"),
+                      pandas.Series(["b", numpy.nan, "a", "b", ""]), pandas.Series(["b", pandas.NA, "a", "b", ""])):
+            column = Column.from_pandas(given)
+            self.assertEqual((list(column), column.dictionary), (rows, ["b", "a", ""]))
+        kept = pandas.Series(["a", None])
+        Column.from_pandas(kept).append("b")
+        self.assertEqual(kept.tolist(), ["a", None])
+        self.assertEqual(list(Column.from_pandas(pandas.Series([], dtype=object))), [])
+
+    def test_categories_stay_in_their_order(self):
+        given = pandas.Categorical(["b", None], categories=["z", "b", "a"], ordered=True)
+        column = Column.from_pandas(given)
+        self.assertEqual((column.dictionary, column.codes.tolist()), (["z", "b", "a"], [1, -1]))
+        self.assertEqual(column.counts().tolist(), [0, 1, 0])
+
+    def test_what_are_no_texts(self):
+        for wrong in (pandas.Series([1, 2]), pandas.Series(["a", 1]), pandas.Categorical([1, 2]), pandas.Series([True]),
+                      pandas.Categorical(["a", 1]), pandas.Series(pandas.date_range("2020", periods=2))):
+            with self.assertRaises(TypeError):
+                Column.from_pandas(wrong)
+
+    def test_codes_are_shared_if_pandas_keeps_4_bytes(self):
+        for distinct, width in ((126, 1), (127, 2), (32_766, 2), (32_767, 4), (40_000, 4)):
+            column = Column(map(str, range(distinct)))
+            there = column.to_pandas()
+            self.assertEqual(there.codes.dtype.itemsize, width)
+            self.assertEqual(numpy.shares_memory(there.codes, numpy.asarray(column.codes)), width == 4)
+            # What pandas does with it, it does without changing the column, and the column without changing it.
+            series, last = pandas.Series(there), str(distinct - 1)
+            column.extend(["0", None, "new"])
+            self.assertEqual((len(there), there[-1]), (distinct, last))
+            self.assertEqual(series.value_counts().to_dict(), dict.fromkeys(map(str, range(distinct)), 1))
+            self.assertEqual(series[series == last].tolist(), [last])
+            self.assertEqual(series.sort_values(ascending=False).iloc[0], last)
+            self.assertEqual(int(pandas.Series(1, series.index).groupby(series, observed=True).sum().sum()), distinct)
+            self.assertEqual(series.isna().sum(), 0)
+            self.assertEqual(pandas.concat([series, series]).nunique(), distinct)
+            self.assertEqual(series.astype(object).tolist(), list(map(str, range(distinct))))
+            changed = there.copy()
+            changed[0] = last
+            self.assertEqual((changed[0], there[0], column[0]), (last, "0", "0"))
+            if width == 4:
+                with self.assertRaises(ValueError):
+                    there[0] = last
+
+    def test_factorize_finds_the_same(self):
+        rows = [f"user{number * number % 7919}" for number in range(20_000)]
+        codes, texts = pandas.factorize(numpy.array(rows, dtype=object))
+        column = Column(rows)
+        self.assertTrue((numpy.asarray(column.codes) == codes).all())
+        self.assertEqual(column.dictionary, texts.tolist())
+
+
+class SharedColumns(unittest.TestCase):
+    def test_threads_take_turns(self):
+        column, seen = Column(), []
+
+        def fill(name):
+            other = Column([f"{name} {number % 50}" for number in range(100)])
+            for _ in range(50):
+                column.merge(other)
+                column.extend([name, None])
+                column.append(name)
+                seen.append({*map(type, column)} == {str, type(None)} and column[-9:] != other and len(column.dictionary) > 50)
+
+        threads = [threading.Thread(target=fill, args=(name,)) for name in "abcd"]
+        for thread in threads:
+            thread.start()
+        for thread in threads:
+            thread.join(100)
+        self.assertEqual((len(seen), all(seen), len(column), column.distinct), (200, True, 4 * 50 * 103, 4 * 51))
+        for name in "abcd":
+            self.assertEqual(column.count(name), 100)
+            self.assertEqual(column.count(f"{name} 7"), 100)
+        self.assertEqual(column.count(None), 200)
+
+    def test_dictionary_and_codes_belong_together(self):
+        columns, wrong = [Column()], []
+
+        def fill():
+            columns[0].append(str(len(columns[0])))
+
+        with running(fill):
+            for _ in range(3000):
+                for read in (list, lambda column: list(copy.copy(column)), lambda column: [*reversed(column[:])][::-1]):
+                    column = columns[0]
+                    try:
+                        rows = read(column)
+                    except IndexError as error:
+                        wrong.append(error)
+                    else:
+                        wrong += [rows] if rows != list(map(str, range(len(rows)))) else []
+                if len(column) > 50:
+                    columns[0] = Column()
+        self.assertEqual(wrong, [])
+
+    def test_a_list_that_another_thread_changes(self):
+        rows, wrong = ["ab"] * 500, []
+
+        def change():
+            for row in range(0, len(rows), 7):
+                rows[row] = None
+            rows.append("cd")
+            del rows[500:]
+            for row in range(0, len(rows), 7):
+                rows[row] = "ab"
+
+        with running(change):
+            for _ in range(1000):
+                column = Column(rows)
+                if not (500 <= len(column) <= 501 and {*column} <= {"ab", "cd", None}):
+                    wrong.append(column)
+        self.assertEqual(wrong, [])
+
+    def test_two_that_merge_each_other(self):
+        one, other = Column("ab"), Column("bc")
+        threads = [threading.Thread(target=lambda: [one.merge(other[:2]) or one == other for _ in range(500)], daemon=True),
+                   threading.Thread(target=lambda: [other.merge(one[:2]) or other == one for _ in range(500)], daemon=True)]
+        for thread in threads:
+            thread.start()
+        for thread in threads:
+            thread.join(60)
+        self.assertEqual((len(one), len(other)), (1002, 1002))
+        self.assertEqual((list(one), list(other)), (["a", "b"] + ["b", "c"] * 500, ["b", "c"] + ["a", "b"] * 500))
+
+    def test_a_finalizer_adds_rows_too(self):
+        column, other, added = Column(), Column(["other", None]), []
+
+        def add():
+            added.append(f"finalizer {len(added)}")
+            column.append(added[-1])
+
+        own = []
+        with collecting(add):
+            for number in range(200):
+                view = column.codes
+                column.extend([f"row {number}", None])
+                column.merge(other)
+                column.append("last")
+                own += [f"row {number}", None, "other", None, "last"]
+                self.assertLess(len(view), len(column))
+        rows = list(column)
+        self.assertGreater(len(added), 200)
+        self.assertEqual([row for row in rows if row and row.startswith("finalizer")], added)
+        self.assertEqual([row for row in rows if not (row and row.startswith("finalizer"))], own)
+
+    def test_a_child_finds_the_column_whole(self):
+        column, ended = Column(), threading.Event()
+
+        def fill():
+            while not ended.is_set() and len(column) < 10**6:
+                column.extend(["a", None, f"text {len(column)}"])
+
+        filler = threading.Thread(target=fill, daemon=True)
+        filler.start()
+        bad = 0
+        for _ in range(20):
+            child = os.fork()
+            if not child:
+                status = 1
+                try:
+                    signal.alarm(5)
+                    rows = list(column)
+                    column.append("new")
+                    status = int(len(rows) % 3 or column[-1] != "new" or rows[:2] != ["a", None][: len(rows)])
+                finally:
+                    os._exit(status)
+            bad += os.waitpid(child, 0)[1] != 0
+        ended.set()
+        filler.join(20)
+        self.assertEqual(bad, 0)
+
+
+def load_tests(loader, tests, pattern):
+    tests.addTests(doctest.DocTestSuite(_column))
+    return tests
+
+
+if __name__ == "__main__":
+    unittest.main()

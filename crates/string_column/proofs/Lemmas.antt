@@ -1,0 +1,5 @@
+pub mod AreNumbered
+pub mod Counts
+pub mod Parts
+pub mod Recodes
+pub mod Rows

@@ -1,0 +1,12 @@
+use Rattle.std.proofs.Common.{◌≡◌, ◌≤◌, List, length, take}
+use Rattle.string_interner.specs.Text.{Text, IsDistinct}
+use Rattle.string_column.specs.Column.{dictionary_of, rows_of}
+use Rattle.string_column.proofs.rows.parts.is_in_order.Given as goal
+
+-- the rows so far have the first entries, in their order
+abbrev pub invariant-loop-row : goal.invariant-loop-row
+invariant-loop-row l = record {
+  few : l.next ≤ l.row;
+  within : l.next ≤ l.count;
+  ordered : (entries : List Text) → IsDistinct entries → length entries ≡ l.count → dictionary_of (rows_of entries (take l.row l.codes.items)) ≡ take l.next entries;
+}

@@ -1,0 +1,4 @@
+pub mod Codes
+pub mod Entries
+pub mod Column
+pub mod Parts

@@ -1,0 +1,205 @@
+//! A column of texts: each distinct one once, and its index for each row.
+
+mod append;
+mod parts;
+
+ghost use Rattle.std.specs.Prelude.{◌≡◌, [], length, slice_get, IfOk};
+ghost use Rattle.std.specs.Option.{option_copied};
+ghost use Rattle.std.specs.Iterator.{IsFiniteIterable};
+ghost use Rattle.string_interner.specs.Extend.{YieldedBy};
+ghost use Rattle.string_column.specs.Column.{dictionary_of, counts_of, AreCodes, AppendsRow, AppendsYielded};
+
+use crate::code_list::Codes;
+use crate::entries::Entries;
+pub use parts::PartsError;
+use std::alloc::{AllocError, Global};
+use std::marker::Model;
+use string_interner::StringInterner;
+use string_interner::backend::{Backend, DefaultBackend, InternError};
+use string_interner::dedup::{FoldState, TaggedIndex, TextHasher, TextIndex};
+
+/// A list of rows, each a text, of which equal ones are stored once: in a `FastStringInterner`, if no other backend,
+/// hasher or index is named.
+///
+/// Its dictionary has the distinct rows in the order of first appearance. A row takes four bytes beside it.
+///
+/// ```
+/// let mut colors = <Column>::new(alloc);
+/// colors.encode(["red", "green", "red"].iter().copied())?;
+/// let last = colors.row(2); // Some("red")
+/// let code = colors.codes().get(2); // Some(0)
+/// ```
+#[derive(Drop)]
+pub struct Column<
+    B: Backend = DefaultBackend,
+    H: TextHasher = FoldState,
+    I: TextIndex<B::Symbol> = TaggedIndex<<B as Backend>::Symbol>,
+> {
+    dictionary: Entries<B, H, I>,
+    codes: Codes,
+}
+
+/// Contracts see the rows.
+impl<B: Backend, H: TextHasher, I: TextIndex<B::Symbol>> Model for Column<B, H, I> {
+    ghost use Rattle.std.specs.Prelude.{List};
+    ghost use Rattle.string_interner.specs.Text.{Text};
+    ghost use Rattle.string_column.specs.Column.{rows_of, IsColumn};
+
+    ghost Value = { List Text };
+
+    ghost view = { λ c. rows_of c.dictionary c.codes.items };
+
+    ghost invariant = { λ c. IsColumn c.dictionary c.codes.items
+        (rows_of c.dictionary c.codes.items) };
+}
+
+impl<B: Backend, H: TextHasher + Default, I: TextIndex<B::Symbol>> Column<B, H, I> {
+    /// Makes a column without rows, under the hasher's default. Takes no memory.
+    ///
+    /// ```
+    /// let mut colors = <Column>::new(alloc);
+    /// ```
+    pub fn new(alloc: Global) -> Self
+        ensures { result ≡ [] }
+    {
+        Column::with_hasher(alloc, H::default())
+    }
+}
+
+impl<B: Backend, H: TextHasher, I: TextIndex<B::Symbol>> Column<B, H, I> {
+    /// Makes a column without rows, under this hasher. Takes no memory.
+    ///
+    /// ```
+    /// let mut colors = Column::<BufferBackend, _>::with_hasher(alloc, KeyedHasher::new(KeyedState::new(key0, key1)));
+    /// ```
+    pub fn with_hasher(alloc: Global, hasher: H) -> Self
+        ensures { result ≡ [] }
+    {
+        Column {
+            dictionary: Entries::with_hasher(alloc, hasher),
+            codes: Codes::new(alloc),
+        }
+    }
+
+    /// Returns the number of rows.
+    #[inline]
+    pub fn len(&self) -> usize
+        ensures { result ≡ length self.now }
+    {
+        self.codes.len()
+    }
+
+    /// Returns the number of distinct rows: 2 of red, green, red.
+    #[inline]
+    pub fn distinct(&self) -> usize
+        ensures { result ≡ length (dictionary_of self.now) }
+    {
+        self.dictionary.len()
+    }
+
+    /// Returns the text of a row, and `None` if there are at most `index` rows.
+    ///
+    /// Reads the code of the row, the symbol of its entry, and the text of that. Allocates nothing.
+    ///
+    /// ```
+    /// let second = colors.row(1); // Some("green")
+    /// ```
+    #[inline]
+    pub fn row(&self, index: usize) -> Option<&str>
+        ensures { option_copied result ≡ slice_get self.now index }
+    {
+        match self.codes.get(index) {
+            Some(code) => Some(self.dictionary.text_at(code)),
+            None => None,
+        }
+    }
+
+    /// Returns the distinct rows, in the order of first appearance.
+    ///
+    /// The index of an entry is its code. It is the number of its symbol too, except over a backend that numbers
+    /// otherwise, as `BufferBackend` does.
+    ///
+    /// ```
+    /// for (_, text) in colors.dictionary() {} // red, green
+    /// ```
+    pub fn dictionary(&self) -> &StringInterner<B, H, I>
+        ensures { result.now.texts ≡ dictionary_of self.now }
+    {
+        self.dictionary.interner()
+    }
+
+    /// Returns the code of each row: the index of its text in the dictionary. They are stored as such, so nothing is
+    /// looked up.
+    ///
+    /// ```
+    /// let (narrow, wide) = colors.codes().as_slices(); // [0, 1, 0], []
+    /// ```
+    pub fn codes(&self) -> &Codes
+        ensures { AreCodes (dictionary_of self.now) result.now.items self.now }
+    {
+        &self.codes
+    }
+
+    /// Returns how many rows each entry of the dictionary has, in the order of the entries.
+    ///
+    /// Costs one pass over the codes. Returns `Err` only if an allocation fails.
+    ///
+    /// ```
+    /// colors.encode(["red", "green", "red"].iter().copied())?;
+    /// let counts = colors.counts(alloc)?; // 2, 1
+    /// ```
+    pub fn counts(&self, alloc: Global) -> Result<Vec<usize>, AllocError>
+        ensures { IfOk result (λ counts. counts.items ≡ counts_of self.now) }
+    {
+        let mut counts = vec![in alloc; 0_usize; self.distinct()]?;
+        for index in 0..self.len() {
+            let code = self.codes.at(index);
+            counts[code] += 1;
+        }
+        Ok(counts)
+    }
+
+    /// Appends a row, and returns its code.
+    ///
+    /// Returns `NoSymbol` only if the row is new and the symbol type has no symbol for it, and `Memory` only if an
+    /// allocation fails or a size does not fit a `usize`. On `Err` nothing changes.
+    ///
+    /// Hashes the row once. If the memory that a new row needs beside its text cannot be had, each distinct row is
+    /// hashed again.
+    ///
+    /// ```
+    /// let code = colors.push("blue")?; // 2
+    /// ```
+    #[inline]
+    pub fn push(&mut self, row: &str) -> Result<usize, InternError>
+        ensures { AppendsRow B.numbering self.old row.now result self.new }
+    {
+        self.codes.reserve(self.dictionary.len())?;
+        let code = self.dictionary.intern(row)?;
+        self.codes.push_reserved(code);
+        Ok(code)
+    }
+
+    /// Appends a row for each text of a finite iterator. Stops at the first text that is refused, as `push` refuses it;
+    /// the rows before it stay.
+    ///
+    /// Hashes each text once.
+    ///
+    /// ```
+    /// colors.encode(["red", "green", "red"].iter().copied())?;
+    /// ```
+    pub fn encode<'t, T: IntoIterator<Item = &'t str>>(
+        &mut self,
+        texts: T,
+    ) -> Result<(), InternError>
+        requires { IsFiniteIterable T.into_iter_gives T.IntoIter.can_next T.IntoIter.remaining
+            texts }
+        ensures { AppendsYielded B.numbering
+            (YieldedBy T.into_iter_gives T.IntoIter.next_gives texts) self.old result self.new }
+    {
+        for text in texts {
+            self.push(text)?;
+        }
+        Ok(())
+    }
+}
