@@ -60,7 +60,7 @@ module _ {S : Type 0} where
   -- twice a number,
   -- as a sum
   pub record IsTwice (a b : ℕ) : Type 0 where
-    -- the sum
+    -- the sum, and not IsUnused
     pub sum : Sum a a b
     pub Area : ℕ
 
@@ -68,12 +68,17 @@ module _ {S : Type 0} where
     abbrev pub Area : ℕ
     Area = n
 
+  module _ (m : ℕ) where
+    abbrev pub Sides : ℕ
+    Sides = m
+
 abbrev pub last : ℕ
 last = 0
 """
 NUMBERS = """\
 -- Numbers.
-pub mod Words
+use Rattle.std.specs.Prelude.{ℕ}
+
 -- a sum
 abbrev pub Sum : ℕ → ℕ → ℕ → Type 0
 Sum a b c = a + b ≡ c
@@ -131,7 +136,7 @@ class ApiTest(SmallRepository):
             self.addCleanup(patch.stop)
         self.write("crates/rooms/src/lib.rt", LIB)
         self.write("crates/rooms/specs/Words.antt", WORDS)
-        self.write("crates/rooms/specs/Numbers.antt", NUMBERS.replace("pub mod Words\n", ""))
+        self.write("crates/rooms/specs/Numbers.antt", NUMBERS)
 
     def faults_after(self, old, new):
         self.assertIn(old, LIB)
@@ -142,15 +147,17 @@ class ApiTest(SmallRepository):
 
     def test_definitions(self):
         found = {it.names: it.code for it in api.definitions_of("rooms")}
-        self.assertEqual([*found], [("Sum",), ("IsUnused",), ("IsTwice",), ("Area",), ("last",)])
-        self.assertEqual(found["IsTwice",], WORDS[WORDS.index("module _") : WORDS.index("\n\n  module")])
-        area = WORDS[WORDS.index("  module _ (n") : WORDS.index("\n\nabbrev pub last")]
+        self.assertEqual([*found], [("Sum",), ("IsUnused",), ("IsTwice",), ("Area",), ("Sides",), ("last",)])
+        self.assertEqual(found["IsTwice",], WORDS[WORDS.index("module _") : WORDS.index("\n\n  module _ (n")])
+        area = WORDS[WORDS.index("  module _ (n") : WORDS.index("\n\n  module _ (m")]
         self.assertEqual(found["Area",], f"module _ {{S : Type 0}} where\n{area}")
+        sides = WORDS[WORDS.index("  module _ (m") : WORDS.index("\n\nabbrev pub last")]
+        self.assertEqual(found["Sides",], f"module _ {{S : Type 0}} where\n{sides}")
         self.assertEqual(found["last",], "abbrev pub last : ℕ\nlast = 0")
 
     def test_a_list_of_modules_is_no_definition(self):
         self.write("crates/rooms/specs/Lib.antt", "pub mod Words\npub mod Numbers\n")
-        self.assertEqual([it.file for it in api.definitions_of("rooms")], ["Numbers", *["Words"] * 4])
+        self.assertEqual([it.file for it in api.definitions_of("rooms")], ["Numbers", *["Words"] * 5])
 
     def test_which_definitions_are_cited(self):
         self.assertEqual([it.names[0] for it in api.Pages().cited], ["Sum", "IsTwice", "Area"])
@@ -173,7 +180,7 @@ class ApiTest(SmallRepository):
         self.assertIn("\n## Words of rooms\n\nWords for rooms.\nCited by `Room`.\n\n", page)
         self.assertIn("(definition-rooms-Words-IsTwice)=\n### `IsTwice`\n\n```rattle\nmodule _", page)
         self.assertIn("Defined words: [`Sum`](definition-rooms-Numbers-Sum), [`Area`](definition-rooms-Words-Area)\n", page)
-        self.assertNotIn("IsUnused", page)
+        self.assertNotIn("### `IsUnused`", page)
 
     def test_nothing_is_left_out(self):
         self.assertEqual(self.faults_after("Rooms", "Halls"), [])

@@ -151,6 +151,12 @@ impl Shape for Hall {
 /// A number is its own side.
 impl<'a> Shape for &'a u32 {
     ghost sides = { λ number. 1 };
+
+    fn area(&self) -> u32
+        ensures { IsSquare self.now result }
+    {
+        *self * *self
+    }
 }
 
 /// Makes a shape.
@@ -224,6 +230,11 @@ class SurfaceTest(SmallRepository):
         self.assertEqual(model.code, f"impl Model for Hall {{\n{members}}}")
         method = "    /// Returns width times height.\n    fn area(&self) -> u32\n        ensures { IsArea result };\n"
         self.assertEqual(shape.code, f"impl Shape for Hall {{\n    ghost sides = {{ λ hall. 4 }};\n\n{method}}}")
+
+    def test_a_trait_of_a_type_of_others(self):
+        number = self.sections["impl shape::Shape::Shape for u32"]
+        method = "    fn area(&self) -> u32\n        ensures { IsSquare self.now result };\n"
+        self.assertEqual(number.code, f"impl<'a> Shape for &'a u32 {{\n    ghost sides = {{ λ number. 1 }};\n\n{method}}}")
 
 
 class PartsTest(TestCase):
