@@ -154,9 +154,10 @@ class Pages:
     def link_to_item(self, link, crate):
         """The link of a doc to an item, or its words alone if the pages do not have the item."""
         wanted, words = (link["path"] or link["name"]).removeprefix("crate::").split("::"), link["text"] or link["code"]
-        for section in self.sections[crate]:
-            if section.kind != "impl" and section.name.split("::")[-len(wanted) :] == wanted:
-                return f"[{words}]({label_of_section(crate, section)})"
+        for of in sorted(CRATES, key=lambda it: it != crate):
+            for section in self.sections[of]:
+                if section.kind != "impl" and section.name.split("::")[-len(wanted) :] == wanted:
+                    return f"[{words}]({label_of_section(of, section)})"
         return words
 
     def doc_of(self, section, crate):

@@ -217,10 +217,11 @@ def sections_of_item(crate, item):
     for function in functions(body) if kind == "trait" else []:
         yield Section(f"{path}::{function.name}", "method", 4, module, doc_above(body, function.start), contract_of(function))
     blocks = list(crate.blocks_for(item, kind))
+    # What the type's parameters must be stands before each method.
     for block in (it for it in blocks if not it.trait):
         for function in functions(block.body):
             if function.text.lstrip().startswith("pub fn"):
-                code = f"{block.head}\n\n{contract_of(function)}"
+                code = f"{block.head}\n\n" * ("<" in block.head) + contract_of(function)
                 doc = doc_above(block.body, function.start)
                 yield Section(f"{path}::{function.name}", "method", 4, block.module, doc, code)
     for block in (it for it in blocks if it.trait):

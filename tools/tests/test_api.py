@@ -171,9 +171,15 @@ class ApiTest(SmallRepository):
         self.assertIn(f"See [`Room`](api-rooms-struct-Room), {links} and `Lost`.\n", page)
         self.assertIn("```rattle\nlet room = [`Room`];\n```\n\n```text\n# no heading\n```\n", page)
         index = "```{index} single: area (of Room)\n```\n"
-        self.assertIn(f"(api-rooms-method-Room-area)=\n#### `area`\n\n{index}\n```rattle\nimpl Room\n\npub fn area", page)
+        self.assertIn(f"(api-rooms-method-Room-area)=\n#### `area`\n\n{index}\n```rattle\npub fn area", page)
         self.assertIn("Returns the area.\n\nDefined words: [`IsTwice`](definition-rooms-Words-IsTwice)\n\n", page)
         self.assertTrue(page.endswith("Not `Area`, but IsUnused.\n\n"))
+
+    def test_link_to_another_crate(self):
+        self.write("crates/floors/src/lib.rt", "//! See [`Room`] and [`of`].\n\npub fn of() {}\n")
+        with mock.patch.object(api, "CRATES", ("rooms", "floors")):
+            page = api.Pages().write()["api/floors.md"]
+        self.assertIn("See [`Room`](api-rooms-struct-Room) and [`of`](api-floors-fn-of).\n", page)
 
     def test_page_of_definitions(self):
         page = api.Pages().write()["api/definitions.md"]

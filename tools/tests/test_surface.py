@@ -97,7 +97,7 @@ impl Hall {
     pub fn knock(&self) {}
 }
 
-impl Door {
+impl<A: Copy> Door<A> {
     pub fn is_open(&self) -> bool {
         true
     }
@@ -213,8 +213,9 @@ class SurfaceTest(SmallRepository):
 
     def test_methods(self):
         clauses = "    requires { self.width < 9 }\n    ensures { IsTwice self.width result }"
-        self.assertEqual(self.sections["method Hall::doubled"].code, f"impl Hall\n\npub fn doubled(&self) -> u32\n{clauses}")
-        self.assertEqual(self.sections["method Hall::width"].code, "impl Hall\n\npub fn width(&self) -> u32")
+        self.assertEqual(self.sections["method Hall::doubled"].code, f"pub fn doubled(&self) -> u32\n{clauses}")
+        self.assertEqual(self.sections["method Hall::width"].code, "pub fn width(&self) -> u32")
+        self.assertEqual(self.sections["method Door::is_open"].code, "impl<A: Copy> Door<A>\n\npub fn is_open(&self) -> bool")
         self.assertEqual(self.sections["method shape::Shape::twice"].code, "fn twice(&self) -> u32")
         self.assertEqual(self.sections["fn shape::law"].code, "pub fn law()\n    ensures { (n : ℕ) → IsTwice n n }")
 
