@@ -21,6 +21,8 @@ CRATES = ("string_interner", "string_column")
 # The names that a source, or a file of specs/, takes from definitions of a crate.
 IMPORT = re.compile(r"^ *(?:ghost )?use Rattle\.(?P<crate>\w+)\.specs\.(?P<file>\w+)\.\{(?P<names>[^}]*)\}", re.M)
 WORD = re.compile(r"[\w'-]+")
+# A line by which an item may be public, whatever words it has.
+ITEM_LINE = re.compile(r"^pub\s+(?:\w+\s+)*?(?:const|enum|fn|static|struct|trait|type|union)\s+(?!fn\b)(\w+)", re.M)
 COMMENT = re.compile(r"^ *(?:///|//|--).*$", re.M)
 # A link of a doc to an item: by its path, or else by its name in code.
 DOC_LINK = re.compile(r"\[(?P<text>[^]\n]+)\]\((?P<path>\w+(?:::\w+)*)\)|\[(?P<code>`(?P<name>[^`\n]+)`)\](?!\()")
@@ -152,13 +154,15 @@ class Pages:
         return f"Defined words: {links}\n\n" if links else ""
 
     def link_to_item(self, link, crate):
-        """The link of a doc to an item, or its words alone if the pages do not have the item."""
-        wanted, words = (link["path"] or link["name"]).removeprefix("crate::").split("::"), link["text"] or link["code"]
+        """The link of a doc to an item, or its words alone if the item is the standard library's. One that the pages do not
+        have stays a link, which sphinx reports."""
+        wanted = [it for it in (link["path"] or link["name"]).split("::") if it not in ("crate", "super")]
+        words = link["text"] or link["code"]
         for of in sorted(CRATES, key=lambda it: it != crate):
             for section in self.sections[of]:
                 if section.kind != "impl" and section.name.split("::")[-len(wanted) :] == wanted:
                     return f"[{words}]({label_of_section(of, section)})"
-        return words
+        return words if wanted[0] == "std" else f"[{words}](no-item-{label_of(*wanted)})"
 
     def doc_of(self, section, crate):
         """The doc of a section: its headings in bold, its code in Rattle, its links to items of the pages."""
@@ -220,16 +224,16 @@ def told_by_lines(crate):
     public = set(re.findall(r"\w+", " ".join(re.findall(r"^pub use ([^;]+);", every, re.M))))
     for file, text in texts.items():
         if file.stem in open_files:
-            public |= set(re.findall(r"^pub (?!mod |use )\w+ (\w+)", text, re.M))
-    names = [name for name in re.findall(r"^pub (?!mod |use )\w+ (\w+)", every, re.M) if name in public]
+            public |= set(ITEM_LINE.findall(text))
+    names = [name for name in ITEM_LINE.findall(every) if name in public]
     for block in re.split(r"^(?=impl\b|pub trait\b)", every, flags=re.M):
         head, _, body = block.partition("{\n")
         body = body.partition("\n}\n")[0]
         owner, methods = "", []
         if trait := re.match(r"pub trait (\w+)", head):
-            owner, methods = trait[1], re.findall(r"^    (?:final )?fn (\w+)", body, re.M)
+            owner, methods = trait[1], re.findall(r"^    (?:\w+\s+)*fn\s+(\w+)", body, re.M)
         elif head.startswith("impl") and not re.search(r"\bfor\s", head):
-            owner, methods = re.findall(r"(?:impl|>)\s+(\w+)", head)[-1], re.findall(r"^    pub fn (\w+)", body, re.M)
+            owner, methods = re.findall(r"(?:impl|>)\s+(\w+)", head)[-1], re.findall(r"^    pub\s+(?:\w+\s+)*fn\s+(\w+)", body, re.M)
         names += [f"{owner}::{name}" for name in methods if owner in public]
     return Counter(names)
 

@@ -12,7 +12,8 @@ LIB = """\
 //!
 //! # Examples
 //!
-//! See [`Room`], [its area](Room::area), [`Room::area`], [`of`](crate::of) and [`Lost`](crate::Lost).
+//! See [`Room`], [its area](Room::area), [`Room::area`], [`of`](crate::of), [`of`](super::of),
+//! [`Vec`](std::vec::Vec), [`Lost`] and [lost](crate::Lost::lost).
 //!
 //! ```
 //! let room = [`Room`];
@@ -168,12 +169,13 @@ class ApiTest(SmallRepository):
         self.assertIn("| [`rooms`](api-rooms-module) | [`Room`](api-rooms-struct-Room), [`of`](api-rooms-fn-of) |\n", page)
         self.assertIn("(api-rooms-module)=\n## Crate `rooms`\n\nRooms.\n\n**Examples**\n", page)
         links = "[its area](api-rooms-method-Room-area), [`Room::area`](api-rooms-method-Room-area), [`of`](api-rooms-fn-of)"
-        self.assertIn(f"See [`Room`](api-rooms-struct-Room), {links} and `Lost`.\n", page)
+        self.assertIn(f"See [`Room`](api-rooms-struct-Room), {links}, [`of`](api-rooms-fn-of),\n", page)
+        self.assertIn("`Vec`, [`Lost`](no-item-Lost) and [lost](no-item-Lost-lost).\n", page)
         self.assertIn("```rattle\nlet room = [`Room`];\n```\n\n```text\n# no heading\n```\n", page)
         index = "```{index} single: area (of Room)\n```\n"
         self.assertIn(f"(api-rooms-method-Room-area)=\n#### `area`\n\n{index}\n```rattle\npub fn area", page)
         self.assertIn("Returns the area.\n\nDefined words: [`IsTwice`](definition-rooms-Words-IsTwice)\n\n", page)
-        self.assertTrue(page.endswith("Not `Area`, but IsUnused.\n\n"))
+        self.assertTrue(page.endswith("Not [`Area`](no-item-Area), but IsUnused.\n\n"))
 
     def test_link_to_another_crate(self):
         self.write("crates/floors/src/lib.rt", "//! See [`Room`] and [`of`].\n\npub fn of() {}\n")
@@ -196,6 +198,11 @@ class ApiTest(SmallRepository):
         self.assertEqual(self.faults_after("/// A room.\n", more), ["rooms: more is public, and not shown"])
         self.assertEqual(self.faults_after("    /// Returns the", "    pub fn more(&self) {}\n\n    /// Returns the"),
                          ["rooms: Room::more is public, and not shown"])
+        for words in "pub  fn more", "pub unsafe fn more", "pub const fn more", "pub static more", "pub\nfn more":
+            found = self.faults_after("/// A room.\n", f"{words}() {{}}\n\n/// A room.\n")
+            self.assertEqual(found, ["rooms: more is public, and not shown"], words)
+        found = self.faults_after("    /// Returns the", "    pub unsafe fn more(&self) {}\n\n    /// Returns the")
+        self.assertEqual(found, ["rooms: Room::more is public, and not shown"])
         self.assertEqual(self.faults_after("    pub fn area", "    fn area"), ["rooms: Room::area is shown, and not public"])
 
     def test_names_told_by_lines(self):
