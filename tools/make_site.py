@@ -1,5 +1,5 @@
 #!/usr/bin/env python3
-"""usage: make_site.py [OUT]    makes a site of the documents in a folder, by default docs/site/out
+"""Makes a site of the documents in a folder, by default docs/site/out: html/index.html there.
 
 The site has each page of Markdown of the repository, what callers of the crates have (tools/api.py), and a page for each other
 file or folder to which a page links: the text of the file, or the list of the files. Pages are taken as they are, and keep
@@ -8,6 +8,7 @@ their paths; README.html is the first. Needs sphinx with myst-parser and furo, w
 It fails on a warning of sphinx, on a public item that is not shown, and on a link inside the site that leads nowhere.
 """
 
+import argparse
 import posixpath
 import re
 import shutil
@@ -35,6 +36,7 @@ LISTS = {
 TOCTREE = "\n```{{toctree}}\n:hidden:\n:caption: {caption}\n\n{names}\n```\n"
 ORPHAN = "---\norphan: true\n---\n"
 INDEX = '<!doctype html><meta http-equiv="refresh" content="0; url=README.html"><a href="README.html">README</a>\n'
+LINK_OF_STYLE = re.compile(r"""\burl\(['"]?([^)'"]+)""")
 LANGUAGES = {".antt": "rattle", ".c": "c", ".h": "c", ".py": "python", ".rs": "rust", ".rt": "rattle"}
 PICTURES = (".png", ".svg")
 
@@ -117,18 +119,20 @@ class Page(HTMLParser):
 
 
 def broken_links(folder):
-    """The links of a site that lead to no file of it, or to no place of its page."""
+    """The links of a site that lead to no file of it, or to no place of its page. Those that begin at the top of a server are
+    among them, since the site may be in any folder."""
     pages = {path: Page(read(path)) for path in sorted(folder.rglob("*.html"))}
-    for path, page in pages.items():
-        for link in dict.fromkeys(page.links):
-            parts = urlsplit(link)
-            if parts.scheme or parts.netloc:
-                continue
-            target = (path.parent / unquote(parts.path)).resolve() if parts.path else path
-            if not target.is_file():
-                yield f"{path.relative_to(folder)}: the link {link} leads to no file"
-            elif target in pages and unquote(parts.fragment) not in pages[target].places:
-                yield f"{path.relative_to(folder)}: the link {link} leads to no place of its page"
+    links = {path: page.links for path, page in pages.items()}
+    links |= {path: LINK_OF_STYLE.findall(read(path)) for path in sorted(folder.rglob("*.css"))}
+    for path, link in ((path, link) for path, of in links.items() for link in dict.fromkeys(of)):
+        parts = urlsplit(link)
+        if parts.scheme or parts.netloc:
+            continue
+        target = (path.parent / unquote(parts.path)).resolve() if parts.path else path
+        if parts.path.startswith("/") or not target.is_file():
+            yield f"{path.relative_to(folder)}: the link {link} leads to no file"
+        elif target in pages and unquote(parts.fragment) not in pages[target].places:
+            yield f"{path.relative_to(folder)}: the link {link} leads to no place of its page"
 
 
 def make(out):
@@ -147,11 +151,11 @@ def make(out):
 
 
 def main():
-    if len(sys.argv) > 2 or sys.argv[1:2] in (["-h"], ["--help"]):
-        sys.exit(__doc__)
+    parser = argparse.ArgumentParser(description=__doc__, formatter_class=argparse.RawDescriptionHelpFormatter)
+    parser.add_argument("out", metavar="OUT", nargs="?", default=TOP / HOME / "out", help="the folder")
+    out = Path(parser.parse_args().out).resolve()
     if lacking := missing():
         sys.exit(lacking)
-    out = Path(sys.argv[1] if sys.argv[1:] else TOP / HOME / "out").resolve()
     passed, failed = make(out)
     print(f"the site is in {out}/html\n{passed} passed, {failed} failed")
     return 1 if failed else 0

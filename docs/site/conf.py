@@ -25,7 +25,7 @@ pygments_dark_style = "github-dark"
 SHEET = (Path(furo.__file__).parent / "theme/furo/static/styles/furo.css").read_text(encoding="utf-8")
 DARK = re.search(r'body\[data-theme="?dark"?\]\s*\{([^}]*)\}', SHEET)
 html_theme_options = {
-    "dark_css_variables": dict(re.findall(r"--([\w-]+):\s*([^;]+)", DARK[1])),
+    "dark_css_variables": dict(re.findall(r"--([\w-]+):\s*([^;]+)", DARK[1] if DARK else "")),
     # A clause has up to 100 columns.
     "light_css_variables": {"code-font-size": "75%"},
 }
@@ -37,9 +37,9 @@ IMPORTS = {
 }
 
 
-def put_in_imports(app, _):
-    """Puts what the theme's files import into them."""
-    for name, (pattern, folder) in IMPORTS.items():
+def put_in_imports(app, failure):
+    """Puts what the theme's files import into them, if the site was made."""
+    for name, (pattern, folder) in IMPORTS.items() if not failure else ():
         file = Path(app.outdir, "_static", name)
         text = file.read_text(encoding="utf-8")
         file.write_text(re.sub(pattern, lambda it, at=folder: (at / it[1]).read_text(encoding="utf-8"), text), encoding="utf-8")

@@ -101,8 +101,13 @@ class LinksTest(SmallRepository):
             '<a href="#lost">to</a>': "the link #lost leads to no place of its page",
             '<a href="sub/other%20file.html#lost">to</a>': "the link sub/other%20file.html#lost leads to no place of its page",
         }
+        cases |= {'<a href="/bin/sh">to</a>': "the link /bin/sh leads to no file"}
         for text, fault in cases.items():
             self.assertEqual(self.broken(text), [f"index.html: {fault}"])
+        self.write("site/sub/more.css", "@import url(/style.css); a { b: url('../style.css'); c: url(lost.png); d: url(data:9) }")
+        faults = [f"sub/more.css: the link {link} leads to no file" for link in ("/style.css", "lost.png")]
+        self.assertEqual(self.broken(""), faults)
+        (self.top / "site/sub/more.css").unlink()
         faults = ["sub/other file.html: the link index.html leads to no file"]
         self.assertEqual(self.broken("", '<a href="index.html">to</a>'), faults)
 
