@@ -5,6 +5,7 @@ from unittest import TestCase, mock
 
 from small import SmallRepository
 import api
+import contracts
 import surface
 
 LIB = """\
@@ -227,6 +228,11 @@ class RepositoryTest(TestCase):
         names = {it.name for it in self.pages.sections["string_interner"]}
         calls = "new with_capacity len get get_or_intern resolve iter truncate extend intern_all".split()
         self.assertLess({*(f"StringInterner::{call}" for call in calls), "run::run", "backend::Backend::intern"}, names)
+
+    def test_contracts_are_those_that_the_page_for_callers_quotes(self):
+        page = self.pages.write()["api/string_interner.md"]
+        for call in contracts.CALLS:
+            self.assertIn(f"\n{contracts.contract_of(call).rstrip()}\n```\n", page, call)
 
     def test_links(self):
         text = "".join(self.pages.write().values())
