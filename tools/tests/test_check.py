@@ -7,6 +7,7 @@ import runpy
 import subprocess
 import sys
 import unittest
+from unittest import mock
 
 from small import edits
 
@@ -55,6 +56,19 @@ class PartTest(unittest.TestCase):
         lines = printed.getvalue().splitlines()
         self.assertRegex(lines[1], r"^it: \d+ seconds, \d+ processor seconds, \d+ MiB$")
         self.assertEqual(lines[-2:], ["left out: a thing", "3 passed, 2 failed"])
+
+
+class SiteTest(unittest.TestCase):
+    def try_site(self, lacking):
+        """What is left out, and which parts run, if this is lacking."""
+        gate = CHECK["Gate"](None)
+        with mock.patch.object(CHECK["make_site"], "missing", lambda: lacking), mock.patch.object(gate, "run") as run:
+            CHECK["try_site"](gate)
+        return gate.left_out, [call.args[0] for call in run.call_args_list]
+
+    def test_what_is_left_out(self):
+        self.assertEqual(self.try_site("no sphinx"), (["no sphinx"], []))
+        self.assertEqual(self.try_site(None), ([], ["the site of the documents"]))
 
 
 class SizesTest(unittest.TestCase):
