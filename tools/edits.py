@@ -18,6 +18,8 @@ from pathlib import Path
 
 TOP = Path(__file__).resolve().parent.parent
 REFUSED, CAUGHT = "must-fail", "caught-by-runs"
+# The programs whose runs catch the bugs of a library.
+PROGRAMS = {"string_interner": "suite", "string_column": "dictcol"}
 
 
 @dataclass
@@ -44,6 +46,11 @@ class Edit:
     def files(self):
         """The files that it changes, in order, each once."""
         return list(dict.fromkeys(change.file for change in self.changes))
+
+    @property
+    def program(self):
+        """The program whose runs catch it."""
+        return PROGRAMS.get(self.crate, self.crate)
 
 
 def read_edit(path):

@@ -97,8 +97,8 @@ def write_caught_table():
     """The table of the bugs that runs catch, a row for each thing that catches some."""
     caught = {}
     for crate in crates():
-        program = "" if crate == LIBRARY else f" of `{crate}`"
         for edit in edits_of(crate, CAUGHT):
+            program = "" if crate == LIBRARY else f" of `{edit.program}`"
             caught.setdefault(f"`{' '.join(edit.scenario)}`{program}", []).append(f"`{edit.name}`")
     rows = [f"| {scenario} | {', '.join(bugs)} |\n" for scenario, bugs in sorted(caught.items())]
     return "".join(["| Caught by | Planted bugs |\n", "|---|---|\n", *rows])

@@ -227,6 +227,13 @@ def try_small_file_of_much(program):
     yield "a small file of much", ended, (0, b"", b"")
 
 
+def try_many_rows(program):
+    """Ten million empty lines are counted in 104 MiB: their ten megabytes, and a code of four bytes for each, in lists that
+    grow. Codes of eight bytes need more."""
+    ended = program.run([b"count"], b"\n" * 10000000, before=lambda: resource.setrlimit(resource.RLIMIT_AS, (104 << 20,) * 2))
+    yield "ten million empty lines", ended, (0, b"10000000 \n", b"")
+
+
 def mixed(one, other):
     """The product of two numbers of 64 bits, its halves put together by exclusive or: how FoldHasher mixes."""
     product = one * other
@@ -297,6 +304,7 @@ def parts():
             *((try_both_ways, *given) for given in large_inputs()),
             *((try_distant_fault, *given) for given in distant_faults()),
             (try_small_file_of_much,),
+            (try_many_rows,),
         ],
         # Alone, since it compares times.
         "chosen": [(try_chosen_lines,)],

@@ -62,7 +62,7 @@ class PlantedBugsTest(unittest.TestCase):
                 if edit.crate == "string_interner":
                     self.assertLessEqual(set(edit.scenario), names)
                 else:
-                    self.assertLessEqual(set(edit.scenario), set({"intern": intern, "dictcol": dictcol}[edit.crate].parts()))
+                    self.assertLessEqual(set(edit.scenario), set({"intern": intern, "dictcol": dictcol}[edit.program].parts()))
 
 
 if __name__ == "__main__":

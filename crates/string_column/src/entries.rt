@@ -1,33 +1,58 @@
 //! The dictionary of a column: distinct texts, each with its index.
 
-ghost use Rattle.std.specs.Prelude.{◌≡◌, ℕ, ◌<◌, [], length, slice_get, Some, OnOk, OnErr, nat_eq};
-ghost use Rattle.std.specs.HashMap.{get};
-ghost use Rattle.string_column.specs.Entries.{AreIndexed, FindsIndex, PutsSymbol};
+ghost use Rattle.std.specs.Prelude.{◌≡◌, ℕ, ◌<◌, List, [], length, slice_get, Some};
+ghost use Rattle.string_interner.specs.Text.{Text};
+ghost use Rattle.string_interner.specs.Extend.{texts_of};
+ghost use Rattle.string_column.specs.Entries.{FindsIndex, NumbersAscend};
 
-use std::alloc::{AllocError, Global};
-use std::collections::HashMap;
+use std::alloc::Global;
 use std::marker::Model;
 use string_interner::backend::{Backend, InternError};
 use string_interner::dedup::{TextHasher, TextIndex};
 use string_interner::{StringInterner, Symbol};
 
+/// A list of texts that are read by their indexes.
+pub trait TextList {
+    /// The texts.
+    ghost texts: { Self → List Text };
+
+    /// Returns the number of texts.
+    fn len(&self) -> usize
+        ensures { result ≡ length (texts self.now) };
+
+    /// Returns the text at an index.
+    fn text_at(&self, index: usize) -> &str
+        requires { index < length (texts self.now) }
+        ensures { slice_get (texts self.now) index ≡ Some result.now };
+}
+
+/// Texts from outside.
+impl<'a, 't> TextList for &'a [&'t str] {
+    ghost texts = { λ s. texts_of s.now };
+
+    fn len(&self) -> usize {
+        <[&'t str]>::len(self)
+    }
+
+    fn text_at(&self, index: usize) -> &str {
+        self[index]
+    }
+}
+
 /// Distinct texts in insertion order, found by their texts and by their indexes.
 ///
-/// The backend may number its symbols otherwise, as `BufferBackend` does. So the symbol of each entry is stored here,
-/// and a map has the index of each entry whose symbol has another number.
+/// A backend may number its symbols otherwise, as `BufferBackend` does. So the symbol of each entry is stored here. Their
+/// numbers ascend, so a binary search finds the index of a symbol whose number is another.
 #[derive(Drop)]
 pub struct Entries<B: Backend, H: TextHasher, I: TextIndex<B::Symbol>> {
     interner: StringInterner<B, H, I>,
     /// The symbol of each entry.
     symbols: Vec<B::Symbol>,
-    /// By the number of its symbol, the index of each entry for which these differ.
-    indexes: HashMap<usize, usize>,
 }
 
 /// Contracts see the texts.
 impl<B: Backend, H: TextHasher, I: TextIndex<B::Symbol>> Model for Entries<B, H, I> {
-    ghost use Rattle.std.specs.Prelude.{List, nat_eq};
-    ghost use Rattle.std.specs.HashMap.{get};
+    ghost use Rattle.std.specs.Prelude.{List};
     ghost use Rattle.string_interner.specs.Text.{Text};
     ghost use Rattle.string_column.specs.Entries.{AreNumbered};
 
@@ -35,68 +60,32 @@ impl<B: Backend, H: TextHasher, I: TextIndex<B::Symbol>> Model for Entries<B, H,
 
     ghost view = { λ e. e.interner.texts };
 
-    ghost invariant = { λ e. AreNumbered B.numbering e.interner.texts e.symbols.items
-        (get nat_eq e.indexes) };
+    ghost invariant = { λ e. AreNumbered B.numbering e.interner.texts e.symbols.items };
 }
 
 /// Returns the index of a symbol of the list.
 #[inline]
-fn index_of<S: Symbol>(symbols: &[S], indexes: &HashMap<usize, usize>, symbol: S) -> usize
-    requires indexed { AreIndexed S.number symbols.now (get nat_eq indexes.now) }
+fn index_of<S: Symbol>(symbols: &[S], symbol: S) -> usize
+    requires ascend { NumbersAscend S.number symbols.now }
     requires listed { (i : ℕ) × (slice_get symbols.now i ≡ Some symbol) }
     ensures { slice_get symbols.now result ≡ Some symbol }
 {
     let number = symbol.to_usize();
     match symbols.get(number) {
         Some(other) if *other == symbol => number,
-        _ => match indexes.get(&number) {
-            Some(index) => *index,
-            None => unreachable!(),
-        },
+        _ => symbols.partition_point(|other| other.to_usize() < number),
     }
-}
-
-/// Puts a symbol last, and its index into the map if its number is another.
-///
-/// Returns `Err`, and changes nothing, only if an allocation fails.
-fn push_symbol<S: Symbol>(
-    symbols: &mut Vec<S>,
-    indexes: &mut HashMap<usize, usize>,
-    symbol: S,
-) -> Result<(), AllocError>
-    ensures ok { OnOk result (PutsSymbol S.number symbols.old.items (get nat_eq indexes.old) symbol
-        symbols.new.items (get nat_eq indexes.new)) }
-    ensures symbols { OnErr result (symbols.new.items ≡ symbols.old.items) }
-    ensures indexes { OnErr result (indexes.new.entries ≡ indexes.old.entries) }
-{
-    let number = symbol.to_usize();
-    let index = symbols.len();
-    symbols.reserve(1)?;
-    if number != index {
-        indexes.insert(number, index)?;
-    }
-    symbols.push_reserved(symbol);
-    Ok(())
 }
 
 impl<B: Backend, H: TextHasher, I: TextIndex<B::Symbol>> Entries<B, H, I> {
-    /// Makes an empty dictionary under this hasher. Takes no memory.
+    /// Makes an empty dictionary with this hasher. Allocates nothing.
     pub fn with_hasher(alloc: Global, hasher: H) -> Self
         ensures { result ≡ [] }
     {
         Entries {
             interner: StringInterner::with_hasher(alloc, hasher),
             symbols: Vec::new(alloc),
-            indexes: HashMap::new(alloc),
         }
-    }
-
-    /// Returns the number of entries.
-    #[inline]
-    pub fn len(&self) -> usize
-        ensures { result ≡ length self.now }
-    {
-        self.interner.len()
     }
 
     /// Returns the interner of the texts.
@@ -106,42 +95,42 @@ impl<B: Backend, H: TextHasher, I: TextIndex<B::Symbol>> Entries<B, H, I> {
         &self.interner
     }
 
-    /// Returns the text of an entry.
-    #[inline]
-    pub fn text_at(&self, index: usize) -> &str
-        requires { index < length self.now }
-        ensures { slice_get self.now index ≡ Some result.now }
-    {
-        self.interner.resolve_unchecked(self.symbols[index])
-    }
-
-    /// Returns the index of a text. A new text is appended.
+    /// Returns the index of a text. Appends the text if it is new.
     ///
-    /// On `Err` nothing changes.
+    /// On `Err` the texts are unchanged.
     #[inline]
     pub fn intern(&mut self, text: &str) -> Result<usize, InternError>
         ensures { FindsIndex B.numbering self.old text.now result self.new }
     {
+        self.symbols.reserve(1)?;
         let symbol = self.interner.get_or_intern(text)?;
         let index = self.symbols.len();
         if self.interner.len() == index {
-            return Ok(index_of(&self.symbols, &self.indexes, symbol));
+            return Ok(index_of(&self.symbols, symbol));
         }
-        match push_symbol(&mut self.symbols, &mut self.indexes, symbol) {
-            Ok(()) => Ok(index),
-            Err(error) => {
-                self.interner.truncate(index);
-                Err(InternError::Memory(error))
-            }
-        }
+        self.symbols.push_reserved(symbol);
+        Ok(index)
     }
 
-    /// Drops all entries. Gives no memory back.
+    /// Drops all entries. Releases no memory.
     pub fn clear(&mut self)
         ensures { self.new ≡ [] }
     {
         self.interner.truncate(0);
         self.symbols.clear();
-        self.indexes.clear();
+    }
+}
+
+impl<B: Backend, H: TextHasher, I: TextIndex<B::Symbol>> TextList for Entries<B, H, I> {
+    ghost texts = { λ e. e };
+
+    #[inline]
+    fn len(&self) -> usize {
+        self.interner.len()
+    }
+
+    #[inline]
+    fn text_at(&self, index: usize) -> &str {
+        self.interner.resolve_unchecked(self.symbols[index])
     }
 }

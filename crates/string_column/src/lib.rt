@@ -1,13 +1,22 @@
-//! Columns: lists of rows, each a text, of which equal ones are stored once.
+//! Columns: lists of texts that store equal texts once.
 //!
-//! A [`Column`] has a dictionary of its distinct rows, in the order of first appearance, and for each row a code: the
-//! index of its text in the dictionary. All that a column returns follows from its rows.
+//! A [`Column`] has a dictionary of its distinct rows, in the order of first appearance. For each row it has a code: the
+//! index of the row's text in the dictionary. Everything that a column returns follows from its rows.
 //!
-//! A code is no symbol, since a backend may number otherwise: over `BufferBackend` a symbol's number is the offset of its
-//! text. The symbol of each entry is stored beside the interner, so that a row is resolved without a search. Where the number
-//! of an entry's symbol is not its index, a hash map has the index; over the other backends the map is empty, and takes no
-//! memory. A code takes four bytes, and eight from the first on that does not fit. So the symbol type alone limits how many
-//! distinct rows a column has.
+//! ```
+//! let mut colors = <Column>::new(alloc);
+//! colors.encode(["red", "green", "red"].iter().copied())?;
+//! let codes = colors.codes().as_slices(); // ([0, 1, 0], [])
+//! let counts = colors.counts(alloc)?; // 2, 1
+//! ```
+//!
+//! A code is not a symbol, because a backend may number otherwise: over `BufferBackend` the number of a symbol is the offset
+//! of its text. The symbol of each entry is stored next to the interner, so a row is resolved without a search. Encoding a
+//! known text needs the index of its symbol. If the number of that symbol is another, a binary search finds the index,
+//! because the numbers of the entries ascend.
+//!
+//! A code takes four bytes, and eight from the first on that does not fit. So the symbol type alone limits how many distinct
+//! rows a column has.
 #![tactic(auto)]
 
 mod code_list;
@@ -15,4 +24,4 @@ mod entries;
 mod rows;
 
 pub use code_list::Codes;
-pub use rows::{Column, PartsError};
+pub use rows::{Column, Iter, PartsError};

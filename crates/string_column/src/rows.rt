@@ -1,16 +1,18 @@
 //! A column of texts: each distinct one once, and its index for each row.
 
 mod append;
+mod iter;
 mod parts;
 
-ghost use Rattle.std.specs.Prelude.{◌≡◌, [], length, slice_get, IfOk};
+ghost use Rattle.std.specs.Prelude.{◌≡◌, ◌↔◌, [], length, slice_get, IfOk, IsTrue};
 ghost use Rattle.std.specs.Option.{option_copied};
 ghost use Rattle.std.specs.Iterator.{IsFiniteIterable};
 ghost use Rattle.string_interner.specs.Extend.{YieldedBy};
 ghost use Rattle.string_column.specs.Column.{dictionary_of, counts_of, AreCodes, AppendsRow, AppendsYielded};
 
 use crate::code_list::Codes;
-use crate::entries::Entries;
+use crate::entries::{Entries, TextList};
+pub use iter::Iter;
 pub use parts::PartsError;
 use std::alloc::{AllocError, Global};
 use std::marker::Model;
@@ -18,10 +20,11 @@ use string_interner::StringInterner;
 use string_interner::backend::{Backend, DefaultBackend, InternError};
 use string_interner::dedup::{FoldState, TaggedIndex, TextHasher, TextIndex};
 
-/// A list of rows, each a text, of which equal ones are stored once: in a `FastStringInterner`, if no other backend,
-/// hasher or index is named.
+/// A list of texts, the rows. It stores equal rows once.
 ///
-/// Its dictionary has the distinct rows in the order of first appearance. A row takes four bytes beside it.
+/// The dictionary has the distinct rows in the order of first appearance. The code of a row is the index of its text in the
+/// dictionary, and takes four bytes. If you name no other backend, hasher or index, the dictionary is a
+/// `FastStringInterner`.
 ///
 /// ```
 /// let mut colors = <Column>::new(alloc);
@@ -54,7 +57,7 @@ impl<B: Backend, H: TextHasher, I: TextIndex<B::Symbol>> Model for Column<B, H, 
 }
 
 impl<B: Backend, H: TextHasher + Default, I: TextIndex<B::Symbol>> Column<B, H, I> {
-    /// Makes a column without rows, under the hasher's default. Takes no memory.
+    /// Makes a column without rows, with the default value of the hasher. Allocates nothing.
     ///
     /// ```
     /// let mut colors = <Column>::new(alloc);
@@ -67,7 +70,9 @@ impl<B: Backend, H: TextHasher + Default, I: TextIndex<B::Symbol>> Column<B, H, 
 }
 
 impl<B: Backend, H: TextHasher, I: TextIndex<B::Symbol>> Column<B, H, I> {
-    /// Makes a column without rows, under this hasher. Takes no memory.
+    /// Makes a column without rows, with this hasher. Allocates nothing.
+    ///
+    /// If strangers choose the texts, take a hasher with secret keys.
     ///
     /// ```
     /// let mut colors = Column::<BufferBackend, _>::with_hasher(alloc, KeyedHasher::new(KeyedState::new(key0, key1)));
@@ -81,7 +86,11 @@ impl<B: Backend, H: TextHasher, I: TextIndex<B::Symbol>> Column<B, H, I> {
         }
     }
 
-    /// Returns the number of rows.
+    /// Returns the number of rows. Takes constant time.
+    ///
+    /// ```
+    /// let rows = colors.len(); // 3, for red, green, red
+    /// ```
     #[inline]
     pub fn len(&self) -> usize
         ensures { result ≡ length self.now }
@@ -89,7 +98,23 @@ impl<B: Backend, H: TextHasher, I: TextIndex<B::Symbol>> Column<B, H, I> {
         self.codes.len()
     }
 
-    /// Returns the number of distinct rows: 2 of red, green, red.
+    /// Returns whether there are no rows. Takes constant time.
+    ///
+    /// ```
+    /// let is_empty = colors.is_empty(); // false
+    /// ```
+    #[inline]
+    pub fn is_empty(&self) -> bool
+        ensures { IsTrue result ↔ (self.now ≡ []) }
+    {
+        self.len() == 0
+    }
+
+    /// Returns the number of distinct rows, which is the number of entries of the dictionary. Takes constant time.
+    ///
+    /// ```
+    /// let count = colors.distinct(); // 2, for red, green, red
+    /// ```
     #[inline]
     pub fn distinct(&self) -> usize
         ensures { result ≡ length (dictionary_of self.now) }
@@ -97,9 +122,9 @@ impl<B: Backend, H: TextHasher, I: TextIndex<B::Symbol>> Column<B, H, I> {
         self.dictionary.len()
     }
 
-    /// Returns the text of a row, and `None` if there are at most `index` rows.
+    /// Returns the text of the row at `index`, or `None` if there are at most `index` rows.
     ///
-    /// Reads the code of the row, the symbol of its entry, and the text of that. Allocates nothing.
+    /// Reads the code of the row, the symbol of its entry, and the text of that symbol. Searches and allocates nothing.
     ///
     /// ```
     /// let second = colors.row(1); // Some("green")
@@ -114,10 +139,21 @@ impl<B: Backend, H: TextHasher, I: TextIndex<B::Symbol>> Column<B, H, I> {
         }
     }
 
-    /// Returns the distinct rows, in the order of first appearance.
+    /// Returns an iterator over the rows in order. A step costs what `row` costs.
     ///
-    /// The index of an entry is its code. It is the number of its symbol too, except over a backend that numbers
-    /// otherwise, as `BufferBackend` does.
+    /// ```
+    /// for row in colors.iter() {} // red, green, red
+    /// ```
+    pub fn iter(&self) -> Iter<'_, B, H, I>
+        ensures { result ≡ self.now }
+    {
+        Iter::new(self)
+    }
+
+    /// Returns the interner of the distinct rows, in the order of first appearance.
+    ///
+    /// The index of an entry is its code. It is also the number of its symbol, except over a backend that numbers
+    /// otherwise, such as `BufferBackend`.
     ///
     /// ```
     /// for (_, text) in colors.dictionary() {} // red, green
@@ -128,8 +164,9 @@ impl<B: Backend, H: TextHasher, I: TextIndex<B::Symbol>> Column<B, H, I> {
         self.dictionary.interner()
     }
 
-    /// Returns the code of each row: the index of its text in the dictionary. They are stored as such, so nothing is
-    /// looked up.
+    /// Returns the code of each row: the index of its text in the dictionary.
+    ///
+    /// The column stores these codes, so this takes constant time.
     ///
     /// ```
     /// let (narrow, wide) = colors.codes().as_slices(); // [0, 1, 0], []
@@ -142,7 +179,7 @@ impl<B: Backend, H: TextHasher, I: TextIndex<B::Symbol>> Column<B, H, I> {
 
     /// Returns how many rows each entry of the dictionary has, in the order of the entries.
     ///
-    /// Costs one pass over the codes. Returns `Err` only if an allocation fails.
+    /// Reads each code once. Returns `Err` only if it cannot allocate the list of counts.
     ///
     /// ```
     /// colors.encode(["red", "green", "red"].iter().copied())?;
@@ -161,11 +198,11 @@ impl<B: Backend, H: TextHasher, I: TextIndex<B::Symbol>> Column<B, H, I> {
 
     /// Appends a row, and returns its code.
     ///
-    /// Returns `NoSymbol` only if the row is new and the symbol type has no symbol for it, and `Memory` only if an
-    /// allocation fails or a size does not fit a `usize`. On `Err` nothing changes.
+    /// Returns `NoSymbol` only if the row is new and the symbol type has no symbol left for it. Returns `Memory` only if an
+    /// allocation fails or a size does not fit a `usize`. On `Err` the rows are unchanged.
     ///
-    /// Hashes the row once. If the memory that a new row needs beside its text cannot be had, each distinct row is
-    /// hashed again.
+    /// Hashes the row once. Over a backend whose symbols have other numbers than their indexes, such as `BufferBackend`, a
+    /// known row also takes a binary search in the dictionary.
     ///
     /// ```
     /// let code = colors.push("blue")?; // 2
@@ -180,10 +217,10 @@ impl<B: Backend, H: TextHasher, I: TextIndex<B::Symbol>> Column<B, H, I> {
         Ok(code)
     }
 
-    /// Appends a row for each text of a finite iterator. Stops at the first text that is refused, as `push` refuses it;
-    /// the rows before it stay.
+    /// Appends a row for each text of a finite iterator.
     ///
-    /// Hashes each text once.
+    /// Stops at the first text that `push` fails for, and returns that error. The rows before it stay, so the new length of
+    /// the column gives their number. Hashes each text once.
     ///
     /// ```
     /// colors.encode(["red", "green", "red"].iter().copied())?;

@@ -1,14 +1,16 @@
 -- The rows of a column: what their codes read, and one row more.
-use Rattle.std.proofs.Common.{◌≡◌, ℕ, ◌<◌, List, [], ◌∷◌, ◌++◌, length, get_or, Option, Some, None, Result, Ok, Err, zero, suc, refl, sym, ap, subst, ◌∙◌, arith}
-use Rattle.std.specs.Prelude.{slice_get, OnOk, OnErr}
-use Rattle.std.specs.Option.{option_map_or}
-use Rattle.std.proofs.lemmas.List.{append-nil}
+use Rattle.std.proofs.Common.{◌≡◌, ℕ, ◌+◌, ◌<◌, Bor, List, [], ◌∷◌, ◌++◌, length, drop, get_or, Option, Some, None, Result, Ok, Err, zero, suc, refl, sym, ap, subst, ◌∙◌, arith}
+use Rattle.std.specs.Prelude.{slice_get, All, OnOk, OnErr}
+use Rattle.std.specs.Option.{option_copied, option_map_or}
+use Rattle.std.specs.Iterator.{YieldsFirstRef}
+use Rattle.std.proofs.lemmas.List.{append-nil, drop_more}
 use Rattle.std.proofs.lemmas.Option.{get_or_from_slice_get, slice_get-get_or, slice_get_within, same_Some, none-some}
 use Rattle.std.proofs.lemmas.Slice.Zip.{all_zipped_more, AllZip-long}
 use Rattle.string_interner.specs.Text.{Text, first}
 use Rattle.string_interner.specs.Extend.{fresh}
 use Rattle.string_interner.proofs.Lemmas.Interner.Extends.{fresh-append}
 use Rattle.string_interner.proofs.Lemmas.Texts.First.{first_none}
+use Rattle.string_column.specs.Codes.{CodeList}
 use Rattle.string_column.specs.Column.{AreCodes, IsColumn, dictionary_of, rows_of}
 use Rattle.string_column.proofs.Lemmas.AreNumbered.{slice_get-append}
 
@@ -33,6 +35,10 @@ code-within dictionary [] rows i code are is = absurd (none-some code is)
 code-within dictionary (c ∷ codes) [] i code are is = absurd are
 code-within dictionary (c ∷ codes) (row ∷ rows) zero code are is = rw (← same_Some c code is) (slice_get_within dictionary c row are.0)
 code-within dictionary (c ∷ codes) (row ∷ rows) (suc i) code are is = code-within dictionary codes rows i code are.1 is
+
+-- all codes are
+pub codes-within : (dictionary : List Text) (codes : List ℕ) (rows : List Text) → AreCodes dictionary codes rows → All (λ code. code < length dictionary) codes
+codes-within dictionary codes rows are = λ k d inside. code-within dictionary codes rows k (get_or codes k d) are (slice_get-get_or codes k d inside)
 
 -- there is no row where there is no code
 pub no-row-at : (dictionary : List Text) (codes : List ℕ) (rows : List Text) (i : ℕ) → AreCodes dictionary codes rows → slice_get codes i ≡ None → slice_get rows i ≡ None
@@ -90,14 +96,14 @@ pub code-pushed : (dictionary : List Text) (codes longer : List ℕ) (rows : Lis
 code-pushed dictionary codes longer rows code row is put at =
     let all = column-pushed dictionary dictionary codes longer rows code row is put at (sym (append-nil dictionary) ∙ ap (λ more. dictionary ++ more) (sym (known-fresh dictionary code row at))) in (all.0, all.2)
 
--- or refused
-pub code-outcome : {E : Type 0} (outcome : Result (Unit {0}) E) (dictionary : List Text) (codes longer : List ℕ) (rows : List Text) (code : ℕ) → IsColumn dictionary codes rows → code < length dictionary
-    → OnOk outcome (longer ≡ codes ++ code ∷ []) → OnErr outcome (longer ≡ codes)
-    → IsColumn dictionary longer (rows_of dictionary longer) × ((row : Text) → slice_get dictionary code ≡ Some row → OnOk outcome (rows_of dictionary longer ≡ rows ++ row ∷ []))
-code-outcome (Ok done) dictionary codes longer rows code is within ok err =
-    ((code-pushed dictionary codes longer rows code (get_or dictionary code []) is ok (slice_get-get_or dictionary code [] within)).0, λ row at. (code-pushed dictionary codes longer rows code row is ok at).1)
-code-outcome (Err error) dictionary codes longer rows code is within ok err =
-    (subst (λ all. IsColumn dictionary all (rows_of dictionary all)) (sym err) (column-read dictionary codes rows is).0, λ row at. tt)
+-- or it is refused
+pub code-outcome : {E : Type 0} (outcome : Result (Unit {0}) E) (dictionary : List Text) (old new : CodeList) (rows : List Text) (code : ℕ) → IsColumn dictionary old.items rows → code < length dictionary
+    → OnOk outcome (new.items ≡ old.items ++ code ∷ []) → OnErr outcome (new ≡ old)
+    → IsColumn dictionary new.items (rows_of dictionary new.items) × ((row : Text) → slice_get dictionary code ≡ Some row → OnOk outcome (rows_of dictionary new.items ≡ rows ++ row ∷ []))
+code-outcome (Ok done) dictionary old new rows code is within ok err =
+    ((code-pushed dictionary old.items new.items rows code (get_or dictionary code []) is ok (slice_get-get_or dictionary code [] within)).0, λ row at. (code-pushed dictionary old.items new.items rows code row is ok at).1)
+code-outcome (Err error) dictionary old new rows code is within ok err =
+    (subst (λ all. IsColumn dictionary all (rows_of dictionary all)) (sym (ap (λ codes. codes.items) err)) (column-read dictionary old.items rows is).0, λ row at. tt)
 
 -- a code that is read at a row is that of the row's text
 pub row-read : (dictionary : List Text) (codes : List ℕ) (read rows : List Text) (i code : ℕ) → IsColumn dictionary codes read → read ≡ rows → i < length rows → code ≡ get_or codes i 0
@@ -108,3 +114,8 @@ row-read dictionary codes read rows i code is same within at =
     let row : slice_get rows i ≡ Some (get_or rows i []) = slice_get-get_or rows i [] within in
     let entry : slice_get dictionary code ≡ Some (get_or rows i []) = row-at dictionary codes read i code is.codes_are found ∙ ap (λ all. slice_get all i) same ∙ row in
     (get_or rows i [], row, entry, ap (λ entries. slice_get entries code) (sym (is.dictionary_is ∙ ap dictionary_of same)) ∙ entry)
+
+-- a row that is read is the first of the rows from it on
+pub first-ahead : (rows : List Text) (i : ℕ) (row : Option (Bor Text)) → i < length rows → option_copied row ≡ slice_get rows i → YieldsFirstRef (λ ahead. ahead) (drop i rows) row (drop (i + 1) rows)
+first-ahead rows i None within is = absurd (none-some (get_or rows i []) (is ∙ slice_get-get_or rows i [] within))
+first-ahead rows i (Some row) within is = drop_more rows i row.now within ∙ ap (λ text. text ∷ drop (i + 1) rows) (get_or_from_slice_get rows i row.now row.now (sym is))

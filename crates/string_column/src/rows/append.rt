@@ -1,19 +1,24 @@
 //! Appending the rows of another column, and a column of some of the rows.
 
-ghost use Rattle.std.specs.Prelude.{◌≡◌, ◌<◌, ◌≤◌, [], ◌∷◌, ◌++◌, length, slice_get, slice_range, Some, OnOk, OnErr};
+ghost use Rattle.std.specs.Prelude.{◌≡◌, ◌<◌, ◌≤◌, [], ◌∷◌, ◌++◌, All, length, slice_get, slice_range, Some, OnOk, OnErr};
 ghost use Rattle.string_interner.specs.Text.{Text};
-ghost use Rattle.string_column.specs.Column.{dictionary_of, AppendsRows, MakesColumn};
+ghost use Rattle.string_column.specs.Column.{dictionary_of, rows_of, AppendsRows, MakesColumn};
 
 use super::Column;
+use crate::code_list::Codes;
+use crate::entries::TextList;
 use std::alloc::{AllocError, Global};
 use string_interner::backend::{Backend, InternError};
 use string_interner::dedup::{TextHasher, TextIndex};
 
 impl<B: Backend, H: TextHasher, I: TextIndex<B::Symbol>> Column<B, H, I> {
-    /// Appends the rows of another column, under this one's dictionary. Stops at the first row that is refused, as
-    /// `push` refuses it; the rows before it stay, so how much longer the column is tells how many they are.
+    /// Appends the rows of another column. They get codes of this column's dictionary.
     ///
-    /// Hashes each distinct row of the other column once. Uses 16 bytes for each while it runs.
+    /// Stops at the first row that `push` fails for, and returns that error. The rows before it stay, so the new length of
+    /// the column gives their number.
+    ///
+    /// Hashes each distinct row of the other column once. While it runs it uses 16 bytes for each of them, and returns
+    /// `Memory` without appending a row if it cannot allocate these.
     ///
     /// ```
     /// let mut all = <Column>::new(alloc);
@@ -23,26 +28,36 @@ impl<B: Backend, H: TextHasher, I: TextIndex<B::Symbol>> Column<B, H, I> {
     pub fn append(&mut self, other: &Self) -> Result<(), InternError>
         ensures { AppendsRows B.numbering self.old other.now result self.new }
     {
-        self.append_range(other, 0, other.len())
+        self.append_codes(&other.dictionary, &other.codes, 0, other.len())
     }
 
-    /// Appends some rows of another column.
-    fn append_range(&mut self, other: &Self, start: usize, end: usize) -> Result<(), InternError>
+    /// Appends a row for each code from `start` to before `end`. Each code is an index of one of these entries.
+    ///
+    /// Hashes each entry of these rows once.
+    pub(super) fn append_codes<T: TextList>(
+        &mut self,
+        entries: &T,
+        codes: &Codes,
+        start: usize,
+        end: usize,
+    ) -> Result<(), InternError>
         requires ordered { start ≤ end }
-        requires within { end ≤ length other.now }
-        ensures { AppendsRows B.numbering self.old (slice_range other.now start end) result
+        requires within { end ≤ length codes.now.items }
+        requires indexes { All (λ code. code < length (T.texts entries.now)) codes.now.items }
+        ensures { AppendsRows B.numbering self.old
+            (slice_range (rows_of (T.texts entries.now) codes.now.items) start end) result
             self.new }
     {
         if start == end {
             return Ok(());
         }
         // Our code of each of their entries, once a row had it.
-        let mut codes = vec![in self.codes.allocator(); None; other.distinct()]?;
-        for index in start..end {
-            let theirs = other.codes.at(index);
-            match codes[theirs] {
+        let mut known = vec![in self.codes.allocator(); None; entries.len()]?;
+        for row in start..end {
+            let theirs = codes.at(row);
+            match known[theirs] {
                 Some(ours) => self.push_code(ours)?,
-                None => codes[theirs] = Some(self.push(other.dictionary.text_at(theirs))?),
+                None => known[theirs] = Some(self.push(entries.text_at(theirs))?),
             }
         }
         Ok(())
@@ -62,10 +77,10 @@ impl<B: Backend, H: TextHasher, I: TextIndex<B::Symbol>> Column<B, H, I> {
 }
 
 impl<B: Backend + Drop, H: TextHasher + Drop, I: TextIndex<B::Symbol> + Drop> Column<B, H, I> {
-    /// Makes a column of the rows from `start` to before `end`, under this hasher and a dictionary of its own.
+    /// Makes a column of the rows from `start` to before `end`, with this hasher and a dictionary of its own.
     ///
-    /// Fails as `append` does. Hashes each distinct row of the part once, and uses 16 bytes for each of the whole while
-    /// it runs.
+    /// Returns `Err` if `append` of these rows to an empty column does. Hashes each distinct row of the part once. While it
+    /// runs it uses 16 bytes for each distinct row of this whole column.
     ///
     /// ```
     /// let morning = log.slice(alloc, FoldState::default(), 0, 1_000)?;
@@ -82,7 +97,7 @@ impl<B: Backend + Drop, H: TextHasher + Drop, I: TextIndex<B::Symbol> + Drop> Co
         ensures { MakesColumn B.numbering (slice_range self.now start end) result }
     {
         let mut part = Column::with_hasher(alloc, hasher);
-        part.append_range(self, start, end)?;
+        part.append_codes(&self.dictionary, &self.codes, start, end)?;
         Ok(part)
     }
 }

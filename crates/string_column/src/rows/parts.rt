@@ -1,9 +1,9 @@
 //! A column of a dictionary and codes from outside.
 
-ghost use Rattle.std.specs.Prelude.{◌≡◌, ◌<◌, [], All, List, length, IfErr, MatchOption, IsTrue, OnOk};
+ghost use Rattle.std.specs.Prelude.{◌≡◌, ◌<◌, [], All, List, length, IfOk, IfErr, IsTrue, OnOk};
 ghost use Rattle.string_interner.specs.Text.{Text, IsDistinct};
 ghost use Rattle.string_interner.specs.Extend.{texts_of};
-ghost use Rattle.string_column.specs.Column.{dictionary_of, rows_of, AppendsRows};
+ghost use Rattle.string_column.specs.Column.{dictionary_of, rows_of};
 ghost use Rattle.string_column.specs.Parts.{IsEntryFault, IsMadeOf, IsOutside, refused};
 
 use super::Column;
@@ -14,14 +14,18 @@ use std::fmt;
 use string_interner::backend::{Backend, InternError};
 use string_interner::dedup::{TextHasher, TextIndex};
 
-/// Why a dictionary and codes make no column.
+/// Why a dictionary and codes do not make a column.
+///
+/// ```
+/// let fault = <Column>::from_parts(alloc, FoldState::default(), &["red", "red"], codes); // Err(Repeated { index: 1 })
+/// ```
 #[derive(Clone, Copy, Debug, PartialEq, Eq)]
 pub enum PartsError {
     /// The entry at this index equals an earlier one.
     Repeated { index: usize },
-    /// The code of this row is no index of an entry.
+    /// The code of this row is not the index of an entry.
     NoEntry { row: usize },
-    /// The symbol type has no symbol for an entry.
+    /// The symbol type has no symbol left for an entry.
     NoSymbol,
     /// An allocation failed, or a size does not fit a `usize`.
     Memory(AllocError),
@@ -50,36 +54,29 @@ impl fmt::Display for PartsError {
     }
 }
 
-/// Finds the first row whose code is no index of so many entries.
-fn find_outside(codes: &Codes, count: usize) -> Option<usize>
-    ensures { MatchOption result (All (λ code. code < count) codes.now.items)
-        (IsOutside count codes.now.items) }
+/// Reports whether so many entries stand in the order in which the rows first have them, and each has a row.
+///
+/// Returns `Err` with the first row whose code is not the index of an entry.
+fn check_codes(codes: &Codes, count: usize) -> Result<bool, usize>
+    ensures indexes { OnOk result (All (λ code. code < count) codes.now.items) }
+    ensures order { IfOk result (λ is_in_order. IsTrue is_in_order → (entries : List Text)
+        → IsDistinct entries → length entries ≡ count
+        → dictionary_of (rows_of entries codes.now.items) ≡ entries) }
+    ensures err { IfErr result (IsOutside count codes.now.items) }
 {
-    for row in 0..codes.len() {
-        if codes.at(row) >= count {
-            return Some(row);
-        }
-    }
-    None
-}
-
-/// Reports whether so many entries, which have a row each, stand in the order in which the rows first have them.
-fn is_in_order(codes: &Codes, count: usize) -> bool
-    requires { All (λ code. code < count) codes.now.items }
-    ensures { IsTrue result → (entries : List Text) → IsDistinct entries
-        → length entries ≡ count → dictionary_of (rows_of entries codes.now.items) ≡ entries }
-{
+    let mut is_in_order = true;
     let mut next = 0;
     for row in 0..codes.len() {
         let code = codes.at(row);
-        if code > next {
-            return false;
+        if code >= count {
+            return Err(row);
         }
+        is_in_order &= code <= next;
         if code == next {
             next += 1;
         }
     }
-    next == count
+    Ok(is_in_order & (next == count))
 }
 
 /// Interns texts into an empty dictionary, each of which must be new.
@@ -100,30 +97,19 @@ fn intern_entries<B: Backend, H: TextHasher, I: TextIndex<B::Symbol>>(
     Ok(())
 }
 
-impl<B: Backend, H: TextHasher, I: TextIndex<B::Symbol>> Column<B, H, I> {
-    /// Appends a row for each code, which is an index of these entries.
-    fn push_each(&mut self, entries: &[&str], codes: &Codes) -> Result<(), InternError>
-        requires { All (λ code. code < length entries.now) codes.now.items }
-        ensures { AppendsRows B.numbering self.old (rows_of (texts_of entries.now) codes.now.items)
-            result self.new }
-    {
-        for row in 0..codes.len() {
-            self.push(entries[codes.at(row)])?;
-        }
-        Ok(())
-    }
-}
-
 impl<B: Backend + Drop, H: TextHasher + Drop, I: TextIndex<B::Symbol> + Drop> Column<B, H, I> {
-    /// Makes a column of a dictionary and a code for each row, under this hasher: what `dictionary` and `codes` of a
-    /// column return, from a file or another program.
+    /// Makes a column of a dictionary and a code for each row, with this hasher. A file or another program may have them
+    /// from `dictionary` and `codes` of a column.
     ///
-    /// If the entries stand in the order in which the rows first have them, and each has a row, the codes are kept as
-    /// they are. Otherwise the rows are encoded anew, so that entries get other codes, and those without a row are
+    /// If each entry has a row, and the entries are in the order in which the rows first have them, the column takes the
+    /// codes as they are. Otherwise it encodes the rows again: entries get other codes, and an entry without a row is
     /// dropped.
     ///
-    /// Returns `Repeated` with the first entry that equals an earlier one, and if there is none, `NoEntry` with the
-    /// first row whose code is no index of an entry. Returns `NoSymbol` and `Memory` as `push` does.
+    /// Returns `Repeated` with the first entry that equals an earlier one. If there is none, returns `NoEntry` with the
+    /// first row whose code is not the index of an entry. Returns `NoSymbol` and `Memory` as `push` does.
+    ///
+    /// Hashes each entry once. To encode the rows again, it hashes each entry that has a row once more, and uses 16 bytes
+    /// for each entry while it runs.
     ///
     /// ```
     /// let colors = <Column>::from_parts(alloc, FoldState::default(), &["red", "green"], codes)?;
@@ -138,10 +124,11 @@ impl<B: Backend + Drop, H: TextHasher + Drop, I: TextIndex<B::Symbol> + Drop> Co
     {
         let mut entries = Entries::with_hasher(alloc, hasher);
         intern_entries(&mut entries, dictionary)?;
-        if let Some(row) = find_outside(&codes, dictionary.len()) {
-            return Err(PartsError::NoEntry { row });
-        }
-        if is_in_order(&codes, dictionary.len()) {
+        let is_in_order = match check_codes(&codes, dictionary.len()) {
+            Ok(is_in_order) => is_in_order,
+            Err(row) => return Err(PartsError::NoEntry { row }),
+        };
+        if is_in_order {
             return Ok(Column {
                 dictionary: entries,
                 codes,
@@ -152,7 +139,7 @@ impl<B: Backend + Drop, H: TextHasher + Drop, I: TextIndex<B::Symbol> + Drop> Co
             dictionary: entries,
             codes: Codes::new(alloc),
         };
-        column.push_each(dictionary, &codes)?;
+        column.append_codes(&dictionary, &codes, 0, codes.len())?;
         Ok(column)
     }
 }

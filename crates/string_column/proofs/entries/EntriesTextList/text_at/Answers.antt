@@ -3,7 +3,7 @@ use Rattle.std.specs.Prelude.{slice_get}
 use Rattle.std.proofs.lemmas.Option.{slice_get_read}
 use Rattle.string_interner.proofs.Lemmas.Backend.Numbering.{numbered}
 use Rattle.string_column.proofs.Lemmas.AreNumbered.{begins-at}
-use Rattle.string_column.proofs.entries.Entries.text_at.Goals as goal
+use Rattle.string_column.proofs.entries.EntriesTextList.text_at.Goals as goal
 
 pub returns : goal.returns
 returns g c =
@@ -11,4 +11,4 @@ returns g c =
     let within : c.args.index < length symbols = omega (arith, c.requires, c.self.invariant.count, ap length c.self.view_is) in
     let is : slice_get symbols c.args.index ≡ Some c.index.result.now = slice_get_read symbols (length symbols) c.args.index c.index.result.now refl within c.index.ensures in
     rw (← c.self.view_is) (c.resolve_unchecked.ensures c.args.index
-    (begins-at g.B.Backend.numbering (numbered g.B.Backend.numbering g.met.B.Backend.symbols g.met.B.Symbol.Symbol.numbered) c.self.inside.interner.texts symbols _ c.args.index c.index.result.now c.self.invariant is))
+    (begins-at g.B.Backend.numbering (numbered g.B.Backend.numbering g.met.B.Backend.symbols g.met.B.Symbol.Symbol.numbered) c.self.inside.interner.texts symbols c.args.index c.index.result.now c.self.invariant is))
