@@ -1,5 +1,6 @@
 """Runs a built program, also with requests for memory, reading or writing that fail."""
 
+import os
 import subprocess
 import tempfile
 from collections import namedtuple
@@ -62,6 +63,16 @@ class Program:
         lines = ended.error.splitlines(keepends=True)
         asks = [int(line[5:]) for line in lines if line.startswith(b"asks ")]
         return ended._replace(error=b"".join(line for line in lines if not line.startswith(b"asks "))), asks
+
+    def run_with_peak(self, words, given, output):
+        """How a run from one file to another ends, and the most memory that was resident at once, in KiB. What this process
+        holds is resident, too, until the run begins."""
+        with tempfile.TemporaryFile() as told:
+            process = subprocess.Popen([self.path, *words], stdin=given, stdout=output, stderr=told, env={}, close_fds=False)
+            _, status, used = os.wait4(process.pid, 0)
+            process.returncode = os.waitstatus_to_exitcode(status)
+            told.seek(0)
+            return End(process.returncode, b"", told.read()), used.ru_maxrss
 
 
 def without_held(told):

@@ -10,6 +10,14 @@ FIRST_INPUT = 512
 MANY, MEBIBYTE = 200000, 2**20
 
 
+def rooms_of_input(data):
+    """The room asked for to read an input: it doubles until all is read."""
+    rooms = [FIRST_INPUT]
+    while rooms[-1] < len(data):
+        rooms.append(2 * rooms[-1])
+    return rooms
+
+
 @dataclass
 class Case:
     """The files of a case: its arguments and input, how a run must end, and the requests for memory of each line."""

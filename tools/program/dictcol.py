@@ -1,7 +1,9 @@
 """What is tried of the program `dictcol`, whose answers Python's `json` and `Counter` reckon."""
 
 import errno
+import filecmp
 import json
+import operator
 import os
 import random
 import re
@@ -14,6 +16,7 @@ from itertools import count, product
 from pathlib import Path
 
 from program.cases import FIRST_INPUT, MANY, MEBIBYTE, Case, cases, rows
+from program.requests import asks_of_lines
 from program.streams import Streams
 
 CASES = "crates/dictcol/cases"
@@ -79,10 +82,30 @@ def try_refused(program, name, words, data, wanted):
         yield f"{refused}: asked again", after[number:] if number != ahead else [], []
 
 
+# So many rows are sorted without memory. What more of them ask for, the library does not say.
+SORTED_IN_PLACE = 20
+
+
+def try_asks(program, name, words, data):
+    """What a run of `encode` or `count` that ends well asks for after the words. In which order a column asks is its own.
+    Over buffers it has a map, too, whose sizes the library does not say."""
+    backend = (re.findall(rb"--backend[= ](\w+)", b" ".join(words)) or [b"string"])[-1]
+    if backend == b"buffer" or b"--sorted" in words and len(set(data.split(b"\n"))) > SORTED_IN_PLACE:
+        return
+    ended, asks = program.run_with_asks(words, data)
+    before, column, behind = asks_of_lines(words, data, backend, ended.output)
+    asks = asks[asks.index(FIRST_INPUT):]
+    begin, end = len(before), len(before) + len(column)
+    yield f"{name}, what it asks for the input and the buffer", asks[:begin], before
+    yield f"{name}, what the column asks for", sorted(asks[begin:end]), sorted(column)
+    yield f"{name}, what it asks for to write", asks[end:], behind
+
+
 def try_case(program, path):
     case = Case.read(path)
     if case.end[0] == 0 and case.words[0] != b"decode":
         yield f"{case.name}, the case by the rules", answer(case.words, case.data), case.end
+        yield from try_asks(program, case.name, case.words, case.data)
     yield from try_refused(program, case.name, case.words, case.data, case.end)
 
 
@@ -166,6 +189,7 @@ def try_both_ways(program, name, data):
     for backend, words in product(BACKENDS, ([b"encode"], [b"count"], [b"count", b"--sorted"])):
         words = [*words, b"--backend", backend]
         yield f"{name}, {words}", program.run(words, data), answer(words, data)
+        yield from try_asks(program, f"{name}, {words}", words, data)
     yield f"{name}, decoded", program.run([b"decode"], answer([b"encode"], data)[1]), (0, data, b"")
 
 
@@ -232,6 +256,44 @@ def try_many_rows(program):
     grow. Codes of eight bytes need more."""
     ended = program.run([b"count"], b"\n" * 10000000, before=lambda: resource.setrlimit(resource.RLIMIT_AS, (104 << 20,) * 2))
     yield "ten million empty lines", ended, (0, b"10000000 \n", b"")
+
+
+def newlines():
+    """10 MB of newlines, piece by piece."""
+    for _ in range(10):
+        yield b"\n" * 10**6
+
+
+def log_lines():
+    """100 MiB of distinct lines of a log, each of 100 bytes."""
+    for number in range(100 * MEBIBYTE // 100):
+        mixed = number * 2654435761 % 2**32
+        yield (b"2026-11-26T%02d:%02d:%02d host%03d app[%05d]: request %08x took %5d us: %08x%08x" % (
+            number // 3600 % 24, number // 60 % 60, number % 60, mixed % 997, mixed % 65521, number, mixed % 99991, mixed,
+            mixed ^ number)).ljust(99, b".") + b"\n"
+
+
+# The most memory in MiB, as the guide has it, with some room for other versions of the C library.
+LARGE = {"10 MB of newlines": (newlines, 80), "100 MiB of lines of a log": (log_lines, 350)}
+
+
+def try_large(program, name):
+    """A large input, which is written in pieces, since what this process holds counts for the programs that it starts."""
+    pieces, most = LARGE[name]
+    with tempfile.TemporaryDirectory() as folder:
+        paths = {it: Path(folder, it) for it in ("lines", "encode", "count", "decode")}
+        with open(paths["lines"], "wb") as lines:
+            lines.writelines(pieces())
+        for word, source in ("encode", "lines"), ("count", "lines"), ("decode", "encode"):
+            with open(paths[source], "rb") as given, open(paths[word], "wb") as output:
+                ended, peak = program.run_with_peak([word.encode()], given, output)
+            yield f"{name}, {word}", ended, (0, b"", b"")
+            if word != "decode":
+                yield f"{name}, {word}: {peak >> 10} MiB, and not at most {most}", peak <= most << 10, True
+        yield f"{name}, decoded", filecmp.cmp(paths["decode"], paths["lines"], shallow=False), True
+        with open(paths["count"], "rb") as counts:
+            wanted = [b"10000000 \n"] if pieces is newlines else (b"1 " + line for line in pieces())
+            yield f"{name}, counted", all(map(operator.eq, counts, wanted)) and counts.read() == b"", True
 
 
 def mixed(one, other):
@@ -308,4 +370,11 @@ def parts():
         ],
         # Alone, since it compares times.
         "chosen": [(try_chosen_lines,)],
+    }
+
+
+def further_parts():
+    """Those that run only if they are named."""
+    return {
+        "large": [(try_large, name) for name in LARGE],
     }

@@ -2,7 +2,7 @@
 
 import random
 
-from program.cases import FIRST_INPUT, MANY, MEBIBYTE, Case, cases, rows
+from program.cases import MANY, MEBIBYTE, Case, cases, rooms_of_input, rows
 from program.streams import Streams
 from program.texts import (ANY, BACKENDS, OUT_OF_MEMORY, UNREADABLE, UNWRITABLE, USAGE, Run, answer, bad_line, command_of,
                            lines_of)
@@ -10,14 +10,6 @@ from program.texts import (ANY, BACKENDS, OUT_OF_MEMORY, UNREADABLE, UNWRITABLE,
 CASES = "crates/intern/cases"
 # In bytes: the buffer of standard output, a command and a reply.
 OUTPUT_BUFFER, COMMAND, REPLY = 8192, 24, 32
-
-
-def rooms_of_input(data):
-    """The room asked for to read an input: it doubles until all is read."""
-    rooms = [FIRST_INPUT]
-    while rooms[-1] < len(data):
-        rooms.append(2 * rooms[-1])
-    return rooms
 
 
 def asks_of_lines(case):
@@ -271,3 +263,8 @@ def parts():
         ],
         "scale": ((try_large, *given, word) for given in large_inputs() for word in BACKENDS),
     }
+
+
+def further_parts():
+    """Those that run only if they are named: none."""
+    return {}

@@ -23,6 +23,7 @@ use Rattle.string_interner.specs.declared.json.JsonError.{JsonError}
 use Rattle.string_interner.specs.declared.json.JsonError.TheVariants.{NoSymbol, Memory}
 use Rattle.string_interner.proofs.Lemmas.Json.Reads.{new_text}
 use Rattle.string_column.specs.Column.{AreCodes}
+use Rattle.string_column.proofs.Lemmas.Counts.{dictionary-distinct}
 use Rattle.dictcol.specs.File.{IsFileOf, indexed_texts, HoldsLines, HoldsText, IsColumnFile, DecodesFile}
 use Rattle.dictcol.specs.Lines.{has_newline, text_of_lines, AreLines}
 use Rattle.dictcol.proofs.Lines.{text-of-lines, lines-plain, fresh-plain, texts_of-append}
@@ -74,31 +75,19 @@ indexed_texts-numbers dictionary (n ∷ ns) [] are = absurd are
 indexed_texts-numbers dictionary (n ∷ ns) (l ∷ ls) are = rw (are.0, indexed_texts-numbers dictionary ns ls are.1) refl
 
 -- The file of lines holds them.
-pub file-holds : (lines : List Text) (is_ended : Bool) (value : Data) → IsDistinct (fresh [] lines) → list_any has_newline lines ≡ false → IsFileOf lines is_ended value → HoldsLines value lines is_ended
+pub file-holds : (lines : List Text) (is_ended : Bool) (value : Data) → list_any has_newline lines ≡ false → IsFileOf lines is_ended value → HoldsLines value lines is_ended
 unfolding serde_json_on_literals
-file-holds lines is_ended value distinct plain is =
+file-holds lines is_ended value plain is =
     let dictionary = fresh [] lines in record {
       dictionary = dictionary;
       texts = ap (get (codes "dictionary")) is.1;
-      distinct = distinct;
+      distinct = dictionary-distinct lines;
       each_a_line = fresh-plain has_newline [] lines plain;
       numbers = items_of (map json_of_number is.0);
       indexes = ap (get (codes "lines")) is.1;
       picked = indexed_texts-numbers dictionary is.0 lines is.2;
       end = ap (get (codes "final_newline")) is.1;
     }
-
-strings-depth : (texts : List Text) → items_depth (items_of (map string texts)) ≡ 0
-strings-depth [] = refl
-strings-depth (t ∷ ts) = rw (strings-depth ts) refl
-
-numbers-depth : (numbers : List ℕ) → items_depth (items_of (map json_of_number numbers)) ≡ 0
-numbers-depth [] = refl
-numbers-depth (n ∷ ns) = rw (numbers-depth ns) refl
-
--- the file is shallow enough to be read
-pub file-depth : (lines : List Text) (is_ended : Bool) (value : Data) → IsFileOf lines is_ended value → depth value ≤ max_depth
-file-depth lines is_ended value is = rw (is.1, strings-depth (fresh [] lines), numbers-depth is.0) (lit≤ tt)
 
 -- reading texts ended well, or they were refused
 abbrev pub IsRead : Result InternerContents JsonError → Type 0
@@ -137,22 +126,21 @@ module _ {S : Type 0} (numbering : Numbering S) where
   distinct-read texts value outcome distinct is read = reads-rest [] texts 0 outcome distinct (rw is at read)
 
 -- Decoding what was encoded gives the same text: all that the file of a text's lines can hold is the text.
-pub gives-back : (text : Text) (lines said : List Text) (is_ended said_ended : Bool) (value : Data) → AreLines text lines is_ended → IsDistinct (fresh [] lines) → IsFileOf lines is_ended value → HoldsLines value said said_ended
-    → text_of_lines said said_ended ≡ text
-gives-back text lines said is_ended said_ended value are distinct is holds =
-    holds-once value said lines said_ended is_ended holds (file-holds lines is_ended value distinct (lines-plain text lines is_ended are) is) ∙ text-of-lines text lines is_ended are
+pub gives-back : (text : Text) (lines said : List Text) (is_ended said_ended : Bool) (value : Data) → AreLines text lines is_ended → IsFileOf lines is_ended value → HoldsLines value said said_ended → text_of_lines said said_ended ≡ text
+gives-back text lines said is_ended said_ended value are is holds =
+    holds-once value said lines said_ended is_ended holds (file-holds lines is_ended value (lines-plain text lines is_ended are) is) ∙ text-of-lines text lines is_ended are
 
 -- The file that was encoded holds the text.
 pub is-decoded : (text file : Text) → IsColumnFile text file → DecodesFile file text
 is-decoded text file e =
-    let holds = file-holds e.0 e.1 e.2 e.4 (lines-plain text e.0 e.1 e.3) e.5 in
-    (e.2, (e.0, e.1, holds, sym (text-of-lines text e.0 e.1 e.3)), e.6)
+    let holds = file-holds e.0 e.1 e.3.0 (lines-plain text e.0 e.1 e.2) e.3.1 in
+    (e.3.0, (e.0, e.1, holds, sym (text-of-lines text e.0 e.1 e.2)), e.3.2)
 
 -- What was encoded comes back: no other text is decoded.
 pub comes-back : (text file said : Text) → IsColumnFile text file → DecodesFile file said → said ≡ text
 comes-back text file said e d =
-    let holds = subst (λ v. HoldsText v said) (same_Some d.0 e.2 (sym d.2 ∙ e.6)) d.1 in
-    holds.3 ∙ gives-back text e.0 holds.0 e.1 holds.1 e.2 e.3 e.4 e.5 holds.2
+    let holds = subst (λ v. HoldsText v said) (same_Some d.0 e.3.0 (sym d.2 ∙ e.3.2)) d.1 in
+    holds.3 ∙ gives-back text e.0 holds.0 e.1 holds.1 e.3.0 e.2 e.3.1 holds.2
 
 -- ---- files that hold nothing
 

@@ -1,11 +1,14 @@
 -- The file that `encode` writes and `decode` reads: which value it is, and which lines it holds.
 -- Cited by `file` and `answer`.
-use Rattle.std.specs.Prelude.{◌≡◌, ℕ, List, [], ◌∷◌, map, Bool, false, codes, Option, Some, option_map, option_and_then, slice_get}
+use Rattle.std.specs.Prelude.{◌≡◌, ℕ, List, [], ◌∷◌, ◌++◌, map, Bool, false, codes, Option, Some, option_map, option_and_then, slice_get}
 use Rattle.std.specs.List.{list_any}
+use Rattle.json.specs.Tree.{json_tokens}
+use Rattle.json.specs.Written.{Written}
 use Rattle.serde_json.specs.Data.{Data, boolean, array, object, Items, no_items, item, member, no_members}
 use Rattle.serde_json.specs.Find.{get, as_number, as_u64}
-use Rattle.serde_json.specs.Read.{read}
+use Rattle.serde_json.specs.Read.{of_json, read}
 use Rattle.serde_json.specs.View.{items_of}
+use Rattle.serde_json.specs.Written.{outline, compact_text}
 use Rattle.string_interner.specs.Text.{Text, IsDistinct}
 use Rattle.string_interner.specs.Extend.{fresh}
 use Rattle.string_interner.specs.Json.{json_of_texts, json_of_number}
@@ -44,10 +47,13 @@ pub record HoldsLines (value : Data) (lines : List Text) (is_ended : Bool) : Typ
   pub picked : indexed_texts dictionary numbers ≡ Some lines
   pub end : get (codes "final_newline") value ≡ Some (boolean is_ended)
 
+-- the text is the file of these lines: what it reads as, and that it has no space but the newline at its end
+abbrev pub IsFileText : List Text → Bool → Text → Type 0
+IsFileText lines is_ended text = (value : Data) × IsFileOf lines is_ended value × (read text ≡ Some value) × (text ≡ compact_text value ++ 10 ∷ [])
+
 -- the text is the file of the lines of the bytes
 abbrev pub IsColumnFile : Text → Text → Type 0
-IsColumnFile bytes text = (lines : List Text) × (is_ended : Bool) × (value : Data) × AreLines bytes lines is_ended
-    × IsDistinct (fresh [] lines) × IsFileOf lines is_ended value × (read text ≡ Some value)
+IsColumnFile bytes text = (lines : List Text) × (is_ended : Bool) × AreLines bytes lines is_ended × IsFileText lines is_ended text
 
 -- a value holds the text of some lines
 abbrev pub HoldsText : Data → Text → Type 0
@@ -56,3 +62,7 @@ HoldsText value text = (lines : List Text) × (is_ended : Bool) × HoldsLines va
 -- the bytes are a file, and the text is what it holds
 abbrev pub DecodesFile : Text → Text → Type 0
 DecodesFile bytes text = (value : Data) × HoldsText value text × (read bytes ≡ Some value)
+
+-- the tokens of a value that has no float are put last, and read as that value
+abbrev pub PutsValue : Data → Written → Written → Type 0
+PutsValue value old new = (new.before ≡ old.before) × (new.tokens ≡ old.tokens ++ json_tokens (outline value)) × (of_json (outline value) ≡ Some value)

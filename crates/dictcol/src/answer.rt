@@ -12,7 +12,7 @@ ghost use Rattle.dictcol.specs.Answer.{IsFormOutput, IsTaskFault, IsTaskOutput};
 use crate::arguments::{Choice, Form, Task};
 use crate::fault::Fault;
 use crate::hasher::LineHasher;
-use crate::{count, file};
+use crate::{count, file, format};
 use std::alloc::Global;
 use std::io::{Read, Write};
 use string_column::Column;
@@ -79,16 +79,17 @@ fn make_column<B: Backend + Drop>(
     }
 }
 
-/// Returns a column of the lines, and whether the last one ends in a newline.
+/// Returns a column of the lines, and whether the last one ends in a newline. The bytes are freed, so that the text that is made
+/// of the column takes no memory beside them.
 fn split_lines<B: Backend + Drop>(
     alloc: Global,
     hasher: LineHasher,
-    bytes: &[u8],
+    bytes: Vec<u8>,
 ) -> Result<(Column<B, LineHasher>, bool), Fault>
-    ensures lines { IfOk result (λ lines. AreLines bytes.now lines.0 lines.1) }
+    ensures lines { IfOk result (λ lines. AreLines bytes.items lines.0 lines.1) }
     ensures fault { IfErr result IsNoDamage }
 {
-    let (body, is_ended) = strip_final_newline(bytes);
+    let (body, is_ended) = strip_final_newline(&bytes);
     let text = check_utf8(body)?;
     if bytes.is_empty() {
         return Ok((Column::with_hasher(alloc, hasher), is_ended));
@@ -100,13 +101,13 @@ fn split_lines<B: Backend + Drop>(
 fn encode<B: Backend + Drop>(
     alloc: Global,
     hasher: LineHasher,
-    bytes: &[u8],
+    bytes: Vec<u8>,
 ) -> Result<String, Fault>
-    ensures file { IfOk result (λ text. IsColumnFile bytes.now (string_bytes text)) }
+    ensures file { IfOk result (λ text. IsColumnFile bytes.items (string_bytes text)) }
     ensures fault { IfErr result IsNoDamage }
 {
     let (lines, is_ended) = split_lines::<B>(alloc, hasher, bytes)?;
-    match file::format_file(alloc, &lines, is_ended) {
+    match format::format_file(alloc, &lines, is_ended) {
         Ok(text) => Ok(text),
         Err(_) => Err(Fault::Memory),
     }
@@ -116,7 +117,7 @@ fn encode<B: Backend + Drop>(
 fn count_lines<B: Backend + Drop>(
     alloc: Global,
     hasher: LineHasher,
-    bytes: &[u8],
+    bytes: Vec<u8>,
     is_sorted: bool,
 ) -> Result<String, Fault>
     ensures { IfErr result IsNoDamage }
@@ -130,9 +131,9 @@ fn format_lines<B: Backend + Drop>(
     alloc: Global,
     hasher: LineHasher,
     form: Form,
-    bytes: &[u8],
+    bytes: Vec<u8>,
 ) -> Result<String, Fault>
-    ensures form { IfOk result (λ text. IsFormOutput form bytes.now (string_bytes text)) }
+    ensures form { IfOk result (λ text. IsFormOutput form bytes.items (string_bytes text)) }
     ensures fault { IfErr result IsNoDamage }
 {
     match form {
@@ -148,9 +149,9 @@ fn format_lines_over(
     hasher: LineHasher,
     form: Form,
     choice: Choice,
-    bytes: &[u8],
+    bytes: Vec<u8>,
 ) -> Result<String, Fault>
-    ensures form { IfOk result (λ text. IsFormOutput form bytes.now (string_bytes text)) }
+    ensures form { IfOk result (λ text. IsFormOutput form bytes.items (string_bytes text)) }
     ensures fault { IfErr result IsNoDamage }
 {
     match choice {
@@ -177,11 +178,11 @@ fn write_form<W: Write>(
     hasher: LineHasher,
     form: Form,
     choice: Choice,
-    bytes: &[u8],
+    bytes: Vec<u8>,
     output: &mut W,
 ) -> Result<(), Fault>
     ensures written { OnOk result
-        (Writes (IsFormOutput form bytes.now) (W.contents output.old) (W.contents output.new)) }
+        (Writes (IsFormOutput form bytes.items) (W.contents output.old) (W.contents output.new)) }
     ensures silent { WritesLast result output.old output.new }
     ensures fault { IfErr result IsNoDamage }
 {
@@ -194,20 +195,20 @@ pub fn answer<W: Write>(
     alloc: Global,
     hasher: LineHasher,
     task: Task,
-    bytes: &[u8],
+    bytes: Vec<u8>,
     output: &mut W,
 ) -> Result<(), Fault>
     ensures answered { OnOk result
-        (Writes (IsTaskOutput task bytes.now) (W.contents output.old) (W.contents output.new)) }
+        (Writes (IsTaskOutput task bytes.items) (W.contents output.old) (W.contents output.new)) }
 
     // A file that holds a text is never called damaged, and lines never are.
-    ensures err { IfErr result (IsTaskFault task bytes.now) }
+    ensures err { IfErr result (IsTaskFault task bytes.items) }
 
     // Unless all went well or a write failed, the output was not touched.
     ensures silent { WritesLast result output.old output.new }
 {
     match task {
-        Task::Decode => file::decode(alloc, hasher, check_utf8(bytes)?, output),
+        Task::Decode => file::decode(alloc, hasher, check_utf8(&bytes)?, output),
         Task::Write(form, choice) => write_form(alloc, hasher, form, choice, bytes, output),
     }
 }

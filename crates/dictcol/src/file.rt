@@ -17,61 +17,16 @@ ghost use Rattle.dictcol.specs.Writes.{Writes};
 
 use crate::fault::Fault;
 use crate::hasher::LineHasher;
-use serde_json::{Value, json};
-use std::alloc::{AllocError, Global};
+use serde_json::Value;
+use std::alloc::Global;
 use std::io::Write;
-use string_column::{Codes, Column};
-use string_interner::backend::{Backend, DefaultBackend};
+use string_interner::backend::DefaultBackend;
 use string_interner::dedup::TaggedIndex;
 use string_interner::json::JsonError;
 use string_interner::{DefaultSymbol, StringInterner};
 
 /// The texts of a file.
 type Dictionary = StringInterner<DefaultBackend, LineHasher, TaggedIndex<DefaultSymbol>>;
-
-/// Returns the array of the codes.
-fn build_array(alloc: Global, codes: &Codes) -> Result<Value, AllocError>
-    ensures { IfOk result (λ value.
-        view value ≡ array (items_of (map json_of_number codes.now.items))) }
-{
-    let mut elements = Vec::with_capacity(alloc, codes.len())?;
-    for row in 0..codes.len() {
-        elements.push_reserved(Value::from(codes.at(row)));
-    }
-    Ok(Value::from(elements))
-}
-
-/// Returns the file of the lines.
-fn build_file<B: Backend>(
-    alloc: Global,
-    lines: &Column<B, LineHasher>,
-    is_ended: bool,
-) -> Result<Value, AllocError>
-    ensures file { IfOk result (λ value. IsFileOf lines.now is_ended (view value)) }
-    ensures distinct { IsDistinct (fresh [] lines.now) }
-{
-    // For the proof: states that the texts are distinct.
-    let _ = lines.dictionary().len();
-    let dictionary = lines.dictionary().to_json(alloc)?;
-    let numbers = build_array(alloc, lines.codes())?;
-    json!(in alloc; {"dictionary": dictionary, "lines": numbers, "final_newline": is_ended})
-}
-
-/// Returns the text of the file of the lines.
-pub fn format_file<B: Backend>(
-    alloc: Global,
-    lines: &Column<B, LineHasher>,
-    is_ended: bool,
-) -> Result<String, AllocError>
-    ensures file { IfOk result (λ text. (value : Data) × IsFileOf lines.now is_ended value
-        × (read (string_bytes text) ≡ Some value)) }
-    ensures distinct { OnOk result (IsDistinct (fresh [] lines.now)) }
-{
-    let file = build_file(alloc, lines, is_ended)?;
-    let mut text = file.to_string(alloc)?;
-    text.push('\n')?;
-    Ok(text)
-}
 
 /// Reads the dictionary.
 fn read_dictionary(alloc: Global, hasher: LineHasher, file: &Value) -> Result<Dictionary, Fault>

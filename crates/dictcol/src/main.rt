@@ -6,6 +6,7 @@ mod arguments;
 mod count;
 mod fault;
 mod file;
+mod format;
 mod hasher;
 
 use arguments::{Request, Source, Task};
@@ -84,12 +85,13 @@ fn work(rt: &HostRuntime, task: Task, source: Source<'_>) -> Result<(), Fault> {
     let alloc = rt.alloc();
     let hasher = LineHasher::draw(rt)?;
     let bytes = read(rt, source)?;
-    tell(rt, bytes.len(), "read");
+    let length = bytes.len();
+    tell(rt, length, "read");
     let mut output = BufWriter::with_capacity(alloc, BUFFER, rt.stdout()).map_err(
         |_| Fault::Memory,
     )?;
-    answer::answer(alloc, hasher, task, &bytes, &mut output)?;
-    tell(rt, bytes.len(), "done");
+    answer::answer(alloc, hasher, task, bytes, &mut output)?;
+    tell(rt, length, "done");
     Ok(())
 }
 

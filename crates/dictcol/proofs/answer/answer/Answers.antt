@@ -7,5 +7,6 @@ use Rattle.dictcol.proofs.answer.answer.Goals as goal
 pub returns-in_ok-check_utf8-in-Decode-clause-err : goal.returns-in_ok-check_utf8-in-Decode-clause-err
 returns-in_ok-check_utf8-in-Decode-clause-err g c =
     let is : c.args.task ≡ Decode = search rules in
-    let err = subst (λ file. IfErr c.decode.result (IsRightFault (DecodesFile file))) c.in_ok-check_utf8-in-Decode.ensures.ok c.decode.ensures.err in
+    let file : c.in_ok-check_utf8-in-Decode.field-0.now ≡ c.args.bytes.items = search rules in
+    let err = subst (λ file. IfErr c.decode.result (IsRightFault (DecodesFile file))) file c.decode.ensures.err in
     rw is err
