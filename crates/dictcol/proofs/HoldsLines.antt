@@ -1,16 +1,16 @@
 -- What a file holds: at most one list of lines, and the file of some lines holds these.
-use Rattle.std.proofs.Common.{◌≡◌, ◌≢◌, ℕ, zero, suc, ◌+◌, ◌-◌, ◌^◌, ◌≤◌, lit≤, Bool, true, false, List, [], ◌∷◌, ◌++◌, map, codes, Option, Some, None, Result, Ok, Err, MatchResult, IfErr, Bor, option_map, option_and_then, refl, sym, ap, subst, ◌∙◌}
-use Rattle.std.specs.Prelude.{slice_get, ⊤}
+use Rattle.std.proofs.Common.{◌≡◌, ◌≢◌, ℕ, ◌+◌, ◌-◌, ◌^◌, ◌≤◌, lit≤, Bool, true, false, List, [], ◌∷◌, ◌++◌, map, codes, Some, None, Result, Ok, Err, MatchResult, refl, sym, ap, subst, ◌∙◌}
+use Rattle.std.specs.Prelude.{⊤}
 use Rattle.std.specs.List.{list_any}
 use Rattle.std.proofs.lemmas.List.{append_assoc}
 use Rattle.std.proofs.lemmas.Option.{same_Some}
 use Rattle.serde_json.specs.Read.{max_depth, read}
 use Rattle.serde_json.specs.Data.{depth, items_depth, Data, boolean, string, array, Items, no_items, item}
-use Rattle.serde_json.specs.Find.{get, as_number, as_u64}
+use Rattle.serde_json.specs.Find.{get}
 use Rattle.serde_json.specs.View.{items_of}
 use Rattle.serde_json.proofs.OnLiterals.{serde_json_on_literals}
 use Rattle.string_interner.specs.Text.{Text, IsDistinct}
-use Rattle.string_interner.specs.Extend.{fresh, texts_of}
+use Rattle.string_interner.specs.Extend.{fresh}
 use Rattle.string_interner.specs.Backend.{Appends}
 use Rattle.string_interner.specs.Numbering.{Numbering}
 use Rattle.string_interner.specs.StringBackend.{string_numbering}
@@ -24,9 +24,9 @@ use Rattle.string_interner.specs.declared.json.JsonError.TheVariants.{NoSymbol, 
 use Rattle.string_interner.proofs.Lemmas.Json.Reads.{new_text}
 use Rattle.string_column.specs.Column.{AreCodes}
 use Rattle.string_column.proofs.Lemmas.Counts.{dictionary-distinct}
-use Rattle.dictcol.specs.File.{IsFileOf, indexed_texts, HoldsLines, HoldsText, IsColumnFile, DecodesFile}
+use Rattle.dictcol.specs.File.{IsFileOf, indexed_texts, HoldsLines, HoldsText, IsColumnFile, FileHolds, DecodesFile}
 use Rattle.dictcol.specs.Lines.{has_newline, text_of_lines, AreLines}
-use Rattle.dictcol.proofs.Lines.{text-of-lines, lines-plain, fresh-plain, texts_of-append}
+use Rattle.dictcol.proofs.Lines.{text-of-lines, lines-plain, fresh-plain}
 
 abbrev strings_in : Items → List Text
 strings_in no_items = []
@@ -176,34 +176,6 @@ no-json file none text holds = let both : None ≡ Some holds.0 = sym none ∙ h
 pub reads-as : (file text : Text) (value : Data) → read file ≡ Some value → ¬ (HoldsText value text) → ¬ (DecodesFile file text)
 reads-as file text value is not holds = not (subst (λ v. HoldsText v text) (same_Some _ _ (sym holds.2 ∙ is)) holds.1)
 
--- ---- the steps of reading
-
-pub IfErr-all : {T E : Type 0} (P : E → Type 0) (r : Result T E) → ((e : E) → P e) → IfErr r P
-IfErr-all P (Ok _) h = tt
-IfErr-all P (Err e) h = h e
-
-text-none : (dictionary : List (Bor Text)) (i : ℕ) → slice_get dictionary i ≡ None → slice_get (texts_of dictionary) i ≡ None
-text-none [] i e = refl
-text-none (t ∷ ts) zero e = absurd (cc)
-text-none (t ∷ ts) (suc i) e = text-none ts i e
-
-text-some : (dictionary : List (Bor Text)) (i : ℕ) (text : Bor Text) → slice_get dictionary i ≡ Some text → slice_get (texts_of dictionary) i ≡ Some text.now
-text-some [] i text e = absurd (cc)
-text-some (t ∷ ts) zero text e = ap (λ x. Some x.now) (same_Some _ _ e)
-text-some (t ∷ ts) (suc i) text e = text-some ts i text e
-
-module _ (dictionary : List (Bor Text)) (all ahead rest : Items) (value : Data) (lines : List (Bor Text))
-    (so_far : indexed_texts (texts_of dictionary) all ≡ option_map (λ more. texts_of lines ++ more) (indexed_texts (texts_of dictionary) ahead)) (next : ahead ≡ item value rest)
-    (index : ℕ) (is : option_and_then as_u64 (as_number value) ≡ Some index) where
-  -- a number that is no index
-  pub no-text : slice_get dictionary index ≡ None → indexed_texts (texts_of dictionary) all ≡ None
-  no-text none = so_far ∙ rw (next, is, text-none dictionary index none) refl
-
-  onto : (text : Text) (o : Option (List Text)) → option_map (λ more. texts_of lines ++ more) (option_map (λ texts. text ∷ texts) o) ≡ option_map (λ more. (texts_of lines ++ text ∷ []) ++ more) o
-  onto text None = refl
-  onto text (Some more) = ap (λ x. Some x) (sym (append_assoc (texts_of lines) (text ∷ []) more))
-
-  -- one that is
-  pub one-text : (text : Bor Text) (new : List (Bor Text)) → slice_get dictionary index ≡ Some text → new ≡ lines ++ text ∷ []
-      → indexed_texts (texts_of dictionary) all ≡ option_map (λ more. texts_of new ++ more) (indexed_texts (texts_of dictionary) rest)
-  one-text text new at pushed = so_far ∙ rw (next, is, text-some dictionary index text at, pushed, texts_of-append lines (text ∷ [])) (onto text.now (indexed_texts (texts_of dictionary) rest))
+-- a file of lines is decoded to their text
+pub decodes-lines : (file : Text) (lines : List Text) (is_ended : Bool) → FileHolds file lines is_ended → DecodesFile file (text_of_lines lines is_ended)
+decodes-lines file lines is_ended holds = (holds.0, (lines, is_ended, holds.1, refl), holds.2)

@@ -59,6 +59,10 @@ IsColumnFile bytes text = (lines : List Text) × (is_ended : Bool) × AreLines b
 abbrev pub HoldsText : Data → Text → Type 0
 HoldsText value text = (lines : List Text) × (is_ended : Bool) × HoldsLines value lines is_ended × (text ≡ text_of_lines lines is_ended)
 
+-- the bytes are a file of these lines
+abbrev pub FileHolds : Text → List Text → Bool → Type 0
+FileHolds bytes lines is_ended = (value : Data) × HoldsLines value lines is_ended × (read bytes ≡ Some value)
+
 -- the bytes are a file, and the text is what it holds
 abbrev pub DecodesFile : Text → Text → Type 0
 DecodesFile bytes text = (value : Data) × HoldsText value text × (read bytes ≡ Some value)

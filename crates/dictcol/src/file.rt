@@ -1,18 +1,19 @@
 //! The file: a JSON object with the dictionary, a number for each line, and whether the last line ends in a newline.
 
-ghost use Rattle.std.specs.Prelude.{◌≡◌, ◌≢◌, [], List, map, Bool, true, false, codes, Some, None, IfOk, IfErr, OnOk, string_bytes};
+ghost use Rattle.std.specs.Prelude.{◌≡◌, ◌≢◌, ◌<◌, ◌++◌, List, All, length, Bool, true, false, codes, Some, None, IfOk, IfErr, OnOk};
 ghost use Rattle.std.specs.Io.KnownBytes.{Appends};
 ghost use Rattle.std.specs.List.{join_with_byte, list_any};
-ghost use Rattle.serde_json.specs.Data.{Data, boolean, array, Items};
+ghost use Rattle.serde_json.specs.Data.{boolean, array, Items};
 ghost use Rattle.serde_json.specs.Find.{get};
 ghost use Rattle.serde_json.specs.Read.{read};
-ghost use Rattle.serde_json.specs.View.{view, items_of, items_view};
+ghost use Rattle.serde_json.specs.View.{view, items_view};
 ghost use Rattle.string_interner.specs.Text.{Text, IsDistinct};
-ghost use Rattle.string_interner.specs.Extend.{fresh, texts_of};
-ghost use Rattle.string_interner.specs.Json.{json_of_texts, json_of_number};
-ghost use Rattle.dictcol.specs.Fault.{IsDamage, IsRightFault, IsWriteFault, WritesLast};
-ghost use Rattle.dictcol.specs.File.{IsFileOf, indexed_texts, HoldsText, DecodesFile};
-ghost use Rattle.dictcol.specs.Lines.{behind_newline, has_newline, text_of_lines};
+ghost use Rattle.string_interner.specs.Extend.{texts_of};
+ghost use Rattle.string_interner.specs.Json.{json_of_texts};
+ghost use Rattle.string_column.specs.Column.{rows_of};
+ghost use Rattle.dictcol.specs.Fault.{IsDamage, IsNoDamage, IsRightFault, IsWriteFault, WritesLast};
+ghost use Rattle.dictcol.specs.File.{indexed_texts, HoldsLines, HoldsText, FileHolds, DecodesFile};
+ghost use Rattle.dictcol.specs.Lines.{has_newline, newline_if, text_of_lines};
 ghost use Rattle.dictcol.specs.Writes.{Writes};
 
 use crate::fault::Fault;
@@ -20,6 +21,7 @@ use crate::hasher::LineHasher;
 use serde_json::Value;
 use std::alloc::Global;
 use std::io::Write;
+use string_column::Codes;
 use string_interner::backend::DefaultBackend;
 use string_interner::dedup::TaggedIndex;
 use string_interner::json::JsonError;
@@ -27,6 +29,14 @@ use string_interner::{DefaultSymbol, StringInterner};
 
 /// The texts of a file.
 type Dictionary = StringInterner<DefaultBackend, LineHasher, TaggedIndex<DefaultSymbol>>;
+
+/// What a file holds: its texts, for each line the index of its text, and whether the last line ends in a newline.
+#[derive(Drop)]
+pub struct Parts {
+    dictionary: Dictionary,
+    codes: Codes,
+    is_ended: bool,
+}
 
 /// Reads the dictionary.
 fn read_dictionary(alloc: Global, hasher: LineHasher, file: &Value) -> Result<Dictionary, Fault>
@@ -47,44 +57,51 @@ fn read_dictionary(alloc: Global, hasher: LineHasher, file: &Value) -> Result<Di
     }
 }
 
-/// Returns the texts of the dictionary, each of which must be one line.
-fn collect_texts(alloc: Global, dictionary: &Dictionary) -> Result<Vec<&str>, Fault>
+/// Checks that each text of the dictionary is one line.
+fn check_texts(dictionary: &Dictionary) -> Result<(), Fault>
+    ensures ok { OnOk result (list_any has_newline dictionary.now.texts ≡ false) }
+    ensures err { IfErr result (λ fault. list_any has_newline dictionary.now.texts ≡ true) }
+{
+    let mut index = 0_usize;
+    for (_, text) in dictionary {
+        if text.as_bytes().contains(&b'\n') {
+            return Err(Fault::HasNewline(index));
+        }
+        index = index.saturating_add(1);
+    }
+    Ok(())
+}
+
+/// Returns the texts of the dictionary.
+fn list_texts(alloc: Global, dictionary: &Dictionary) -> Result<Vec<&str>, Fault>
     ensures ok { IfOk result (λ texts. texts_of texts.items ≡ dictionary.now.texts) }
-    ensures distinct { IsDistinct dictionary.now.texts }
-    ensures each_a_line { IfOk result (λ texts. list_any has_newline dictionary.now.texts ≡ false) }
-    ensures err { IfErr result (λ fault. IsDamage fault
-        → list_any has_newline dictionary.now.texts ≡ true) }
+    ensures fault { IfErr result IsNoDamage }
 {
     let mut texts = Vec::with_capacity(alloc, dictionary.len()).map_err(|_| Fault::Memory)?;
     for (_, text) in dictionary {
-        if text.as_bytes().contains(&b'\n') {
-            return Err(Fault::HasNewline(texts.len()));
-        }
         texts.push_reserved(text);
     }
     Ok(texts)
 }
 
-/// Returns the text of each number.
-fn look_up_lines<'t>(
-    alloc: Global,
-    texts: &[&'t str],
-    numbers: &[Value],
-) -> Result<Vec<&'t str>, Fault>
-    ensures ok { IfOk result (λ lines.
-        indexed_texts (texts_of texts.now) (items_view numbers.now) ≡ Some (texts_of lines.items)) }
+/// Returns the numbers of the lines, each of which must be the index of a text.
+fn read_codes(alloc: Global, dictionary: &Dictionary, numbers: &[Value]) -> Result<Codes, Fault>
+    ensures ok { IfOk result (λ codes. indexed_texts dictionary.now.texts (items_view numbers.now)
+        ≡ Some (rows_of dictionary.now.texts codes.items)) }
+    ensures within { IfOk result (λ codes.
+        All (λ code. code < length dictionary.now.texts) codes.items) }
     ensures err { IfErr result (λ fault. IsDamage fault
-        → indexed_texts (texts_of texts.now) (items_view numbers.now) ≡ None) }
+        → indexed_texts dictionary.now.texts (items_view numbers.now) ≡ None) }
 {
-    let mut lines = Vec::with_capacity(alloc, numbers.len()).map_err(|_| Fault::Memory)?;
+    let mut codes = Codes::new(alloc);
     for number in numbers {
-        let index = number.as_u64().ok_or(Fault::NotAnIndex(lines.len()))?;
-        let text = texts
-            .get(index as usize)
-            .ok_or(Fault::NotAnIndex(lines.len()))?;
-        lines.push_reserved(*text);
+        let index = number.as_u64().ok_or(Fault::NotAnIndex(codes.len()))? as usize;
+        if index >= dictionary.len() {
+            return Err(Fault::NotAnIndex(codes.len()));
+        }
+        codes.push(index).map_err(|_| Fault::Memory)?;
     }
-    Ok(lines)
+    Ok(codes)
 }
 
 /// Writes some bytes.
@@ -96,39 +113,44 @@ fn write<W: Write>(output: &mut W, bytes: &[u8]) -> Result<(), Fault>
     output.write_all(bytes).map_err(Fault::of_write)
 }
 
-/// Writes a line behind a newline.
-fn write_further_line<W: Write>(output: &mut W, line: &str) -> Result<(), Fault>
-    ensures written { OnOk result
-        (Appends (W.contents output.old) (W.contents output.new) (behind_newline line.now)) }
+/// Writes a line, behind a newline if it is a further one.
+fn write_line<W: Write>(output: &mut W, line: &str, is_further: bool) -> Result<(), Fault>
+    ensures written { OnOk result (Appends (W.contents output.old) (W.contents output.new)
+        (newline_if is_further ++ line.now)) }
     ensures fault { IfErr result IsWriteFault }
 {
-    write(output, b"\n")?;
+    if is_further {
+        write(output, b"\n")?;
+    }
     write(output, line.as_bytes())
 }
 
 /// Writes lines with newlines between them.
-fn write_joined<W: Write>(output: &mut W, lines: &[&str]) -> Result<(), Fault>
+fn write_joined<W: Write>(output: &mut W, texts: &[&str], codes: &Codes) -> Result<(), Fault>
+    requires { All (λ code. code < length texts.now) codes.now.items }
     ensures written { OnOk result (Appends (W.contents output.old) (W.contents output.new)
-        (join_with_byte 10 (texts_of lines.now))) }
+        (join_with_byte 10 (rows_of (texts_of texts.now) codes.now.items))) }
     ensures fault { IfErr result IsWriteFault }
 {
-    let Some((first, rest)) = lines.split_first() else {
-        return Ok(());
-    };
-    write(output, first.as_bytes())?;
-    for line in rest {
-        write_further_line(output, line)?;
+    for row in 0..codes.len() {
+        write_line(output, texts[codes.at(row)], row > 0)?;
     }
     Ok(())
 }
 
 /// Writes the text of the lines.
-fn write_lines<W: Write>(output: &mut W, lines: &[&str], is_ended: bool) -> Result<(), Fault>
+fn write_lines<W: Write>(
+    output: &mut W,
+    texts: &[&str],
+    codes: &Codes,
+    is_ended: bool,
+) -> Result<(), Fault>
+    requires { All (λ code. code < length texts.now) codes.now.items }
     ensures written { OnOk result (Appends (W.contents output.old) (W.contents output.new)
-        (text_of_lines (texts_of lines.now) is_ended)) }
+        (text_of_lines (rows_of (texts_of texts.now) codes.now.items) is_ended)) }
     ensures fault { IfErr result IsWriteFault }
 {
-    write_joined(output, lines)?;
+    write_joined(output, texts, codes)?;
     if is_ended {
         write(output, b"\n")?;
     }
@@ -159,24 +181,23 @@ fn find_final_newline(file: &Value) -> Result<bool, Fault>
         .ok_or(Fault::NoFinalNewline)
 }
 
-/// Writes the text that the file holds. Faults are looked for in the order of its members, and nothing is written before all
-/// members are known to be good.
-fn decode_value<W: Write>(
-    alloc: Global,
-    hasher: LineHasher,
-    file: &Value,
-    output: &mut W,
-) -> Result<(), Fault>
-    ensures written { OnOk result
-        (Writes (HoldsText (view file.now)) (W.contents output.old) (W.contents output.new)) }
+/// Returns what the value holds. Faults are looked for in the order of its members.
+fn read_value(alloc: Global, hasher: LineHasher, file: &Value) -> Result<Parts, Fault>
+    ensures lines { IfOk result (λ parts. HoldsLines (view file.now)
+        (rows_of parts.dictionary.texts parts.codes.items) parts.is_ended) }
+    ensures within { IfOk result (λ parts.
+        All (λ code. code < length parts.dictionary.texts) parts.codes.items) }
     ensures err { IfErr result (IsRightFault (HoldsText (view file.now))) }
-    ensures silent { WritesLast result output.old output.new }
 {
     let dictionary = read_dictionary(alloc, hasher, file)?;
-    let texts = collect_texts(alloc, &dictionary)?;
-    let lines = look_up_lines(alloc, &texts, find_numbers(file)?)?;
+    check_texts(&dictionary)?;
+    let codes = read_codes(alloc, &dictionary, find_numbers(file)?)?;
     let is_ended = find_final_newline(file)?;
-    write_lines(output, &lines, is_ended)
+    Ok(Parts {
+        dictionary,
+        codes,
+        is_ended,
+    })
 }
 
 /// Returns the fault of a file that ends within its JSON.
@@ -205,6 +226,20 @@ fn parse(alloc: Global, file: &str) -> Result<Value, Fault>
     }
 }
 
+/// Returns what a file holds, or finds where it is damaged.
+pub fn read(alloc: Global, hasher: LineHasher, file: &str) -> Result<Parts, Fault>
+    ensures lines { IfOk result (λ parts. FileHolds file.now
+        (rows_of parts.dictionary.texts parts.codes.items) parts.is_ended) }
+    ensures within { IfOk result (λ parts.
+        All (λ code. code < length parts.dictionary.texts) parts.codes.items) }
+
+    // A file that holds a text is never called damaged.
+    ensures err { IfErr result (IsRightFault (DecodesFile file.now)) }
+{
+    let value = parse(alloc, file)?;
+    read_value(alloc, hasher, &value)
+}
+
 /// Writes the text that a file was made of, line by line, or finds where the file is damaged. Nothing is written of a damaged
 /// file.
 pub fn decode<W: Write>(
@@ -222,6 +257,7 @@ pub fn decode<W: Write>(
     // Unless all went well or a write failed, the output was not touched.
     ensures silent { WritesLast result output.old output.new }
 {
-    let value = parse(alloc, file)?;
-    decode_value(alloc, hasher, &value, output)
+    let parts = read(alloc, hasher, file)?;
+    let texts = list_texts(alloc, &parts.dictionary)?;
+    write_lines(output, &texts, &parts.codes, parts.is_ended)
 }

@@ -1,16 +1,13 @@
-use Rattle.std.proofs.Common.{◌≡◌, ◌∷◌, take, ap, ◌∙◌, rules}
+use Rattle.std.proofs.Common.{◌<◌, [], length, Bor, arith}
 use Rattle.std.proofs.KnownBytes.{Appends-trans}
-use Rattle.std.proofs.lemmas.List.{take_all}
-use Rattle.std.specs.List.{join_with_byte}
-use Rattle.string_interner.specs.Extend.{texts_of}
-use Rattle.dictcol.proofs.Lines.{join-first}
+use Rattle.string_interner.specs.Text.{Text}
+use Rattle.dictcol.proofs.Rows.{rows-more}
 use Rattle.dictcol.proofs.file.write_joined.Goals as goal
 
-pub returns-clause-written : goal.returns-clause-written
-returns-clause-written g c =
-    let lines : c.args.lines.now ≡ c.in-Some.first.now ∷ c.in-Some.rest.now = search rules in
-    let all : take c.loop-line.line-index c.in-Some.rest.now ≡ c.in-Some.rest.now = search (rules, take_all) in
-    let further = rw all at c.loop-line.invariant in
-    let first = rw c.as_bytes.ensures.value at c.in_ok-write.ensures.written in
-    let text = ap (λ ls. join_with_byte 10 (texts_of ls)) lines ∙ join-first c.in-Some.first.now c.in-Some.rest.now in
-    rw text (Appends-trans _ _ _ _ _ first further)
+pub loop-row-preserved : goal.loop-row-preserved
+loop-row-preserved g c =
+    let inside : c.loop-row.row < length c.args.codes.now.items = omega (arith, c.loop-row-test.true, c.len-row-end.ensures) in
+    let within : c.at.result < length c.args.texts.now = rw c.at.ensures (c.requires c.loop-row.row 0 inside) in
+    let none : Bor Text = record { ref_ptr = (0, 0); now = [] } in
+    let text = rows-more c.args.texts.now c.args.codes.now.items c.loop-row.row c.at.result none inside c.at.ensures within in
+    rw text (Appends-trans _ _ _ _ _ c.loop-row.invariant c.in_ok-write_line.ensures.written)
