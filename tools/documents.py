@@ -5,8 +5,9 @@
 - a file in a code span or a command that is not there;
 - an identifier in a code span that no file of the repository has, if it has a capital or two words, except what
   docs/PORTING.md names of the original;
-- a block of Rattle that stands in no crate to the word, at the margin or indented as a method, so that nothing proves it; so
-  in the front page of the library, too;
+- a block of Rattle that stands in no crate to the word, at the margin or indented as a body, so that nothing proves it; so in
+  the front page of the library, too;
+- a block in C, Rust, Python or for a shell that stands in no example of clients/ in the same way, so that nothing runs it;
 - a README of more than 120 lines, or more than 14,000 words on all pages for readers, besides tables and docs/promises.md.
 """
 
@@ -20,8 +21,22 @@ from textwrap import indent
 from edits import TOP
 from files import read
 
-# Pages whose examples in Rattle are parts of crates.
-SHOWS_RATTLE = ("README.md", "crates/string_interner/README.md", "docs/CONTRACTS.md", "docs/GUIDE.md")
+# Where the blocks of each language stand as files that the gate proves or runs.
+EXAMPLES = {
+    "Rattle": "crates/*/src/**/*.rt",
+    "C": "clients/c/examples/*.c",
+    "Rust": "clients/rust/examples/*.rs",
+    "Python": "clients/python/examples/*.py",
+    "sh": "clients/c/examples/*.sh",
+}
+# The languages of which these pages show examples.
+SHOWN = {
+    "README.md": ("Rattle", "C", "Rust", "Python"),
+    "clients/README.md": ("sh",),
+    "crates/string_interner/README.md": ("Rattle",),
+    "docs/CONTRACTS.md": ("Rattle",),
+    "docs/GUIDE.md": ("Rattle", "Python"),
+}
 FRONT_PAGE = "crates/string_interner/src/lib.rt"
 NAMES_THE_ORIGINAL = "docs/PORTING.md"
 PROMISES = "docs/promises.md"
@@ -76,8 +91,9 @@ class Repository:
         return all(word in self.words or any(f"/{word}_" in file for file in self.files) for word in name.split("::"))
 
     @cached_property
-    def sources(self):
-        return [read(path) for path in TOP.glob("crates/*/src/**/*.rt")]
+    def examples(self):
+        """The files in which the blocks of each language stand."""
+        return {language: [read(path) for path in TOP.glob(files)] for language, files in EXAMPLES.items()}
 
 
 def broken_links(page, text):
@@ -109,17 +125,19 @@ def comment_of(source):
     return "".join(re.findall(r"^//! ?(.*\n)", source, re.M))
 
 
-def unproved_blocks(page, text, repository):
-    if page not in (*SHOWS_RATTLE, FRONT_PAGE):
-        return
-    named = "" if page == FRONT_PAGE else "rattle"
-    blocks = [block for language, block in BLOCK.findall(text) if language == named]
+def untried_blocks(language, blocks, repository):
     if not blocks:
-        yield "no block of Rattle"
+        yield f"no block of {language}"
     for block in blocks:
-        written = (f"\n{block}", f"\n{indent(block, '    ')}")
-        if not any(it in f"\n{source}" for source in repository.sources for it in written):
-            yield f"in no crate: {block.splitlines()[0]}"
+        written = [f"\n{indent(block, ' ' * width)}" for width in (0, 2, 4)]
+        if not any(it in f"\n{example}" for example in repository.examples[language] for it in written):
+            yield f"in no {'crate' if language == 'Rattle' else 'example'}: {block.splitlines()[0]}"
+
+
+def untried_examples(page, text, repository):
+    blocks = BLOCK.findall(text)
+    for language in SHOWN.get(page, ()):
+        yield from untried_blocks(language, [block for name, block in blocks if name == language.lower()], repository)
 
 
 def count_words(text):
@@ -142,10 +160,11 @@ def faults():
     texts = {page: read(TOP / page) for page in repository.files if page.endswith(".md")}
     yield from long_pages(texts)
     if FRONT_PAGE in repository.files:
-        found = unproved_blocks(FRONT_PAGE, comment_of(read(TOP / FRONT_PAGE)), repository)
+        blocks = [block for name, block in BLOCK.findall(comment_of(read(TOP / FRONT_PAGE))) if not name]
+        found = untried_blocks("Rattle", blocks, repository)
         yield from (f"{FRONT_PAGE}: {it}" for it in found)
     for page, text in texts.items():
-        found = [*broken_links(page, text), *missing_names(page, text, repository), *unproved_blocks(page, text, repository)]
+        found = [*broken_links(page, text), *missing_names(page, text, repository), *untried_examples(page, text, repository)]
         yield from (f"{page}: {it}" for it in dict.fromkeys(found))
 
 

@@ -19,6 +19,19 @@ See [the words](docs/WORDS.md#what-they-mean) and [below](#use-it). `double` is 
 fn half(number: u32) -> u32
     ensures { IsHalf number result }
 ```
+
+```c
+if (number == 0) return 1;
+number /= 2;
+```
+
+```rust
+let number = half(4);
+```
+
+```python
+number = half(4)
+```
 """
 
 
@@ -30,6 +43,9 @@ class DocumentsTest(SmallRepository):
         self.addCleanup(patch.stop)
         self.write("tools/count", "")
         self.write("docs/WORDS.md", "# Words\n\n## What *they* mean\n")
+        self.write("clients/c/examples/half.c", "int main(void) {\n  if (number == 0) return 1;\n  number /= 2;\n}\n")
+        self.write("clients/rust/examples/half.rs", "fn main() {\n    let number = half(4);\n}\n")
+        self.write("clients/python/examples/half.py", "number = half(4)\n")
         self.write("README.md", README)
 
     def faults_after(self, old, new):
@@ -63,7 +79,20 @@ class DocumentsTest(SmallRepository):
 
     def test_blocks(self):
         self.assertEqual(self.faults_after("fn half(", "fn third("), ["README.md: in no crate: fn third(number: u32) -> u32"])
-        self.assertEqual(self.faults_after("```rattle", "```rust"), ["README.md: no block of Rattle"])
+        self.assertEqual(self.faults_after("```rattle", "```"), ["README.md: no block of Rattle"])
+
+    def test_blocks_of_other_languages(self):
+        self.assertEqual(self.faults_after("number /= 2", "number /= 3"), ["README.md: in no example: if (number == 0) return 1;"])
+        self.assertEqual(self.faults_after("let number", " let number"), ["README.md: in no example:  let number = half(4);"])
+        self.assertEqual(self.faults_after("let number = half(4)", "let number = half(5)"), ["README.md: in no example: let number = half(5);"])
+        self.assertEqual(self.faults_after("```python", "```rust"), ["README.md: in no example: number = half(4)", "README.md: no block of Python"])
+        self.assertEqual(self.faults_after("```c\n", "```\n"), ["README.md: no block of C"])
+
+    def test_commands(self):
+        self.write("clients/README.md", "# Clients\n\n```sh\ncc half.c\n```\n")
+        self.assertEqual(list(documents.faults()), ["clients/README.md: in no example: cc half.c"])
+        self.write("clients/c/examples/half.sh", "cc half.c\n./half\n")
+        self.assertEqual(list(documents.faults()), [])
 
     def test_block_of_a_method(self):
         half = "fn half(number: u32) -> u32\n    ensures { IsHalf number result }\n"

@@ -3,7 +3,7 @@
 ghost use Rattle.std.specs.Prelude.{◌≤◌, ◌↔◌, IsTrue, IfOk};
 ghost use Rattle.string_interner.specs.Text.{Text};
 ghost use Rattle.string_interner.specs.StandsFor.{StandsFor, StandInOrder, KeepsSymbols};
-ghost use Rattle.uses.specs.Lexer.{words_of};
+ghost use Rattle.examples.specs.Lexer.{words_of};
 
 use std::alloc::Global;
 use string_interner::backend::{Backend, InternError};

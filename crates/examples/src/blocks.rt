@@ -4,7 +4,7 @@ ghost use Rattle.std.specs.Prelude.{◌≡◌, [], ◌∷◌, IfOk, OnOk, OnErr}
 ghost use Rattle.string_interner.specs.Interner.{Interns};
 ghost use Rattle.string_interner.specs.StandsFor.{StandsFor, KeepsSymbols};
 ghost use Rattle.string_interner.specs.Scopes.{Leaves};
-ghost use Rattle.uses.specs.Blocks.{blocks, open_blocks, declaration_of};
+ghost use Rattle.examples.specs.Blocks.{blocks, open_blocks, declaration_of};
 
 use std::alloc::{AllocError, Global};
 use std::marker::Model;
@@ -24,7 +24,7 @@ pub struct Blocks<B: Backend = DefaultBackend, H: TextHasher = DefaultHashBuilde
 
 /// Contracts see the names of each block.
 impl<B: Backend, H: TextHasher> Model for Blocks<B, H> {
-    ghost use Rattle.uses.specs.Blocks.{Open, open_blocks};
+    ghost use Rattle.examples.specs.Blocks.{Open, open_blocks};
 
     ghost Value = { Open };
 

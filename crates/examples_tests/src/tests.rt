@@ -4,13 +4,13 @@ use string_interner::DefaultStringInterner;
 use string_interner::backend::{Backend, BucketBackend, BufferBackend, InternError, StringBackend};
 use string_interner::dedup::KeyedState;
 use string_interner::symbol::Symbol;
-use uses::blocks::Blocks;
-use uses::lexer::{is_keyword, lex};
-use uses::lines::{
+use examples::blocks::Blocks;
+use examples::lexer::{is_keyword, lex};
+use examples::lines::{
     collect, encode, intern_and_compare, intern_fast, intern_keyed, keep_the_first, nested_scopes,
     to_json_and_back,
 };
-use uses::same_text::same_text;
+use examples::same_text::same_text;
 
 /// Passes a test whose calls were not refused, and answered as they should.
 fn check_answer(answered: Result<bool, InternError>) -> Result<(), Fail> {

@@ -1,4 +1,4 @@
-//! The callers of the crate `uses` and the calls of `string_column` at work, each once.
+//! The callers of the crate `examples` and the calls of `string_column` at work, each once.
 //!
 //! They stand apart, since a crate with a test is proved twice.
 #![tactic(auto)]

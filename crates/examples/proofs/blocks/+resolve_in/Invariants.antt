@@ -1,5 +1,5 @@
 use Rattle.std.proofs.Common.{length}
-use Rattle.uses.proofs.blocks.+resolve_in.Given as goal
+use Rattle.examples.proofs.blocks.+resolve_in.Given as goal
 
 abbrev pub decreases-resolve_in : goal.decreases-resolve_in
 decreases-resolve_in g l = length l.outer.now

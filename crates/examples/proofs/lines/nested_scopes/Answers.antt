@@ -6,7 +6,7 @@ use Rattle.string_interner.specs.Interner.{InternerContents}
 use Rattle.string_interner.specs.Numbering.{Numbering}
 use Rattle.string_interner.specs.Scopes.{ScopesContents, as_interner, joined_layers, layers}
 use Rattle.string_interner.specs.StandsFor.{StandsFor, FindsSymbol, KeepsSymbols, TellsApart}
-use Rattle.uses.proofs.lines.nested_scopes.Goals as goal
+use Rattle.examples.proofs.lines.nested_scopes.Goals as goal
 
 module _ {S : Type 0} (numbering : Numbering S) (eq : S → S → Bool) (texts : List Text) (text : Text) (symbol : S) (apart : TellsApart numbering eq texts) (stands : StandsFor numbering texts symbol text) where
   -- a symbol that is found for a text is equal to one that stands for it

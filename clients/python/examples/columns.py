@@ -1,0 +1,10 @@
+"""A column in one process: rows as codes, other rows merged into it, and a part of it."""
+
+from string_interner import Column
+
+colors = Column(["red", "green", None, "red"])  # None is a missing value.
+colors.merge(Column(["blue", "green"]))         # Appends the rows of another column.
+assert colors.dictionary == ["red", "green", "blue"]
+assert colors.codes.tolist() == [0, 1, -1, 0, 2, 1]
+assert colors.counts().tolist() == [2, 2, 1]
+assert list(colors[3:]) == ["red", "blue", "green"]
