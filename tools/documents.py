@@ -8,7 +8,8 @@
 - a block of Rattle that stands in no crate to the word, at the margin or indented as a body, so that nothing proves it; so in
   the front page of the library, too;
 - a block in C, Rust, Python or for a shell that stands in no example of clients/ in the same way, so that nothing runs it;
-- a README of more than 120 lines, or more than 14,000 words on all pages for readers, besides tables and docs/promises.md.
+- a README of more than 120 lines, or more than 14,000 words on all pages for readers, besides tables and docs/promises.md;
+- a place that names another version than the file VERSION.
 """
 
 import re
@@ -40,6 +41,15 @@ SHOWN = {
 FRONT_PAGE = "crates/string_interner/src/lib.rt"
 NAMES_THE_ORIGINAL = "docs/PORTING.md"
 PROMISES = "docs/promises.md"
+# What names the version, and the line that does; of several such lines the first.
+VERSIONS = {
+    "CHANGELOG.md": r"^## \[(.*)\] - \d{4}-\d\d-\d\d$",
+    "clients/python/pyproject.toml": r'^version = "(.*)"$',
+    "clients/rust/Cargo.toml": r'^version = "0\.19\.\d+\+(.*)"$',
+    "crates/dictcol/src/main.rt": r'^const VERSION: &str = "dictcol (.*)\\n";$',
+}
+# Folders of what is built, as .gitignore has them.
+BUILT = {"out", "__pycache__"}
 MOST_LINES = 120
 MOST_WORDS = 14_000
 LINK = re.compile(r"\]\(([^)\s]+)\)")
@@ -63,6 +73,9 @@ class Repository:
 
     @cached_property
     def files(self):
+        if not (TOP / ".git").exists():  # An unpacked release.
+            paths = [path.relative_to(TOP) for path in TOP.rglob("*") if path.is_file()]
+            return [path.as_posix() for path in paths if not BUILT & {*path.parts}]
         words = ["git", "ls-files", "--cached", "--others", "--exclude-standard"]
         listed = subprocess.run(words, cwd=TOP, check=True, capture_output=True, encoding="utf-8").stdout.splitlines()
         return [it for it in listed if (TOP / it).is_file()]
@@ -154,9 +167,20 @@ def long_pages(texts):
         yield f"{words} words in {', '.join(sorted(pages))}, and {MOST_WORDS} may be"
 
 
+def other_versions():
+    """The places that name another version than VERSION, or none."""
+    version = read(TOP / "VERSION").strip()
+    for name, pattern in VERSIONS.items():
+        found = re.search(pattern, read(TOP / name), re.M)
+        if not found or found[1] != version:
+            yield f"{name}: names {found[1] if found else 'no version'}, and VERSION names {version}"
+
+
 def faults():
     """What is wrong with the documents."""
     repository = Repository()
+    if "VERSION" in repository.files:
+        yield from other_versions()
     texts = {page: read(TOP / page) for page in repository.files if page.endswith(".md")}
     yield from long_pages(texts)
     if FRONT_PAGE in repository.files:

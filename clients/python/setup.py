@@ -1,4 +1,4 @@
-"""Puts the shared library into the package, and names the wheel for this platform and any Python 3."""
+"""Copies the shared library into the package, and tags the wheel for this platform and any Python 3."""
 
 import os
 from pathlib import Path
@@ -14,7 +14,7 @@ HERE = Path(__file__).resolve().parent
 class BuildWithLibrary(build_py):
     def run(self):
         super().run()
-        # An editable package has no other place than its sources, and looks for the library beside them.
+        # An editable package stays in its sources, and finds the library as they do.
         if not getattr(self, "editable_mode", False):
             self.copy_file(str(find_library()), os.path.join(self.build_lib, "string_interner", NAME))
 
@@ -26,15 +26,15 @@ class PlatformDistribution(Distribution):
 
 class PlatformWheel(bdist_wheel):
     def get_tag(self):
-        # Of Python it wants no more than ctypes.
+        # It needs nothing of Python but ctypes.
         return "py3", "none", super().get_tag()[2]
 
 
 def find_library():
-    """The library in the folder that STRING_INTERNER_LIB names, or where clients/build puts it."""
+    """Returns the library in the folder that STRING_INTERNER_LIB names, or else in that of clients/build."""
     library = Path(os.environ.get("STRING_INTERNER_LIB") or HERE.parent / "out") / NAME
     if not library.exists():
-        raise SystemExit(f"setup.py: no {library}: clients/build makes one, and STRING_INTERNER_LIB names another folder")
+        raise SystemExit(f"setup.py: no {library}: run clients/build, or name its folder in STRING_INTERNER_LIB")
     return library
 
 

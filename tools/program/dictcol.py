@@ -15,12 +15,14 @@ from collections import Counter
 from itertools import count, product
 from pathlib import Path
 
+from edits import TOP
 from program.cases import FIRST_INPUT, MANY, MEBIBYTE, Case, cases, rows
 from program.requests import asks_of_lines
 from program.streams import Streams
 
 CASES = "crates/dictcol/cases"
 BACKENDS = (b"string", b"bucket", b"buffer")
+VERSION = (TOP / "VERSION").read_bytes().strip()
 USAGE = b"usage: dictcol encode|decode|count [OPTION ..] [FILE] (dictcol --help tells more)\n"
 
 
@@ -180,7 +182,7 @@ def try_help(program):
     for words in b"-h", b"count --help", b"encode a -h b c", b"--sorted --backend=string --help", b"--help":
         yield f"{words}", program.run(words.split(), folder), ended
     for words in b"--version", b"count --version --sort":
-        yield f"{words}", program.run(words.split(), folder), (0, b"dictcol 0.19.0\n", b"")
+        yield f"{words}", program.run(words.split(), folder), (0, b"dictcol %s\n" % VERSION, b"")
     os.close(folder)
 
 

@@ -1,5 +1,6 @@
 """What is wrong with a document, as tools/documents.py finds it."""
 
+import shutil
 from unittest import mock
 
 from small import SmallRepository
@@ -123,3 +124,26 @@ class DocumentsTest(SmallRepository):
         self.assertEqual(list(documents.faults()), [f"{page}: in no crate: number / 3"])
         self.write(page, "//! Halves.\n")
         self.assertEqual(list(documents.faults()), [f"{page}: no block of Rattle"])
+
+    def test_versions(self):
+        places = {
+            "CHANGELOG.md": "# Changes\n\n## [Unreleased]\n\n## [0.2.0] - 2030-01-02\n\n## [0.1.0] - 2029-01-02\n",
+            "clients/python/pyproject.toml": 'version = "0.2.0"\n',
+            "clients/rust/Cargo.toml": 'version = "0.19.1+0.2.0"\n',
+            "crates/dictcol/src/main.rt": 'const VERSION: &str = "dictcol 0.2.0\\n";\n',
+        }
+        for name, text in ("VERSION", "0.2.0\n"), *places.items():
+            self.write(name, text)
+        self.assertEqual(list(documents.faults()), [])
+        for name, text in places.items():
+            self.write(name, text.replace("0.2.0", "0.1.0"))
+            self.assertEqual(list(documents.faults()), [f"{name}: names 0.1.0, and VERSION names 0.2.0"])
+            self.write(name, "nothing\n")
+            self.assertEqual(list(documents.faults()), [f"{name}: names no version, and VERSION names 0.2.0"])
+            self.write(name, text)
+
+    def test_an_unpacked_release(self):
+        shutil.rmtree(self.top / ".git")
+        self.write("crates/low/out/BUILT.md", "See [nothing](nothing.md).\n")
+        self.assertEqual(list(documents.faults()), [])
+        self.assertEqual(self.faults_after("src/lib.rt", "src/main.rt"), ["README.md: no file `src/main.rt`"])

@@ -1,6 +1,6 @@
 """A string interner, proved, for Python.
 
-An interner keeps each distinct text once and gives it a small number:
+An interner stores each distinct text once and returns a small number for it:
 
 >>> animals = Interner()
 >>> animals.intern("Tiger"), animals.intern("Horse"), animals.intern("Tiger")
@@ -10,7 +10,7 @@ An interner keeps each distinct text once and gives it a small number:
 >>> animals.get("Elephant") is None
 True
 
-A column of texts is encoded in one call, which takes about as long as a dict does:
+One call encodes many texts, in about the time that a dict takes:
 
 >>> animals.intern_all(["Horse", "Elephant", "Horse"]).tolist()
 [1, 2, 1]
@@ -19,10 +19,10 @@ A column of texts is encoded in one call, which takes about as long as a dict do
 >>> list(animals)
 ['Tiger', 'Horse', 'Elephant']
 
-A `Column` keeps the rows, too, and exchanges them with numpy, pandas and other processes.
+A `Column` stores the rows, too, and exchanges them with numpy, pandas and other processes.
 
-The library is `libstring_interner.so` in the folder that STRING_INTERNER_LIB names, or in the package, as a wheel has it, or
-in `clients/out`, where `clients/build` puts it. Without one that it can use, the import raises ImportError.
+The package loads `libstring_interner.so` from the folder that STRING_INTERNER_LIB names, or else from its own folder, as a wheel
+has it, or else from `clients/out`, where `clients/build` puts it. If it cannot, the import raises ImportError.
 """
 
 from __future__ import annotations
@@ -47,15 +47,15 @@ __all__ = ["Backend", "Column", "Hasher", "Interner", "Typecode"]
 Backend = Literal["string", "bucket", "buffer"]
 """How texts are stored: joined in one string, in blocks that never move, or in one buffer of bytes.
 
-Numbers are 0, 1, 2, .. on `string` and `bucket`. On `buffer`, which takes the least memory, they count bytes.
+With `string` and `bucket` the numbers are 0, 1, 2, .. With `buffer`, which takes the least memory, they are byte offsets.
 """
 
 Hasher = Literal["keyed", "fixed"] | tuple[SupportsIndex, SupportsIndex]
-"""How texts are hashed, which changes no answer, and only how long a call takes.
+"""How texts are hashed. This decides how long a call takes, and changes no result.
 
-`keyed` is SipHash-1-3 under two random keys of this process, so nobody can choose texts that all hash alike, which would make
-each call slow. Two numbers below 2 ** 64 are keys of your own: they should be random and secret. `fixed` has no keys, and is
-faster, above all for long texts. Do not use it for texts from strangers, who easily find any number with one hash.
+`keyed` is SipHash-1-3 under two random keys of this process, so strangers cannot choose texts with one hash code, which would
+make each call slow. A tuple of two numbers below 2 ** 64 gives keys of your own, which should be random and secret. `fixed` has
+no keys, and is faster, above all for long texts. Do not use it if strangers choose the texts: they easily find many with one code.
 """
 
 Typecode = Literal["I", "Q"]
@@ -65,17 +65,17 @@ Typecode = Literal["I", "Q"]
 class Interner:
     """A list of distinct texts, each with a number.
 
-    As a set of texts does, it has a length, knows whether a text is `in` it, and iterates over its texts, in order of first
-    interning. As a dict does, it finds a text by its number: `interner[number]`.
+    Like a set of texts, it has a length, supports `text in interner`, and iterates over its texts, in insertion order. Like a
+    dict, it finds a text by its number: `interner[number]`.
 
-    Any thread may call it; one waits for another. What each call reads it copies, so an answer lasts. A process may fork
-    while other threads call it: the child finds it as it is between two calls.
+    Any thread may call it; threads wait for each other. Results are copies, so they stay valid. A process may fork while other
+    threads call it: the child finds it as it was before or after such a call.
 
     Each call raises TypeError for an argument of a wrong type, and ValueError once the interner is closed. A text without a
     UTF-8 form, such as one with a lone surrogate, is in no interner, and interning it raises `UnicodeEncodeError`.
 
-    Copies and pickles keep the class and the attributes of a subclass. They do not call its `__init__`. A copy hashes by the
-    same keys; a pickle holds no keys, and hashes by those of the process that reads it, unless its hasher is `fixed`.
+    Copies and pickles have the class and the attributes of a subclass. They do not call its `__init__`. A copy has the same
+    keys. A pickle holds no keys: the interner that is read from it has those of its process, unless its hasher is `fixed`.
     """
 
     __slots__ = ("_handle", "__weakref__")
@@ -88,10 +88,10 @@ class Interner:
         capacity: SupportsIndex = 0,
         hasher: Hasher = "keyed",
     ) -> None:
-        """Makes an interner of the texts, with room for about so many.
+        """Makes an interner of the texts, with spare capacity for about `capacity` texts.
 
-        Raises ValueError for a backend or a hasher that there is not and a negative capacity, MemoryError, and as `intern_all`
-        does.
+        Raises ValueError for an unknown backend, an unknown hasher or a negative capacity, MemoryError, and what `intern_all`
+        raises.
         """
         self._handle = Handle.make(backend, index(capacity), hasher)
         self.intern_all(texts)
@@ -102,8 +102,8 @@ class Interner:
     ) -> Self:
         """Makes an interner of the texts of a JSON array of strings. Does not call the `__init__` of a subclass.
 
-        A repeated string adds no text, or raises ValueError if the array is to be `exact`. Raises ValueError for any other
-        value too, OverflowError and MemoryError.
+        A repeated string adds no text; if `exact` is true, it raises ValueError. Raises ValueError for a text that is no such
+        array, OverflowError if no number is left for a text, and MemoryError.
         """
         interner = cls.__new__(cls)
         interner._handle = Handle.read(text, backend, exact, hasher)
@@ -111,18 +111,18 @@ class Interner:
 
     @property
     def backend(self) -> Backend:
-        """How the texts lie in memory."""
+        """How texts are stored."""
         return self._handle.backend
 
     @property
     def hasher(self) -> Literal["keyed", "fixed"]:
-        """How the texts are hashed: `keyed` under any keys."""
+        """How texts are hashed: `keyed` for any keys."""
         return self._handle.hasher
 
     def intern(self, text: str) -> int:
-        """Returns the number of a text. A text that is not known is put last.
+        """Returns the number of a text. Appends a text that is not known.
 
-        Raises OverflowError if no number is left for it, and MemoryError; the interner is then as it was.
+        Raises OverflowError if no number is left for it, and MemoryError. The interner is then unchanged.
         """
         raw, number, handle = encode(text), ctypes.c_size_t(), self._handle
         with handle.lock:
@@ -132,8 +132,8 @@ class Interner:
     def intern_all(self, texts: Iterable[str], *, typecode: Typecode = "Q") -> array[int]:
         """Returns the number of each text, in order, in an array: 8 bytes for each, or 4 if the typecode is "I".
 
-        One call of the library. At a text that raises OverflowError or MemoryError, the texts before it stay. If one is no
-        text, or has no UTF-8 form, nothing changes. numpy reads the array without a copy.
+        This is one call of the library. If a text raises OverflowError or MemoryError, the texts before it stay. If a value is
+        no text, or has no UTF-8 form, nothing changes. numpy reads the array without a copy.
         """
         # Read once, because another thread may change what it is read from.
         texts = list(texts)
@@ -147,11 +147,11 @@ class Interner:
     def intern_column(
         self, joined: ReadableBuffer, ends: Iterable[SupportsIndex], *, typecode: Typecode = "Q"
     ) -> array[int]:
-        """The same for texts that lie end to end in `joined`, text `i` ending before byte `ends[i]`.
+        """Does the same for texts that are end to end in `joined`: text `i` ends before byte `ends[i]`.
 
-        Takes anything with a buffer as `joined`, and copies it, except `bytes`. Copies `ends`, too, which takes the least time
-        for a buffer of numbers of 4 or 8 bytes, such as an array or what numpy and Arrow have. Raises ValueError at a text
-        that is not UTF-8 and at an end that falls or passes the bytes; texts before it stay.
+        `joined` may be anything with a buffer; all but `bytes` is copied. `ends` is copied, too. That is fastest for a buffer
+        of numbers of 4 or 8 bytes, such as an array or what numpy and Arrow have. Raises ValueError at a text that is not
+        UTF-8, and at an end that is less than the one before it or passes the bytes. The texts before it stay.
         """
         raw = copy_bytes(joined)
         return self._intern_parts(raw, copy_ends(ends, len(raw)), typecode)
@@ -189,7 +189,7 @@ class Interner:
     def resolve(self, number: SupportsIndex) -> str | None:
         """Returns the text with a number, or None if there is none.
 
-        On the backend `buffer`, numbers between those of texts may read something, too.
+        With the backend `buffer`, a number that belongs to no text may return something, too.
         """
         place = index(number)
         if not 0 <= place < LIMIT:
@@ -210,8 +210,8 @@ class Interner:
     def resolve_all(self, numbers: Iterable[SupportsIndex]) -> list[str]:
         """Returns the text with each number, in order. Raises KeyError at a number without one.
 
-        Undoes `intern_all`, in about as long. On the backend `buffer`, a number between those of texts may read something, or
-        raise KeyError.
+        Undoes `intern_all`, in about the same time. With the backend `buffer`, a number that belongs to no text may return
+        something, or raise KeyError.
         """
         wanted = copy_numbers(numbers)
         distinct = {*wanted}
@@ -221,11 +221,11 @@ class Interner:
         return list(map(texts.__getitem__, wanted))
 
     def entries(self) -> Iterator[tuple[int, str]]:
-        """Returns an iterator of each number with its text, in order of first interning, as they are now."""
+        """Returns an iterator of each number with its text, in insertion order, as they are now."""
         return zip(*self._handle.read_entries())
 
     def items(self) -> Iterator[tuple[int, str]]:
-        """The same as `entries`: what `interner[number]` finds, as the items of a dict."""
+        """Returns the same as `entries`: each number and `interner[number]`, as `dict.items` does."""
         return self.entries()
 
     def truncate(self, length: SupportsIndex) -> None:
@@ -237,7 +237,7 @@ class Interner:
             library.si_truncate(handle.at, min(kept, LIMIT - 1))
 
     def shrink(self) -> None:
-        """Gives back memory that no text needs, if it can."""
+        """Releases memory that no text needs, if it can."""
         handle = self._handle
         with handle.lock:
             library.si_shrink(handle.at)
@@ -251,7 +251,7 @@ class Interner:
         return self._handle.write_json().decode()
 
     def close(self) -> None:
-        """Frees the texts. A second call does nothing, and any other one raises ValueError."""
+        """Frees the texts. A second `close` does nothing, and any other call then raises ValueError."""
         handle = self._handle
         with handle.lock:
             handle.close()
@@ -270,13 +270,13 @@ class Interner:
         return length
 
     def __getitem__(self, number: SupportsIndex) -> str:
-        """The text with a number, which is no position: a negative one has none. Raises KeyError if there is none."""
+        """The text with a number. Raises KeyError if there is none. A number is no position, so a negative one has no text."""
         if (text := self.resolve(number)) is None:
             raise KeyError(number)
         return text
 
     def __contains__(self, text: object) -> bool:
-        """Whether a text is known. Anything else is not, as in a set of texts."""
+        """Whether a text is known. Anything but a text is not, as in a set of texts."""
         handle = self._handle
         try:
             raw = str.encode(text)  # type: ignore[arg-type]
@@ -288,15 +288,15 @@ class Interner:
         return known
 
     def __iter__(self) -> Iterator[str]:
-        """The texts in order of first interning, as they are now."""
+        """The texts in insertion order, as they are now."""
         return iter(self._handle.read_texts())
 
     def __reversed__(self) -> Iterator[str]:
-        """The texts in the opposite order, as they are now."""
+        """The texts in reverse order, as they are now."""
         return reversed(self._handle.read_texts())
 
     def __eq__(self, other: object) -> bool:
-        """Whether both have one backend, and the same texts in the same order."""
+        """Whether both have the same backend, and the same texts in the same order."""
         if not isinstance(other, Interner):
             return NotImplemented
         if self._handle is other._handle:

@@ -14,18 +14,18 @@ from . import Hasher, Interner
 from ._copies import copy_numbers, narrow
 
 _MISSING = -1
-"""The code of a row without a text. A table has such a row's entry last, so that this finds it."""
+"""The code of a row that is None. In a table the entry of such a row is the last, so this index finds it."""
 _MOST_OF_4_BYTES = (1 << 31) - 1
-"""How many texts a dictionary has at most if a code takes 4 bytes."""
+"""The most texts of a dictionary whose codes take 4 bytes."""
 _AT_ONCE = 1 << 18
-"""How many values of an iterator are in memory at once. Fewer take longer."""
+"""How many values of an iterator are in memory at once. With fewer it takes longer."""
 
 
 class Column(Sequence[str | None]):
     """A list of rows, each a text or None, that stores each distinct text once.
 
     It has a dictionary, which is a list of distinct texts, and a code for each row: the index of its text in the dictionary, or
-    -1 if the row is None. Rows are put last, and none changes.
+    -1 if the row is None. You can append rows, and not change them.
 
     >>> colors = Column(["red", "green", None, "red"])
     >>> colors.dictionary, colors.codes.tolist()
@@ -34,17 +34,17 @@ class Column(Sequence[str | None]):
     >>> list(colors)
     ['red', 'green', None, 'red', 'blue', 'green']
 
-    It is a sequence of its rows, and equals another column if that has the same rows. Any thread may call it; one waits for
-    another. If a call raises, no row is added, but the dictionary may have new texts.
+    It is a sequence of its rows, and equals another column with the same rows. Any thread may call it; threads wait for each
+    other. If a call raises, it adds no row, but it may have added texts to the dictionary.
 
-    Copies and pickles keep the class and the attributes of a subclass. They do not call its `__init__`. They hash as copies and
-    pickles of an `Interner` do.
+    Copies and pickles have the class and the attributes of a subclass. They do not call its `__init__`. They have the keys that
+    copies and pickles of an `Interner` have.
     """
 
     __slots__ = ("_names", "_codes", "_texts", "__weakref__")
 
     def __init__(self, values: Iterable[str | None] = (), *, hasher: Hasher = "keyed") -> None:
-        """Makes a column of the values. Raises ValueError for a hasher that there is not, and as `extend` does."""
+        """Makes a column of the values. Raises ValueError for an unknown hasher, and what `extend` raises."""
         self._begin(Interner(hasher=hasher), array("i"))
         self.extend(values)
 
@@ -64,7 +64,7 @@ class Column(Sequence[str | None]):
 
     @classmethod
     def encode(cls, values: Iterable[str | None], *, hasher: Hasher = "keyed") -> Self:
-        """The same as `from_values`: what a column does is called dictionary encoding."""
+        """Does what `from_values` does, under the name that dictionary encoding has elsewhere."""
         return cls.from_values(values, hasher=hasher)
 
     @classmethod
@@ -73,9 +73,8 @@ class Column(Sequence[str | None]):
     ) -> Self:
         """Makes a column of distinct texts, such as those of an `Interner`, and a code for each row. Copies both.
 
-        The dictionary is kept as it is, also a text that no row has. Raises ValueError at the first text that repeats one
-        before it, and if there is none, at the first code that is neither -1 nor an index of the dictionary. The message says
-        where.
+        The dictionary stays as it is, with texts that no row has. Raises ValueError at the first text that repeats an earlier
+        one, and if there is none, at the first code that is neither -1 nor an index of the dictionary. The message says where.
         """
         names = Interner(hasher=hasher)
         numbers = names.intern_all(dictionary)
@@ -88,10 +87,10 @@ class Column(Sequence[str | None]):
 
     @classmethod
     def from_pandas(cls, values: Any, *, hasher: Hasher = "keyed") -> Self:
-        """Makes a column of a Series, Index, Categorical or other array of pandas. What pandas takes for missing becomes None.
+        """Makes a column of a Series, Index, Categorical or other array of pandas. What pandas counts as missing becomes None.
 
-        The dictionary of a Categorical is its categories, in their order. Raises TypeError for a category or a value that is no
-        text, and ImportError without pandas.
+        The categories of a Categorical become the dictionary, in their order. Raises TypeError for a category or a value that
+        is no text, and ImportError without pandas.
         """
         pandas, numpy = import_module("pandas"), import_module("numpy")
         rows = getattr(values, "array", values)
@@ -107,8 +106,8 @@ class Column(Sequence[str | None]):
     def to_pandas(self) -> Any:
         """Returns a Categorical of pandas, whose categories are the dictionary. Raises ImportError without pandas.
 
-        pandas stores a code in 1 byte below 127 categories, and in 2 below 32,767. From there on it reads the codes of this
-        column where they are. Then nobody can change them by the Categorical, except in a copy of it.
+        Below 127 categories pandas copies the codes to 1 byte each, and below 32,767 to 2 bytes each. From there on it reads the
+        codes of this column in place. You cannot change such a Categorical, but a copy of it.
         """
         pandas, numpy = import_module("pandas"), import_module("numpy")
         texts, codes = self._read()
@@ -116,29 +115,29 @@ class Column(Sequence[str | None]):
 
     @property
     def dictionary(self) -> list[str]:
-        """The distinct texts, in a list of their own; a code is an index of it.
+        """The distinct texts, in a new list. A code is an index of it.
 
-        Values that are added put texts last, in order of first appearance. Texts that no row has come from `from_parts`,
-        `from_pandas`, another column or a longer one of which this is a slice.
+        New texts are appended in order of first appearance. Texts that no row has come from `from_parts`, `from_pandas`, a
+        merged column, or a longer column of which this one is a slice.
         """
         return self._read()[0]
 
     @property
     def codes(self) -> memoryview:
-        """The code of each row, as they are now: a view of what the column has, which does not change.
+        """The code of each row, as they are now: a view of the column's memory that never changes.
 
         A code takes 4 bytes, or 8 if the dictionary has more than 2 ** 31 - 1 texts. `numpy.asarray` reads them without a copy.
-        If rows are added while somebody has the view, the column copies its codes once.
+        If you add rows while somebody has the view, the column copies its codes once.
         """
         return memoryview(self._codes).toreadonly()
 
     @property
     def distinct(self) -> int:
-        """How many texts the dictionary has."""
+        """The number of texts in the dictionary."""
         return len(self._names)
 
     def counts(self) -> array[int]:
-        """Returns how many rows have each text of the dictionary, in its order. Rows that are None count nowhere."""
+        """Returns the number of rows with each text of the dictionary, in its order. Does not count rows that are None."""
         # The codes first, because the dictionary may grow in between.
         codes, distinct = self._codes[:], len(self._names)
         if numpy := _find_numpy():
@@ -152,15 +151,15 @@ class Column(Sequence[str | None]):
         return array("Q", counts[:-1])
 
     def append(self, value: str | None) -> None:
-        """Puts a row last. Raises as `extend` does."""
+        """Appends a row. Raises what `extend` raises."""
         with self._names._handle.lock:
             code = _MISSING if value is None else self._names.intern(value)
             self._add(array(self._typecode, [code]))
 
     def extend(self, values: Iterable[str | None]) -> None:
-        """Puts values last, in order. If they are a column, merges it.
+        """Appends values, in order. If they are a column, merges it.
 
-        Values of a list are encoded by one call of the library. Of an iterator not all texts are in memory at once. Raises
+        One call of the library encodes a list. An iterator is read in parts, so that its texts are not all in memory. Raises
         TypeError for what is neither a text nor None, `UnicodeEncodeError` for a text without a UTF-8 form, OverflowError
         if no number is left for a text, and MemoryError.
         """
@@ -175,10 +174,10 @@ class Column(Sequence[str | None]):
             self._add(_join(parts, self._typecode))
 
     def merge(self, other: Column) -> None:
-        """Puts the rows of another column last, under the dictionary of this one.
+        """Appends the rows of another column, with codes of this column's dictionary.
 
-        Looks up each text of the other dictionary, and none for a row. New texts are put last, in their order there, also if no
-        row has them. So it does not matter which of several columns are merged first.
+        Looks up each text of the other dictionary once. Appends those that are new, in their order there, also if no row has
+        them. So you may merge several columns in pairs, in any grouping.
         """
         if not isinstance(other, Column):
             raise TypeError(f"a column is merged with a column, not {type(other).__name__}")
@@ -187,7 +186,7 @@ class Column(Sequence[str | None]):
             self._add(_look_up(self._intern(texts), codes))
 
     def _encode(self, values: Sequence[str | None]) -> array[int]:
-        """The code of each value. New texts are put last in the dictionary."""
+        """The code of each value. Appends new texts to the dictionary."""
         try:
             return self._intern(values)  # type: ignore[arg-type]
         except TypeError:
@@ -204,7 +203,7 @@ class Column(Sequence[str | None]):
         return codes
 
     def _intern(self, texts: Sequence[str]) -> array[int]:
-        """The code of each text. New ones are put last in the dictionary."""
+        """The code of each text. Appends new ones to the dictionary."""
         numbers = self._names.intern_all(texts)
         return _convert(numbers, self._typecode)
 
@@ -214,7 +213,7 @@ class Column(Sequence[str | None]):
         return "i" if len(self._names) <= _MOST_OF_4_BYTES else "q"
 
     def _add(self, codes: array[int]) -> None:
-        """Puts codes last, which have the typecode of this dictionary."""
+        """Appends codes, which have the typecode of this dictionary."""
         if self._codes.itemsize < codes.itemsize:
             self._codes = _convert(self._codes, codes.typecode)
         try:
@@ -247,7 +246,7 @@ class Column(Sequence[str | None]):
     def __getitem__(self, row: slice) -> Column: ...
 
     def __getitem__(self, row: SupportsIndex | slice) -> str | None | Column:
-        """The value of a row; or of a slice a column with a copy of the dictionary, so that `column[:0]` is that alone."""
+        """The value of a row; for a slice, a column with the whole dictionary, so `column[:0]` has that alone."""
         with self._names._handle.lock:
             if isinstance(row, slice):
                 column = Column.__new__(Column)
@@ -265,7 +264,7 @@ class Column(Sequence[str | None]):
         return map([*texts, None].__getitem__, codes)
 
     def __eq__(self, other: object) -> bool:
-        """Whether both have the same rows, also if their dictionaries differ."""
+        """Whether both have the same rows. Their dictionaries may differ."""
         if not isinstance(other, Column):
             return NotImplemented
         texts, codes = self._read()
@@ -288,7 +287,7 @@ class Column(Sequence[str | None]):
             return attributes, slots | {"_names": self._names.copy(), "_codes": self._codes[:], "_texts": []}
 
     def __sizeof__(self) -> int:
-        """About how many bytes it takes, by which dask decides what to move: 64 for a distinct text, which is a guess."""
+        """About how many bytes it takes, with a guess of 64 for each distinct text. dask decides by it what to move."""
         return object.__sizeof__(self) + self._codes.itemsize * len(self) + 64 * self.distinct
 
     def __repr__(self) -> str:
@@ -296,7 +295,7 @@ class Column(Sequence[str | None]):
 
 
 def _find_numpy() -> Any:
-    """numpy, if the program has imported it, else None. To import it takes longer than to do without it."""
+    """Returns numpy if the program has imported it, else None. Importing it takes longer than doing without it."""
     if "numpy" not in sys.modules:
         return None
     try:

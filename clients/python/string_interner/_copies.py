@@ -1,4 +1,4 @@
-"""Copies of what a caller hands over, which nothing changes while the library reads them, and what a number takes."""
+"""Copies arguments, so that nothing changes them while the library reads them."""
 
 from __future__ import annotations
 
@@ -14,13 +14,13 @@ if TYPE_CHECKING:
     from _typeshed import ReadableBuffer
 
 _INTEGERS = frozenset("bBhHiIlLqQ")
-"""What `array` and `memoryview` call integers in the form that this machine has them."""
+"""The formats of `array` and `memoryview` for integers in this machine's byte order."""
 _LOW = int(sys.byteorder == "big")
-"""Which of the two halves of a number of 8 bytes is the low one."""
+"""The index of the low half of a number of 8 bytes."""
 
 
 def encode(text: str) -> bytes:
-    """The UTF-8 of a text, whatever a subclass of `str` makes of it."""
+    """The UTF-8 form of a text. Calls no method of a subclass of `str`."""
     try:
         return str.encode(text)
     except TypeError:
@@ -28,19 +28,19 @@ def encode(text: str) -> bytes:
 
 
 def count_letters(texts: list[str]) -> Iterator[int]:
-    """The length of each text, whatever a subclass of `str` says."""
+    """The length of each text. Calls no method of a subclass of `str`."""
     return map(len if {*map(type, texts)} <= {str} else str.__len__, texts)
 
 
 def copy_bytes(joined: ReadableBuffer) -> bytes:
-    """The bytes of an object with a buffer. Those of one that is `bytes` itself are not copied, because nothing changes them."""
+    """The bytes of an object with a buffer. Does not copy `bytes` itself, because nothing changes it."""
     # A subclass of `bytes` may lie about its length; `join` reads its buffer. One step, so that no other thread finds the
     # buffer in use.
     return b"".join((joined,))
 
 
 def copy_numbers(numbers: Iterable[SupportsIndex]) -> array[int] | list[int]:
-    """A copy of some integers: an array if they lie in a buffer, else a list."""
+    """A copy of some integers: an array if they are in a buffer, else a list."""
     if type(numbers) is array and numbers.typecode in _INTEGERS:
         # One step, so that no other thread finds the buffer in use.
         return numbers[:]
@@ -54,9 +54,9 @@ def copy_numbers(numbers: Iterable[SupportsIndex]) -> array[int] | list[int]:
 
 
 def copy_ends(ends: Iterable[SupportsIndex], length: int) -> array[int]:
-    """A copy of ends in so many bytes, as the library takes them.
+    """A copy of the ends of texts in `length` bytes, as the library takes them.
 
-    A negative end, and one that 8 bytes do not hold, becomes one that passes the bytes. So the library refuses it in its turn.
+    An end that is negative or does not fit 8 bytes becomes one that passes the bytes, so the library rejects it in its turn.
     """
     numbers = copy_numbers(ends)
     if isinstance(numbers, array) and numbers.itemsize == 8:
@@ -79,5 +79,5 @@ def _widen(numbers: array[int]) -> array[int]:
 
 
 def narrow(numbers: array[int]) -> array[int]:
-    """The same numbers in 4 bytes each, which is enough for each that the library gives."""
+    """The same numbers in 4 bytes each. No number of the library needs more."""
     return array("I", numbers.tobytes())[_LOW::2]

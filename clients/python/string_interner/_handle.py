@@ -1,4 +1,4 @@
-"""Handles of the library: the lock of each, what keeps them whole in a process that forks, and all texts of one."""
+"""Handles of the library, each with a lock. A process may fork while threads use them."""
 
 from __future__ import annotations
 
@@ -20,11 +20,11 @@ if TYPE_CHECKING:
     from . import Backend, Hasher
 
 _KEYS: tuple[int, ...] = struct.unpack("QQ", os.urandom(16))
-"""Two random keys of this process. Those that it forks have the same."""
+"""Two random keys of this process and of those that it forks."""
 
 
 def _keys_of(hasher: Hasher) -> tuple[int, ...]:
-    """The two keys of a hasher, or none of the fixed one."""
+    """The two keys of a hasher, or no keys for `fixed`."""
     if hasher == "keyed":
         return _KEYS
     if hasher == "fixed":
@@ -38,24 +38,24 @@ def _keys_of(hasher: Hasher) -> tuple[int, ...]:
     key0, key1 = map(index, hasher)
     if not 0 <= min(key0, key1) <= max(key0, key1) < 1 << 64:
         # Without the keys, which are secret.
-        raise ValueError("a key of the hasher is no number of 64 bits")
+        raise ValueError("a key of the hasher is not in 0 .. 2 ** 64 - 1")
     return key0, key1
 
 
 class _Address(ctypes.c_void_p):
-    """The address of a handle of the library, which is freed once no call has it any more."""
+    """The address of a handle of the library. The handle is freed once nothing refers to this."""
 
     def __del__(self, free: Any = library.si_free) -> None:
         free(self)
 
 
 class Handle:
-    """A handle of the library, and the lock that makes threads take turns on it."""
+    """A handle of the library, and a lock, so that threads take turns."""
 
     __slots__ = ("_address", "backend", "hasher", "lock", "serial", "__weakref__")
 
     def __init__(self, backend: Backend, hasher: Literal["keyed", "fixed"]) -> None:
-        """Makes one that is closed."""
+        """Makes a closed handle."""
         self._address = _Address()
         if backend not in KINDS:
             raise ValueError(f"no backend {backend!r}")
@@ -73,7 +73,7 @@ class Handle:
 
     @classmethod
     def make(cls, backend: Backend, capacity: int, hasher: Hasher) -> Handle:
-        """Returns a handle on an empty interner, which has room for about so many texts."""
+        """Returns a handle on an empty interner, with spare capacity for about `capacity` texts."""
         keys = _keys_of(hasher)
         handle = cls(backend, "keyed" if keys else "fixed")
         if not 0 <= capacity < LIMIT:
@@ -84,7 +84,7 @@ class Handle:
 
     @classmethod
     def read(cls, text: str, backend: Backend, exact: bool = True, hasher: Hasher = "keyed") -> Handle:
-        """Returns a handle on an interner of the texts of a JSON array, in which a text may not repeat if it is exact."""
+        """Returns a handle on an interner of the texts of a JSON array. If `exact` is true, no text may repeat."""
         keys, raw = _keys_of(hasher), encode(text)
         handle = cls(backend, "keyed" if keys else "fixed")
         if keys:
@@ -95,7 +95,7 @@ class Handle:
         return handle
 
     def clone(self) -> Handle:
-        """Returns a handle on a copy of what this one holds, which hashes by the same keys."""
+        """Returns a handle on a copy of the interner, with the same keys."""
         clone = Handle(self.backend, self.hasher)
         with self.lock:
             check(library.si_clone(self.at, ctypes.byref(clone._address)))
@@ -103,12 +103,12 @@ class Handle:
 
     @property
     def is_open(self) -> bool:
-        """Whether there is a handle of the library."""
+        """Whether the handle is open."""
         return self._address.value is not None
 
     @property
     def at(self) -> ctypes.c_void_p:
-        """The handle of the library, which takes no call with null for one. Raises ValueError if there is none."""
+        """The address of the handle. Raises ValueError if it is closed, because the library accepts no null."""
         # Read once, because a signal handler may close it between any two steps.
         address = self._address
         if address.value is None:
@@ -126,7 +126,7 @@ class Handle:
         self._address = _Address()
 
     def write_json(self) -> bytes:
-        """The JSON array of all texts."""
+        """Returns the JSON array of all texts."""
         length = ctypes.c_size_t()
         with self.lock:
             # The library makes all of it before it says that room is short. So a guess that holds most texts saves that time.
@@ -141,12 +141,12 @@ class Handle:
             size = length.value
 
     def read_texts(self) -> list[str]:
-        """All texts. One call copies them all, which is faster than a call for each."""
+        """Returns all texts. One call copies them all, which is faster than a call for each."""
         texts: list[str] = json.loads(self.write_json())
         return texts
 
     def read_entries(self) -> tuple[array[int], list[str]]:
-        """The number of each text, and all texts."""
+        """Returns the number of each text, and all texts."""
         # From a copy, because a finalizer or a signal handler may change this one between two calls of the library.
         handle, found = self.clone(), ctypes.c_size_t()
         rows = array("Q", [0, 0, 0]) * library.si_len(handle.at)
@@ -162,13 +162,13 @@ class Handle:
 
 
 _registry = threading.RLock()
-"""Held while a handle is made, and by a thread that forks, from the last lock that it takes to the fork."""
+"""Held by a thread that makes a handle, and by a thread that forks, from its last lock until after the fork."""
 _handles: set[ref[Handle]] = set()
 _serials = count()
 
 
 class _Forks(threading.local):
-    """The handles that each fork under way in a thread holds."""
+    """The handles that each unfinished fork of a thread has locked."""
 
     def __init__(self) -> None:
         self.held: list[list[Handle]] = []
@@ -178,10 +178,10 @@ _forks = _Forks()
 
 
 def _hold_all() -> None:
-    """Waits until no thread is in a call, and keeps all from the next one, so that a child finds each interner whole.
+    """Locks all handles, so that no call is unfinished in the child.
 
-    A thread that holds two locks took them in the order of serials, and so does this. It keeps no thread from making a
-    handle as long as it waits for a lock, because that thread may have it.
+    A thread that needs two locks takes them in the order of serials, and so does this. While it waits for a lock, other
+    threads may make handles, because one of them may have that lock.
     """
     held: list[Handle] = []
     # First, because a signal handler may end the wait by an exception. The process forks all the same.

@@ -1,4 +1,4 @@
-"""The shared library: where it is found, its calls, and what they return."""
+"""Finds and loads the shared library, and declares its calls."""
 
 from __future__ import annotations
 
@@ -10,13 +10,13 @@ from pathlib import Path
 from typing import Any
 
 VERSION = 0
-"""The SI_VERSION of the header that this module is written by."""
+"""The SI_VERSION that this module needs."""
 OK, BAD_TEXT, NO_SYMBOL, NO_MEMORY, UNKNOWN, NO_ROOM = range(6)
 KINDS = {"string": 0, "bucket": 1, "buffer": 2}
 LIMIT = 1 << 8 * ctypes.sizeof(ctypes.c_size_t)
 """One more than the greatest number that a call takes."""
-_REASONS = {BAD_TEXT: "not JSON", 7: "an end falls, or passes the bytes", 8: "not an array", 9: "an element is not a string",
-            10: "a string occurs twice"}
+_REASONS = {BAD_TEXT: "not JSON", 7: "an end is less than the one before, or passes the bytes", 8: "not an array",
+            9: "an element is not a string", 10: "an element repeats an earlier string"}
 _NAME = "libstring_interner.so"
 
 
@@ -53,25 +53,25 @@ def _declare(lib: ctypes.CDLL) -> None:
 
 
 def _check_version(lib: ctypes.CDLL) -> None:
-    """Raises AttributeError for a library of another version, since its calls may be others."""
+    """Raises AttributeError for a library with another interface, because its calls may differ."""
     lib.si_version.restype = ctypes.c_uint32
     if (version := lib.si_version()) != VERSION:
-        raise AttributeError(f"it is of version {version}, and this module is for {VERSION}")
+        raise AttributeError(f"it has interface {version}, and this module needs {VERSION}")
 
 
 def _check_length(path: Path) -> None:
-    """Raises OSError for a file that lacks its end: to load one crashes the process."""
+    """Raises OSError for a file that was cut off: loading one crashes the process."""
     with open(path, "rb") as file:
         head = file.read(64)
     if len(head) == 64 and head.startswith(b"\x7fELF\2"):
         # The table of sections is the last part of the file.
         place, width, rows = struct.unpack("=40xQ10xHH2x", head)
         if place + width * rows > os.path.getsize(path):
-            raise OSError(f"{path}: the file lacks its end")
+            raise OSError(f"{path}: the file is cut off")
 
 
 def _load() -> ctypes.CDLL:
-    """Loads the library. Raises ImportError if there is none of this version that has all calls."""
+    """Loads the library. Raises ImportError if it finds none with this interface and all calls."""
     here = Path(__file__).resolve().parent
     named = os.environ.get("STRING_INTERNER_LIB")
     folders = [Path(named)] if named else [here, here.parent.parent / "out"]
@@ -86,7 +86,7 @@ def _load() -> ctypes.CDLL:
     except OSError as error:
         raise ImportError(f"cannot load the library: {error}", name="string_interner", path=str(path)) from error
     except AttributeError as error:
-        raise ImportError(f"the library is of another version: {error}", name="string_interner", path=str(path)) from error
+        raise ImportError(f"the library has another interface: {error}", name="string_interner", path=str(path)) from error
     return library
 
 
@@ -94,7 +94,7 @@ library = _load()
 
 
 def check(status: int) -> None:
-    """Raises what a status stands for."""
+    """Raises the exception of a status."""
     if status == OK:
         return
     if status == NO_MEMORY:
@@ -105,5 +105,5 @@ def check(status: int) -> None:
 
 
 def address_of(items: array[int]) -> int:
-    """Where the items of an array lie."""
+    """The address of the first item of an array."""
     return items.buffer_info()[0]

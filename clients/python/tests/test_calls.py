@@ -155,7 +155,7 @@ class Calls:
         self.assertEqual(Interner.from_json(written, backend=self.backend, exact=True), interner)
         repeated = json.dumps(TEXTS + TEXTS[:1])
         self.assertEqual(Interner.from_json(repeated, backend=self.backend), interner)
-        with self.assertRaisesRegex(ValueError, "twice"):
+        with self.assertRaisesRegex(ValueError, "repeats"):
             Interner.from_json(repeated, backend=self.backend, exact=True)
         for wrong, why in (('["a"', "not JSON"), ("{}", "not an array"), ('["a",1]', "not a string")):
             with self.assertRaisesRegex(ValueError, why):

@@ -67,7 +67,7 @@ class Imports(unittest.TestCase):
     def test_another_library(self):
         # A shared library that every Python has.
         shutil.copy(_ctypes.__file__, self.library)
-        self.assertRegex(self.run_lines(self.folder), "^ImportError string_interner the library is of another version: .*si_")
+        self.assertRegex(self.run_lines(self.folder), "^ImportError string_interner the library has another interface: .*si_")
 
 
     @unittest.skipUnless(shutil.which("cc"), "no C compiler")
@@ -75,9 +75,9 @@ class Imports(unittest.TestCase):
         source = self.folder / "version.c"
         source.write_text(f"unsigned si_version(void) {{ return {_library.VERSION + 7}; }}\n")
         subprocess.run(["cc", "-shared", "-fPIC", "-o", self.library, source], check=True)
-        said = f"it is of version {_library.VERSION + 7}, and this module is for {_library.VERSION}"
+        said = f"it has interface {_library.VERSION + 7}, and this module needs {_library.VERSION}"
         self.assertEqual(self.run_lines(self.folder),
-                         f"ImportError string_interner the library is of another version: {said}")
+                         f"ImportError string_interner the library has another interface: {said}")
 
 
 if __name__ == "__main__":

@@ -341,7 +341,7 @@ class Subclasses(unittest.TestCase):
     def test_a_pickle_whose_texts_repeat_is_refused(self):
         written = pickle.dumps(Interner(["a", "b"]))
         self.assertEqual(written.count(b'["a","b"]'), 1)
-        with self.assertRaisesRegex(ValueError, "twice"):
+        with self.assertRaisesRegex(ValueError, "repeats"):
             pickle.loads(written.replace(b'["a","b"]', b'["a","a"]'))
 
     def test_from_json_keeps_the_class(self):

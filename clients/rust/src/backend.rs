@@ -1,10 +1,10 @@
-//! Backends: how the texts of an interner lie in memory.
+//! Backends: how an interner stores its texts.
 //!
-//! | Backend | How the texts lie | Use it when |
+//! | Backend | How it stores texts | Use it if |
 //! |---|---|---|
-//! | [`StringBackend`] | joined in one string, with a list of ends | in most cases: fast to fill, to resolve and to walk |
-//! | [`BucketBackend`] | in buckets that are never moved; static texts where they are | texts are long or many, or many are `'static` |
-//! | [`BufferBackend`] | in one buffer, each behind its length | memory counts most; symbols have gaps, and run out by bytes |
+//! | [`StringBackend`] | joined in one string, with a list of ends | in most cases: fast to fill, to resolve and to iterate |
+//! | [`BucketBackend`] | in blocks that never move; static texts are not copied | texts are long or many, or many are `'static` |
+//! | [`BufferBackend`] | in one buffer, each behind its length | memory counts most; symbol numbers have gaps, because they are byte offsets |
 
 use crate::handle::{expect, panic_for, Handle, Status};
 use crate::hasher::{DefaultHashBuilder, InternerHasher};
@@ -16,12 +16,12 @@ use std::iter::FusedIterator;
 use std::marker::PhantomData;
 use std::panic::{RefUnwindSafe, UnwindSafe};
 
-/// The backend of an interner that names no other.
+/// The backend of an interner whose type names none.
 pub type DefaultBackend = StringBackend<DefaultSymbol>;
 
-/// Stores the texts of an interner. It can also be used alone, to give symbols to texts and to resolve them.
+/// Stores the texts of an interner. You can also use it alone, to give symbols to texts and to resolve them.
 ///
-/// The trait is sealed: the backends of this module are all there are. A call that fails to allocate panics, and leaves the
+/// The trait is sealed, so there are only the backends of this module. A call that fails to allocate panics, and leaves the
 /// backend as it was.
 pub trait Backend:
     Default + fmt::Debug + Send + Sync + Unpin + UnwindSafe + RefUnwindSafe + sealed::Kind
@@ -29,16 +29,16 @@ pub trait Backend:
     /// The symbol that stands for a text.
     type Symbol: Symbol;
 
-    /// Yields each text with its symbol, in the order of first interning.
+    /// Yields each text with its symbol, in insertion order.
     type Iter<'a>: ExactSizeIterator<Item = (Self::Symbol, &'a str)> + FusedIterator + Clone
     where
         Self: 'a;
 
-    /// Returns a backend without texts, with room for about `cap` of them.
+    /// Returns a backend without texts, with spare capacity for about `cap` of them.
     #[track_caller]
     fn with_capacity(cap: usize) -> Self;
 
-    /// Returns the symbol of a text. A text that is not known is put last.
+    /// Returns the symbol of a text. Appends a text that is not known.
     ///
     /// # Panics
     ///
@@ -54,27 +54,27 @@ pub trait Backend:
     #[track_caller]
     fn intern_static(&mut self, string: &'static str) -> Self::Symbol;
 
-    /// Gives back memory that no text needs, if it can.
+    /// Releases memory that no text needs, if it can.
     fn shrink_to_fit(&mut self);
 
-    /// Returns the text of a symbol, or `None` if there is none at its number.
+    /// Returns the text of a symbol, or `None` if no text has its number.
     fn resolve(&self, symbol: Self::Symbol) -> Option<&str>;
 
-    /// Returns the text of a symbol. It is looked at all the same.
+    /// Returns the text of a symbol. This crate checks the symbol all the same.
     ///
     /// # Safety
     ///
     /// The symbol is one of this backend.
     unsafe fn resolve_unchecked(&self, symbol: Self::Symbol) -> &str;
 
-    /// Walks over all texts with their symbols, in the order of first interning.
+    /// Iterates over all texts with their symbols, in insertion order.
     fn iter(&self) -> Self::Iter<'_>;
 }
 
 pub(crate) mod sealed {
     use crate::handle::Handle;
 
-    /// What an interner asks of its backend. Other crates can't name this trait, nor call a handle.
+    /// What an interner needs of its backend. Other crates can't name this trait, nor call a handle.
     pub trait Kind {
         /// The number by which the library knows the kind.
         const KIND: u32;
@@ -89,8 +89,8 @@ pub(crate) mod sealed {
     }
 }
 
-/// Interns a text by a call, and returns its symbol. If the symbol type has none, drops the text again if it was new, and
-/// panics.
+/// Interns a text by a call, and returns its symbol. If the symbol type has none for its number, drops the text again if
+/// it was new, and panics.
 #[inline]
 #[track_caller]
 fn intern_by<S: Symbol>(
@@ -225,7 +225,7 @@ backend! {
     StringBackend, sys::SI_STRING
 }
 backend! {
-    /// Texts in buckets that are never moved. Symbols number 0, 1, 2, ..
+    /// Texts in blocks that never move. Symbols number 0, 1, 2, ..
     BucketBackend, sys::SI_BUCKET
 }
 backend! {

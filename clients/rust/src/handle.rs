@@ -1,8 +1,8 @@
-//! A handle of the library, whose owner can't break the rules that `string_interner.h` states.
+//! A handle of the library. Code that has one can't break the rules of `string_interner.h`.
 //!
-//! Each comment at an `unsafe` block names the rules that it rests on. Of all blocks: the handle is freed by `drop` alone
-//! (rule 1), pointers come from references, slices and local variables (2, 3), and calls that may change the handle have it
-//! alone, since they take `&mut self` (4).
+//! Each comment at an `unsafe` block names the rules that it relies on. In all blocks only `drop` frees the handle (rule 1),
+//! pointers come from references, slices and local variables (2, 3), and calls that may change the handle are the only ones on
+//! it, because they take `&mut self` (4).
 
 use crate::hasher::Keys;
 use crate::sys;
@@ -26,7 +26,7 @@ unsafe impl Send for Handle {}
 // SAFETY: all calls that take `&self` only read, and those may run at the same time (rule 4).
 unsafe impl Sync for Handle {}
 
-/// Returns what a call of the library gave. Panics if there was no symbol or no memory.
+/// Returns the value of a call of the library. Panics if no symbol was left, or an allocation failed.
 #[inline]
 #[track_caller]
 pub fn expect<T>(outcome: Result<T, Status>) -> T {
@@ -56,13 +56,13 @@ fn told<T>(status: u32, value: T) -> Result<T, Status> {
 }
 
 impl Handle {
-    /// Makes a handle by a call, which writes its address. Panics if the library that was linked is of another version.
+    /// Makes a handle by a call, which writes its address. Panics if the linked library has another interface.
     fn make(call: impl FnOnce(*mut *mut sys::si_interner) -> u32) -> Result<Self, Status> {
         // SAFETY: no rule speaks of this call.
         let version = unsafe { sys::si_version() };
         assert!(
             version == sys::SI_VERSION,
-            "libstring_interner is of version {version}, and this crate is for {}",
+            "libstring_interner has interface {version}, and this crate needs {}",
             sys::SI_VERSION
         );
         let mut raw = ptr::null_mut();

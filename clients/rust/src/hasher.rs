@@ -1,11 +1,11 @@
 //! Hashers: how an interner finds its texts.
 //!
-//! | Hasher | Its codes | Use it when |
+//! | Hasher | Its hash codes | Use it if |
 //! |---|---|---|
-//! | [`DefaultHashBuilder`] | those of random keys of the process | in most cases |
-//! | [`RandomState`], or another [`BuildHasher`] of yours | those of keys that it gives | each interner is to have keys of its own, or the same in each process |
-//! | [`KeyedHashBuilder`] | those of keys that you pass | the keys come from elsewhere |
-//! | [`FixedHashBuilder`] | the same in each process | speed counts, and no stranger chooses the texts |
+//! | [`DefaultHashBuilder`] | depend on random keys of the process | in most cases |
+//! | [`RandomState`], or a [`BuildHasher`] of your own | depend on the keys that it gives | each interner needs keys of its own, or the same keys in each process |
+//! | [`KeyedHashBuilder`] | depend on the keys that you pass | your keys come from elsewhere |
+//! | [`FixedHashBuilder`] | are the same in each process | speed counts, and no stranger chooses the texts |
 //!
 //! ```
 //! use string_interner::{hasher::FixedHashBuilder, DefaultBackend, StringInterner};
@@ -15,10 +15,10 @@
 //! assert_eq!(names.get("Tiger"), Some(tiger));
 //! ```
 //!
-//! The library hashes the texts by itself: by SipHash-1-3 under two keys of 64 bits, or by a faster hash without keys. A
-//! [`BuildHasher`] hashes no text. It gives the keys, which are its hashes of two values of this crate. So codes are as hard to
-//! foresee as these two hashes are, and texts are found under every builder, even one whose hashes are all equal. What an
-//! interner returns does not depend on its hasher.
+//! The library hashes the texts itself: by SipHash-1-3 under two keys of 64 bits, or by a faster hash without keys. A
+//! [`BuildHasher`] hashes no text. It gives the keys, which are its hashes of two values of this crate. So hash codes are as hard
+//! to predict as these two hashes, and look-ups work under every builder, even one whose hashes are all equal. What an interner
+//! returns does not depend on its hasher.
 
 use std::fmt;
 use std::hash::{BuildHasher, DefaultHasher, RandomState};
@@ -27,9 +27,9 @@ use std::sync::LazyLock;
 /// Two keys of SipHash-1-3.
 pub type Keys = [u64; 2];
 
-/// The hasher of an interner that names no other: SipHash-1-3 under random keys, which each process chooses once.
+/// The hasher of an interner whose type names none: SipHash-1-3 under random keys, which each process draws once.
 ///
-/// Anywhere else, in a `HashMap` for example, it hashes as std's [`RandomState`] does, with the same keys in all of the process.
+/// Elsewhere, in a `HashMap` for example, it hashes as std's [`RandomState`] does, with the same keys in the whole process.
 #[derive(Clone, Copy, Debug, Default)]
 pub struct DefaultHashBuilder;
 
@@ -43,16 +43,16 @@ impl BuildHasher for DefaultHashBuilder {
     }
 }
 
-/// The fast hasher of an interner, with the same codes in each process.
+/// The fast hasher of an interner. Its hash codes are the same in each process.
 ///
-/// Any number of texts with one code are found in less than a second, and interning them takes time that grows with the square
-/// of their count. So do not use it for texts from strangers.
+/// Anyone can find any number of texts with one hash code in less than a second, and interning them takes time that grows with
+/// the square of their count. So do not use it if strangers choose the texts.
 #[derive(Clone, Copy, Debug, Default)]
 pub struct FixedHashBuilder;
 
 /// SipHash-1-3 under two keys, as the hasher of an interner.
 ///
-/// Nobody can foresee its codes without the keys, if these are random. `Debug` does not show them.
+/// If the keys are random and secret, nobody can predict its hash codes. `Debug` does not show the keys.
 #[derive(Clone, Copy)]
 pub struct KeyedHashBuilder {
     keys: Keys,
@@ -77,14 +77,14 @@ pub(crate) use sealed::InternerHasher;
 mod sealed {
     use super::Keys;
 
-    /// A hasher that an interner may have: each [`BuildHasher`](std::hash::BuildHasher), and those of this module. Other crates
-    /// can't name this trait.
+    /// A hasher of an interner: each [`BuildHasher`](std::hash::BuildHasher), and those of this module. Other crates can't name
+    /// this trait.
     #[diagnostic::on_unimplemented(
         message = "an interner can't hash by `{Self}`",
         label = "is no `BuildHasher`, and no hasher of the module `hasher`"
     )]
     pub trait InternerHasher {
-        /// Returns the keys, or `None` if it is the fast hasher.
+        /// Returns the keys, or `None` for the fast hasher.
         fn keys(&self) -> Option<Keys>;
     }
 }

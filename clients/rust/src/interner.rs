@@ -9,7 +9,7 @@ use std::marker::PhantomData;
 
 /// A list of distinct texts, each with a symbol.
 ///
-/// Calls that may take memory panic where it is refused, and leave the interner as it was.
+/// A call that fails to allocate panics, and leaves the interner as it was.
 pub struct StringInterner<B: Backend, H = DefaultHashBuilder> {
     backend: B,
     hasher: PhantomData<fn() -> H>,
@@ -32,7 +32,7 @@ impl<B: Backend, H: InternerHasher + Default> StringInterner<B, H> {
         Self::with_hasher(H::default())
     }
 
-    /// Returns an interner without texts, with room for about `cap` of them.
+    /// Returns an interner without texts, with spare capacity for about `cap` of them.
     #[must_use]
     #[track_caller]
     pub fn with_capacity(cap: usize) -> Self {
@@ -43,7 +43,7 @@ impl<B: Backend, H: InternerHasher + Default> StringInterner<B, H> {
     ///
     /// # Errors
     ///
-    /// If it is not such an array, or a text has no symbol, or memory is refused.
+    /// Returns an error if the text is not such an array, no symbol is left for a text, or an allocation fails.
     pub fn from_json(json: &str) -> Result<Self, JsonError> {
         let handle = Handle::from_json(B::KIND, json, H::default().keys())?;
         let have_symbols = Entries::over(&handle, B::KIND)
@@ -64,7 +64,7 @@ impl<B: Backend, H: InternerHasher> StringInterner<B, H> {
         Self::of(B::of(expect(Handle::new(B::KIND, hash_builder.keys()))))
     }
 
-    /// The same with room for about `cap` texts.
+    /// The same, with spare capacity for about `cap` texts.
     #[must_use]
     #[track_caller]
     pub fn with_capacity_and_hasher(cap: usize, hash_builder: H) -> Self {
@@ -91,7 +91,7 @@ impl<B: Backend, H: InternerHasher> StringInterner<B, H> {
         B::Symbol::try_from_usize(number)
     }
 
-    /// Returns the symbol of a text. A text that is not known is put last.
+    /// Returns the symbol of a text. Appends a text that is not known.
     ///
     /// # Panics
     ///
@@ -113,7 +113,7 @@ impl<B: Backend, H: InternerHasher> StringInterner<B, H> {
         self.backend.intern_static(string)
     }
 
-    /// Gives back memory that no text needs, if it can.
+    /// Releases memory that no text needs, if it can.
     pub fn shrink_to_fit(&mut self) {
         self.backend.shrink_to_fit();
     }
@@ -123,11 +123,11 @@ impl<B: Backend, H: InternerHasher> StringInterner<B, H> {
         self.backend.truncate(len);
     }
 
-    /// Returns the text of a symbol, or `None` if there is none at its number.
+    /// Returns the text of a symbol, or `None` if no text has its number.
     ///
     /// On [`BufferBackend`](crate::backend::BufferBackend) a symbol of another interner may read some part of the buffer.
     ///
-    /// A text is borrowed from the interner, which can't change as long as it is in use:
+    /// The text borrows the interner, which can't change while the text is in use:
     ///
     /// ```compile_fail,E0502
     /// let mut names = <string_interner::DefaultStringInterner>::new();
@@ -141,7 +141,7 @@ impl<B: Backend, H: InternerHasher> StringInterner<B, H> {
         self.backend.resolve(symbol)
     }
 
-    /// Returns the text of a symbol. It is looked at all the same.
+    /// Returns the text of a symbol. This crate checks the symbol all the same.
     ///
     /// # Safety
     ///
@@ -152,7 +152,7 @@ impl<B: Backend, H: InternerHasher> StringInterner<B, H> {
             .expect("the symbol is not of this interner")
     }
 
-    /// Walks over all texts with their symbols, in the order of first interning.
+    /// Iterates over all texts with their symbols, in insertion order.
     #[inline]
     pub fn iter(&self) -> B::Iter<'_> {
         self.backend.iter()
@@ -196,7 +196,7 @@ impl<B: Backend, H> fmt::Debug for StringInterner<B, H> {
     }
 }
 
-/// Shows the numbers of all symbols as the keys of the map that string-interner has for look-up.
+/// Shows the numbers of all symbols as the keys of a map, as string-interner does.
 struct Numbers<'a, B>(&'a B);
 
 impl<B: Backend> fmt::Debug for Numbers<'_, B> {

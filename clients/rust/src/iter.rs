@@ -5,7 +5,7 @@ use crate::sys;
 use std::iter::FusedIterator;
 use std::marker::PhantomData;
 
-/// Yields each text with its number, in the order of first interning.
+/// Yields each text with its number, in insertion order.
 #[derive(Clone)]
 pub struct Entries<'a> {
     handle: &'a Handle,
@@ -16,7 +16,7 @@ pub struct Entries<'a> {
 }
 
 impl<'a> Entries<'a> {
-    /// Walks over a handle of a kind.
+    /// Iterates over the texts of a handle of this kind.
     #[inline]
     pub fn over(handle: &'a Handle, kind: u32) -> Self {
         Entries {
@@ -58,7 +58,7 @@ impl<'a> Iterator for Entries<'a> {
     }
 }
 
-/// Yields each text with its symbol, in the order of first interning.
+/// Yields each text with its symbol, in insertion order.
 ///
 /// Each call of `next` reads one text, so the first few texts of a large interner cost no more than those of a small one.
 pub struct Iter<'a, B> {

@@ -3,7 +3,7 @@ use crate::sys;
 use std::error::Error;
 use std::fmt;
 
-/// Why no interner was read from JSON.
+/// Why reading an interner from JSON failed.
 #[derive(Clone, Copy, Debug, PartialEq, Eq)]
 #[non_exhaustive]
 pub enum JsonError {
@@ -15,7 +15,7 @@ pub enum JsonError {
     NotAText,
     /// No symbol is left for a text.
     NoSymbol,
-    /// Memory was refused.
+    /// An allocation failed.
     Memory,
 }
 

@@ -1,8 +1,8 @@
 //! A string interner for programs written for the crate string-interner 0.19, over a library in which every function is
 //! proved.
 //!
-//! An interner keeps each distinct text once and gives it a small symbol. Symbols are copied, compared and hashed as
-//! numbers are.
+//! An interner stores each distinct text once and returns a small symbol for it. Symbols are as cheap to copy, compare
+//! and hash as numbers.
 //!
 //! ```
 //! use string_interner::DefaultStringInterner;
@@ -14,7 +14,7 @@
 //! assert_eq!(animals.len(), 2);
 //! ```
 //!
-//! Three backends differ in how the texts lie in memory ([`backend`]), and any type may serve as the symbol ([`Symbol`]):
+//! Three backends differ in how they store texts ([`backend`]), and any type may serve as the symbol ([`Symbol`]):
 //!
 //! ```
 //! use string_interner::{backend::BufferBackend, symbol::SymbolU16, StringInterner};
@@ -27,51 +27,51 @@
 //!
 //! # What differs from string-interner 0.19
 //!
-//! Most programs written for string-interner compile over this crate. Those that need one of these do not:
+//! Most programs written for string-interner compile with this crate. These do not:
 //!
 //! | What does not compile | Why |
 //! |---|---|
-//! | a backend of the program's own, `impl Backend for ..` | the library keeps the texts |
+//! | a backend of the program's own, `impl Backend for ..` | the library stores the texts |
 //! | serde's traits | see below |
 //! | programs without std, or for other targets than Linux on 64 bits | the library is built for these |
 //!
 //! What compiles and behaves differently:
 //!
-//! - The library hashes the texts by SipHash-1-3, under two keys that the interner's hasher gives; those of
-//!   [`DefaultHashBuilder`] are random. The original hashes by its hasher, which is faster, and has a random seed.
-//!   [`FixedHashBuilder`](hasher::FixedHashBuilder) is as fast, and has the same codes in each process.
-//! - Numbers of all symbol types are below 2³² − 1, since those of the library are.
-//! - A text for which no symbol is left panics, as in the original, and is not kept.
-//! - A backend that is used alone finds a text that it has, where the original's keeps it again.
-//! - `Debug` shows symbols by number, and a backend's texts and not how they lie.
+//! - The library hashes the texts by SipHash-1-3, under two keys that the interner's hasher gives. Those of
+//!   [`DefaultHashBuilder`] are random. The original's default hasher is faster, and has a random seed.
+//!   [`FixedHashBuilder`](hasher::FixedHashBuilder) is as fast, and has the same hash codes in each process.
+//! - The numbers of all symbol types are below 2³² − 1, because those of the library are.
+//! - Interning panics if no symbol is left, as in the original. The text is then not stored.
+//! - A backend that you use alone finds a text that it has. The original's stores it again.
+//! - `Debug` shows symbols by number, and a backend as its texts.
 //! - Memory comes from malloc, and not from Rust's global allocator.
 //!
 //! New are [`StringInterner::truncate`], [`StringInterner::to_json`], [`StringInterner::from_json`] and the module [`hasher`].
 //!
 //! # Features
 //!
-//! A crate may ask for the features `std`, `inline-more` and `backends`. They change nothing: the crate always uses std, its
-//! short calls can always be inlined, and the backends are always there.
+//! You may ask for the features `std`, `inline-more` and `backends`. They change nothing: the crate always uses std, the compiler
+//! may always inline its short calls, and the backends are always there.
 //!
-//! The feature `serde` does not compile, and its message says what to write instead. Cargo resolves an optional dependency even
-//! if nothing uses it, so with one this crate would not build without a registry.
+//! The feature `serde` does not compile. Its error message says what to write instead. Cargo resolves an optional dependency even
+//! if nothing uses it, so with serde as one this crate would not build without a registry.
 //!
 //! # Why it is safe
 //!
-//! All `unsafe` blocks of this crate are in the module `handle`. They rest on the rules at the top of `string_interner.h`, and
-//! each call of the library keeps them:
+//! All `unsafe` blocks of this crate are in the module `handle`. They rely on the rules at the top of `string_interner.h`, which
+//! this crate keeps:
 //!
 //! | Rule | Kept by |
 //! |---|---|
-//! | 1: a handle is what a call wrote, until it is freed; it is not null | `Handle` has what a call wrote as a private `NonNull`, is no `Copy`, and is freed once, by `Drop` |
-//! | 2: a pointer is aligned, and leads to as much as the length behind it says | all come from references, slices, texts and local variables |
-//! | 3: what a call writes to overlaps nothing else that it is handed | it is a local variable, or a `Vec` that nothing else borrows |
-//! | 4: a call that may change a handle has it alone | calls that only read take `&self`, and all others `&mut self`; no call of the library calls back |
-//! | 5: a lent text is not read after a call that may change its handle, nor handed to one | it borrows the `Handle`, and calls that may change it take `&mut self` |
-//! | 6: one allocator; no signal handlers or forks | owed by the program, as for any C library and for Rust's own allocator |
+//! | 1: pass only handles that a call wrote, before they are freed, and not null | `Handle` holds what a call wrote as a private `NonNull`, is not `Copy`, and `Drop` frees it once |
+//! | 2: pass only aligned pointers to as many elements as the length says | all come from references, slices, texts and local variables |
+//! | 3: memory that a call writes to overlaps nothing else that you pass | it is a local variable, or a `Vec` that nothing else borrows |
+//! | 4: while a call may change a handle, make no other call on it | calls that only read take `&self`, and all others `&mut self`; no call of the library calls back |
+//! | 5: read a lent text only until the next call that may change its handle, and do not pass it to that call | the text borrows the `Handle`, and calls that may change it take `&mut self` |
+//! | 6: one allocator; no calls in signal handlers and after forks | the program's own duty, as with any C library and with Rust's own allocator |
 //!
-//! Three calls owe more. `si_get_or_intern_utf8` and `si_get_utf8` take bytes for UTF-8 without a look: they are those of a
-//! `&str`. `si_get_or_intern_static` takes bytes that stay: they are those of a `&'static str`.
+//! Three calls have one rule more. `si_get_or_intern_utf8` and `si_get_utf8` do not check that the bytes are UTF-8: they are those
+//! of a `&str`. `si_get_or_intern_static` needs bytes that stay: they are those of a `&'static str`.
 
 #![warn(
     missing_docs,
@@ -104,5 +104,5 @@ pub use iter::Iter;
 pub use json::JsonError;
 pub use symbol::{DefaultSymbol, Symbol};
 
-/// An interner over the backend that serves in most cases.
+/// An interner over the backend for most cases.
 pub type DefaultStringInterner<B = DefaultBackend, H = DefaultHashBuilder> = StringInterner<B, H>;

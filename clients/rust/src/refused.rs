@@ -1,6 +1,6 @@
-//! Programs that must not compile: those that read a text after it may have changed, and those that reach what is private.
+//! Programs that must not compile: those that read a text after it may have changed, and those that use what is private.
 //!
-//! A text does not outlive its interner, and is not read after a change:
+//! A text does not outlive its interner, and nothing reads it after a change:
 //!
 //! ```compile_fail,E0597
 //! use string_interner::DefaultStringInterner;
@@ -48,7 +48,7 @@
 //! }
 //! ```
 //!
-//! Nor does an iterator, and a text is not interned by the interner that lent it:
+//! An iterator does not outlive its interner either, and an interner does not intern a text that it lent:
 //!
 //! ```compile_fail,E0597
 //! use string_interner::DefaultStringInterner;
@@ -75,7 +75,7 @@
 //! names.get_or_intern(text);
 //! ```
 //!
-//! A text that is interned as static is:
+//! A text that is interned as static must be `'static`:
 //!
 //! ```compile_fail,E0597
 //! use string_interner::DefaultStringInterner;
@@ -84,7 +84,7 @@
 //! names.get_or_intern_static(&text);
 //! ```
 //!
-//! A thread does not read while another one changes:
+//! No thread reads an interner while another one changes it:
 //!
 //! ```compile_fail,E0502
 //! use string_interner::DefaultStringInterner;
@@ -95,7 +95,7 @@
 //! });
 //! ```
 //!
-//! A handle of the library is private, even to code that is generic over backends, and so is the state of an interner:
+//! The handle of the library and the state of an interner are private, even to code that is generic over backends:
 //!
 //! ```compile_fail,E0603
 //! let handle = string_interner::handle::Handle::new(0, None);

@@ -4,14 +4,14 @@ use std::num::{NonZeroU16, NonZeroU32, NonZeroUsize};
 
 /// A type whose values stand for texts, each by a number.
 pub trait Symbol: Copy + Eq {
-    /// Returns the symbol with this number, or `None` if the type has none.
+    /// Returns the symbol with this number, or `None` if the type has no such symbol.
     fn try_from_usize(index: usize) -> Option<Self>;
 
     /// Returns the number of the symbol.
     fn to_usize(self) -> usize;
 }
 
-/// The symbol of an interner that names no other.
+/// The symbol type of an interner whose type names none.
 pub type DefaultSymbol = SymbolU32;
 
 impl Symbol for usize {
@@ -26,7 +26,7 @@ impl Symbol for usize {
     }
 }
 
-/// Defines a symbol that keeps its number plus one, so that an `Option` of it takes no more memory.
+/// Defines a symbol that stores its number plus one, so that an `Option` of it takes no more memory.
 macro_rules! symbol {
     ($(#[$doc:meta])* $name:ident, $non_zero:ty, $number:ty) => {
         $(#[$doc])*

@@ -1,8 +1,8 @@
-//! What this crate calls, as `string_interner.h` declares it.
+//! The calls of the library that this crate makes, as `string_interner.h` declares them.
 
 use std::marker::{PhantomData, PhantomPinned};
 
-/// The version of the interface that this crate is written by.
+/// The number of the interface that this crate needs.
 pub const SI_VERSION: u32 = 0;
 
 pub const SI_OK: u32 = 0;
@@ -17,7 +17,7 @@ pub const SI_STRING: u32 = 0;
 pub const SI_BUCKET: u32 = 1;
 pub const SI_BUFFER: u32 = 2;
 
-/// What a handle points to, of which nothing is known.
+/// What a handle points to. This crate knows nothing about it.
 #[repr(C)]
 #[allow(non_camel_case_types)]
 pub struct si_interner {

@@ -47,7 +47,7 @@ const USAGE: &str =
 const MISUSED: u8 = 2;
 
 /// What `--version` prints.
-const VERSION: &str = "dictcol 0.19.0\n";
+const VERSION: &str = "dictcol 0.1.0\n";
 
 /// How many bytes are written at once.
 const BUFFER: usize = 1 << 16;

@@ -35,7 +35,7 @@ impl Slot {
         Slot::of_loose(Loose::of(handle))
     }
 
-    /// Makes a slot of what owns a handle.
+    /// Makes a slot from the parts of a box that holds a handle.
     fn of_loose(loose: Loose<Handle, Global>) -> Slot
         ensures { result.held ≡ Some loose.value }
     {
@@ -66,7 +66,7 @@ impl Drop for Returned {
 }
 
 impl Returned {
-    /// Takes what owns the handle, if there is one.
+    /// Takes the parts of the handle's box, if it is not null.
     fn into_loose(self) -> Option<Loose<Handle, Global>> {
         let Returned { at, alloc } = self;
         if at.is_null() {

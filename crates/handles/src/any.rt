@@ -24,7 +24,7 @@ use string_interner::dedup::TaggedIndex;
 use string_interner::json::JsonError;
 use string_interner::symbol::{Symbol, SymbolU32};
 
-/// A `FastStringInterner` over a backend, except for its hasher, which is chosen.
+/// A `FastStringInterner` over a backend, except that its hasher is chosen at run time.
 type HashedInterner<B> = StringInterner<B, ChosenHasher, TaggedIndex<<B as Backend>::Symbol>>;
 
 /// An interner of one of the kinds.
@@ -35,7 +35,7 @@ pub enum AnyInterner {
     Buffer(HashedInterner<BufferBackend<SymbolU32>>),
 }
 
-/// The value of an expression for the interner, of whatever kind it is.
+/// Evaluates an expression for the interner, whatever its kind.
 macro_rules! each {
     ($any:expr, $interner:ident => $value:expr) => {
         match $any {
@@ -46,7 +46,7 @@ macro_rules! each {
     };
 }
 
-/// An interner of this kind, from an expression for the interner in it.
+/// Makes an interner of this kind from an expression for the interner in it.
 macro_rules! make {
     ($kind:expr, $value:expr) => {
         match $kind {
@@ -87,7 +87,7 @@ fn status_given(outcome: Result<SymbolU32, InternError>) -> Result<usize, Status
     Ok(number_given(outcome)?)
 }
 
-/// Writes the number of a text, and returns the code of the outcome. A new text is appended.
+/// Writes the number of a text, and returns the code of the outcome. Appends a new text.
 ///
 /// There is one function for each kind, and a call from C jumps to it. The library's `get_or_intern` is inlined in it, so it
 /// calls nothing for a known text.
@@ -104,14 +104,14 @@ fn write_number_in<B: Backend<Symbol = SymbolU32>>(
 }
 
 impl AnyInterner {
-    /// Makes an empty interner of this kind under this hasher, without spare capacity. Takes no memory.
+    /// Makes an empty interner of this kind with this hasher, without spare capacity. Allocates nothing.
     pub fn new(alloc: Global, kind: Kind, hasher: ChosenHasher) -> AnyInterner
         ensures { IsEmpty kind result }
     {
         make!(kind, StringInterner::with_hasher(alloc, hasher))
     }
 
-    /// Makes an empty interner of this kind under this hasher, with room for `capacity` texts.
+    /// Makes an empty interner of this kind with this hasher, and with spare capacity for `capacity` texts.
     pub fn with_capacity(
         alloc: Global,
         kind: Kind,
@@ -148,7 +148,7 @@ impl AnyInterner {
         each!(self, interner => interner.contains(text))
     }
 
-    /// Writes the number of a text, and returns the code of the outcome. A new text is appended.
+    /// Writes the number of a text, and returns the code of the outcome. Appends a new text.
     #[inline(always)]
     pub fn write_number(&mut self, text: &str, number: &mut usize) -> u32
         ensures { TellsInterned (InternsAny self.old text.now) self.new
@@ -157,21 +157,21 @@ impl AnyInterner {
         each!(self, interner => write_number_in(interner, text, number))
     }
 
-    /// Returns the number of a text. A new text is appended.
+    /// Returns the number of a text. Appends a new text.
     pub fn get_or_intern(&mut self, text: &str) -> Result<usize, InternError>
         ensures { InternsAny self.old text.now result self.new }
     {
         number_given(each!(self, interner => interner.get_or_intern(text)))
     }
 
-    /// Returns the number of a text, as `get_or_intern` does. A new one may stay where it is, uncopied.
+    /// Returns the number of a text, as `get_or_intern` does. A new text may be borrowed and not copied.
     pub fn get_or_intern_static(&mut self, text: &'static str) -> Result<usize, InternError>
         ensures { InternsAny self.old text.now result self.new }
     {
         number_given(each!(self, interner => interner.get_or_intern_static(text)))
     }
 
-    /// Returns the text at a number, if one is read there.
+    /// Returns the text at a number, if there is one.
     ///
     /// Inlined, so that the text goes to the caller's memory at once: through memory between, a load of its pointer and its
     /// length together waits for both to be written.
@@ -228,7 +228,7 @@ impl AnyInterner {
         each!(self, interner => interner.to_json(alloc))
     }
 
-    /// Makes an interner of this kind under this hasher from a JSON array of strings. Repeats add no text.
+    /// Makes an interner of this kind with this hasher from a JSON array of strings. Repeats add no text.
     pub fn from_json(
         alloc: Global,
         kind: Kind,
@@ -243,7 +243,7 @@ impl AnyInterner {
         ))
     }
 
-    /// Makes an interner of this kind under this hasher from a JSON array of strings that all differ.
+    /// Makes an interner of this kind with this hasher from a JSON array of strings that all differ.
     pub fn from_json_exact(
         alloc: Global,
         kind: Kind,

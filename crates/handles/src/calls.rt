@@ -60,7 +60,7 @@ pub fn get_bytes(h: &mut Handle, bytes: &[u8]) -> Result<usize, Status>
     h.interner().get(text_of(bytes)?).ok_or(Status::Nothing)
 }
 
-/// Returns the number of a static text, as `get_or_intern_bytes` does. A new one may stay where it is, uncopied.
+/// Returns the number of a static text, as `get_or_intern_bytes` does. A new text may be borrowed and not copied.
 pub fn get_or_intern_static(h: &mut Handle, bytes: &'static [u8]) -> Result<usize, Status>
     ensures { InternsBytes bytes.now h.old.value result h.new.value }
 {
@@ -68,7 +68,7 @@ pub fn get_or_intern_static(h: &mut Handle, bytes: &'static [u8]) -> Result<usiz
     Ok(h.interner().get_or_intern_static(text)?)
 }
 
-/// Returns the number of a part of the text at a number. A new part is appended.
+/// Returns the number of a part of the text at a number. Appends a new part.
 pub fn get_or_intern_part(
     alloc: Global,
     h: &mut Handle,
@@ -155,7 +155,7 @@ fn fill(alloc: Global, slot: &mut Slot, made: Result<AnyInterner, Status>) -> Re
     Ok(())
 }
 
-/// Makes an empty interner of the kind with this code, under this hasher.
+/// Makes an empty interner of the kind with this code, with this hasher.
 fn make_interner(alloc: Global, kind: u32, hasher: ChosenHasher) -> Result<AnyInterner, Status>
     ensures { MakesNew kind result }
 {
@@ -163,14 +163,14 @@ fn make_interner(alloc: Global, kind: u32, hasher: ChosenHasher) -> Result<AnyIn
     Ok(AnyInterner::new(alloc, kind, hasher))
 }
 
-/// Makes a handle on an empty interner of the kind with this code, under this hasher.
+/// Makes a handle on an empty interner of the kind with this code, with this hasher.
 pub fn make(alloc: Global, slot: &mut Slot, kind: u32, hasher: ChosenHasher) -> Result<(), Status>
     ensures { Fills (MakesNew kind) slot.old result slot.new }
 {
     fill(alloc, slot, make_interner(alloc, kind, hasher))
 }
 
-/// Makes an empty interner of the kind with this code, under this hasher, with room for `capacity` texts.
+/// Makes an empty interner of the kind with this code, with this hasher and spare capacity for `capacity` texts.
 fn make_interner_with_capacity(
     alloc: Global,
     kind: u32,
@@ -183,7 +183,7 @@ fn make_interner_with_capacity(
     Ok(AnyInterner::with_capacity(alloc, kind, capacity, hasher)?)
 }
 
-/// Makes a handle on an empty interner of the kind with this code, under this hasher, with room for `capacity` texts.
+/// Makes a handle on an empty interner of the kind with this code, with this hasher and spare capacity for `capacity` texts.
 pub fn make_with_capacity(
     alloc: Global,
     slot: &mut Slot,
@@ -200,7 +200,7 @@ pub fn make_with_capacity(
     )
 }
 
-/// Makes a copy of what a handle holds.
+/// Copies the interner of a handle.
 fn copy_interner(h: &mut Handle) -> Result<AnyInterner, Status>
     ensures copies { Copies h.old.value result }
     ensures same { h.new.value ≡ h.old.value }
@@ -208,7 +208,7 @@ fn copy_interner(h: &mut Handle) -> Result<AnyInterner, Status>
     Ok(h.interner().try_copy()?)
 }
 
-/// Makes a second handle, on a copy.
+/// Makes a second handle, on a copy of the first one's interner.
 pub fn clone(alloc: Global, h: &mut Handle, slot: &mut Slot) -> Result<(), Status>
     ensures copies { Fills (Copies h.old.value) slot.old result slot.new }
     ensures same { h.new.value ≡ h.old.value }

@@ -1,4 +1,4 @@
-//! A handle: an interner behind a pointer, as C knows it by the address of the handle.
+//! A handle: an interner behind a pointer. C knows it by its address.
 
 ghost use Rattle.std.specs.Prelude.{◌≡◌};
 ghost use Rattle.std.specs.Box.Ownership.{box_owns};
@@ -38,7 +38,7 @@ impl Handle {
         Handle::of_loose(Loose::of(interner))
     }
 
-    /// Makes a handle of what owns an interner.
+    /// Makes a handle from the parts of a box that holds an interner.
     fn of_loose(loose: Loose<AnyInterner, Global>) -> Handle
         ensures { result.value ≡ loose.value }
     {
@@ -49,7 +49,7 @@ impl Handle {
         }
     }
 
-    /// Takes what a handle owns.
+    /// Takes a handle apart.
     fn into_loose(self) -> Loose<AnyInterner, Global>
         ensures { result.value ≡ self.value }
     {

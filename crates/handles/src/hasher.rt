@@ -9,9 +9,9 @@ use string_interner::dedup::{FoldState, KeyedHasher, KeyedState, TextHasher};
 /// How an interner hashes its texts. This decides how fast it is, and changes no result.
 #[derive(Clone, Copy)]
 pub enum ChosenHasher {
-    /// The fast one, with the same hash codes in each run. It is not for texts from strangers.
+    /// The fast one, with the same hash codes in each run. Do not use it if strangers choose the texts.
     Fixed(FoldState),
-    /// SipHash-1-3 under two keys. Without them nobody can foresee its hash codes.
+    /// SipHash-1-3 under two keys. Without them nobody can predict its hash codes.
     Keyed(KeyedHasher),
 }
 

@@ -1,4 +1,4 @@
-//! The kinds of interner that a handle can be opened on.
+//! The kinds of interner: how a handle's interner stores its texts.
 
 ghost use Rattle.handles.specs.Kind.{HasCode};
 

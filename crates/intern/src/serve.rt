@@ -142,13 +142,12 @@ fn write_replies<W: Write>(output: &mut W, replies: &[Reply]) -> Result<(), Faul
     output.flush().map_err(|_| Fault::Output)
 }
 
-/// Runs the commands of the input on an empty interner over the backend that the arguments name,
-/// and writes a line for each reply.
+/// Runs the commands of the input on an empty interner over the backend that the arguments name, and writes a line for each
+/// reply.
 ///
-/// Faults are looked for in this order: the arguments, reading the input, the first bad line,
-/// memory for the commands and the replies, writing. Nothing runs where a line is bad, and nothing
-/// is written before the last reply is known. The input is held in memory whole, beside a command
-/// and a reply for each line.
+/// Reports the first fault in this order: wrong arguments, input that cannot be read, the first bad line, lack of memory, output
+/// that cannot be written. If a line is bad, no command runs. Nothing is written before the last command has run. The whole
+/// input is in memory, and a command and a reply for each line.
 pub fn serve<R: Read, W: Write>(
     alloc: Global,
     arguments: &[String],
@@ -158,14 +157,14 @@ pub fn serve<R: Read, W: Write>(
     ensures usage { IsErrOf result Fault.Usage
         ↔ ((choice : Choice) → ¬ (Names arguments.now choice)) }
 
-    // Wrong arguments are told before any input is read.
+    // Wrong arguments are reported before any input is read.
     ensures untouched { IsErrOf result Fault.Usage → input.new ≡ input.old }
 
-    // A bad line and writing are blamed only where the input was read to its end.
+    // A bad line and writing are blamed only if the input was read to its end.
     ensures read { IsErrOf result Fault.Usage ⊎ (IsErrOf result Fault.Input
         ⊎ (IsErrOf result Fault.Memory ⊎ IsAtEnd (R.remaining input.new))) }
 
-    // Of a reader whose bytes are known: what a bad line and a whole answer say of them.
+    // For a reader whose bytes are known: what a bad line and a whole output say about them.
     ensures bad_line { (n : ℕ) → IsErrOf result (Fault.BadLine n)
         → IfSome (R.remaining input.old) (λ bytes. IsFirstBadLine (lines_of bytes) n) }
     ensures answered { OnOk result (IfSome (R.remaining input.old) (λ bytes. (choice : Choice)

@@ -16,10 +16,10 @@ use handles::status::{finish, tell};
 use handles::text::{Entry, Text};
 use std::alloc::Global;
 
-/// The version of the interface, `SI_VERSION` in C. It changes if a program has to be compiled again.
+/// The number of the interface, `SI_VERSION` in C. A new one means that programs must be compiled again.
 pub const VERSION: u32 = 0;
 
-/// Returns the version of the interface.
+/// Returns the number of the interface.
 #[unsafe(no_mangle)]
 pub extern "C" fn si_version() -> u32
     ensures { result ≡ 0 }
@@ -35,7 +35,7 @@ pub extern "C" fn si_new(alloc: Global, out: &mut Slot, kind: u32) -> u32
     finish(calls::make(alloc, out, kind, ChosenHasher::fixed()))
 }
 
-/// The same as `si_new`, under the hasher with these keys.
+/// The same as `si_new`, but hashes under these keys.
 #[unsafe(no_mangle)]
 pub extern "C" fn si_new_keyed(
     alloc: Global,
@@ -49,7 +49,7 @@ pub extern "C" fn si_new_keyed(
     finish(calls::make(alloc, out, kind, ChosenHasher::keyed(key0, key1)))
 }
 
-/// The same as `si_new`, with room for `capacity` texts.
+/// The same as `si_new`, with spare capacity for `capacity` texts.
 #[unsafe(no_mangle)]
 pub extern "C" fn si_with_capacity(alloc: Global, out: &mut Slot, kind: u32, capacity: usize) -> u32
     ensures { Opens (MakesRoom kind capacity) out.old out.new result }
@@ -57,7 +57,7 @@ pub extern "C" fn si_with_capacity(alloc: Global, out: &mut Slot, kind: u32, cap
     finish(calls::make_with_capacity(alloc, out, kind, capacity, ChosenHasher::fixed()))
 }
 
-/// The same as `si_with_capacity`, under the hasher with these keys.
+/// The same as `si_with_capacity`, but hashes under these keys.
 #[unsafe(no_mangle)]
 pub extern "C" fn si_with_capacity_keyed(
     alloc: Global,
@@ -109,7 +109,7 @@ pub unsafe extern "C" fn si_get_or_intern_utf8(
     calls::get_or_intern(h, text, number)
 }
 
-/// The same as `si_get_or_intern`, for bytes that stay where they are.
+/// The same as `si_get_or_intern`, for bytes that stay where they are, unchanged.
 #[unsafe(no_mangle)]
 pub extern "C" fn si_get_or_intern_static(
     h: &mut Handle,
@@ -173,7 +173,7 @@ pub extern "C" fn si_resolve<'a>(h: &'a mut Handle, number: usize, text: &mut Te
     tell(calls::resolve(h, number), text)
 }
 
-/// Copies the text at a number to a buffer, if that is long enough, and writes its length.
+/// Copies the text at a number to a buffer, if it fits, and writes its length.
 #[unsafe(no_mangle)]
 pub extern "C" fn si_copy(h: &mut Handle, number: usize, room: &mut [u8], len: &mut usize) -> u32
     ensures copies { Writes (CopiesText number h.old.value)
@@ -199,7 +199,7 @@ pub extern "C" fn si_shrink(h: &mut Handle)
     calls::shrink_to_fit(h);
 }
 
-/// Makes a second handle, on a copy of what the first holds, and writes its address.
+/// Makes a second handle, on a copy of the first one's interner, and writes its address.
 #[unsafe(no_mangle)]
 pub extern "C" fn si_clone(alloc: Global, h: &mut Handle, copy: &mut Slot) -> u32
     ensures copies { Opens (Copies h.old.value) copy.old copy.new result }
@@ -218,7 +218,7 @@ pub extern "C" fn si_equal(h: &mut Handle, other: &mut Handle) -> bool
     calls::equal(h, other)
 }
 
-/// Copies the JSON array of the texts to a buffer, if that is long enough, and writes its length.
+/// Copies the JSON array of the texts to a buffer, if it fits, and writes its length.
 #[unsafe(no_mangle)]
 pub extern "C" fn si_to_json(alloc: Global, h: &mut Handle, room: &mut [u8], len: &mut usize) -> u32
     ensures writes { Writes (CopiesJson h.old.value)
@@ -236,7 +236,7 @@ pub extern "C" fn si_from_json(alloc: Global, out: &mut Slot, kind: u32, json: &
     finish(calls::json::from_json(alloc, out, kind, json, ChosenHasher::fixed()))
 }
 
-/// The same as `si_from_json`, under the hasher with these keys.
+/// The same as `si_from_json`, but hashes under these keys.
 #[unsafe(no_mangle)]
 pub extern "C" fn si_from_json_keyed(
     alloc: Global,
@@ -259,7 +259,7 @@ pub extern "C" fn si_from_json_exact(alloc: Global, out: &mut Slot, kind: u32, j
     finish(calls::json::from_json_exact(alloc, out, kind, json, ChosenHasher::fixed()))
 }
 
-/// The same as `si_from_json_exact`, under the hasher with these keys.
+/// The same as `si_from_json_exact`, but hashes under these keys.
 #[unsafe(no_mangle)]
 pub extern "C" fn si_from_json_exact_keyed(
     alloc: Global,
@@ -274,7 +274,7 @@ pub extern "C" fn si_from_json_exact_keyed(
     finish(calls::json::from_json_exact(alloc, out, kind, json, ChosenHasher::keyed(key0, key1)))
 }
 
-/// Interns many texts, which are end to end, and writes their numbers.
+/// Interns many texts, which are end to end in the bytes, and writes their numbers.
 #[unsafe(no_mangle)]
 pub extern "C" fn si_intern_all(
     h: &mut Handle,

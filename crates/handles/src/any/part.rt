@@ -8,7 +8,7 @@ use crate::text::text_of;
 use std::alloc::Global;
 
 impl AnyInterner {
-    /// Returns the number of a part of the text at a number: the bytes between two offsets. A new part is appended.
+    /// Returns the number of a part of the text at a number: the bytes between two offsets. Appends a new part.
     ///
     /// The part is copied first, because its bytes may move if the interner grows.
     pub fn get_or_intern_part(

@@ -58,7 +58,7 @@ fn value_of(alloc: Global, bytes: &[u8]) -> Result<Value, Status>
     }
 }
 
-/// Makes an interner of the kind with this code, under this hasher, from a JSON array of strings.
+/// Makes an interner of the kind with this code, with this hasher, from a JSON array of strings.
 #[tactic(auto, using(crate::proofs::Lemmas::Json::refuses_kind, crate::proofs::Lemmas::Json::refuses_value))]
 fn read(alloc: Global, kind: u32, bytes: &[u8], hasher: ChosenHasher) -> Result<AnyInterner, Status>
     ensures { ReadsJson ReadsAs kind bytes.now result }
@@ -68,7 +68,7 @@ fn read(alloc: Global, kind: u32, bytes: &[u8], hasher: ChosenHasher) -> Result<
     Ok(AnyInterner::from_json(alloc, kind, &value, hasher)?)
 }
 
-/// Makes a handle on an interner, under this hasher, of the texts of a JSON array. Repeats add no text.
+/// Makes a handle on an interner of the texts of a JSON array, with this hasher. Repeats add no text.
 pub fn from_json(
     alloc: Global,
     slot: &mut Slot,
@@ -81,7 +81,7 @@ pub fn from_json(
     fill(alloc, slot, read(alloc, kind, bytes, hasher))
 }
 
-/// Makes an interner of the kind with this code, under this hasher, from a JSON array of strings that all differ.
+/// Makes an interner of the kind with this code, with this hasher, from a JSON array of strings that all differ.
 #[tactic(auto, using(crate::proofs::Lemmas::Json::refuses_kind, crate::proofs::Lemmas::Json::refuses_value))]
 fn read_exact(
     alloc: Global,
