@@ -80,7 +80,7 @@ def has_clauses(function):
 
 
 def parts_of(head):
-    """The trait, if any, and the name of the type of a line that opens an `impl`."""
+    """The trait, if any, and the name of the type of a line that opens an `impl`: of a reference or a slice that of its items."""
     rest, depth = " ".join(head.removeprefix("impl").rstrip("{").split()), 0
     for at, letter in enumerate(rest):
         depth += {"<": 1, ">": -(rest[at - 1] != "-")}.get(letter, 0)
@@ -88,7 +88,7 @@ def parts_of(head):
             rest = rest[at + 1 :] if letter == ">" else rest
             break
     trait, _, of = rest.strip().rpartition(" for ")
-    return trait, re.match(r"&?(?:'\w+ )?(?:mut )?(\w+)", of)[1]
+    return trait, re.search(r"\w+", re.sub(r"'\w+|\bmut\b", "", of))[0]
 
 
 def blocks_of(module, text):

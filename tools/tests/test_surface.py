@@ -245,6 +245,7 @@ class PartsTest(TestCase):
             "impl<B: Backend, I: TextIndex<B::Symbol>> Hall<\n    B,\n    I,\n> {": ("", "Hall"),
             "impl<F: Fn(u32) -> u32> Hall<F> {": ("", "Hall"),
             "impl<'a, B: Backend> IntoIterator\n    for &'a Hall<B> {": ("IntoIterator", "Hall"),
+            "impl<'a, 't> Shape for &'a [&'t str] {": ("Shape", "str"),
             "impl From<Vec<u32>> for Hall {": ("From<Vec<u32>>", "Hall"),
         }
         for head, parts in heads.items():
