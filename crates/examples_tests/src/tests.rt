@@ -1,9 +1,3 @@
-use std::alloc::Global;
-use std::test::Fail;
-use string_interner::DefaultStringInterner;
-use string_interner::backend::{Backend, BucketBackend, BufferBackend, InternError, StringBackend};
-use string_interner::dedup::KeyedState;
-use string_interner::symbol::Symbol;
 use examples::blocks::Blocks;
 use examples::lexer::{is_keyword, lex};
 use examples::lines::{
@@ -11,6 +5,12 @@ use examples::lines::{
     to_json_and_back,
 };
 use examples::same_text::same_text;
+use std::alloc::Global;
+use std::test::Fail;
+use string_interner::DefaultStringInterner;
+use string_interner::backend::{Backend, BucketBackend, BufferBackend, InternError, StringBackend};
+use string_interner::dedup::KeyedState;
+use string_interner::symbol::Symbol;
 
 /// Passes a test whose calls were not refused, and answered as they should.
 fn check_answer(answered: Result<bool, InternError>) -> Result<(), Fail> {
