@@ -30,7 +30,7 @@ PACKAGES = "the packages python3-sphinx, python3-myst-parser and furo of Debian"
 # The lists of pages beside each page; what is in none of them comes last.
 LISTS = {
     "Use": ["docs/GUIDE", "docs/PORTING", "docs/PERFORMANCE", "clients/README", *(f"crates/{it}/README" for it in api.CRATES)],
-    "Contracts": ["docs/CONTRACTS", *(f"api/{it}" for it in api.CRATES), "api/definitions", "docs/promises", "genindex"],
+    "Contracts": ["docs/CONTRACTS", "crates/string_interner/CALLERS", *(f"api/{it}" for it in api.CRATES), "api/definitions", "docs/promises", "genindex"],
     "Work on it": ["CONTRIBUTING", "docs/DESIGN"],
 }
 TOCTREE = "\n```{{toctree}}\n:hidden:\n:caption: {caption}\n\n{names}\n```\n"
