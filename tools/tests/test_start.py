@@ -86,10 +86,11 @@ class Start(unittest.TestCase):
 
     def test_a_link_starts_it_too(self):
         self.run_bin("string")
-        link = self.top / "rt/interner"
-        link.symlink_to(self.top / "bin/intern")
-        ran = subprocess.run([str(link), "x"], stdin=subprocess.DEVNULL, capture_output=True, encoding="utf-8", check=False)
-        self.assertEqual((ran.returncode, ran.stdout, ran.stderr), (0, "old x\n", ""))
+        for link, to, name in (("rt/interner", "bin/intern", ""), ("rt/programs", "bin", "intern")):
+            (self.top / link).symlink_to(self.top / to)
+            words = [str(self.top / link / name), "x"]
+            ran = subprocess.run(words, stdin=subprocess.DEVNULL, capture_output=True, encoding="utf-8", check=False)
+            self.assertEqual((ran.returncode, ran.stdout, ran.stderr), (0, "old x\n", ""), link)
 
     def test_installs(self):
         for name in ("intern", "dictcol"):
