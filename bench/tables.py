@@ -256,8 +256,8 @@ def speed(results):
         (f"{count:,}", [results.ratio(*pair, "identifiers", count, phase) for phase in shown])
         for count in results.counts["identifiers"]
     ]
-    said = "`FastStringInterner`: time divided by the original's; lower is better"
-    return table(said, ["identifiers", *shown.values()], rows)
+    said = "Time of `FastStringInterner` from Rattle divided by the original's (string-interner 0.19); lower is better"
+    return table(said, ["count of identifiers", *shown.values()], rows)
 
 
 def blocks(results):

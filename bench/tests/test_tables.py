@@ -65,7 +65,7 @@ class Tables(unittest.TestCase):
         rows = [(FAST["string"], "identifiers", 10, "fill", 30), (ORIGINAL["string"], "identifiers", 10, "fill", 60)]
         rows += [(FAST["string"], "identifiers", 2000, "known", 9), (ORIGINAL["string"], "identifiers", 2000, "known", 6)]
         shown = tables.speed(results_of(*rows)).splitlines()
-        self.assertIn("time divided by the original's; lower is better:", shown[0])
+        self.assertIn("divided by the original's (string-interner 0.19); lower is better:", shown[0])
         self.assertEqual(shown[-2:], ["| 10 | 0.50 |  |  |  |  |", "| 2,000 |  | 1.50 |  |  |  |"])
 
     def test_both_interners_are_beside_the_original_under_a_like_hasher(self):
