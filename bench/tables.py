@@ -124,7 +124,7 @@ def spread(results):
         for count in results.counts["identifiers"]:
             row = results.values.get((kind, "identifiers", count), {})
             shares += [row[f"{call} spread"] / row[f"{call} median"] for call in CALLS if f"{call} spread" in row]
-    return f"The middle half of the rounds spreads over {sum(shares) / len(shares):.0%} of the median time." if shares else ""
+    return f"Half of all rounds lie within a range of {sum(shares) / len(shares):.0%} of the median time." if shares else ""
 
 
 def measured(results):
