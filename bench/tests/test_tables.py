@@ -77,7 +77,7 @@ class Tables(unittest.TestCase):
     def test_spread_is_told_in_percent_of_the_median(self):
         rows = [(FAST["string"], "identifiers", 10, f"fill {of}", value) for of, value in (("median", 50), ("spread", 2))]
         rows += [(ORIGINAL["string"], "identifiers", 10, f"fill {of}", value) for of, value in (("median", 50), ("spread", 4))]
-        self.assertEqual(tables.spread(results_of(*rows)), "The middle half of the rounds spreads over 6% of the median time.")
+        self.assertEqual(tables.spread(results_of(*rows)), "Half of all rounds lie within a range of 6% of the median time.")
         self.assertEqual(tables.spread(results_of()), "")
 
     def test_each_part_has_its_commit(self):
