@@ -102,6 +102,7 @@ impl<B: Backend, H: TextHasher, I: TextIndex<B::Symbol>> Entries<B, H, I> {
     pub fn intern(&mut self, text: &str) -> Result<usize, InternError>
         ensures { FindsIndex B.numbering self.old text.now result self.new }
     {
+        // Before the text is interned, so that nothing has to be undone.
         self.symbols.reserve(1)?;
         let symbol = self.interner.get_or_intern(text)?;
         let index = self.symbols.len();
