@@ -24,11 +24,22 @@ fn is_encoded<B: Backend>(colors: &Column<B>) -> bool {
     is_counted & is_read & is_coded
 }
 
+/// Reports whether an iterator over the rows yields red, green, red, and knows how many are left.
+fn is_iterated<B: Backend>(colors: &Column<B>) -> bool {
+    let mut rows = colors.iter();
+    let first = (rows.len(), rows.next(), rows.len());
+    let rest = (rows.next(), rows.next(), rows.next());
+    let is_yielded = rest == (Some("green"), Some("red"), None);
+    let is_whole = colors.into_iter().last() == Some("red");
+    !colors.is_empty() & (first == (3, Some("red"), 2)) & is_yielded & is_whole
+}
+
 fn encodes<B: Backend + Drop>(alloc: Global) -> Result<bool, InternError> {
     let mut colors = Column::<B>::new(alloc);
     colors.encode(["red", "green", "red"].iter().copied())?;
     let counts = colors.counts(alloc)?;
-    Ok(is_encoded(&colors) & (counts.as_slice() == [2, 1].as_slice()))
+    let is_counted = counts.as_slice() == [2, 1].as_slice();
+    Ok(is_encoded(&colors) & is_iterated(&colors) & is_counted)
 }
 
 #[test]

@@ -7,8 +7,8 @@ use std::marker::Model;
 
 /// A list of codes, each the index of an entry in a dictionary.
 ///
-/// A code that fits 32 bits takes four bytes. The first that does not, and each one after it, takes eight. Once `reserve`
-/// was called for such a code, each new code takes eight bytes. Stored codes are not converted.
+/// A code that fits 32 bits takes four bytes. The first that does not, and each one after it, takes eight. Once
+/// `reserve` was called for such a code, each new code takes eight bytes. Stored codes are not converted.
 ///
 /// ```
 /// let mut codes = Codes::new(alloc);

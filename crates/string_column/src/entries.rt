@@ -31,7 +31,7 @@ impl<'a, 't> TextList for &'a [&'t str] {
     ghost texts = { λ s. texts_of s.now };
 
     fn len(&self) -> usize {
-        <[&'t str]>::len(self)
+        (**self).len()
     }
 
     fn text_at(&self, index: usize) -> &str {
@@ -41,8 +41,8 @@ impl<'a, 't> TextList for &'a [&'t str] {
 
 /// Distinct texts in insertion order, found by their texts and by their indexes.
 ///
-/// A backend may number its symbols otherwise, as `BufferBackend` does. So the symbol of each entry is stored here. Their
-/// numbers ascend, so a binary search finds the index of a symbol whose number is another.
+/// A backend may number its symbols otherwise, as `BufferBackend` does. So the symbol of each entry is stored here.
+/// Their numbers ascend, so a binary search finds the index of a symbol whose number is another.
 #[derive(Drop)]
 pub struct Entries<B: Backend, H: TextHasher, I: TextIndex<B::Symbol>> {
     interner: StringInterner<B, H, I>,
@@ -102,6 +102,7 @@ impl<B: Backend, H: TextHasher, I: TextIndex<B::Symbol>> Entries<B, H, I> {
     pub fn intern(&mut self, text: &str) -> Result<usize, InternError>
         ensures { FindsIndex B.numbering self.old text.now result self.new }
     {
+        // Before the text is interned, so that nothing has to be undone.
         self.symbols.reserve(1)?;
         let symbol = self.interner.get_or_intern(text)?;
         let index = self.symbols.len();

@@ -1,7 +1,7 @@
 //! Columns: lists of texts that store equal texts once.
 //!
-//! A [`Column`] has a dictionary of its distinct rows, in the order of first appearance. For each row it has a code: the
-//! index of the row's text in the dictionary. Everything that a column returns follows from its rows.
+//! A [`Column`] has a dictionary of its distinct rows, in the order of first appearance. For each row it has a code:
+//! the index of the row's text in the dictionary. Everything that a column returns follows from its rows.
 //!
 //! ```
 //! let mut colors = <Column>::new(alloc);
@@ -10,13 +10,13 @@
 //! let counts = colors.counts(alloc)?; // 2, 1
 //! ```
 //!
-//! A code is not a symbol, because a backend may number otherwise: over `BufferBackend` the number of a symbol is the offset
-//! of its text. The symbol of each entry is stored next to the interner, so a row is resolved without a search. Encoding a
-//! known text needs the index of its symbol. If the number of that symbol is another, a binary search finds the index,
-//! because the numbers of the entries ascend.
+//! A code is not a symbol, because a backend may number otherwise: over `BufferBackend` the number of a symbol is the
+//! offset of its text. The symbol of each entry is stored next to the interner, so a row is resolved without a search.
+//! Encoding a known text needs the index of its symbol. If the number of that symbol is another, a binary search finds
+//! the index, because the numbers of the entries ascend.
 //!
-//! A code takes four bytes, and eight from the first on that does not fit. So the symbol type alone limits how many distinct
-//! rows a column has.
+//! A code takes four bytes, and eight from the first on that does not fit. So the symbol type alone limits how many
+//! distinct rows a column has.
 #![tactic(auto)]
 
 mod code_list;

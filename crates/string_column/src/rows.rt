@@ -22,8 +22,8 @@ use string_interner::dedup::{FoldState, TaggedIndex, TextHasher, TextIndex};
 
 /// A list of texts, the rows. It stores equal rows once.
 ///
-/// The dictionary has the distinct rows in the order of first appearance. The code of a row is the index of its text in the
-/// dictionary, and takes four bytes. If you name no other backend, hasher or index, the dictionary is a
+/// The dictionary has the distinct rows in the order of first appearance. The code of a row is the index of its text in
+/// the dictionary, and takes four bytes. If you name no other backend, hasher or index, the dictionary is a
 /// `FastStringInterner`.
 ///
 /// ```
@@ -198,11 +198,11 @@ impl<B: Backend, H: TextHasher, I: TextIndex<B::Symbol>> Column<B, H, I> {
 
     /// Appends a row, and returns its code.
     ///
-    /// Returns `NoSymbol` only if the row is new and the symbol type has no symbol left for it. Returns `Memory` only if an
-    /// allocation fails or a size does not fit a `usize`. On `Err` the rows are unchanged.
+    /// Returns `NoSymbol` only if the row is new and the symbol type has no symbol left for it. Returns `Memory` only
+    /// if an allocation fails or a size does not fit a `usize`. On `Err` the rows are unchanged.
     ///
-    /// Hashes the row once. Over a backend whose symbols have other numbers than their indexes, such as `BufferBackend`, a
-    /// known row also takes a binary search in the dictionary.
+    /// Hashes the row once. Over a backend whose symbols have other numbers than their indexes, such as
+    /// `BufferBackend`, a known row also takes a binary search in the dictionary.
     ///
     /// ```
     /// let code = colors.push("blue")?; // 2
@@ -219,8 +219,8 @@ impl<B: Backend, H: TextHasher, I: TextIndex<B::Symbol>> Column<B, H, I> {
 
     /// Appends a row for each text of a finite iterator.
     ///
-    /// Stops at the first text that `push` fails for, and returns that error. The rows before it stay, so the new length of
-    /// the column gives their number. Hashes each text once.
+    /// Stops at the first text that `push` fails for, and returns that error. The rows before it stay, so the new
+    /// length of the column gives their number. Hashes each text once.
     ///
     /// ```
     /// colors.encode(["red", "green", "red"].iter().copied())?;

@@ -14,8 +14,8 @@ use string_interner::dedup::{TextHasher, TextIndex};
 impl<B: Backend, H: TextHasher, I: TextIndex<B::Symbol>> Column<B, H, I> {
     /// Appends the rows of another column. They get codes of this column's dictionary.
     ///
-    /// Stops at the first row that `push` fails for, and returns that error. The rows before it stay, so the new length of
-    /// the column gives their number.
+    /// Stops at the first row that `push` fails for, and returns that error. The rows before it stay, so the new length
+    /// of the column gives their number.
     ///
     /// Hashes each distinct row of the other column once. While it runs it uses 16 bytes for each of them, and returns
     /// `Memory` without appending a row if it cannot allocate these.
@@ -79,8 +79,8 @@ impl<B: Backend, H: TextHasher, I: TextIndex<B::Symbol>> Column<B, H, I> {
 impl<B: Backend + Drop, H: TextHasher + Drop, I: TextIndex<B::Symbol> + Drop> Column<B, H, I> {
     /// Makes a column of the rows from `start` to before `end`, with this hasher and a dictionary of its own.
     ///
-    /// Returns `Err` if `append` of these rows to an empty column does. Hashes each distinct row of the part once. While it
-    /// runs it uses 16 bytes for each distinct row of this whole column.
+    /// Returns `Err` if `append` of these rows to an empty column does. Hashes each distinct row of the part once.
+    /// While it runs it uses 16 bytes for each distinct row of this whole column.
     ///
     /// ```
     /// let morning = log.slice(alloc, FoldState::default(), 0, 1_000)?;

@@ -98,18 +98,18 @@ fn intern_entries<B: Backend, H: TextHasher, I: TextIndex<B::Symbol>>(
 }
 
 impl<B: Backend + Drop, H: TextHasher + Drop, I: TextIndex<B::Symbol> + Drop> Column<B, H, I> {
-    /// Makes a column of a dictionary and a code for each row, with this hasher. A file or another program may have them
-    /// from `dictionary` and `codes` of a column.
+    /// Makes a column of a dictionary and a code for each row, with this hasher. A file or another program may have
+    /// them from `dictionary` and `codes` of a column.
     ///
-    /// If each entry has a row, and the entries are in the order in which the rows first have them, the column takes the
-    /// codes as they are. Otherwise it encodes the rows again: entries get other codes, and an entry without a row is
-    /// dropped.
+    /// If each entry has a row, and the entries are in the order in which the rows first have them, the column takes
+    /// the codes as they are. Otherwise it encodes the rows again: entries get other codes, and an entry without a row
+    /// is dropped.
     ///
     /// Returns `Repeated` with the first entry that equals an earlier one. If there is none, returns `NoEntry` with the
     /// first row whose code is not the index of an entry. Returns `NoSymbol` and `Memory` as `push` does.
     ///
-    /// Hashes each entry once. To encode the rows again, it hashes each entry that has a row once more, and uses 16 bytes
-    /// for each entry while it runs.
+    /// Hashes each entry once. To encode the rows again, it hashes each entry that has a row once more, and uses 16
+    /// bytes for each entry while it runs.
     ///
     /// ```
     /// let colors = <Column>::from_parts(alloc, FoldState::default(), &["red", "green"], codes)?;
