@@ -42,6 +42,14 @@ class ScriptTest(unittest.TestCase):
         program = self.program("printf 'asks 8\\nword\\nasks 16\\nrequest refused\\nholds 0\\n' >&2")
         self.assertEqual(program.run_with_asks([], b"", 2), (End(0, b"", b"word\n"), [8, 16]))
 
+    def test_the_most_memory(self):
+        program = self.program('cat; echo "$1" >&2; exit 3')
+        with holding(b"in") as given, holding(b"") as output:
+            ended, peak = program.run_with_peak([b"a"], given, output)
+            output.seek(0)
+            self.assertEqual((ended, output.read()), (End(3, b"", b"a\n"), b"in"))
+        self.assertGreater(peak, 100)
+
     def test_memory_that_is_held_at_the_end(self):
         program = self.program("printf 'asks 8\\nholds 1\\n' >&2")
         self.assertEqual(program.run_with_asks([], b""), (End(0, b"", b"holds 1\n" + HELD), [8]))

@@ -57,7 +57,8 @@ pub fn format_file<B: Backend>(
     writer.key("lines")?;
     write_codes(&mut writer, lines.codes())?;
     writer.end_object()?;
-    let mut text = String::from_utf8(writer.into_inner()).map_err(|_| AllocError)?;
+    // JSON is UTF-8 because its strings are.
+    let mut text = unsafe { String::from_utf8_unchecked(writer.into_inner()) };
     text.push('\n')?;
     Ok(text)
 }
