@@ -1,12 +1,12 @@
 -- What a file holds: at most one list of lines, and the file of some lines holds these.
-use Rattle.std.proofs.Common.{◌≡◌, ◌≢◌, ℕ, zero, suc, ◌+◌, ◌-◌, ◌^◌, Bool, true, false, List, [], ◌∷◌, ◌++◌, map, codes, Option, Some, None, Result, Ok, Err, MatchResult, IfErr, Bor, option_map, option_and_then, refl, sym, ap, subst, ◌∙◌}
-use Rattle.std.specs.Prelude.{slice_get, ⊤}
+use Rattle.std.proofs.Common.{◌≡◌, ◌≢◌, ℕ, ◌+◌, ◌-◌, ◌^◌, Bool, true, false, List, [], ◌∷◌, ◌++◌, map, codes, Some, None, Result, Ok, Err, MatchResult, refl, sym, ap, subst, ◌∙◌}
+use Rattle.std.specs.Prelude.{⊤}
 use Rattle.std.specs.List.{list_any}
 use Rattle.std.proofs.lemmas.List.{append_assoc}
 use Rattle.std.proofs.lemmas.Option.{same_Some}
 use Rattle.serde_json.specs.Read.{read}
 use Rattle.serde_json.specs.Data.{Data, boolean, string, array, Items, no_items, item}
-use Rattle.serde_json.specs.Find.{get, as_number, as_u64}
+use Rattle.serde_json.specs.Find.{get}
 use Rattle.serde_json.specs.View.{items_of}
 use Rattle.serde_json.proofs.OnLiterals.{serde_json_on_literals}
 use Rattle.string_interner.specs.Text.{Text, IsDistinct}
