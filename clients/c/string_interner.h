@@ -10,21 +10,23 @@
  *     if (si_get_or_intern(names, "Tiger", 5, &again) != SI_OK) return 1;   // tiger == again
  *     si_free(names);
  *
- * Each call is proved to do what its comment says, as long as the program keeps six rules, which the library cannot check:
+ * Each call is proved to do what its comment says, as long as the program keeps eight rules, which the library does not check:
  *
- *   1. Pass only handles that si_new, si_with_capacity, si_from_json or si_from_json_exact wrote, or one of these with _keyed at
- *      its end, or si_clone, and that si_free has not freed. Pass null as a handle to si_free only.
+ *   1. Pass only a handle that an si_new, si_with_capacity or si_from_json call (also one with _exact or _keyed in its name) or
+ *      si_clone wrote. Do not use it after si_free. Pass null as a handle to si_free only.
  *   2. Pass only aligned pointers to as many elements as the length after the pointer says. If that is 0, the pointer may be
- *      null. Memory that a call writes to need not be initialised.
+ *      null. A pointer without a length points to one element. Memory that a call writes to need not be initialised.
  *   3. Do not let memory that a call writes to overlap anything else that you pass to that call.
  *   4. While a call may change a handle, make no other call on that handle. Calls that only read a handle may run at the same time.
- *      Between threads, order changes by a lock, or by starting and joining threads. Calls on different handles need no care,
- *      because handles share nothing.
+ *      If threads share a handle, make each change happen before or after every other call on it, for example by a lock. Calls on
+ *      different handles need no care, because handles share nothing.
  *   5. Read a text that si_resolve or si_entries lent only until the next call that may change its handle, and do not pass it to
  *      that call. Every call may change a handle, except those that take it as const.
  *   6. Link malloc, realloc and free of one allocator, which aligns as C requires. In a signal handler make no call if the signal
- *      interrupted a call on the same handle, or one of these three. In the child of a fork make no call on a handle that another
- *      thread was using when the process forked.
+ *      interrupted a call on the same handle, or a call of malloc, realloc or free. In the child of a fork make no call on a
+ *      handle that another thread was using when the process forked.
+ *   7. Pass only UTF-8 to si_get_or_intern_utf8 and si_get_utf8.
+ *   8. Pass to si_get_or_intern_static only bytes that stay where they are, unchanged, as long as the process runs.
  *
  * Two parts of these rules are tested and not proved:
  *
@@ -34,8 +36,8 @@
  *   - Memory that a call writes to need not be initialised. The proof covers any numbers, bytes or texts there. The tests pass
  *     uninitialised memory, under a checker that reports each use of it.
  *
- * The library checks everything else: bytes that are not UTF-8, ends that decrease or pass the bytes, numbers without a text,
- * buffers that are too small, kinds that do not exist, numbers that run out, and allocations that fail.
+ * The library checks everything else: bytes that are not UTF-8 (but see rule 7), ends that decrease or pass the bytes, numbers
+ * without a text, buffers that are too small, kinds that do not exist, numbers that run out, and allocations that fail.
  *
  * If strangers choose the texts, do not use a handle without keys: anyone can find many texts with one hash code, and interning n
  * of them takes time that grows with the square of n. Make the handle with random, secret keys, by si_new_keyed or another call
@@ -79,10 +81,11 @@ typedef enum si_result {
 /** The kind of an interner: how it stores texts. All numbers are below 2^32 - 1. */
 typedef enum si_kind {
   SI_STRING = 0, /**< Joined in one string: fast to fill, to resolve and to iterate. Numbers are 0, 1, 2, .. */
-  SI_BUCKET = 1, /**< In blocks that never move, so growth copies no text. Numbers are 0, 1, 2, .. */
-  SI_BUFFER = 2  /**< In one buffer, each text behind its length: the least memory. Numbers are byte offsets, with gaps. The
-                  * first is 0. Each next one is greater by the bytes of the text and of its length, which takes 1 byte up to
-                  * 127, 2 up to 16,383, and so on. */
+  SI_BUCKET = 1, /**< In blocks that never move, so growth copies no text. Numbers are 0, 1, 2, .. Rule 5 holds all the same: do
+                  * not keep the address of a text. */
+  SI_BUFFER = 2  /**< In one buffer, each text behind its length: the least memory. Numbers are byte offsets, with gaps, so it
+                  * holds less than 4 GiB. The first is 0. Each next one is greater by the bytes of the text and of its length,
+                  * which takes 1 byte up to 127, 2 up to 16,383, and so on. */
 } si_kind;
 
 /** A handle: an interner that only the calls below can read and change. */
@@ -130,7 +133,10 @@ si_result si_new(si_interner **out, si_kind kind);
  *
  *   - 5 bytes for each on SI_STRING, where a shorter text counts as 5;
  *   - 1 byte for each on SI_BUCKET, where an empty text counts as 1;
- *   - 13 bytes for each on SI_BUFFER, where the length of a text counts, too (1 byte up to 127, 2 up to 16,383, and so on). */
+ *   - 13 bytes for each on SI_BUFFER, where the length of a text counts, too (1 byte up to 127, 2 up to 16,383, and so on).
+ *
+ * For longer texts pass a larger capacity: of the sum of these bytes a fifth on SI_STRING, all on SI_BUCKET, and a thirteenth on
+ * SI_BUFFER, rounded up. */
 si_result si_with_capacity(si_interner **out, si_kind kind, size_t capacity);
 
 /** The same as si_new, but the handle hashes under two keys (SipHash-1-3). If they are random (from getrandom, say) and secret,
@@ -152,11 +158,11 @@ size_t si_len(const si_interner *h);
  * Returns SI_OK; or the texts and `number` are unchanged: SI_BAD_TEXT, SI_NO_SYMBOL, SI_NO_MEMORY. */
 si_result si_get_or_intern(si_interner *h, const char *text, size_t text_len, size_t *SI_RESTRICT number);
 
-/** The same, but does not check that the bytes are UTF-8: they must be. */
+/** The same, but does not check that the bytes are UTF-8: they must be (rule 7). */
 si_result si_get_or_intern_utf8(si_interner *h, const char *text, size_t text_len, size_t *SI_RESTRICT number);
 
-/** The same as si_get_or_intern, but the bytes must stay where they are, unchanged, as long as the process runs. An interner of
- * the kind SI_BUCKET then does not copy them. */
+/** The same as si_get_or_intern, but the bytes must stay where they are, unchanged, as long as the process runs (rule 8). An
+ * interner of the kind SI_BUCKET then does not copy them. */
 si_result si_get_or_intern_static(si_interner *h, const char *text, size_t text_len, size_t *SI_RESTRICT number);
 
 /** Interns a part of the text at a number, from byte `from` up to and without byte `to`, and writes the number of the part to
@@ -179,7 +185,7 @@ si_result si_intern_all(si_interner *h, const char *bytes, size_t bytes_len, con
  * Returns SI_OK; or `number` is unchanged: SI_BAD_TEXT, SI_NOTHING. */
 si_result si_get(const si_interner *h, const char *text, size_t text_len, size_t *SI_RESTRICT number);
 
-/** The same, but does not check that the bytes are UTF-8: they must be. */
+/** The same, but does not check that the bytes are UTF-8: they must be (rule 7). */
 si_result si_get_utf8(const si_interner *h, const char *text, size_t text_len, size_t *SI_RESTRICT number);
 
 /** Reports whether the text is known. */

@@ -35,7 +35,7 @@ from itertools import accumulate
 from operator import attrgetter, index
 from typing import TYPE_CHECKING, Literal, Self, SupportsIndex
 
-from ._copies import copy_bytes, copy_ends, copy_numbers, count_letters, encode, narrow
+from ._copies import copy_bytes, copy_ends, copy_numbers, count_letters, encode, join, narrow
 from ._handle import Handle
 from ._library import BAD_TEXT, LIMIT, NO_ROOM, UNKNOWN, address_of, check, library
 
@@ -47,7 +47,8 @@ __all__ = ["Backend", "Column", "Hasher", "Interner", "Typecode"]
 Backend = Literal["string", "bucket", "buffer"]
 """How texts are stored: joined in one string, in blocks that never move, or in one buffer of bytes.
 
-With `string` and `bucket` the numbers are 0, 1, 2, .. With `buffer`, which takes the least memory, they are byte offsets.
+With `string` and `bucket` the numbers are 0, 1, 2, .. With `buffer`, which takes the least memory, they are byte offsets. All
+numbers are below 2 ** 32 - 1, so `buffer` holds less than 4 GiB.
 """
 
 Hasher = Literal["keyed", "fixed"] | tuple[SupportsIndex, SupportsIndex]
@@ -133,11 +134,12 @@ class Interner:
         """Returns the number of each text, in order, in an array: 8 bytes for each, or 4 if the typecode is "I".
 
         This is one call of the library. If a text raises OverflowError or MemoryError, the texts before it stay. If a value is
-        no text, or has no UTF-8 form, nothing changes. numpy reads the array without a copy.
+        no text, or has no UTF-8 form, nothing changes; for one that is no text, the TypeError says which. numpy reads the array
+        without a copy.
         """
         # Read once, because another thread may change what it is read from.
         texts = list(texts)
-        joined = "".join(texts)
+        joined = join(texts)
         if joined.isascii():
             # So a letter is a byte, and no text need be encoded by itself.
             return self._intern_parts(joined.encode(), array("Q", accumulate(count_letters(texts))), typecode)
@@ -189,7 +191,7 @@ class Interner:
     def resolve(self, number: SupportsIndex) -> str | None:
         """Returns the text with a number, or None if there is none.
 
-        With the backend `buffer`, a number that belongs to no text may return something, too.
+        With the backend `buffer`, a number that belongs to no text may return a piece of other texts.
         """
         place = index(number)
         if not 0 <= place < LIMIT:
@@ -210,8 +212,8 @@ class Interner:
     def resolve_all(self, numbers: Iterable[SupportsIndex]) -> list[str]:
         """Returns the text with each number, in order. Raises KeyError at a number without one.
 
-        Undoes `intern_all`, in about the same time. With the backend `buffer`, a number that belongs to no text may return
-        something, or raise KeyError.
+        Undoes `intern_all`, in about the same time. With the backend `buffer`, a number that belongs to no text may return a
+        piece of other texts, or raise KeyError.
         """
         wanted = copy_numbers(numbers)
         distinct = {*wanted}

@@ -11,7 +11,7 @@ from operator import index
 from typing import Any, Self, SupportsIndex, overload
 
 from . import Hasher, Interner
-from ._copies import copy_numbers, narrow
+from ._copies import copy_numbers, is_text, narrow
 
 _MISSING = -1
 """The code of a row that is None. In a table the entry of such a row is the last, so this index finds it."""
@@ -34,8 +34,12 @@ class Column(Sequence[str | None]):
     >>> list(colors)
     ['red', 'green', None, 'red', 'blue', 'green']
 
-    It is a sequence of its rows, and equals another column with the same rows. Any thread may call it; threads wait for each
-    other. If a call raises, it adds no row, but it may have added texts to the dictionary.
+    It is a sequence of its rows, and equals another column with the same rows. `in`, `count` and `index` look a text up once, and
+    then compare codes. Any thread may call it; threads wait for each other. If a call raises, it adds no row, but it may have
+    added texts to the dictionary.
+
+    The texts are in the library, and take little memory there. `dictionary`, `to_pandas`, iteration, `==` and merging this column
+    into another one make a string of each, and the column keeps these strings from then on.
 
     Copies and pickles have the class and the attributes of a subclass. They do not call its `__init__`. They have the keys that
     copies and pickles of an `Interner` have.
@@ -118,7 +122,7 @@ class Column(Sequence[str | None]):
         """The distinct texts, in a new list. A code is an index of it.
 
         New texts are appended in order of first appearance. Texts that no row has come from `from_parts`, `from_pandas`, a
-        merged column, or a longer column of which this one is a slice.
+        merged column, or a longer column of which this one is a slice. The column keeps these strings in memory from then on.
         """
         return self._read()[0]
 
@@ -135,6 +139,13 @@ class Column(Sequence[str | None]):
     def distinct(self) -> int:
         """The number of texts in the dictionary."""
         return len(self._names)
+
+    def code(self, text: str) -> int | None:
+        """Returns the code of a text, or None if the dictionary lacks it. Looks it up once, and reads no row.
+
+        The dictionary may have texts that no row has. To ask for a row with a text, write `text in column`.
+        """
+        return self._names.get(text)
 
     def counts(self) -> array[int]:
         """Returns the number of rows with each text of the dictionary, in its order. Does not count rows that are None."""
@@ -160,16 +171,18 @@ class Column(Sequence[str | None]):
         """Appends values, in order. If they are a column, merges it.
 
         One call of the library encodes a list. An iterator is read in parts, so that its texts are not all in memory. Raises
-        TypeError for what is neither a text nor None, `UnicodeEncodeError` for a text without a UTF-8 form, OverflowError
-        if no number is left for a text, and MemoryError.
+        TypeError for what is neither a text nor None, and names its row, which counts from 0 in `values`. A NaN is a float, so it
+        raises TypeError, too; `from_pandas` makes it None. Raises `UnicodeEncodeError` for a text without a UTF-8 form,
+        OverflowError if no number is left for a text, and MemoryError.
         """
         if isinstance(values, Column):
             self.merge(values)
             return
-        parts = []
+        parts, row = [], 0
         for part in _split(values):
             with self._names._handle.lock:
-                parts.append(self._encode(part))
+                parts.append(self._encode(part, row))
+            row += len(parts[-1])
         with self._names._handle.lock:
             self._add(_join(parts, self._typecode))
 
@@ -185,8 +198,8 @@ class Column(Sequence[str | None]):
         with self._names._handle.lock:
             self._add(_look_up(self._intern(texts), codes))
 
-    def _encode(self, values: Sequence[str | None]) -> array[int]:
-        """The code of each value. Appends new texts to the dictionary."""
+    def _encode(self, values: Sequence[str | None], start: int) -> array[int]:
+        """The code of each value, of which the first is that of row `start`. Appends new texts to the dictionary."""
         try:
             return self._intern(values)  # type: ignore[arg-type]
         except TypeError:
@@ -197,7 +210,11 @@ class Column(Sequence[str | None]):
         if first is None:
             return array(self._typecode, [_MISSING]) * len(values)
         # Has the first text for each None. So it is one call, too, and no text is new for that reason.
-        codes = self._intern([first if value is None else value for value in values])
+        try:
+            codes = self._intern([first if value is None else value for value in values])
+        except TypeError:
+            row = next(row for row, value in enumerate(values) if not (value is None or is_text(value)))
+            raise TypeError(f"row {start + row} is of type {type(values[row]).__name__}, not str or None") from None
         for row in missing:
             codes[row] = _MISSING
         return codes
@@ -235,6 +252,32 @@ class Column(Sequence[str | None]):
         elif len(texts) < len(names):
             self._texts = texts + names.resolve_all(range(len(texts), len(names)))
         return self._texts
+
+    def _code_of(self, value: object) -> int | None:
+        """The code of the rows with a value, or None if there can be none."""
+        if value is None:
+            return _MISSING
+        return self._names.get(value) if is_text(value) else None  # type: ignore[arg-type]
+
+    def __contains__(self, value: object) -> bool:
+        """Whether a row has this value."""
+        code = self._code_of(value)
+        return code is not None and code in self._codes
+
+    def count(self, value: object) -> int:
+        """Returns the number of rows with a value."""
+        code = self._code_of(value)
+        return 0 if code is None else self._codes.count(code)
+
+    def index(self, value: object, start: int = 0, stop: int | None = None) -> int:
+        """Returns the first row with a value, from row `start` up to and without row `stop`. Raises ValueError if there is none."""
+        code = self._code_of(value)
+        try:
+            if code is not None:
+                return self._codes.index(code, start, sys.maxsize if stop is None else stop)
+        except ValueError:
+            pass
+        raise ValueError("no row has this value")
 
     def __len__(self) -> int:
         return len(self._codes)

@@ -27,6 +27,21 @@ def encode(text: str) -> bytes:
         raise TypeError(f"a text is a str, not {type(text).__name__}") from None
 
 
+def is_text(value: object) -> bool:
+    """Whether a value is a `str`, or of a subclass. Does not ask the value, which may lie."""
+    return issubclass(type(value), str)
+
+
+def join(texts: list[str]) -> str:
+    """All texts, end to end. Raises TypeError for what is no text, and names its place."""
+    try:
+        return "".join(texts)
+    except TypeError:
+        kinds = enumerate(map(type, texts))
+        place, kind = next((place, kind) for place, kind in kinds if kind is not str and not issubclass(kind, str))
+        raise TypeError(f"text {place} is of type {kind.__name__}, not str") from None
+
+
 def count_letters(texts: list[str]) -> Iterator[int]:
     """The length of each text. Calls no method of a subclass of `str`."""
     return map(len if {*map(type, texts)} <= {str} else str.__len__, texts)

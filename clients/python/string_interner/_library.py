@@ -77,7 +77,9 @@ def _load() -> ctypes.CDLL:
     folders = [Path(named)] if named else [here, here.parent.parent / "out"]
     path = next((folder / _NAME for folder in folders if os.path.exists(folder / _NAME)), None)
     if path is None:
-        raise ImportError(f"no {_NAME} in {' or '.join(map(str, folders))}", name="string_interner")
+        where = " or ".join(map(str, folders))
+        advice = "run clients/build, or name its folder in STRING_INTERNER_LIB"
+        raise ImportError(f"no {_NAME} in {where}: {advice}", name="string_interner")
     try:
         _check_length(path)
         library = ctypes.CDLL(str(path))

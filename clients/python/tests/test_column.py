@@ -156,6 +156,10 @@ class BesideAList(RuleBasedStateMachine):
         assert column.codes.itemsize == (4 if len(self.texts) <= self.most else 8)
         assert [column[row] for row in range(-len(rows), len(rows))] == rows + rows
         assert column.counts() == array("Q", map(rows.count, self.texts))
+        assert [column.code(text) for text in self.texts] == [*range(len(self.texts))] and column.code("not there") is None
+        for value in (*self.texts, None, "not there"):
+            assert (value in column, column.count(value)) == (value in rows, rows.count(value))
+            assert value not in rows or column.index(value) == rows.index(value)
         for place in (len(rows), -len(rows) - 1, 2**70):
             try:
                 column[place]
@@ -248,17 +252,27 @@ class Refusals(unittest.TestCase):
 
     def test_what_is_no_text(self):
         for wrong in (*WRONG_VALUES, None):
-            with self.assertRaises(TypeError):
+            with self.assertRaisesRegex(TypeError, f"^text 1 is of type {type(wrong).__name__}, not str$"):
                 Column.from_parts(["a", wrong], [0])
-        for wrong in WRONG_VALUES:
-            for rows in ([wrong], ["a", wrong], [None, wrong], ["a", None, wrong]):
-                with self.assertRaises(TypeError):
-                    Column(rows)
         for call in (Column, Column.from_values, Column().extend):
             with self.assertRaises(TypeError):
                 call(1)
         with self.assertRaises(UnicodeEncodeError):
             Column(["a", None, "\ud800"])
+
+    def test_a_row_that_is_no_text_is_named(self):
+        for wrong in (*WRONG_VALUES, float("nan")):
+            for rows in ([wrong], ["a", wrong], [None, wrong], ["a", None, wrong], ["ß", "a", "a", None, wrong, None, 1]):
+                for make in (list, tuple, iter):
+                    said = f"^row {rows.index(wrong)} is of type {type(wrong).__name__}, not str or None$"
+                    with self.assertRaisesRegex(TypeError, said), mock.patch.object(_column, "_AT_ONCE", 2):
+                        Column(make(rows))
+        for before in (["a"] * 300000, ["a", None] * 150000):
+            for make in (list, iter):
+                column = Column(["b"])
+                with self.assertRaisesRegex(TypeError, "^row 300000 is of type float, not str or None$"):
+                    column.extend(make([*before, 3.0, None]))
+                self.assertEqual(list(column), ["b"])
 
     def test_merging_what_is_no_column(self):
         column = Column(["a"])
@@ -316,6 +330,33 @@ class Calls(unittest.TestCase):
         self.assertNotEqual(column, ["a", None, "b", "a"])
         with self.assertRaises(TypeError):
             hash(column)
+
+    def test_rows_are_found_by_their_codes(self):
+        column = Column.from_parts(["unused", "a", LyingStr("b"), "ß"], [1, -1, 2, 1, 3, -1])
+        for value in ("a", "b", LyingStr("a"), "ß", None, "unused", "not here", "lone \ud800", 7, 0, -1, b"a", object()):
+            plain, held = ["a", None, "b", "a", "ß", None], "a" if isinstance(value, LyingStr) else value
+            self.assertEqual((value in column, column.count(value)), (held in plain, plain.count(held)))
+            for start in range(-7, 8):
+                for stop in (*range(-7, 8), None):
+                    ends = (start,) if stop is None else (start, stop)
+                    try:
+                        found = plain.index(held, *ends)
+                    except ValueError:
+                        with self.assertRaisesRegex(ValueError, "^no row has this value$"):
+                            column.index(value, start, stop)
+                    else:
+                        self.assertEqual(column.index(value, *ends), found)
+        self.assertEqual(column.index("a", start=1), 3)
+        with mock.patch.object(Column, "_read", side_effect=AssertionError("reads all rows")):
+            self.assertTrue("ß" in column and column.count("a") == column.count(None) == 2 and column.index("b") == 2)
+
+    def test_a_text_is_looked_up(self):
+        column = Column(["a", None, "ß", "a"])
+        self.assertEqual([column.code(text) for text in ("a", "ß", LyingStr("ß"), "b", "lone \ud800")], [0, 1, 1, None, None])
+        self.assertEqual((column[:0].code("ß"), column[:0].codes.tolist(), column.distinct), (1, [], 2))
+        for wrong in (*WRONG_VALUES, None):
+            with self.assertRaisesRegex(TypeError, f"^a text is a str, not {type(wrong).__name__}$"):
+                column.code(wrong)
 
     def test_its_size_has_codes_and_dictionary(self):
         column = Column()

@@ -47,7 +47,8 @@ class Imports(unittest.TestCase):
     def test_a_library_in_the_package_or_beside_it(self):
         package = self.folder / "python" / "string_interner"
         shutil.copytree(PACKAGE, package, ignore=shutil.ignore_patterns("*.so"))
-        self.assertRegex(self.run_lines(package=package), "^ImportError string_interner no libstring_interner.so in .* or .*")
+        said = self.run_lines(package=package)
+        self.assertRegex(said, "^ImportError string_interner no libstring_interner.so in .* or .*: run clients/build, or name ")
         for place in (package, self.folder / "out"):
             place.mkdir(exist_ok=True)
             copied = shutil.copy(LIBRARY, place / "libstring_interner.so")
@@ -56,7 +57,8 @@ class Imports(unittest.TestCase):
 
     def test_no_library(self):
         for folder in (self.folder, self.folder / "no such folder"):
-            self.assertEqual(self.run_lines(folder), f"ImportError string_interner no libstring_interner.so in {folder}")
+            self.assertEqual(self.run_lines(folder), f"ImportError string_interner no libstring_interner.so in {folder}: "
+                             "run clients/build, or name its folder in STRING_INTERNER_LIB")
 
     def test_a_damaged_library(self):
         whole = Path(LIBRARY).read_bytes()

@@ -60,8 +60,9 @@ class WrongArguments(unittest.TestCase):
                 with self.assertRaisesRegex(TypeError, f"a text is a str, not {type(wrong).__name__}"):
                     call(wrong)
             for call in (interner.intern_all, Interner):
-                with self.assertRaises(TypeError):
-                    call(["b", wrong])
+                for texts in (["b", wrong], iter(["b", wrong, None]), ("ß", wrong)):
+                    with self.assertRaisesRegex(TypeError, f"^text 1 is of type {type(wrong).__name__}, not str$"):
+                        call(texts)
             self.assertNotIn(wrong, interner)
         for call in (interner.intern_all, Interner):
             with self.assertRaises(TypeError):

@@ -46,6 +46,8 @@ assert_type(colors.dictionary, list[str])
 assert_type(colors.codes.tolist(), list[int])
 assert_type(colors.counts(), "array[int]")
 assert_type(colors.distinct, int)
+assert_type(colors.code("red"), int | None)
+assert_type((None in colors, colors.count(None), colors.index("red", 0, None)), tuple[bool, int, int])
 colors.append(None)
 colors.extend(names)
 colors.merge(Colors())
@@ -63,5 +65,6 @@ Column([1])  # type: ignore[list-item]
 colors.append(b"red")  # type: ignore[arg-type]
 colors.merge(["red"])  # type: ignore[arg-type]
 colors["red"]  # type: ignore[call-overload]
+colors.code(None)  # type: ignore[arg-type]
 Column.from_parts(["red", None], [0])  # type: ignore[list-item]
 Column.from_parts(["red"], [0.5])  # type: ignore[list-item]

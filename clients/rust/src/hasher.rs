@@ -2,7 +2,7 @@
 //!
 //! | Hasher | Its hash codes | Use it if |
 //! |---|---|---|
-//! | [`DefaultHashBuilder`] | depend on random keys of the process | in most cases |
+//! | [`DefaultHashBuilder`] | depend on keys that each process draws at random | in most cases |
 //! | [`RandomState`], or a [`BuildHasher`] of your own | depend on the keys that it gives | each interner needs keys of its own, or the same keys in each process |
 //! | [`KeyedHashBuilder`] | depend on the keys that you pass | your keys come from elsewhere |
 //! | [`FixedHashBuilder`] | are the same in each process | speed counts, and no stranger chooses the texts |

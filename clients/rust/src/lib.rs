@@ -40,7 +40,8 @@
 //! - The library hashes the texts by SipHash-1-3, under two keys that the interner's hasher gives. Those of
 //!   [`DefaultHashBuilder`] are random. The original's default hasher is faster, and has a random seed.
 //!   [`FixedHashBuilder`](hasher::FixedHashBuilder) is as fast, and has the same hash codes in each process.
-//! - The numbers of all symbol types are below 2³² − 1, because those of the library are.
+//! - The numbers of all symbol types are below 2³² − 1, because those of the library are. So a `BufferBackend`, whose numbers are
+//!   byte offsets, holds less than 4 GiB.
 //! - Interning panics if no symbol is left, as in the original. The text is then not stored.
 //! - A backend that you use alone finds a text that it has. The original's stores it again.
 //! - `Debug` shows symbols by number, and a backend as its texts.
@@ -63,15 +64,14 @@
 //!
 //! | Rule | Kept by |
 //! |---|---|
-//! | 1: pass only handles that a call wrote, before they are freed, and not null | `Handle` holds what a call wrote as a private `NonNull`, is not `Copy`, and `Drop` frees it once |
+//! | 1: pass only a handle that a call wrote, before it is freed, and not null | `Handle` holds what a call wrote as a private `NonNull`, is not `Copy`, and `Drop` frees it once |
 //! | 2: pass only aligned pointers to as many elements as the length says | all come from references, slices, texts and local variables |
 //! | 3: memory that a call writes to overlaps nothing else that you pass | it is a local variable, or a `Vec` that nothing else borrows |
 //! | 4: while a call may change a handle, make no other call on it | calls that only read take `&self`, and all others `&mut self`; no call of the library calls back |
 //! | 5: read a lent text only until the next call that may change its handle, and do not pass it to that call | the text borrows the `Handle`, and calls that may change it take `&mut self` |
 //! | 6: one allocator; no calls in signal handlers and after forks | the program's own duty, as with any C library and with Rust's own allocator |
-//!
-//! Three calls have one rule more. `si_get_or_intern_utf8` and `si_get_utf8` do not check that the bytes are UTF-8: they are those
-//! of a `&str`. `si_get_or_intern_static` needs bytes that stay: they are those of a `&'static str`.
+//! | 7: pass only UTF-8 to calls that do not check it | the bytes are those of a `&str` |
+//! | 8: pass only bytes that stay to `si_get_or_intern_static` | they are those of a `&'static str` |
 
 #![warn(
     missing_docs,
