@@ -1,7 +1,6 @@
--- The words of a source, and what each is.
+-- The keywords of a lexer, and what a word is.
 -- Cited by `Lexer`.
-use Rattle.std.specs.Prelude.{◌≡◌, ◌≢◌, ◌==◌, ℕ, ◌-◌, ◌^◌, List, [], ◌∷◌, codes}
-use Rattle.std.specs.List.{slice_split}
+use Rattle.std.specs.Prelude.{◌≡◌, ◌≢◌, ℕ, ◌-◌, ◌^◌, List, [], ◌∷◌, codes}
 use Rattle.string_interner.specs.Text.{Text}
 use Rattle.string_interner.specs.Numbering.{Numbering}
 use Rattle.string_interner.specs.StandsFor.{StandsFor}
@@ -9,10 +8,6 @@ use Rattle.string_interner.specs.StringBackend.{string_numbering}
 use Rattle.string_interner.specs.Symbol.{number_below}
 use Rattle.examples.specs.declared.lexer.Kind.{Kind}
 use Rattle.examples.specs.declared.lexer.Kind.TheVariants.{Let, If, Else, Name}
-
--- the words, which stand between single blanks
-abbrev pub words_of : Text → List Text
-words_of source = slice_split (λ byte. byte == 32) source
 
 -- the keywords, in the order of their numbers
 abbrev pub keywords : List Text

@@ -1,10 +1,12 @@
-//! A lexer whose tokens are symbols: equal words have equal tokens, and the number of a token says which keyword it is.
+//! A lexer with keywords: the number of a token says which keyword its word is, or that it is none.
 
 ghost use Rattle.std.specs.Prelude.{◌≡◌, ◌==◌, IfOk};
 ghost use Rattle.string_interner.specs.Text.{Text};
 ghost use Rattle.string_interner.specs.StandsFor.{StandsFor, StandInOrder, KeepsSymbols, TellsApart};
-ghost use Rattle.examples.specs.Lexer.{IsKind, keywords, numbering, words_of};
+ghost use Rattle.examples.specs.Lexer.{IsKind, keywords, numbering};
+ghost use Rattle.examples.specs.Tokens.{words_of};
 
+use crate::tokens::lex;
 use std::alloc::Global;
 use std::marker::Model;
 use string_interner::backend::{DefaultBackend, InternError};
@@ -55,8 +57,8 @@ impl<H: TextHasher + Default + Drop> Lexer<H> {
 }
 
 impl<H: TextHasher> Lexer<H> {
-    /// Returns a token for each word of a source, in order: the word's symbol. A single blank separates words, so between
-    /// two blanks there is an empty word. Tokens are equal exactly if their words are, also those of different sources.
+    /// Returns a token for each word of a source, in order. Tokens are equal exactly if their words are, also those of
+    /// different sources.
     ///
     /// Fails as `intern_all` does. Words that were there keep their tokens, on `Err` too.
     pub fn lex(&mut self, alloc: Global, source: &str) -> Result<Vec<DefaultSymbol>, InternError>
@@ -65,8 +67,7 @@ impl<H: TextHasher> Lexer<H> {
         ensures equal { IfOk result (λ _. TellsApart numbering (λ s t. s == t) self.new) }
         ensures keeps { KeepsSymbols numbering self.old self.new }
     {
-        let mut tokens = Vec::new(alloc);
-        self.words.intern_all(source.split(' '), &mut tokens)?;
+        let tokens = lex(alloc, &mut self.words, source)?;
         // For the proof: states that symbols are equal exactly if their texts are.
         let _ = self.words.len();
         Ok(tokens)

@@ -4,11 +4,12 @@
 //! |---|---|
 //! | [`lines`] | each call in a few lines |
 //! | [`same_text`] | a contract and its proof |
-//! | [`lexer`] | tokens that are symbols, and keywords that are told by number |
+//! | [`tokens`] | the words of a source as symbols, over any backend |
+//! | [`lexer`] | a lexer whose keywords are told by number |
 //! | [`blocks`] | names in nested blocks |
 //! | [`column`] | rows that are compared, merged and counted by code |
 //!
-//! Those that name no backend or hasher are generic over it, and are proved for all of them.
+//! What is generic over the backend or the hasher is proved for all of them.
 #![tactic(auto)]
 
 pub mod blocks;
@@ -16,3 +17,4 @@ pub mod column;
 pub mod lexer;
 pub mod lines;
 pub mod same_text;
+pub mod tokens;

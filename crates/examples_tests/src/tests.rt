@@ -5,12 +5,13 @@ use examples::lines::{
     to_json_and_back,
 };
 use examples::same_text::same_text;
+use examples::tokens::{is_keyword, lex};
 use std::alloc::Global;
 use std::test::Fail;
-use string_interner::DefaultStringInterner;
 use string_interner::backend::{Backend, BucketBackend, BufferBackend, InternError, StringBackend};
 use string_interner::dedup::KeyedState;
 use string_interner::symbol::Symbol;
+use string_interner::{DefaultStringInterner, StringInterner};
 
 /// Passes a test whose calls were not refused, and answered as they should.
 fn check_answer(answered: Result<bool, InternError>) -> Result<(), Fail> {
@@ -48,6 +49,29 @@ fn lexes(alloc: Global) -> Result<bool, InternError> {
         }
         _ => Ok(false),
     }
+}
+
+fn lexes_over<B: Backend + Drop>(alloc: Global) -> Result<bool, InternError> {
+    let mut words = StringInterner::<B>::new(alloc);
+    words.get_or_intern("let")?;
+    let last = words.get_or_intern("in")?;
+    let tokens = lex(alloc, &mut words, "let x = y in x")?;
+    match tokens.as_slice() {
+        [first, x, _, _, fifth, again] => Ok(
+            (*fifth == last)
+                & (*again == *x)
+                & is_keyword(&words, last, *first)
+                & is_keyword(&words, last, *fifth)
+                & !is_keyword(&words, last, *again),
+        ),
+        _ => Ok(false),
+    }
+}
+
+#[test]
+fn keywords_have_the_least_numbers(rt: HostRuntime) -> Result<(), Fail> {
+    check_answer(lexes_over::<StringBackend>(rt.alloc()))?;
+    check_answer(lexes_over::<BufferBackend>(rt.alloc()))
 }
 
 #[test]
