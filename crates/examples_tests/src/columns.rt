@@ -1,3 +1,4 @@
+use examples::column::{count_visits, is_same_page};
 use std::alloc::Global;
 use std::test::Fail;
 use string_column::{Codes, Column, PartsError};
@@ -61,6 +62,19 @@ fn appends(alloc: Global) -> Result<bool, InternError> {
 #[test]
 fn a_part_is_appended(rt: HostRuntime) -> Result<(), Fail> {
     check_answer(appends(rt.alloc()))
+}
+
+fn counts(alloc: Global) -> Result<bool, InternError> {
+    let (visits, counts) = count_visits(alloc, &["home", "news", "home"], &["map", "home", "map"])?;
+    let is_merged = (visits.len(), visits.row(3)) == (6, Some("map"));
+    let are_same = is_same_page(&visits, 0, 4) & is_same_page(&visits, 6, 7);
+    let are_others = !is_same_page(&visits, 0, 1) & !is_same_page(&visits, 0, 6);
+    Ok(is_merged & are_same & are_others & (counts.as_slice() == [3, 1, 2].as_slice()))
+}
+
+#[test]
+fn visits_of_two_days_are_counted(rt: HostRuntime) -> Result<(), Fail> {
+    check_answer(counts(rt.alloc()))
 }
 
 fn list_codes(alloc: Global, numbers: [usize; 3]) -> Result<Codes, InternError> {

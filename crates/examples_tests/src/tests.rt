@@ -1,16 +1,17 @@
 use examples::blocks::Blocks;
-use examples::lexer::{is_keyword, lex};
+use examples::lexer::{Kind, Lexer};
 use examples::lines::{
     collect, encode, intern_and_compare, intern_fast, intern_keyed, keep_the_first, nested_scopes,
     to_json_and_back,
 };
 use examples::same_text::same_text;
+use examples::tokens::{is_keyword, lex};
 use std::alloc::Global;
 use std::test::Fail;
-use string_interner::DefaultStringInterner;
 use string_interner::backend::{Backend, BucketBackend, BufferBackend, InternError, StringBackend};
 use string_interner::dedup::KeyedState;
 use string_interner::symbol::Symbol;
+use string_interner::{DefaultStringInterner, StringInterner};
 
 /// Passes a test whose calls were not refused, and answered as they should.
 fn check_answer(answered: Result<bool, InternError>) -> Result<(), Fail> {
@@ -34,7 +35,24 @@ fn equal_texts_have_one_symbol(rt: HostRuntime) -> Result<(), Fail> {
 }
 
 fn lexes(alloc: Global) -> Result<bool, InternError> {
-    let mut words = <DefaultStringInterner>::new(alloc);
+    let mut lexer = <Lexer>::new(alloc)?;
+    let tokens = lexer.lex(alloc, "let x if else x lets")?;
+    match tokens.as_slice() {
+        [first, x, third, fourth, again, last] => {
+            let are_keywords = (
+                lexer.kind_of(*first),
+                lexer.kind_of(*third),
+                lexer.kind_of(*fourth),
+            ) == (Kind::Let, Kind::If, Kind::Else);
+            let are_names = (lexer.kind_of(*x), lexer.kind_of(*last)) == (Kind::Name, Kind::Name);
+            Ok(are_keywords & are_names & (*again == *x) & (*last != *first))
+        }
+        _ => Ok(false),
+    }
+}
+
+fn lexes_over<B: Backend + Drop>(alloc: Global) -> Result<bool, InternError> {
+    let mut words = StringInterner::<B>::new(alloc);
     words.get_or_intern("let")?;
     let last = words.get_or_intern("in")?;
     let tokens = lex(alloc, &mut words, "let x = y in x")?;
@@ -52,6 +70,12 @@ fn lexes(alloc: Global) -> Result<bool, InternError> {
 
 #[test]
 fn keywords_have_the_least_numbers(rt: HostRuntime) -> Result<(), Fail> {
+    check_answer(lexes_over::<StringBackend>(rt.alloc()))?;
+    check_answer(lexes_over::<BufferBackend>(rt.alloc()))
+}
+
+#[test]
+fn keywords_are_told_by_their_numbers(rt: HostRuntime) -> Result<(), Fail> {
     check_answer(lexes(rt.alloc()))
 }
 

@@ -1,6 +1,6 @@
 use Rattle.std.proofs.Common.{◌≡◌, arith}
 use Rattle.std.proofs.lemmas.Bool.Decides.{nat_tests}
-use Rattle.examples.proofs.lexer.is_keyword.Goals as goal
+use Rattle.examples.proofs.tokens.is_keyword.Goals as goal
 
 pub returns : goal.returns
 returns g c = λ keyword word end at.
