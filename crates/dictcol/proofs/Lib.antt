@@ -1,4 +1,6 @@
 pub mod Lines
 pub mod Rows
+pub mod Merged
+pub mod Parts
 pub mod HoldsLines
 pub mod Newline

@@ -16,12 +16,13 @@ ghost use Rattle.dictcol.specs.File.{IsFileOf, indexed_texts, HoldsLines, HoldsT
 ghost use Rattle.dictcol.specs.Lines.{has_newline, newline_if, text_of_lines};
 ghost use Rattle.dictcol.specs.Writes.{Writes};
 
+use crate::answer::check_utf8;
 use crate::fault::Fault;
 use crate::hasher::LineHasher;
 use serde_json::{Value, json};
 use std::alloc::{AllocError, Global};
 use std::io::Write;
-use string_column::{Codes, Column};
+use string_column::{Codes, Column, PartsError};
 use string_interner::backend::{Backend, DefaultBackend};
 use string_interner::dedup::TaggedIndex;
 use string_interner::json::JsonError;
@@ -282,6 +283,35 @@ pub fn read(alloc: Global, hasher: LineHasher, file: &str) -> Result<Parts, Faul
 {
     let value = parse(alloc, file)?;
     read_value(alloc, hasher, &value)
+}
+
+/// Returns a column of the lines of a file, and whether the last one ends in a newline.
+pub fn read_column<B: Backend + Drop>(
+    alloc: Global,
+    hasher: LineHasher,
+    bytes: Vec<u8>,
+) -> Result<(Column<B, LineHasher>, bool), Fault>
+    ensures lines { IfOk result (λ lines. FileHolds bytes.items lines.0 lines.1) }
+
+    // A file that holds a text is never called damaged.
+    ensures err { IfErr result (IsRightFault (DecodesFile bytes.items)) }
+{
+    let Parts {
+        dictionary,
+        codes,
+        is_ended,
+    } = read(alloc, hasher, check_utf8(&bytes)?)?;
+    // For the proof: states that the texts are distinct.
+    let _ = dictionary.len();
+    let texts = list_texts(alloc, &dictionary)?;
+    match Column::from_parts(alloc, hasher, &texts, codes) {
+        Ok(lines) => Ok((lines, is_ended)),
+        Err(PartsError::NoSymbol) => Err(Fault::TooMany),
+        Err(PartsError::Memory(_)) => Err(Fault::Memory),
+        // The texts of a dictionary are distinct, and each number is the index of one.
+        Err(PartsError::Repeated { .. }) => unreachable!(),
+        Err(PartsError::NoEntry { .. }) => unreachable!(),
+    }
 }
 
 /// Writes the text that a file was made of, line by line, or finds where the file is damaged. Nothing is written of a damaged

@@ -26,8 +26,14 @@ impl<B: Backend, H: TextHasher, I: TextIndex<B::Symbol>> Column<B, H, I> {
         self.append_range(other, 0, other.len())
     }
 
-    /// Appends some rows of another column.
-    fn append_range(&mut self, other: &Self, start: usize, end: usize) -> Result<(), InternError>
+    /// Appends the rows of another column from `start` to before `end`, as `append` appends all.
+    ///
+    /// Hashes each distinct row of the part once. Uses 16 bytes for each of the other column while it runs.
+    ///
+    /// ```
+    /// all.append_range(&monday, 1, monday.len())?;
+    /// ```
+    pub fn append_range(&mut self, other: &Self, start: usize, end: usize) -> Result<(), InternError>
         requires ordered { start ≤ end }
         requires within { end ≤ length other.now }
         ensures { AppendsRows B.numbering self.old (slice_range other.now start end) result
