@@ -19,6 +19,7 @@ ghost use Rattle.dictcol.specs.Writes.{Writes};
 use crate::answer::check_utf8;
 use crate::fault::Fault;
 use crate::hasher::LineHasher;
+use crate::stream;
 use serde_json::{Value, json};
 use std::alloc::{AllocError, Global};
 use std::io::Write;
@@ -29,14 +30,14 @@ use string_interner::json::JsonError;
 use string_interner::{DefaultSymbol, StringInterner};
 
 /// The texts of a file.
-type Dictionary = StringInterner<DefaultBackend, LineHasher, TaggedIndex<DefaultSymbol>>;
+pub type Dictionary = StringInterner<DefaultBackend, LineHasher, TaggedIndex<DefaultSymbol>>;
 
 /// What a file holds: its texts, for each line the index of its text, and whether the last line ends in a newline.
 #[derive(Drop)]
 pub struct Parts {
-    dictionary: Dictionary,
-    codes: Codes,
-    is_ended: bool,
+    pub dictionary: Dictionary,
+    pub codes: Codes,
+    pub is_ended: bool,
 }
 
 /// Returns the array of the codes.
@@ -281,6 +282,10 @@ pub fn read(alloc: Global, hasher: LineHasher, file: &str) -> Result<Parts, Faul
     // A file that holds a text is never called damaged.
     ensures err { IfErr result (IsRightFault (DecodesFile file.now)) }
 {
+    // What `encode` writes needs no tree. Of any other file the tree also tells what is wrong.
+    if let Some(parts) = stream::read_stream(alloc, hasher, file)? {
+        return Ok(parts);
+    }
     let value = parse(alloc, file)?;
     read_value(alloc, hasher, &value)
 }

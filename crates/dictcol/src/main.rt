@@ -9,6 +9,7 @@ mod fault;
 mod file;
 mod hasher;
 mod merge;
+mod stream;
 
 use arguments::{Choice, Misuse, Request, Source, Task};
 use fault::Fault;
