@@ -23,7 +23,7 @@ from program.streams import Streams
 CASES = "crates/dictcol/cases"
 BACKENDS = (b"string", b"bucket", b"buffer")
 VERSION = (TOP / "VERSION").read_bytes().strip()
-USAGE = b"usage: dictcol encode|decode|count [OPTION ..] [FILE] (dictcol --help tells more)\n"
+USAGE = b"usage: dictcol encode|decode|count|merge [OPTION ..] [FILE ..] (dictcol --help tells more)\n"
 
 
 def failed(status, message):
@@ -70,13 +70,20 @@ def file_of(texts, numbers):
     return b'{"dictionary":[%s],"final_newline":true,"lines":[%s]}' % (b",".join(texts), b",".join(numbers))
 
 
+def lists_files(words):
+    """Whether a run asks for a list of files: `merge` does once it reads the name of one."""
+    return b"merge" in words and any(word not in (b"merge", b"--backend", b"--sorted", *BACKENDS) for word in words)
+
+
 def try_refused(program, name, words, data, wanted):
     """A run, and again with each of its requests for memory refused, after which it asks for nothing."""
     yield name, program.run(words, data), wanted
     ended, asks = program.run_with_asks(words, data)
     yield f"{name}, its requests told", ended, wanted
-    # The list of words is asked for before the input. Its room is asked for ahead, and again as it fills.
-    ahead = (asks.index(FIRST_INPUT) if FIRST_INPUT in asks else len(asks)) if words else None
+    # The list of words is asked for before the input. Its room is asked for ahead, and again as it fills. The list of files
+    # for `merge` comes between them.
+    before = asks.index(FIRST_INPUT) if FIRST_INPUT in asks else len(asks)
+    ahead = before - lists_files(words) if words else None
     for number, size in enumerate(asks, 1):
         ended, after = program.run_with_asks(words, data, number)
         refused = f"{name}, request {number} of {size} bytes refused"
@@ -105,7 +112,9 @@ def try_asks(program, name, words, data):
 
 def try_case(program, path):
     case = Case.read(path)
-    if case.end[0] == 0 and case.words[0] != b"decode":
+    if case.end[0] == 0 and case.words[0] == b"merge":
+        yield f"{case.name}, the case by the rules", answer([b"encode"], text_of(case.data)), case.end
+    elif case.end[0] == 0 and case.words[0] != b"decode":
         yield f"{case.name}, the case by the rules", answer(case.words, case.data), case.end
         yield from try_asks(program, case.name, case.words, case.data)
     yield from try_refused(program, case.name, case.words, case.data, case.end)
@@ -172,6 +181,76 @@ def try_operands(program):
             ended = program.run([b"count", b"lines"], b"", full, folder=folder)
         yield "a file on a full disk", ended, STREAMS.unwritten(errno.ENOSPC)
     yield "an argument that is not UTF-8", program.run([b"count", b"\xff"]), failed(2, b"an argument is not UTF-8")
+
+
+def write_files(folder, files):
+    """Writes files of these bytes, and returns their names."""
+    names = [b"%d.json" % number for number in range(len(files))]
+    for name, file in zip(names, files):
+        Path(folder, os.fsdecode(name)).write_bytes(file)
+    return names
+
+
+def try_merges(program):
+    """Some files in their order: what is joined, what is empty, and what is wrong with one of them."""
+    parts = b"red\ngreen", b"", b"ish\n\n", b"\n", b"x", b"y", b"red\n"
+    files = [answer([b"encode"], part)[1] for part in parts]
+    wanted = answer([b"encode"], b"".join(parts))
+    with tempfile.TemporaryDirectory() as folder:
+        names = write_files(folder, files)
+        for words in ([b"merge", *names], [b"merge", b"--backend", b"bucket", *names], [*b"-- merge".split(), *names],
+                      [b"merge", *names[:3], b"--backend=buffer", *names[3:]]):
+            yield f"{words}", program.run(words, b"\xff", folder=folder), wanted
+        for place in range(len(names)):
+            words = [b"merge", *names[:place], b"-", *names[place + 1:]]
+            yield f"{words}", program.run(words, files[place], folder=folder), wanted
+        yield from try_refused_merge(program, folder, names[:3])
+        for name, file in (("bad", b"{}"), ("cut", files[0][:9]), ("bytes", b"\xff")):
+            Path(folder, name).write_bytes(file)
+        for name, end in ((b"bad", failed(2, b'bad: no array "dictionary"')),
+                          (b"cut", failed(2, b"cut: JSON ends too early, at line 1 column 10")),
+                          (b"bytes", failed(2, b"bytes: line 1 is not UTF-8")),
+                          (b"missing", (1, b"", unreadable(errno.ENOENT, b"missing: "))),
+                          (b".", (1, b"", unreadable(errno.EISDIR, b".: ")))):
+            for place in range(3):
+                words = [b"merge", *names[:place], name, *names[place:]]
+                yield f"{words}", program.run(words, folder=folder), end
+        with open("/dev/full", "wb") as full:
+            ended = program.run([b"merge", *names], b"", full, folder=folder)
+        yield "files merged to a full disk", ended, STREAMS.unwritten(errno.ENOSPC)
+        no_keys = failed(1, b"cannot draw random keys: " + told(errno.ENOSYS))
+        yield "no random bytes for files", program.run([b"merge", *names], folder=folder, NO_RANDOM=1), no_keys
+
+
+def try_refused_merge(program, folder, names):
+    """Each request for memory is refused, also those that a second file needs. The file is named, if one is being read."""
+    words = [b"merge", *names]
+    wanted = program.run(words, folder=folder)
+    asks = program.run_with_asks(words, b"", folder=folder)[1]
+    for number, size in enumerate(asks, 1):
+        ended, after = program.run_with_asks(words, b"", number, folder=folder)
+        is_told = ended[:2] == (1, b"") and re.fullmatch(rb"dictcol: (\d.json: )?out of memory\n", ended.error)
+        yield f"files, request {number} of {size} bytes refused, {ended}", ended == wanted or bool(is_told), True
+        yield f"files, request {number} of {size} bytes refused: it was only made ahead", ended == wanted, bool(after[number:])
+
+
+def try_random_merges(program, seed):
+    """Random lines, cut anywhere, encoded part by part and merged, also in two groupings."""
+    chance = random.Random(seed)
+    words = ["".join(chance.choices(["", "a", "b", "é", '"', "\\", "\t"], k=chance.randrange(3))) for _ in range(6)]
+    parts = ["".join(chance.choice(words) + chance.choice(["\n", "\n", ""]) for _ in range(chance.randrange(8)))
+             for _ in range(chance.randrange(1, 6))]
+    wanted = answer([b"encode"], "".join(parts).encode())
+    files = [answer([b"encode"], part.encode())[1] for part in parts]
+    with tempfile.TemporaryDirectory() as folder:
+        names = write_files(folder, files)
+        for backend in BACKENDS:
+            yield f"merge {seed}, {backend}", program.run([b"merge", b"--backend", backend, *names], folder=folder), wanted
+        middle = chance.randrange(1, len(names) + 1)
+        front = program.run([b"merge", *names[:middle]], folder=folder).output
+        yield f"merge {seed}, the front first", program.run([b"merge", b"-", *names[middle:]], front, folder=folder), wanted
+        back = program.run([b"merge", *names[middle - 1:]], folder=folder).output
+        yield f"merge {seed}, the back first", program.run([b"merge", *names[:middle - 1], b"-"], back, folder=folder), wanted
 
 
 def try_help(program):
@@ -362,8 +441,8 @@ def parts():
     return {
         "cases": cases(CASES, try_case),
         "tables": rows(CASES, TABLES),
-        "streams": [*STREAMS.trials(), (try_telling_to_a_full_disk,), (try_operands,), (try_help,)],
-        "random": ((try_random_lines, seed) for seed in range(200)),
+        "streams": [*STREAMS.trials(), (try_telling_to_a_full_disk,), (try_operands,), (try_merges,), (try_help,)],
+        "random": ((trial, seed) for seed in range(200) for trial in (try_random_lines, try_random_merges)),
         "scale": [
             *((try_both_ways, *given) for given in large_inputs()),
             *((try_distant_fault, *given) for given in distant_faults()),

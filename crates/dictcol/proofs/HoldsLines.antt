@@ -68,7 +68,7 @@ holds-once value lines lines' is_ended is_ended' holds holds' =
     let same = same_Some lines lines' (sym holds.picked ∙ ap (λ d. indexed_texts d holds.numbers) texts ∙ ap (indexed_texts holds'.dictionary) items ∙ holds'.picked) in
     ap (λ ls. text_of_lines ls is_ended) same ∙ ap (text_of_lines lines') truth
 
-indexed_texts-numbers : (dictionary : List Text) (numbers : List ℕ) (lines : List Text) → AreCodes dictionary numbers lines → indexed_texts dictionary (items_of (map json_of_number numbers)) ≡ Some lines
+pub indexed_texts-numbers : (dictionary : List Text) (numbers : List ℕ) (lines : List Text) → AreCodes dictionary numbers lines → indexed_texts dictionary (items_of (map json_of_number numbers)) ≡ Some lines
 indexed_texts-numbers dictionary [] [] are = refl
 indexed_texts-numbers dictionary [] (l ∷ ls) are = absurd are
 indexed_texts-numbers dictionary (n ∷ ns) [] are = absurd are

@@ -3,4 +3,5 @@ pub mod Fault
 pub mod File
 pub mod Hasher
 pub mod Lines
+pub mod StreamTokens
 pub mod Writes

@@ -1,7 +1,7 @@
 -- The lines of a text, and the text of lines.
--- Cited by `answer` and `file`.
+-- Cited by `answer`, `file` and `merge`.
 use Rattle.std.specs.Prelude.{◌≡◌, ℕ, ◌==◌, List, [], ◌∷◌, ◌++◌, Bool, true, if◌then◌else◌}
-use Rattle.std.specs.List.{list_any, onto_first, join_with_byte}
+use Rattle.std.specs.List.{list_any, onto_first, join_with_byte, flat_map}
 use Rattle.string_interner.specs.Text.{Text}
 
 abbrev pub is_newline : ℕ → Bool
@@ -17,6 +17,10 @@ behind_newline line = 10 ∷ line
 -- the text of lines: they stand between newlines, and one more is at the end if it says so
 abbrev pub text_of_lines : List Text → Bool → Text
 text_of_lines lines is_ended = join_with_byte 10 lines ++ newline_if is_ended
+
+-- the text of lines that a newline ends each, and of what stands behind the last newline
+abbrev pub text_of_ended : List Text → Text → Text
+text_of_ended lines rest = flat_map (λ line. line ++ 10 ∷ []) lines ++ rest
 
 -- whether a text has a newline, and so is not one line
 abbrev pub has_newline : Text → Bool

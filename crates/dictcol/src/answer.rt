@@ -33,7 +33,7 @@ pub fn read<R: Read>(alloc: Global, input: &mut R) -> Result<Vec<u8>, Fault>
 }
 
 /// Checks that the bytes are UTF-8.
-fn check_utf8(bytes: &[u8]) -> Result<&str, Fault>
+pub fn check_utf8(bytes: &[u8]) -> Result<&str, Fault>
     ensures ok { IfOk result (λ text. text.now ≡ bytes.now) }
     ensures err { IfErr result (λ fault. ¬ (IsUtf8 bytes.now)) }
     ensures fault { IfErr result IsNoDamage }
@@ -170,6 +170,24 @@ fn write_text<W: Write>(output: &mut W, text: String) -> Result<(), Fault>
 {
     output.write_all(text.as_bytes()).map_err(Fault::of_write)?;
     output.flush().map_err(Fault::of_write)
+}
+
+/// Writes the file of the lines.
+pub fn write_file<B: Backend, W: Write>(
+    alloc: Global,
+    lines: &Column<B, LineHasher>,
+    is_ended: bool,
+    output: &mut W,
+) -> Result<(), Fault>
+    ensures written { (bytes : List ℕ) → AreLines bytes lines.now is_ended → OnOk result
+        (Writes (IsColumnFile bytes) (W.contents output.old) (W.contents output.new)) }
+    ensures silent { WritesLast result output.old output.new }
+    ensures fault { IfErr result IsNoDamage }
+{
+    match file::format_file(alloc, lines, is_ended) {
+        Ok(text) => write_text(output, text),
+        Err(_) => Err(Fault::Memory),
+    }
 }
 
 /// Writes what is asked for of the lines of the input.

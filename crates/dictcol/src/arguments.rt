@@ -1,5 +1,6 @@
 //! The arguments.
 
+use std::alloc::Global;
 use thiserror::Error;
 
 /// Which backend the texts are stored in.
@@ -39,11 +40,13 @@ pub enum Source<'a> {
 }
 
 /// What the arguments ask for.
-#[derive(Clone, Copy)]
+#[derive(Drop)]
 pub enum Request<'a> {
     Help,
     Version,
     Do(Task, Source<'a>),
+    /// The files are merged, in this order.
+    Merge(Choice, Vec<Source<'a>>),
 }
 
 /// What is wrong with the arguments. It is displayed as the message for standard error.
@@ -65,6 +68,13 @@ pub enum Misuse<'a> {
     UnknownBackend(&'a str),
     #[error("extra operand '{0}'")]
     ExtraOperand(&'a str),
+    #[error("merge needs a FILE")]
+    NoFile,
+    #[error("standard input is named twice")]
+    InputTwice,
+    /// An allocation failed, which is no fault of the arguments.
+    #[error("out of memory")]
+    Memory,
 }
 
 #[derive(Clone, Copy)]
@@ -72,6 +82,7 @@ enum Command {
     Encode,
     Decode,
     Count,
+    Merge,
 }
 
 /// What the next word is.
@@ -85,10 +96,14 @@ enum Next {
 }
 
 /// What the words so far say.
-#[derive(Clone, Copy)]
+#[derive(Drop)]
 struct Given<'a> {
     command: Option<Command>,
     source: Option<Source<'a>>,
+    /// The files for `merge`.
+    files: Vec<Source<'a>>,
+    /// Whether one of them is standard input.
+    has_input: bool,
     choice: Option<Choice>,
     is_sorted: bool,
 }
@@ -105,22 +120,36 @@ impl<'a> Given<'a> {
         Ok(())
     }
 
-    /// Takes the command, or the file behind it.
+    /// Takes a file for `merge`.
+    fn take_file(&mut self, file: Source<'a>) -> Result<(), Misuse<'a>> {
+        if let Source::StandardInput = file {
+            if self.has_input {
+                return Err(Misuse::InputTwice);
+            }
+            self.has_input = true;
+        }
+        self.files.push(file).map_err(|_| Misuse::Memory)
+    }
+
+    /// Takes the command, or a file behind it.
     fn take_operand(&mut self, word: &'a str) -> Result<(), Misuse<'a>> {
-        if self.command.is_none() {
-            self.command = Some(match word {
-                "encode" => Command::Encode,
-                "decode" => Command::Decode,
-                "count" => Command::Count,
-                _ => return Err(Misuse::UnknownCommand(word)),
-            });
-        } else if self.source.is_none() {
-            self.source = Some(match word {
-                "-" => Source::StandardInput,
-                path => Source::File(path),
-            });
-        } else {
-            return Err(Misuse::ExtraOperand(word));
+        let source = match word {
+            "-" => Source::StandardInput,
+            path => Source::File(path),
+        };
+        match (self.command, self.source) {
+            (None, _) => {
+                self.command = Some(match word {
+                    "encode" => Command::Encode,
+                    "decode" => Command::Decode,
+                    "count" => Command::Count,
+                    "merge" => Command::Merge,
+                    _ => return Err(Misuse::UnknownCommand(word)),
+                });
+            }
+            (Some(Command::Merge), _) => return self.take_file(source),
+            (Some(_), None) => self.source = Some(source),
+            (Some(_), Some(_)) => return Err(Misuse::ExtraOperand(word)),
         }
         Ok(())
     }
@@ -139,27 +168,39 @@ impl<'a> Given<'a> {
     }
 
     /// Returns what all the words ask for.
-    fn decide_task(self) -> Result<Task, Misuse<'a>> {
+    fn decide(self) -> Result<Request<'a>, Misuse<'a>> {
         let choice = self.choice.unwrap_or(Choice::String);
-        match self.command.ok_or(Misuse::NoCommand)? {
-            Command::Encode if self.is_sorted => Err(Misuse::OptionOfAnother("encode", "--sorted")),
-            Command::Encode => Ok(Task::Write(Form::File, choice)),
-            Command::Count if self.is_sorted => Ok(Task::Write(Form::SortedCounts, choice)),
-            Command::Count => Ok(Task::Write(Form::Counts, choice)),
-            Command::Decode if self.is_sorted => Err(Misuse::OptionOfAnother("decode", "--sorted")),
-            Command::Decode if self.choice.is_some() => {
-                Err(Misuse::OptionOfAnother("decode", "--backend"))
+        let task = match self.command.ok_or(Misuse::NoCommand)? {
+            Command::Encode if self.is_sorted => {
+                return Err(Misuse::OptionOfAnother("encode", "--sorted"));
             }
-            Command::Decode => Ok(Task::Decode),
-        }
+            Command::Encode => Task::Write(Form::File, choice),
+            Command::Count if self.is_sorted => Task::Write(Form::SortedCounts, choice),
+            Command::Count => Task::Write(Form::Counts, choice),
+            Command::Decode if self.is_sorted => {
+                return Err(Misuse::OptionOfAnother("decode", "--sorted"));
+            }
+            Command::Decode if self.choice.is_some() => {
+                return Err(Misuse::OptionOfAnother("decode", "--backend"));
+            }
+            Command::Decode => Task::Decode,
+            Command::Merge if self.is_sorted => {
+                return Err(Misuse::OptionOfAnother("merge", "--sorted"));
+            }
+            Command::Merge if self.files.is_empty() => return Err(Misuse::NoFile),
+            Command::Merge => return Ok(Request::Merge(choice, self.files)),
+        };
+        Ok(Request::Do(task, self.source.unwrap_or(Source::StandardInput)))
     }
 }
 
 /// Returns what the arguments ask for, or the first thing that is wrong with them. Options may be anywhere before `--`.
-pub fn parse_arguments(arguments: &[String]) -> Result<Request<'_>, Misuse<'_>> {
+pub fn parse_arguments(alloc: Global, arguments: &[String]) -> Result<Request<'_>, Misuse<'_>> {
     let mut given = Given {
         command: None,
         source: None,
+        files: Vec::new(alloc),
+        has_input: false,
         choice: None,
         is_sorted: false,
     };
@@ -191,6 +232,5 @@ pub fn parse_arguments(arguments: &[String]) -> Result<Request<'_>, Misuse<'_>> 
     if let Next::Backend = next {
         return Err(Misuse::NoValue("--backend"));
     }
-    let task = given.decide_task()?;
-    Ok(Request::Do(task, given.source.unwrap_or(Source::StandardInput)))
+    given.decide()
 }

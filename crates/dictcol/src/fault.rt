@@ -6,6 +6,7 @@ ghost use Rattle.dictcol.specs.Fault.{arguments_fault, read_fault, write_fault, 
 
 use std::io;
 use std::io::ErrorKind;
+use string_interner::backend::InternError;
 use thiserror::Error;
 
 /// Why the program failed. It is displayed as the message for standard error.
@@ -98,6 +99,16 @@ impl Fault {
         match error.kind() {
             ErrorKind::BrokenPipe => Fault::ClosedOutput,
             _ => Fault::Output(error),
+        }
+    }
+
+    /// Returns the fault of lines that an interner does not take.
+    pub fn of_intern(error: InternError) -> Fault
+        ensures { IsNoDamage result }
+    {
+        match error {
+            InternError::NoSymbol => Fault::TooMany,
+            InternError::Memory(_) => Fault::Memory,
         }
     }
 

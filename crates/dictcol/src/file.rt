@@ -16,26 +16,28 @@ ghost use Rattle.dictcol.specs.File.{indexed_texts, HoldsLines, HoldsText, FileH
 ghost use Rattle.dictcol.specs.Lines.{has_newline, newline_if, text_of_lines};
 ghost use Rattle.dictcol.specs.Writes.{Writes};
 
+use crate::answer::check_utf8;
 use crate::fault::Fault;
 use crate::hasher::LineHasher;
+use crate::stream;
 use serde_json::Value;
 use std::alloc::Global;
 use std::io::Write;
-use string_column::Codes;
-use string_interner::backend::DefaultBackend;
+use string_column::{Codes, Column, PartsError};
+use string_interner::backend::{Backend, DefaultBackend};
 use string_interner::dedup::TaggedIndex;
 use string_interner::json::JsonError;
 use string_interner::{DefaultSymbol, StringInterner};
 
 /// The texts of a file.
-type Dictionary = StringInterner<DefaultBackend, LineHasher, TaggedIndex<DefaultSymbol>>;
+pub type Dictionary = StringInterner<DefaultBackend, LineHasher, TaggedIndex<DefaultSymbol>>;
 
 /// What a file holds: its texts, for each line the index of its text, and whether the last line ends in a newline.
 #[derive(Drop)]
 pub struct Parts {
-    dictionary: Dictionary,
-    codes: Codes,
-    is_ended: bool,
+    pub dictionary: Dictionary,
+    pub codes: Codes,
+    pub is_ended: bool,
 }
 
 /// Reads the dictionary.
@@ -236,8 +238,41 @@ pub fn read(alloc: Global, hasher: LineHasher, file: &str) -> Result<Parts, Faul
     // A file that holds a text is never called damaged.
     ensures err { IfErr result (IsRightFault (DecodesFile file.now)) }
 {
+    // What `encode` writes needs no tree. Of any other file the tree also tells what is wrong.
+    if let Some(parts) = stream::read_stream(alloc, hasher, file)? {
+        return Ok(parts);
+    }
     let value = parse(alloc, file)?;
     read_value(alloc, hasher, &value)
+}
+
+/// Returns a column of the lines of a file, and whether the last one ends in a newline.
+pub fn read_column<B: Backend + Drop>(
+    alloc: Global,
+    hasher: LineHasher,
+    bytes: Vec<u8>,
+) -> Result<(Column<B, LineHasher>, bool), Fault>
+    ensures lines { IfOk result (λ lines. FileHolds bytes.items lines.0 lines.1) }
+
+    // A file that holds a text is never called damaged.
+    ensures err { IfErr result (IsRightFault (DecodesFile bytes.items)) }
+{
+    let Parts {
+        dictionary,
+        codes,
+        is_ended,
+    } = read(alloc, hasher, check_utf8(&bytes)?)?;
+    // For the proof: states that the texts are distinct.
+    let _ = dictionary.len();
+    let texts = list_texts(alloc, &dictionary)?;
+    match Column::from_parts(alloc, hasher, &texts, codes) {
+        Ok(lines) => Ok((lines, is_ended)),
+        Err(PartsError::NoSymbol) => Err(Fault::TooMany),
+        Err(PartsError::Memory(_)) => Err(Fault::Memory),
+        // The texts of a dictionary are distinct, and each number is the index of one.
+        Err(PartsError::Repeated { .. }) => unreachable!(),
+        Err(PartsError::NoEntry { .. }) => unreachable!(),
+    }
 }
 
 /// Writes the text that a file was made of, line by line, or finds where the file is damaged. Nothing is written of a damaged

@@ -1,4 +1,5 @@
-//! The program `dictcol`: writes lines as a dictionary with a number for each line, reads them back, and counts them.
+//! The program `dictcol`: writes lines as a dictionary with a number for each line, reads them back, merges such files, and
+//! counts lines.
 #![tactic(auto)]
 
 mod answer;
@@ -8,26 +9,32 @@ mod fault;
 mod file;
 mod format;
 mod hasher;
+mod merge;
+mod stream;
 
-use arguments::{Request, Source, Task};
+use arguments::{Choice, Misuse, Request, Source, Task};
 use fault::Fault;
 use hasher::LineHasher;
+use merge::Merged;
 use std::env;
 use std::fs::File;
 use std::io::{BufWriter, IsTerminal, Write};
 use std::process::ExitCode;
+use string_interner::backend::{Backend, BucketBackend, BufferBackend, StringBackend};
 
 /// What `--help` prints.
 const HELP: &str = "\
 usage: dictcol encode [--backend NAME] [FILE]
        dictcol decode [FILE]
        dictcol count [--sorted] [--backend NAME] [FILE]
+       dictcol merge [--backend NAME] FILE ..
 
 Reads FILE, or standard input if there is no FILE or it is -, and writes to standard output.
 
 encode   writes lines as JSON: the distinct ones in the order of first appearance, and a number for each line
 decode   writes the lines back, byte for byte
 count    writes each distinct line behind how often it comes, in the order of first appearance
+merge    writes one file for several that encode wrote: it decodes to what they decode to, one behind the other
 
     --sorted         the most frequent lines come first
     --backend NAME   where texts are kept while it runs: string, bucket or buffer; what is written is the same
@@ -41,7 +48,7 @@ with no message, if nobody reads the output any more.
 
 /// What follows a message about arguments.
 const USAGE: &str =
-    "usage: dictcol encode|decode|count [OPTION ..] [FILE] (dictcol --help tells more)";
+    "usage: dictcol encode|decode|count|merge [OPTION ..] [FILE ..] (dictcol --help tells more)";
 
 /// The status if the arguments are wrong.
 const MISUSED: u8 = 2;
@@ -95,6 +102,55 @@ fn work(rt: &HostRuntime, task: Task, source: Source<'_>) -> Result<(), Fault> {
     Ok(())
 }
 
+/// Appends the text that a file holds. What was read is freed before the lines are appended.
+fn append_file<B: Backend + Drop>(
+    rt: &HostRuntime,
+    hasher: LineHasher,
+    merged: &mut Merged<B>,
+    source: Source<'_>,
+) -> Result<(), Fault> {
+    let bytes = read(rt, source)?;
+    tell(rt, bytes.len(), "read");
+    merged.append_file(rt.alloc(), hasher, bytes)
+}
+
+/// Merges files, whose lines are stored in the backend `B`. Returns how it ended, and the file where it ended, if it was at
+/// one: standard input has no name to tell.
+fn merge_over<'a, B: Backend + Drop>(
+    rt: &HostRuntime,
+    hasher: LineHasher,
+    files: &[Source<'a>],
+) -> (Source<'a>, Result<(), Fault>) {
+    let mut merged = Merged::<B>::new(rt.alloc(), hasher);
+    for file in files {
+        let outcome = append_file(rt, hasher, &mut merged, *file);
+        if outcome.is_err() {
+            return (*file, outcome);
+        }
+    }
+    (
+        Source::StandardInput,
+        merged.write(rt.alloc(), &mut rt.stdout()),
+    )
+}
+
+/// Merges files, as `merge_over` does, in the backend of this name.
+fn merge_files<'a>(
+    rt: &HostRuntime,
+    choice: Choice,
+    files: &[Source<'a>],
+) -> (Source<'a>, Result<(), Fault>) {
+    let hasher = match LineHasher::draw(rt) {
+        Ok(hasher) => hasher,
+        Err(fault) => return (Source::StandardInput, Err(fault)),
+    };
+    match choice {
+        Choice::String => merge_over::<StringBackend>(rt, hasher, files),
+        Choice::Bucket => merge_over::<BucketBackend>(rt, hasher, files),
+        Choice::Buffer => merge_over::<BufferBackend>(rt, hasher, files),
+    }
+}
+
 /// Prints a text.
 fn print(rt: &HostRuntime, text: &str) -> Result<(), Fault> {
     rt.stdout()
@@ -125,10 +181,15 @@ fn main(rt: HostRuntime) -> ExitCode {
         Ok(arguments) => arguments,
         Err(fault) => return end(&rt, Source::StandardInput, Err(fault)),
     };
-    match arguments::parse_arguments(&arguments) {
+    match arguments::parse_arguments(rt.alloc(), &arguments) {
         Ok(Request::Help) => end(&rt, Source::StandardInput, print(&rt, HELP)),
         Ok(Request::Version) => end(&rt, Source::StandardInput, print(&rt, VERSION)),
         Ok(Request::Do(task, source)) => end(&rt, source, work(&rt, task, source)),
+        Ok(Request::Merge(choice, files)) => {
+            let (source, outcome) = merge_files(&rt, choice, &files);
+            end(&rt, source, outcome)
+        }
+        Err(Misuse::Memory) => end(&rt, Source::StandardInput, Err(Fault::Memory)),
         Err(misuse) => {
             let _ = eprintln!(rt; "dictcol: {misuse}\n{USAGE}");
             ExitCode::from(MISUSED)
