@@ -184,7 +184,7 @@ pub fn write_file<B: Backend, W: Write>(
     ensures silent { WritesLast result output.old output.new }
     ensures fault { IfErr result IsNoDamage }
 {
-    match file::format_file(alloc, lines, is_ended) {
+    match format::format_file(alloc, lines, is_ended) {
         Ok(text) => write_text(output, text),
         Err(_) => Err(Fault::Memory),
     }
