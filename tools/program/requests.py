@@ -54,7 +54,8 @@ class Lines:
 
     def write_file(self, is_ended):
         """Writes the file of the lines."""
-        text, codes = Text(self.memory, 1), {it: code for code, it in enumerate(self.interner.texts)}
+        codes = {it: code for code, it in enumerate(self.interner.texts)}
+        text = Text(self.memory, 1, capacity=2 * len(self.texts))
         text.write_token(len("{"))
         text.write_token(len('"dictionary":'))
         text.write_token(len("["))

@@ -10,7 +10,7 @@ from rooms import Memory
 class RequestsTest(unittest.TestCase):
     def test_a_file(self):
         asked = asks_of_lines([b"encode"], b"red\ngreen\nred\n", b"string", b"")
-        self.assertEqual(asked, ([512, 65536], [16, 64, 24, 8, 16, 16], [8, 16, 32, 64, 128]))
+        self.assertEqual(asked, ([512, 65536], [16, 64, 24, 8, 16, 16], [6, 15, 30, 60, 120]))
 
     def test_counts(self):
         asked = asks_of_lines([b"count"], b"a\na\nb\n", b"bucket", b"2 a\n1 b\n")

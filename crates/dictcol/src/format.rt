@@ -48,7 +48,9 @@ pub fn format_file<B: Backend>(
 ) -> Result<String, AllocError>
     ensures { IfOk result (λ text. IsFileText lines.now is_ended (string_bytes text)) }
 {
-    let mut writer = Writer::new(Vec::new(alloc));
+    // A code takes a digit and a comma at least.
+    let least = lines.len().saturating_mul(2);
+    let mut writer = Writer::new(Vec::with_capacity(alloc, least)?);
     writer.begin_object()?;
     writer.key("dictionary")?;
     write_texts(&mut writer, lines.dictionary())?;
