@@ -377,6 +377,13 @@ def try_large(program, name):
             yield f"{name}, counted", all(map(operator.eq, counts, wanted)) and counts.read() == b"", True
 
 
+def try_many_lines_in_little_memory(program):
+    """A million lines of a file are decoded with four bytes each beside the file, and without a tree of its values."""
+    file = file_of([b'""'], [b"0"] * 1000000)
+    ended = program.run([b"decode"], file, before=lambda: resource.setrlimit(resource.RLIMIT_AS, (1 << 25, 1 << 25)))
+    yield "many lines in little memory", ended, (0, b"\n" * 1000000, b"")
+
+
 def mixed(one, other):
     """The product of two numbers of 64 bits, its halves put together by exclusive or: how FoldHasher mixes."""
     product = one * other
@@ -448,6 +455,7 @@ def parts():
             *((try_distant_fault, *given) for given in distant_faults()),
             (try_small_file_of_much,),
             (try_many_rows,),
+            (try_many_lines_in_little_memory,),
         ],
         # Alone, since it compares times.
         "chosen": [(try_chosen_lines,)],

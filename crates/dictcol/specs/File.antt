@@ -1,6 +1,6 @@
 -- The file that `encode` writes and `decode` reads: which value it is, and which lines it holds.
--- Cited by `file`, `format` and `answer`.
-use Rattle.std.specs.Prelude.{◌≡◌, ℕ, List, [], ◌∷◌, ◌++◌, map, Bool, false, codes, Option, Some, option_map, option_and_then, slice_get}
+-- Cited by `file`, `format`, `stream` and `answer`.
+use Rattle.std.specs.Prelude.{◌≡◌, ℕ, ◌<◌, List, [], ◌∷◌, ◌++◌, All, length, map, Bool, false, codes, Option, Some, option_map, option_and_then, slice_get}
 use Rattle.std.specs.List.{list_any}
 use Rattle.json.specs.Tree.{json_tokens}
 use Rattle.json.specs.Written.{Written}
@@ -33,6 +33,10 @@ indexed_text dictionary value = option_and_then (λ n. slice_get dictionary n) (
 abbrev pub indexed_texts : List Text → Items → Option (List Text)
 indexed_texts dictionary no_items = Some []
 indexed_texts dictionary (item value rest) = option_and_then (λ text. option_map (λ texts. text ∷ texts) (indexed_texts dictionary rest)) (indexed_text dictionary value)
+
+-- each code is the index of a text
+abbrev pub HaveEntries : List Text → List ℕ → Type 0
+HaveEntries dictionary codes = All (λ code. code < length dictionary) codes
 
 -- A value holds these lines, and whether the last one ends in a newline.
 pub record HoldsLines (value : Data) (lines : List Text) (is_ended : Bool) : Type 0 where

@@ -12,7 +12,7 @@ ghost use Rattle.string_interner.specs.Extend.{texts_of};
 ghost use Rattle.string_interner.specs.Json.{json_of_texts};
 ghost use Rattle.string_column.specs.Column.{rows_of};
 ghost use Rattle.dictcol.specs.Fault.{IsDamage, IsNoDamage, IsRightFault, IsWriteFault, WritesLast};
-ghost use Rattle.dictcol.specs.File.{indexed_texts, HoldsLines, HoldsText, FileHolds, DecodesFile};
+ghost use Rattle.dictcol.specs.File.{indexed_texts, HaveEntries, HoldsLines, HoldsText, FileHolds, DecodesFile};
 ghost use Rattle.dictcol.specs.Lines.{has_newline, newline_if, text_of_lines};
 ghost use Rattle.dictcol.specs.Writes.{Writes};
 
@@ -90,8 +90,7 @@ fn list_texts(alloc: Global, dictionary: &Dictionary) -> Result<Vec<&str>, Fault
 fn read_codes(alloc: Global, dictionary: &Dictionary, numbers: &[Value]) -> Result<Codes, Fault>
     ensures ok { IfOk result (λ codes. indexed_texts dictionary.now.texts (items_view numbers.now)
         ≡ Some (rows_of dictionary.now.texts codes.items)) }
-    ensures within { IfOk result (λ codes.
-        All (λ code. code < length dictionary.now.texts) codes.items) }
+    ensures within { IfOk result (λ codes. HaveEntries dictionary.now.texts codes.items) }
     ensures err { IfErr result (λ fault. IsDamage fault
         → indexed_texts dictionary.now.texts (items_view numbers.now) ≡ None) }
 {
@@ -188,7 +187,7 @@ fn read_value(alloc: Global, hasher: LineHasher, file: &Value) -> Result<Parts, 
     ensures lines { IfOk result (λ parts. HoldsLines (view file.now)
         (rows_of parts.dictionary.texts parts.codes.items) parts.is_ended) }
     ensures within { IfOk result (λ parts.
-        All (λ code. code < length parts.dictionary.texts) parts.codes.items) }
+        HaveEntries parts.dictionary.texts parts.codes.items) }
     ensures err { IfErr result (IsRightFault (HoldsText (view file.now))) }
 {
     let dictionary = read_dictionary(alloc, hasher, file)?;
@@ -233,7 +232,7 @@ pub fn read(alloc: Global, hasher: LineHasher, file: &str) -> Result<Parts, Faul
     ensures lines { IfOk result (λ parts. FileHolds file.now
         (rows_of parts.dictionary.texts parts.codes.items) parts.is_ended) }
     ensures within { IfOk result (λ parts.
-        All (λ code. code < length parts.dictionary.texts) parts.codes.items) }
+        HaveEntries parts.dictionary.texts parts.codes.items) }
 
     // A file that holds a text is never called damaged.
     ensures err { IfErr result (IsRightFault (DecodesFile file.now)) }

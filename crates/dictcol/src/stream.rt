@@ -1,15 +1,14 @@
 //! A file in the form that `encode` writes, read token by token: without a tree of its values.
 
-ghost use Rattle.std.specs.Prelude.{◌≡◌, ◌<◌, ◌++◌, ◌∷◌, [], List, All, length, map, codes, false, Some, IfOk, IfErr, IfSome, IsTrue};
+ghost use Rattle.std.specs.Prelude.{◌≡◌, ◌<◌, ◌++◌, ◌∷◌, [], List, All, map, codes, false, Some, IfOk, IfErr, IfSome, IsTrue};
 ghost use Rattle.std.specs.List.{list_any};
 ghost use Rattle.json.specs.Token.{begin_object, end_object, begin_array, end_array, key, string, number, boolean};
-ghost use Rattle.json.specs.Lex.{tokens};
 ghost use Rattle.serde_json.specs.Data.{unsigned};
 ghost use Rattle.serde_json.specs.Read.{number_of};
 ghost use Rattle.string_interner.specs.Text.{Text, IsDistinct};
 ghost use Rattle.string_column.specs.Column.{rows_of};
 ghost use Rattle.dictcol.specs.Fault.{IsNoDamage};
-ghost use Rattle.dictcol.specs.File.{FileHolds};
+ghost use Rattle.dictcol.specs.File.{FileHolds, HaveEntries};
 ghost use Rattle.dictcol.specs.Lines.{has_newline};
 ghost use Rattle.dictcol.specs.StreamTokens.{AreIndexes, stream};
 
@@ -148,7 +147,7 @@ fn read_parts(
     ensures plain { IfOk result (λ found. IfSome found (λ parts.
         list_any has_newline parts.dictionary.texts ≡ false)) }
     ensures within { IfOk result (λ found. IfSome found (λ parts.
-        All (λ code. code < length parts.dictionary.texts) parts.codes.items)) }
+        HaveEntries parts.dictionary.texts parts.codes.items)) }
     ensures fault { IfErr result IsNoDamage }
 {
     if !takes_object(reader) {
@@ -184,7 +183,7 @@ pub fn read_stream(alloc: Global, hasher: LineHasher, file: &str) -> Result<Opti
     ensures lines { IfOk result (λ found. IfSome found (λ parts. FileHolds file.now
         (rows_of parts.dictionary.texts parts.codes.items) parts.is_ended)) }
     ensures within { IfOk result (λ found. IfSome found (λ parts.
-        All (λ code. code < length parts.dictionary.texts) parts.codes.items)) }
+        HaveEntries parts.dictionary.texts parts.codes.items)) }
     ensures fault { IfErr result IsNoDamage }
 {
     let mut scratch = Scratch::new(alloc);
