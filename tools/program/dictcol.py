@@ -96,10 +96,9 @@ SORTED_IN_PLACE = 20
 
 
 def try_asks(program, name, words, data):
-    """What a run of `encode` or `count` that ends well asks for after the words. In which order a column asks is its own.
-    Over buffers it has a map, too, whose sizes the library does not say."""
+    """What a run of `encode` or `count` that ends well asks for after the words. In which order a column asks is its own."""
     backend = (re.findall(rb"--backend[= ](\w+)", b" ".join(words)) or [b"string"])[-1]
-    if backend == b"buffer" or b"--sorted" in words and len(set(data.split(b"\n"))) > SORTED_IN_PLACE:
+    if b"--sorted" in words and len(set(data.split(b"\n"))) > SORTED_IN_PLACE:
         return
     ended, asks = program.run_with_asks(words, data)
     before, column, behind = asks_of_lines(words, data, backend, ended.output)
@@ -369,8 +368,7 @@ def try_large(program, name):
             with open(paths[source], "rb") as given, open(paths[word], "wb") as output:
                 ended, peak = program.run_with_peak([word.encode()], given, output)
             yield f"{name}, {word}", ended, (0, b"", b"")
-            if word != "decode":
-                yield f"{name}, {word}: {peak >> 10} MiB, and not at most {most}", peak <= most << 10, True
+            yield f"{name}, {word}: {peak >> 10} MiB, and not at most {most}", peak <= most << 10, True
         yield f"{name}, decoded", filecmp.cmp(paths["decode"], paths["lines"], shallow=False), True
         with open(paths["count"], "rb") as counts:
             wanted = [b"10000000 \n"] if pieces is newlines else (b"1 " + line for line in pieces())

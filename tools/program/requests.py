@@ -48,9 +48,10 @@ class Lines:
         self.interner = Interner(Slots(self.memory, "SymbolU32", is_tagged=True), ROOMS[backend.decode()](self.memory))
         for text in self.texts:
             codes.add()
-            is_new = text not in self.interner.texts
+            # There is room for the symbol of a new line before it is known whether the line is new.
+            symbols.add()
+            symbols.length -= text in self.interner.texts
             self.interner.intern(text)
-            symbols.add(is_new)
 
     def write_file(self, is_ended):
         """Writes the file of the lines."""
