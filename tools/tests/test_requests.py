@@ -10,11 +10,15 @@ from rooms import Memory
 class RequestsTest(unittest.TestCase):
     def test_a_file(self):
         asked = asks_of_lines([b"encode"], b"red\ngreen\nred\n", b"string", b"")
-        self.assertEqual(asked, ([512, 65536], [16, 64, 24, 8, 16, 16], [6, 15, 30, 60, 120]))
+        self.assertEqual(asked, ([512, 65536], [16, 16, 64, 24, 8, 16], [6, 15, 30, 60, 120]))
 
     def test_counts(self):
         asked = asks_of_lines([b"count"], b"a\na\nb\n", b"bucket", b"2 a\n1 b\n")
-        self.assertEqual(asked, ([512, 65536], [16, 64, 24, 64, 128, 2, 16], [16, 48, 8]))
+        self.assertEqual(asked, ([512, 65536], [16, 16, 64, 24, 64, 128, 2], [16, 48, 8]))
+
+    def test_a_known_line_has_room_for_a_symbol(self):
+        asked = asks_of_lines([b"count"], b"a\nb\nc\nd\na\n", b"string", b"2 a\n1 b\n1 c\n1 d\n")
+        self.assertEqual(asked[1], [16, 16, 64, 24, 8, 16, 32, 32])
 
     def test_no_lines(self):
         self.assertEqual(asks_of_lines([b"count"], b"", b"string", b""), ([512, 65536], [], []))
