@@ -23,7 +23,7 @@ from program.streams import Streams
 CASES = "crates/dictcol/cases"
 BACKENDS = (b"string", b"bucket", b"buffer")
 VERSION = (TOP / "VERSION").read_bytes().strip()
-USAGE = b"usage: dictcol encode|decode|count|merge [OPTION ..] [FILE ..] (dictcol --help tells more)\n"
+USAGE = b"usage: dictcol encode|decode|count|merge [OPTION ..] [FILE ..] (try dictcol --help)\n"
 
 
 def failed(status, message):
@@ -309,7 +309,7 @@ def distant_faults():
     lines, texts, numbers = b"a\n" * MANY, [b'"%d"' % number for number in range(MANY)], [b"0"] * MANY
     yield b"encode", lines + b"\xff\n", b"line %d is not UTF-8" % (MANY + 1)
     yield b"count", lines + b"\xff", b"line %d is not UTF-8" % (MANY + 1)
-    for text, fault in (b"0", b"is not a text"), (b'"0"', b"is repeated"), (b'"\\n"', b"has a newline"):
+    for text, fault in (b"0", b"is not a string"), (b'"0"', b"repeats an earlier text"), (b'"\\n"', b"contains a newline"):
         yield b"decode", file_of([*texts, text], numbers), b"dictionary[%d] %s" % (MANY, fault)
     for number in b"%d" % MANY, b'"0"':
         yield b"decode", file_of(texts, [*numbers, number]), b"lines[%d] is not the index of a text" % MANY

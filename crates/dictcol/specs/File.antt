@@ -15,7 +15,7 @@ use Rattle.string_interner.specs.Json.{json_of_texts, json_of_number}
 use Rattle.string_column.specs.Column.{AreCodes}
 use Rattle.dictcol.specs.Lines.{has_newline, text_of_lines, AreLines}
 
--- the object with these texts, numbers and truth value
+-- the object with these texts, numbers and boolean
 abbrev pub column_file : List Text → List ℕ → Bool → Data
 column_file dictionary numbers is_ended = object (member (codes "dictionary") (json_of_texts dictionary)
     (member (codes "final_newline") (boolean is_ended) (member (codes "lines") (array (items_of (map json_of_number numbers))) no_members)))

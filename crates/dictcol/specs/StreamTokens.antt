@@ -11,7 +11,7 @@ use Rattle.string_interner.specs.Text.{Text}
 abbrev pub AreIndexes : List Text → List ℕ → Type 0
 AreIndexes numbers indexes = AllZip (λ text index. number_of text ≡ Some (unsigned index)) numbers indexes
 
--- an object with these texts, this truth value and these numbers
+-- an object with these texts, this boolean and these numbers
 abbrev pub stream : List Text → Bool → List Text → List Token
 stream dictionary is_ended numbers =
     begin_object ∷ key (codes "dictionary") ∷ begin_array ∷ (map string dictionary ++ end_array ∷ key (codes "final_newline") ∷ boolean is_ended

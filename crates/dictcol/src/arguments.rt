@@ -52,7 +52,7 @@ pub enum Request<'a> {
 /// What is wrong with the arguments. It is displayed as the message for standard error.
 #[derive(Clone, Copy, Debug, Error)]
 pub enum Misuse<'a> {
-    #[error("no command")]
+    #[error("missing command")]
     NoCommand,
     #[error("unknown command '{0}'")]
     UnknownCommand(&'a str),

@@ -27,20 +27,20 @@ pub enum Fault {
     /// The file ends within its JSON, at this place (1-based, in bytes).
     #[error("JSON ends too early, at line {line} column {column}")]
     EndsEarly { line: usize, column: usize },
-    /// There is a byte order mark before the JSON.
-    #[error("a byte order mark stands before the JSON")]
+    /// The JSON begins with a byte order mark.
+    #[error("the JSON begins with a byte order mark")]
     ByteOrderMark,
     /// The file is no object with an array of this name.
     #[error("no array \"dictionary\"")]
     NoDictionary,
-    /// The element at this index (0-based) of the dictionary is no text.
-    #[error("dictionary[{0}] is not a text")]
+    /// The element at this index (0-based) of the dictionary is no string.
+    #[error("dictionary[{0}] is not a string")]
     NotAText(usize),
-    /// The text at this index (0-based) of the dictionary is there twice.
-    #[error("dictionary[{0}] is repeated")]
+    /// The text at this index (0-based) of the dictionary is there already.
+    #[error("dictionary[{0}] repeats an earlier text")]
     Repeated(usize),
     /// The text at this index (0-based) of the dictionary is more than one line.
-    #[error("dictionary[{0}] has a newline")]
+    #[error("dictionary[{0}] contains a newline")]
     HasNewline(usize),
     /// The file has no array of this name.
     #[error("no array \"lines\"")]
@@ -48,8 +48,8 @@ pub enum Fault {
     /// The number at this index (0-based) of the lines is not the index of a text.
     #[error("lines[{0}] is not the index of a text")]
     NotAnIndex(usize),
-    /// The file has no truth value of this name.
-    #[error("no truth value \"final_newline\"")]
+    /// The file has no boolean of this name.
+    #[error("no boolean \"final_newline\"")]
     NoFinalNewline,
     /// The system gave no random keys.
     #[error("cannot draw random keys: {0}")]

@@ -31,24 +31,24 @@ usage: dictcol encode [--backend NAME] [FILE]
 
 Reads FILE, or standard input if there is no FILE or it is -, and writes to standard output.
 
-encode   writes lines as JSON: the distinct ones in the order of first appearance, and a number for each line
+encode   writes lines as JSON: the distinct lines in order of first appearance, and a number for each line
 decode   writes the lines back, byte for byte
-count    writes each distinct line behind how often it comes, in the order of first appearance
-merge    writes one file for several that encode wrote: it decodes to what they decode to, one behind the other
+count    writes how often each distinct line occurs, and the line, in order of first appearance
+merge    writes one file for several that encode wrote; it decodes to what they decode to, one after another
 
-    --sorted         the most frequent lines come first
-    --backend NAME   where texts are kept while it runs: string, bucket or buffer; what is written is the same
-    --               no word behind it is an option
--h, --help           prints this
+    --sorted         sorts by count, the most frequent first
+    --backend NAME   how texts are stored while it runs: string, bucket or buffer; the output is the same
+    --               no word after it is an option
+-h, --help           prints this help
     --version        prints the version
 
-The status is 2 for wrong arguments, lines that are not UTF-8 and a damaged file, 1 for what the system refused, and 141,
-with no message, if nobody reads the output any more.
+Exit status: 0 on success; 1 if the system fails or there are too many distinct lines; 2 if the arguments or the input are
+wrong; 141, without a message, if the output is closed.
 ";
 
 /// What follows a message about arguments.
 const USAGE: &str =
-    "usage: dictcol encode|decode|count|merge [OPTION ..] [FILE ..] (dictcol --help tells more)";
+    "usage: dictcol encode|decode|count|merge [OPTION ..] [FILE ..] (try dictcol --help)";
 
 /// The status if the arguments are wrong.
 const MISUSED: u8 = 2;
@@ -63,7 +63,7 @@ const BUFFER: usize = 1 << 16;
 const LONG: usize = 1 << 24;
 
 /// Reports on a terminal how far the work on a long input is.
-fn tell(rt: &HostRuntime, bytes: usize, what: &str) {
+fn report_progress(rt: &HostRuntime, bytes: usize, what: &str) {
     if bytes >= LONG && rt.stderr().is_terminal() {
         // Nothing is lost if standard error is closed.
         let _ = eprintln!(rt; "dictcol: {} MiB {what}", bytes >> 20);
@@ -93,12 +93,12 @@ fn work(rt: &HostRuntime, task: Task, source: Source<'_>) -> Result<(), Fault> {
     let hasher = LineHasher::draw(rt)?;
     let bytes = read(rt, source)?;
     let length = bytes.len();
-    tell(rt, length, "read");
+    report_progress(rt, length, "read");
     let mut output = BufWriter::with_capacity(alloc, BUFFER, rt.stdout()).map_err(
         |_| Fault::Memory,
     )?;
     answer::answer(alloc, hasher, task, bytes, &mut output)?;
-    tell(rt, length, "done");
+    report_progress(rt, length, "done");
     Ok(())
 }
 
@@ -110,7 +110,7 @@ fn append_file<B: Backend + Drop>(
     source: Source<'_>,
 ) -> Result<(), Fault> {
     let bytes = read(rt, source)?;
-    tell(rt, bytes.len(), "read");
+    report_progress(rt, bytes.len(), "read");
     merged.append_file(rt.alloc(), hasher, bytes)
 }
 
@@ -165,7 +165,7 @@ fn end(rt: &HostRuntime, source: Source<'_>, outcome: Result<(), Fault>) -> Exit
     };
     // Nothing is left to do if standard error is closed.
     let _ = match (source, &fault) {
-        // Who closed the output, as `head` does, wants no more, and no words about it.
+        // A reader that closed the output, as `head` does, needs no message.
         (_, Fault::ClosedOutput) => Ok(()),
         // The file has no part in these.
         (Source::StandardInput, _) | (_, Fault::NoKeys(_) | Fault::Output(_)) => {
