@@ -10,9 +10,8 @@ use Rattle.serde_json.specs.Read.{of_json, read}
 use Rattle.serde_json.specs.View.{items_of}
 use Rattle.serde_json.specs.Written.{outline, compact_text}
 use Rattle.string_interner.specs.Text.{Text, IsDistinct}
-use Rattle.string_interner.specs.Extend.{fresh}
 use Rattle.string_interner.specs.Json.{json_of_texts, json_of_number}
-use Rattle.string_column.specs.Column.{AreCodes}
+use Rattle.string_column.specs.Column.{AreCodes, dictionary_of}
 use Rattle.dictcol.specs.Lines.{has_newline, text_of_lines, AreLines}
 
 -- the object with these texts, numbers and boolean
@@ -23,7 +22,7 @@ column_file dictionary numbers is_ended = object (member (codes "dictionary") (j
 -- the value is the file of these lines: the distinct ones in the order of first appearance, for each line the index of
 -- its text among them, and whether the last one ends in a newline
 abbrev pub IsFileOf : List Text → Bool → Data → Type 0
-IsFileOf lines is_ended value = (numbers : List ℕ) × (value ≡ column_file (fresh [] lines) numbers is_ended) × AreCodes (fresh [] lines) numbers lines
+IsFileOf lines is_ended value = (numbers : List ℕ) × (value ≡ column_file (dictionary_of lines) numbers is_ended) × AreCodes (dictionary_of lines) numbers lines
 
 -- the text whose index this value is
 abbrev pub indexed_text : List Text → Data → Option Text
