@@ -99,6 +99,8 @@ def over_files(paths):
         words = ["parallel", f"{DICTCOL} encode {{}} >{{}}.json", ":::", *paths]
         yield "files: parallel and dictcol", lambda _: subprocess.run(words, check=True)
         yield "files: what dictcol wrote, read and merged", lambda _: merge_all(read_parts(paths))
+        merge = [DICTCOL, "merge", *(f"{path}.json" for path in paths)]
+        yield "files: what dictcol wrote, merged by it", lambda _: subprocess.run(merge, stdout=subprocess.DEVNULL, check=True)
     if importlib.util.find_spec("distributed"):
         from dask.distributed import Client, LocalCluster, wait
 
