@@ -361,14 +361,17 @@ def try_large(program, name):
     """A large input, which is written in pieces, since what this process holds counts for the programs that it starts."""
     pieces, most = LARGE[name]
     with tempfile.TemporaryDirectory() as folder:
-        paths = {it: Path(folder, it) for it in ("lines", "encode", "count", "decode")}
+        paths = {it: Path(folder, it) for it in ("lines", "encode", "count", "decode", "merge -")}
         with open(paths["lines"], "wb") as lines:
             lines.writelines(pieces())
-        for word, source in ("encode", "lines"), ("count", "lines"), ("decode", "encode"):
+        for word, source in ("encode", "lines"), ("count", "lines"), ("decode", "encode"), ("merge -", "encode"):
             with open(paths[source], "rb") as given, open(paths[word], "wb") as output:
-                ended, peak = program.run_with_peak([word.encode()], given, output)
+                ended, peak = program.run_with_peak(word.encode().split(), given, output)
             yield f"{name}, {word}", ended, (0, b"", b"")
-            yield f"{name}, {word}: {peak >> 10} MiB, and not at most {most}", peak <= most << 10, True
+            # What `merge` read stands beside the merged column.
+            limit = most * 5 // 4 if source == "encode" and word != "decode" else most
+            yield f"{name}, {word}: {peak >> 10} MiB, and not at most {limit}", peak <= limit << 10, True
+        yield f"{name}, merged", filecmp.cmp(paths["merge -"], paths["encode"], shallow=False), True
         yield f"{name}, decoded", filecmp.cmp(paths["decode"], paths["lines"], shallow=False), True
         with open(paths["count"], "rb") as counts:
             wanted = [b"10000000 \n"] if pieces is newlines else (b"1 " + line for line in pieces())

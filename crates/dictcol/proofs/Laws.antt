@@ -23,9 +23,9 @@ merge-decodes a b merged front back text is a_is b_is merged_is =
     ∙ ap (λ f. f ++ is.1) (decodes-once a is.0 front is.2 a_is) ∙ ap (λ g. front ++ g) (decodes-once b is.1 back is.3 b_is)
 
 -- Merging is associative: either grouping is decoded alike.
-pub merges-alike : (a b c ab bc left right text other : Text) → IsMergeOf a b ab → IsMergeOf ab c left → IsMergeOf b c bc → IsMergeOf a bc right
+pub merged-files-alike : (a b c ab bc left right text other : Text) → IsMergeOf a b ab → IsMergeOf ab c left → IsMergeOf b c bc → IsMergeOf a bc right
     → DecodesFile left text → DecodesFile right other → text ≡ other
-merges-alike a b c ab bc left right text other ab_is left_is bc_is right_is text_is other_is =
+merged-files-alike a b c ab bc left right text other ab_is left_is bc_is right_is text_is other_is =
     let ab_text = merge-decodes a b ab ab_is.0 ab_is.1 left_is.0 ab_is ab_is.2 ab_is.3 left_is.2 in
     let bc_text = merge-decodes b c bc ab_is.1 left_is.1 right_is.1 bc_is ab_is.3 left_is.3 right_is.3 in
     merge-decodes ab c left left_is.0 left_is.1 text left_is left_is.2 left_is.3 text_is

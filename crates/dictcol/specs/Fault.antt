@@ -1,9 +1,11 @@
--- The exit status of each fault, and which faults a step returns. `Fault::status` and the steps of `answer` cite it.
+-- The exit status of each fault, and which faults a step returns. Cited by `Fault`, and by `file`, `stream`, `merge` and `answer`.
 use Rattle.std.specs.Prelude.{ℕ, ⊤, ◌≡◌, ◌⊎◌, Result, IsOk, IsErrAnd}
 use Rattle.std.specs.declared.io.Error.{Error}
 use Rattle.std.specs.declared.io.ErrorKind.{ErrorKind}
 use Rattle.std.specs.declared.io.ErrorKind.TheVariants.{BrokenPipe, OutOfMemory}
 use Rattle.string_interner.specs.Text.{Text}
+use Rattle.string_interner.specs.declared.backend.InternError.{InternError}
+use Rattle.string_interner.specs.declared.backend.InternError.TheVariants.{NoSymbol, Memory as InternMemory}
 use Rattle.dictcol.specs.declared.fault.Fault.{Fault}
 use Rattle.dictcol.specs.declared.fault.Fault.TheVariants.{Argument, Input, NotUtf8, NoKeys, TooMany, Memory, Output, ClosedOutput}
 
@@ -31,6 +33,11 @@ read_fault _ error = Input error
 abbrev pub write_fault : ErrorKind → Error → Fault
 write_fault BrokenPipe _ = ClosedOutput
 write_fault _ error = Output error
+
+-- the fault of lines that an interner does not take
+abbrev pub intern_fault : InternError → Fault
+intern_fault NoSymbol = TooMany
+intern_fault (InternMemory _) = Memory
 
 -- the faults of reading the input
 abbrev pub IsReadFault : Fault → Type 0

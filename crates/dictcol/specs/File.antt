@@ -1,5 +1,5 @@
 -- The file that `encode` writes and `decode` reads: which value it is, and which lines it holds.
--- Cited by `file`, `format`, `stream` and `answer`.
+-- Cited by `file`, `format`, `stream`, `merge` and `answer`.
 use Rattle.std.specs.Prelude.{◌≡◌, ℕ, ◌<◌, List, [], ◌∷◌, ◌++◌, All, length, map, Bool, false, codes, Option, Some, option_map, option_and_then, slice_get}
 use Rattle.std.specs.List.{list_any}
 use Rattle.json.specs.Tree.{json_tokens}

@@ -74,8 +74,7 @@ fn make_column<B: Backend + Drop>(
     let mut lines = Column::with_hasher(alloc, hasher);
     match lines.encode(body.split('\n')) {
         Ok(()) => Ok(lines),
-        Err(InternError::NoSymbol) => Err(Fault::TooMany),
-        Err(InternError::Memory(_)) => Err(Fault::Memory),
+        Err(error) => Err(Fault::of_intern(error)),
     }
 }
 

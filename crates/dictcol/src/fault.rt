@@ -2,7 +2,7 @@
 
 ghost use Rattle.std.specs.Prelude.{◌≡◌};
 ghost use Rattle.std.specs.IoError.{error_kind};
-ghost use Rattle.dictcol.specs.Fault.{arguments_fault, read_fault, write_fault, status_of, IsNoDamage, IsReadFault, IsWriteFault};
+ghost use Rattle.dictcol.specs.Fault.{arguments_fault, intern_fault, read_fault, write_fault, status_of, IsNoDamage, IsReadFault, IsWriteFault};
 
 use std::io;
 use std::io::ErrorKind;
@@ -104,7 +104,8 @@ impl Fault {
 
     /// Returns the fault of lines that an interner does not take.
     pub fn of_intern(error: InternError) -> Fault
-        ensures { IsNoDamage result }
+        ensures value { result ≡ intern_fault error }
+        ensures sound { IsNoDamage result }
     {
         match error {
             InternError::NoSymbol => Fault::TooMany,

@@ -261,6 +261,8 @@ pub fn read_column<B: Backend + Drop>(
         codes,
         is_ended,
     } = read(alloc, hasher, check_utf8(&bytes)?)?;
+    // The column needs nothing of the file, which is as long as the texts.
+    drop(bytes);
     // For the proof: states that the texts are distinct.
     let _ = dictionary.len();
     let texts = list_texts(alloc, &dictionary)?;

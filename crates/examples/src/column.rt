@@ -23,7 +23,8 @@ pub fn encode_day(alloc: Global, pages: &[&str]) -> Result<Column, InternError>
 
 /// Merges the visits of two days, and counts how many each page has, in the order in which pages were first seen.
 ///
-/// Pages of the second day are looked up once each, and not once for each visit. Fails as `encode` does.
+/// Each day is encoded by itself, which looks up each visit. Merging looks up each page of the second day once. Fails as
+/// `encode`, `append` and `counts` do.
 pub fn count_visits(
     alloc: Global,
     monday: &[&str],

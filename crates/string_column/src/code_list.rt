@@ -103,7 +103,8 @@ impl Codes {
 
     /// Returns the codes as they are stored: those of four bytes, and after them those of eight. Takes constant time.
     ///
-    /// No code of a [`Column`](crate::Column) takes eight bytes while the column has fewer than 2^32 distinct rows.
+    /// No code of a [`Column`](crate::Column) takes eight bytes while the column has fewer than 2^32 distinct rows, unless
+    /// `from_parts` took a list with codes of eight.
     ///
     /// ```
     /// let (narrow, wide) = colors.codes().as_slices(); // [0, 1, 0], []

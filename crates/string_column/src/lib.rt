@@ -15,8 +15,7 @@
 //! Encoding a known text needs the index of its symbol. If the number of that symbol is another, a binary search finds
 //! the index, because the numbers of the entries ascend.
 //!
-//! A code takes four bytes, and eight from the first on that does not fit. So the symbol type alone limits how many
-//! distinct rows a column has.
+//! The symbol type alone limits how many distinct rows a column has.
 #![tactic(auto)]
 
 mod code_list;

@@ -23,7 +23,7 @@ use string_interner::dedup::{FoldState, TaggedIndex, TextHasher, TextIndex};
 /// A list of texts, the rows. It stores equal rows once.
 ///
 /// The dictionary has the distinct rows in the order of first appearance. The code of a row is the index of its text in
-/// the dictionary, and takes four bytes. If you name no other backend, hasher or index, the dictionary is a
+/// the dictionary ([`Codes`] says how it is stored). If you name no other backend, hasher or index, the dictionary is a
 /// `FastStringInterner`.
 ///
 /// ```
