@@ -33,18 +33,21 @@
 //! |---|---|
 //! | a backend of the program's own, `impl Backend for ..` | the library stores the texts |
 //! | serde's traits | see below |
+//! | a bound `H: BuildHasher` with `FixedHashBuilder` or `KeyedHashBuilder` as `H` | these give the library keys or none, and hash nothing themselves |
 //! | programs without std, or for other targets than Linux on 64 bits | the library is built for these |
 //!
 //! What compiles and behaves differently:
 //!
 //! - The library hashes the texts by SipHash-1-3, under two keys that the interner's hasher gives. Those of
 //!   [`DefaultHashBuilder`] are random. The original's default hasher is faster, and has a random seed.
-//!   [`FixedHashBuilder`](hasher::FixedHashBuilder) is as fast, and has the same hash codes in each process.
+//!   [`FixedHashBuilder`](hasher::FixedHashBuilder) has no keys: it is faster, and has the same hash codes in each process.
 //! - The numbers of all symbol types are below 2³² − 1, because those of the library are. So a `BufferBackend`, whose numbers are
 //!   byte offsets, holds less than 4 GiB.
-//! - Interning panics if no symbol is left, as in the original. The text is then not stored.
-//! - A backend that you use alone finds a text that it has. The original's stores it again.
-//! - `Debug` shows symbols by number, and a backend as its texts.
+//! - Interning panics if no symbol is left, as in the original, and no call returns an error instead. The text is then not
+//!   stored.
+//! - If you use a backend alone, `intern` returns the first symbol of a text that it already has. The original's stores the
+//!   text again.
+//! - The `Debug` of an interner shows symbols by number, and that of a backend its texts.
 //! - Memory comes from malloc, and not from Rust's global allocator.
 //!
 //! New are [`StringInterner::truncate`], [`StringInterner::to_json`], [`StringInterner::from_json`] and the module [`hasher`].
