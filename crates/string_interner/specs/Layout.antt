@@ -3,7 +3,7 @@
 -- that has a symbol, if one has, and `code` the code of a text under a hasher.
 use Rattle.std.specs.Prelude.{◌≡◌, ◌≢◌, ◌↔◌, ℕ, ◌<◌, List, length, slice_index_or, Option, Some, None}
 use Rattle.string_interner.specs.Text.{Text}
-use Rattle.string_interner.specs.LoadFactor.{IsLoadFactor, IsWithinHalf}
+use Rattle.string_interner.specs.LoadFactor.{IsLoadFactor, IsWithinThreeQuarters}
 use Rattle.string_interner.specs.Index.{Fits, look_up}
 use Rattle.string_interner.specs.Probe.{FillsSlot}
 
@@ -18,9 +18,9 @@ pub record SlotLayout (S L : Type 0) : Type 1 where
   -- the slots fit the entries and a hasher with these codes
   pub fits : (S → Option Text) → (Text → ℕ) → L → Type 0
 
--- symbols alone, at most half of the slots
+-- symbols alone, at most three quarters of the slots
 abbrev pub plain_layout : {S : Type 0} → SlotLayout S (List (Option S))
-plain_layout = record { slots = λ x. x; stored = λ _ _. 0; stores = λ _. 0; holds = IsWithinHalf; fits = λ entry code x. Fits entry code x }
+plain_layout = record { slots = λ x. x; stored = λ _ _. 0; stores = λ _. 0; holds = IsWithinThreeQuarters; fits = λ entry code x. Fits entry code x }
 
 -- beside each symbol is what is stored of its text's code
 abbrev pub IsCoded : {S : Type 0} → (ℕ → ℕ) → (S → Option Text) → (Text → ℕ) → List (Option S) → (ℕ → ℕ) → Type 0

@@ -15,16 +15,16 @@ GrowsTo count more = ((count ≡ 0) × (more ≡ 8)) ⊎ ((0 < count) × (more �
 abbrev pub rule_by : (ℕ → ℕ → Type 0) → SlotRule
 rule_by holds = record { allowed = IsSlotCount; holds = holds; grows_to = GrowsTo }
 
--- so many entries fill at most half of so many slots
-abbrev pub IsWithinHalf : ℕ → ℕ → Type 0
-IsWithinHalf slots entries = 2 * entries ≤ slots
+-- so many entries fill at most three quarters of so many slots
+abbrev pub IsWithinThreeQuarters : ℕ → ℕ → Type 0
+IsWithinThreeQuarters slots entries = 4 * entries ≤ 3 * slots
 
 -- so many entries fill at most seven eighths of so many slots
 abbrev pub IsWithinSevenEighths : ℕ → ℕ → Type 0
 IsWithinSevenEighths slots entries = 8 * entries ≤ 7 * slots
 
-abbrev pub one_half : SlotRule
-one_half = rule_by IsWithinHalf
+abbrev pub three_quarters : SlotRule
+three_quarters = rule_by IsWithinThreeQuarters
 
 abbrev pub seven_eighths : SlotRule
 seven_eighths = rule_by IsWithinSevenEighths

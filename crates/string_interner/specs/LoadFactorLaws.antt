@@ -5,7 +5,7 @@ use Rattle.std.proofs.Math.Nat.{pow-succ'}
 use Rattle.std.proofs.Math.Pow.{pow_mono}
 use Rattle.std.proofs.lemmas.Bool.{cases_lt}
 use Rattle.string_interner.specs.SlotRule.{IsSlotRule}
-use Rattle.string_interner.specs.LoadFactor.{GrowsTo, IsLoadFactor, IsSlotCount, IsWithinHalf, IsWithinSevenEighths, rule_by}
+use Rattle.string_interner.specs.LoadFactor.{GrowsTo, IsLoadFactor, IsSlotCount, IsWithinThreeQuarters, IsWithinSevenEighths, rule_by}
 
 pub IsSlotCount-grown : (count more : ℕ) → IsSlotCount count → GrowsTo count more → IsSlotCount more
 IsSlotCount-grown count more s (inl a) = inr (0, a.1)
@@ -43,9 +43,9 @@ count_small count (inr p) l =
       | inr h ↦ (let a : 2 ^ 61 ≤ 2 ^ p.0 = pow_mono {i = 61} h in omega arith)
     ]
 
-pub one_half-load : IsLoadFactor IsWithinHalf
-one_half-load = record {
-  decided = λ slots entries. elim (cases_lt slots (2 * entries)) as (λ _. IsWithinHalf slots entries ⊎ ¬ IsWithinHalf slots entries)
+pub three_quarters-load : IsLoadFactor IsWithinThreeQuarters
+three_quarters-load = record {
+  decided = λ slots entries. elim (cases_lt (3 * slots) (4 * entries)) as (λ _. IsWithinThreeQuarters slots entries ⊎ ¬ IsWithinThreeQuarters slots entries)
       [ inl less ↦ inr (λ room. omega arith) | inr room ↦ inl room ];
   fewer = λ slots entries fewer room less. omega arith;
   wider = λ slots more entries room less. omega arith;

@@ -1,8 +1,8 @@
--- The least slots for a capacity, of which half or seven eighths may be filled.
+-- The least slots for a capacity, of which three quarters or seven eighths may be filled.
 use Rattle.std.proofs.Common.{ℕ, ◌-◌, ◌*◌, ◌^◌, refl, inl, inr, arith}
 use Rattle.std.proofs.lemmas.Nat.{pow_pos}
-use Rattle.string_interner.specs.LoadFactor.{IsLoadFactor, IsWithinHalf, one_half, rule_by, seven_eighths}
-use Rattle.string_interner.specs.LoadFactorLaws.{IsSlotCount-grown, above, grown-le, one_half-load, rule_by-laws, seven_eighths-load}
+use Rattle.string_interner.specs.LoadFactor.{IsLoadFactor, IsWithinThreeQuarters, three_quarters, rule_by, seven_eighths}
+use Rattle.string_interner.specs.LoadFactorLaws.{IsSlotCount-grown, above, grown-le, three_quarters-load, rule_by-laws, seven_eighths-load}
 use Rattle.string_interner.specs.SlotRule.{IsLeastSlotCount}
 
 module _ (holds : ℕ → ℕ → Type 0) (load : IsLoadFactor holds) where
@@ -18,43 +18,43 @@ module _ (holds : ℕ → ℕ → Type 0) (load : IsLoadFactor holds) where
         least = λ m allowed enough. grown-le (8 * 2 ^ k) (2 * (8 * 2 ^ k)) m (inr (k, refl)) (inr (omega arith, refl)) allowed (above holds load (8 * 2 ^ k) m capacity more enough);
       }
 
--- One half.
+-- Three quarters.
 
-pub slots-for-none : IsLeastSlotCount one_half 0 0
-slots-for-none = (rule_by-laws _ one_half-load).none
+pub slots-for-none : IsLeastSlotCount three_quarters 0 0
+slots-for-none = (rule_by-laws _ three_quarters-load).none
 
-pub slots-for-one : IsLeastSlotCount one_half 1 8
-slots-for-one = eight _ one_half-load 1 (λ h. omega arith) (omega arith)
+pub slots-for-one : IsLeastSlotCount three_quarters 1 8
+slots-for-one = eight _ three_quarters-load 1 (λ h. omega arith) (omega arith)
 
-pub slots-for-four : IsLeastSlotCount one_half 4 8
-slots-for-four = eight _ one_half-load 4 (λ h. omega arith) (omega arith)
+pub slots-for-six : IsLeastSlotCount three_quarters 6 8
+slots-for-six = eight _ three_quarters-load 6 (λ h. omega arith) (omega arith)
 
-pub slots-for-five : IsLeastSlotCount one_half 5 16
-slots-for-five = doubled _ one_half-load 5 0 (λ h. omega arith) (omega arith)
+pub slots-for-seven : IsLeastSlotCount three_quarters 7 16
+slots-for-seven = doubled _ three_quarters-load 7 0 (λ h. omega arith) (omega arith)
 
-pub slots-for-eight : IsLeastSlotCount one_half 8 16
-slots-for-eight = doubled _ one_half-load 8 0 (λ h. omega arith) (omega arith)
+pub slots-for-twelve : IsLeastSlotCount three_quarters 12 16
+slots-for-twelve = doubled _ three_quarters-load 12 0 (λ h. omega arith) (omega arith)
 
-pub slots-for-nine : IsLeastSlotCount one_half 9 32
-slots-for-nine = doubled _ one_half-load 9 1 (λ h. omega arith) (omega arith)
+pub slots-for-thirteen : IsLeastSlotCount three_quarters 13 32
+slots-for-thirteen = doubled _ three_quarters-load 13 1 (λ h. omega arith) (omega arith)
 
-pub slots-for-sixteen : IsLeastSlotCount one_half 16 32
-slots-for-sixteen = doubled _ one_half-load 16 1 (λ h. omega arith) (omega arith)
+pub slots-for-twenty-four : IsLeastSlotCount three_quarters 24 32
+slots-for-twenty-four = doubled _ three_quarters-load 24 1 (λ h. omega arith) (omega arith)
 
-pub slots-for-seventeen : IsLeastSlotCount one_half 17 64
-slots-for-seventeen = doubled _ one_half-load 17 2 (λ h. omega arith) (omega arith)
+pub slots-for-twenty-five : IsLeastSlotCount three_quarters 25 64
+slots-for-twenty-five = doubled _ three_quarters-load 25 2 (λ h. omega arith) (omega arith)
 
-pub slots-for-thirty-two : IsLeastSlotCount one_half 32 64
-slots-for-thirty-two = doubled _ one_half-load 32 2 (λ h. omega arith) (omega arith)
+pub slots-for-forty-eight : IsLeastSlotCount three_quarters 48 64
+slots-for-forty-eight = doubled _ three_quarters-load 48 2 (λ h. omega arith) (omega arith)
 
-pub slots-for-thirty-three : IsLeastSlotCount one_half 33 128
-slots-for-thirty-three = doubled _ one_half-load 33 3 (λ h. omega arith) (omega arith)
+pub slots-for-forty-nine : IsLeastSlotCount three_quarters 49 128
+slots-for-forty-nine = doubled _ three_quarters-load 49 3 (λ h. omega arith) (omega arith)
 
 -- No slot count that fits 64 bits holds 2^63 entries, or the greatest number of 64 bits.
-pub no-slots-for-half-of-all : ¬ IsWithinHalf (2 ^ 63) (2 ^ 63)
+pub no-slots-for-half-of-all : ¬ IsWithinThreeQuarters (2 ^ 63) (2 ^ 63)
 no-slots-for-half-of-all holds = absurd (omega arith)
 
-pub no-slots-for-all : ¬ IsWithinHalf (2 ^ 63) (2 ^ 64 - 1)
+pub no-slots-for-all : ¬ IsWithinThreeQuarters (2 ^ 63) (2 ^ 64 - 1)
 no-slots-for-all holds = absurd (omega arith)
 
 -- Seven eighths.

@@ -1,5 +1,5 @@
 -- How many slots an `Index` has, by the count of entries that came one after another: from 8 on twice as many where more
--- than half would be filled. With the symbols that were moved as the slots grew.
+-- than three quarters would be filled. With the symbols that were moved as the slots grew.
 use Rattle.std.proofs.Common.{◌≡◌, ℕ, zero, suc, ◌+◌, ◌*◌, ◌<◌, ◌≤◌, cond, max, List, [], length, Option, sym, ap, subst, ◌∙◌, inl, inr, arith, refl}
 use Rattle.std.specs.Prelude.{nat_le}
 use Rattle.std.proofs.lemmas.Bool.{cases_lt, le-leb, lt-leb}
@@ -28,10 +28,10 @@ grown zero = 8
 grown (suc count) = 2 * suc count
 
 abbrev slots_more : ℕ → ℕ → ℕ
-slots_more n slots = cond (nat_le (2 * (n + 1)) slots) slots (grown slots)
+slots_more n slots = cond (nat_le (4 * (n + 1)) (3 * slots)) slots (grown slots)
 
 abbrev put_back_more : ℕ → ℕ → ℕ → ℕ
-put_back_more n slots put_back = cond (nat_le (2 * (n + 1)) slots) put_back (put_back + n)
+put_back_more n slots put_back = cond (nat_le (4 * (n + 1)) (3 * slots)) put_back (put_back + n)
 
 abbrev slots_after : ℕ → ℕ
 slots_after zero = 0
@@ -47,15 +47,15 @@ grown-is zero more (inr b) = let l = b.0 in absurd (omega arith)
 grown-is (suc slots) more (inl a) = let z = a.0 in absurd (omega arith)
 grown-is (suc slots) more (inr b) = sym b.1
 
-stay : (n slots put_back : ℕ) → 2 * (n + 1) ≤ slots → (slots_more n slots ≡ slots) × (put_back_more n slots put_back ≡ put_back)
-stay n slots put_back room = rw (le-leb (2 * (n + 1)) slots room) (refl, refl)
+stay : (n slots put_back : ℕ) → 4 * (n + 1) ≤ 3 * slots → (slots_more n slots ≡ slots) × (put_back_more n slots put_back ≡ put_back)
+stay n slots put_back room = rw (le-leb (4 * (n + 1)) (3 * slots) room) (refl, refl)
 
-grow : (n slots put_back more : ℕ) → slots < 2 * (n + 1) → GrowsTo slots more
+grow : (n slots put_back more : ℕ) → 3 * slots < 4 * (n + 1) → GrowsTo slots more
     → (slots_more n slots ≡ more) × (put_back_more n slots put_back ≡ put_back + n)
-grow n slots put_back more is_full grows = rw (lt-leb (2 * (n + 1)) slots is_full) (grown-is slots more grows, refl)
+grow n slots put_back more is_full grows = rw (lt-leb (4 * (n + 1)) (3 * slots) is_full) (grown-is slots more grows, refl)
 
-no_room_left : (n slots : ℕ) → (¬ (2 * (n + 1) ≤ slots)) → slots < 2 * (n + 1)
-no_room_left n slots none = elim (cases_lt slots (2 * (n + 1))) as (λ _. slots < 2 * (n + 1)) [ inl l ↦ l | inr l ↦ absurd (none l) ]
+no_room_left : (n slots : ℕ) → (¬ (4 * (n + 1) ≤ 3 * slots)) → 3 * slots < 4 * (n + 1)
+no_room_left n slots none = elim (cases_lt (3 * slots) (4 * (n + 1))) as (λ _. 3 * slots < 4 * (n + 1)) [ inl l ↦ l | inr l ↦ absurd (none l) ]
 
 abbrev Counts : {S : Type 0} → IndexContents S → ℕ → ℕ → ℕ → Type 0
 Counts index n slots put_back = (entry_count plain_layout index ≡ n) × (length index.slots ≡ slots) × (index.put_back ≡ put_back) × (index.greatest ≡ n)
@@ -65,7 +65,7 @@ counts (no_entries index none back most) = (ap (λ slots. length (symbols slots)
 counts (had_room {n = n} {old = old} {new = new} entry code symbol before room inserts) =
     let h = counts before in
     let a = h.0 in let b = h.1 in let d = h.3 in
-    let s = stay n (slots_after n) (put_back_after n) (subst (λ len. 2 * (n + 1) ≤ len) b (subst (λ count. 2 * (count + 1) ≤ length old.slots) a room)) in
+    let s = stay n (slots_after n) (put_back_after n) (subst (λ len. 4 * (n + 1) ≤ 3 * len) b (subst (λ count. 4 * (count + 1) ≤ 3 * length old.slots) a room)) in
     let count = inserts.count in let most = inserts.greatest in
     (omega arith, inserts.slots ∙ b ∙ sym s.0, inserts.put_back ∙ h.2 ∙ sym s.1, omega arith)
 counts (grew {n = n} {old = old} {bigger = bigger} {new = new} entry code symbol before none grows same inserts) =
@@ -87,26 +87,26 @@ after-no-entry S index filled = let h = counts filled in (h.1, h.2)
 pub after-one-entry : (S : Type 0) → AfterEntries S 1 8 0
 after-one-entry S index filled = let h = counts filled in (h.1, h.2)
 
-pub after-four-entries : (S : Type 0) → AfterEntries S 4 8 0
-after-four-entries S index filled = let h = counts filled in (h.1, h.2)
+pub after-six-entries : (S : Type 0) → AfterEntries S 6 8 0
+after-six-entries S index filled = let h = counts filled in (h.1, h.2)
 
-pub after-five-entries : (S : Type 0) → AfterEntries S 5 16 4
-after-five-entries S index filled = let h = counts filled in (h.1, h.2)
+pub after-seven-entries : (S : Type 0) → AfterEntries S 7 16 6
+after-seven-entries S index filled = let h = counts filled in (h.1, h.2)
 
-pub after-eight-entries : (S : Type 0) → AfterEntries S 8 16 4
-after-eight-entries S index filled = let h = counts filled in (h.1, h.2)
+pub after-twelve-entries : (S : Type 0) → AfterEntries S 12 16 6
+after-twelve-entries S index filled = let h = counts filled in (h.1, h.2)
 
-pub after-nine-entries : (S : Type 0) → AfterEntries S 9 32 12
-after-nine-entries S index filled = let h = counts filled in (h.1, h.2)
+pub after-thirteen-entries : (S : Type 0) → AfterEntries S 13 32 18
+after-thirteen-entries S index filled = let h = counts filled in (h.1, h.2)
 
-pub after-sixteen-entries : (S : Type 0) → AfterEntries S 16 32 12
-after-sixteen-entries S index filled = let h = counts filled in (h.1, h.2)
+pub after-twenty-four-entries : (S : Type 0) → AfterEntries S 24 32 18
+after-twenty-four-entries S index filled = let h = counts filled in (h.1, h.2)
 
-pub after-seventeen-entries : (S : Type 0) → AfterEntries S 17 64 28
-after-seventeen-entries S index filled = let h = counts filled in (h.1, h.2)
+pub after-twenty-five-entries : (S : Type 0) → AfterEntries S 25 64 42
+after-twenty-five-entries S index filled = let h = counts filled in (h.1, h.2)
 
--- nine entries that gave way to two: slots and counts stay
-pub after-truncating : (S : Type 0) (entry : S → Option Text) (code : Text → ℕ) (old new : IndexContents S) → Filled 9 old → Refills plain_layout entry code old new 2
-    → (length new.slots ≡ 32) × (new.put_back ≡ 12) × (new.greatest ≡ 9)
+-- thirteen entries that gave way to two: slots and counts stay
+pub after-truncating : (S : Type 0) (entry : S → Option Text) (code : Text → ℕ) (old new : IndexContents S) → Filled 13 old → Refills plain_layout entry code old new 2
+    → (length new.slots ≡ 32) × (new.put_back ≡ 18) × (new.greatest ≡ 13)
 after-truncating S entry code old new filled refills =
     let h = counts filled in (refills.slots ∙ h.1, refills.put_back ∙ h.2, refills.greatest ∙ ap (λ most. max most 2) h.3)

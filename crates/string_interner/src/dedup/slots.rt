@@ -12,7 +12,7 @@ use crate::symbol::Symbol;
 use std::alloc::{AllocError, Global};
 use std::marker::Model;
 
-/// Slots with symbols alone, at most half of which are filled.
+/// Slots with symbols alone, at most three quarters of which are filled.
 ///
 /// If 2^32 - 1 is no symbol's number, each slot has four bytes in `numbers`: the number of its symbol, or `u32::MAX`. A slot
 /// with `u32::MAX` has what `others` has for it: a symbol with a greater number, or nothing. `others` is empty if the type
@@ -92,8 +92,8 @@ impl<S: Symbol> Layout<S> for Slots<S> {
 
     #[inline(always)]
     fn has_room(count: usize, entries: usize) -> bool {
-        // A probe compares the text of each slot that it reads, so half of the slots stay empty to end it soon.
-        entries < count / 2
+        // Three quarters, since a slot count is a multiple of 4.
+        entries < count - count / 4
     }
 
     fn new(alloc: Global) -> Self {
