@@ -81,8 +81,8 @@ impl<S: Symbol, L: Probe<S>> Table<S, L> {
     }
 
     /// Makes an index without entries, with the least slot count that the load factor allows for `capacity` of them:
-    /// none for 0, and else a power of two from 8 on. With one half, 8 for 4 entries and 16 for 5; with seven
-    /// eighths, 8 for 7 and 16 for 8.
+    /// none for 0, and else a power of two from 8 on. With three quarters, 8 for 6 entries and 16 for 7; with
+    /// seven eighths, 8 for 7 and 16 for 8.
     ///
     /// Returns `Err` only if an allocation fails or that count does not fit a `usize`.
     pub fn with_capacity(alloc: Global, capacity: usize) -> Result<Self, AllocError>
