@@ -194,7 +194,7 @@ class Slots:
 
     def holds(self, count, texts):
         """Whether so many slots hold so many texts."""
-        return 8 * texts <= 7 * count if self.is_tagged else 2 * texts <= count
+        return 8 * texts <= 7 * count if self.is_tagged else 4 * texts <= 3 * count
 
     def with_capacity(self, capacity):
         """New slots, the least that hold so many texts."""

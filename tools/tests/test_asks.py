@@ -40,8 +40,8 @@ class AnswersTest(unittest.TestCase):
                 calls = f"interner buffer {symbol} default\nwith_capacity 4\n".encode()
                 self.assertEqual(reckon(calls, b"ok\n"), [[*asked, 52]])
 
-    def test_slots_half_of_which_are_filled(self):
-        for count, asked in ((1, 32), (4, 32), (5, 64), (8, 64), (9, 128)):
+    def test_slots_three_quarters_of_which_are_filled(self):
+        for count, asked in ((1, 32), (6, 32), (7, 64), (12, 64), (13, 128)):
             with self.subTest(count):
                 calls = f"interner buffer SymbolU32 default\nwith_capacity {count}\n".encode()
                 self.assertEqual(reckon(calls, b"ok\n"), [[asked, 13 * count]])
@@ -58,7 +58,7 @@ class TaggedTest(unittest.TestCase):
 
     def test_seven_eighths(self):
         calls = b"interner buffer SymbolU32 default\nextend_numbers 8\n"
-        self.assertEqual(asks_with_tags(calls, b"asks 16\nasks 32\nasks 8\nasks 64\nasks 16\nok\n"),
+        self.assertEqual(asks_with_tags(calls, b"asks 16\nasks 32\nasks 8\nasks 16\nasks 64\nok\n"),
                          [[16, 64, 24, 8, 16, 128, 32]])
 
     def test_what_the_program_asks_itself_stays(self):
