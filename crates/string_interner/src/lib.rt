@@ -70,8 +70,9 @@
 //!
 //! # Errors
 //!
-//! Anything that allocates takes the allocator when it is made, and returns a `Result`. A failed call changes no text and
-//! no symbol; `extend` and `intern_all` keep the texts before the one that failed.
+//! An interner takes the allocator when it is made, and `to_json`, `symbol_to_json` and `run` take it with the call. A call
+//! that can fail to allocate returns a `Result`. A failed call changes no text and no symbol, but `extend` and `intern_all`
+//! keep the texts before the one that failed.
 #![tactic(auto)]
 
 pub mod backend;
