@@ -62,7 +62,7 @@
 //! | Module | What it has |
 //! |---|---|
 //! | [`symbol`] | which numbers symbols may have |
-//! | [`hash`] | hashers, and which of them are safe with texts from strangers |
+//! | [`hash`] | hashers, and which of them to take for texts from strangers |
 //! | [`dedup`] | indexes, which find the symbol of a text |
 //! | [`json`] | writing an interner to JSON, and reading it back with the same symbols |
 //! | [`scope`] | names in nested scopes |
