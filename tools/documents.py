@@ -9,7 +9,7 @@
 - a block of Rattle that stands in no crate to the word, at the margin or indented as a body, so that nothing proves it; so in
   the front page of the library, too;
 - a block in C, Rust, Python or for a shell that stands in no example of clients/ in the same way, so that nothing runs it;
-- a README of more than 120 lines, or more than 14,000 words on all pages for readers, besides tables and docs/promises.md;
+- a README of more than 120 lines, or more than 14,000 words on all pages for readers, besides tables;
 - a place that names another version than the file VERSION.
 """
 
@@ -41,7 +41,6 @@ SHOWN = {
 }
 FRONT_PAGE = "crates/string_interner/src/lib.rt"
 NAMES_THE_ORIGINAL = "docs/PORTING.md"
-PROMISES = "docs/promises.md"
 # What names the version, and the line that does; of several such lines the first.
 VERSIONS = {
     "CHANGELOG.md": r"^## \[(.*)\] - \d{4}-\d\d-\d\d$",
@@ -179,7 +178,7 @@ def long_pages(texts):
     """What is too long of the pages for readers: those at the top, and those in docs/."""
     if (lines := len(texts.get("README.md", "").splitlines())) > MOST_LINES:
         yield f"README.md: {lines} lines, and {MOST_LINES} may be"
-    pages = [page for page in texts if PurePosixPath(page).parent in map(PurePosixPath, (".", "docs")) and page != PROMISES]
+    pages = [page for page in texts if PurePosixPath(page).parent in map(PurePosixPath, (".", "docs"))]
     if (words := sum(count_words(texts[page]) for page in pages)) > MOST_WORDS:
         yield f"{words} words in {', '.join(sorted(pages))}, and {MOST_WORDS} may be"
 

@@ -119,7 +119,6 @@ class DocumentsTest(SmallRepository):
     def test_many_words(self):
         words = documents.count_words(README) + documents.count_words("# Words\n\n## What *they* mean\n")
         self.write("docs/MORE.md", "word " * (14_000 - words) + "\n| a | table |\n")
-        self.write("docs/promises.md", "word " * 20_000)
         self.write("low/MORE.md", "word " * 20_000)
         self.assertEqual(list(documents.faults()), [])
         self.write("docs/MORE.md", "word " * (14_001 - words))
