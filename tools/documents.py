@@ -7,7 +7,7 @@
   docs/PORTING.md names of the original;
 - a worked row or a law in a code span that no proof defines;
 - a block of Rattle that stands in no crate to the word, at the margin or indented as a body, so that nothing proves it; so in
-  the front page of the library, too;
+  the front page of the library, too, but not in the section of the guide that tools/try_guide.py follows;
 - a block in C, Rust, Python or for a shell that stands in no example of clients/ in the same way, so that nothing runs it;
 - a README of more than 120 lines, or more than 14,000 words on all pages for readers, besides tables;
 - a place that names another version than the file VERSION.
@@ -20,6 +20,7 @@ from functools import cached_property
 from pathlib import PurePosixPath
 from textwrap import indent
 
+import try_guide
 from edits import TOP
 from files import read
 
@@ -164,7 +165,7 @@ def untried_blocks(language, blocks, repository):
 
 
 def untried_examples(page, text, repository):
-    blocks = BLOCK.findall(text)
+    blocks = BLOCK.findall(try_guide.SECTION.sub("", text) if page == try_guide.PAGE else text)
     for language in SHOWN.get(page, ()):
         yield from untried_blocks(language, [block for name, block in blocks if name == language.lower()], repository)
 
