@@ -1,7 +1,7 @@
 //! A string interner: it stores each distinct text once, and gives it a small symbol.
 //!
 //! Two texts are equal exactly if their symbols are. So a program compares, hashes and stores symbols, which are
-//! numbers, and resolves a symbol only to show its text. Every function has a contract, and is proved to keep it.
+//! numbers, and resolves a symbol only to show its text. Every function is proved to keep its contract.
 //!
 //! # Examples
 //!
