@@ -1,15 +1,17 @@
 #!/usr/bin/env python3
-"""tables.py [--docs]: makes tables of what bench/run measured, in bench/out/tables.md: those of the documents, and more.
+"""tables.py [--docs | --check]: makes tables of what bench/run measured, in bench/out/tables.md: those of the documents, and more.
 
 With --docs it also puts each block between its two marker lines in README.md and docs/PERFORMANCE.md, and the results next to
-the pictures."""
+the pictures. With --check it makes nothing, and fails if these are results of other code than today's, or the documents show
+others: comments, contracts and proofs are no code here."""
 import re
 import shutil
 import sys
 
 from results import BACKENDS, BY_C, DEFAULT, DOCS, FAST, FNV, HERE, INPUTS, KEYED, LINES, MAP, ORIGINAL, PHASES, SET
-from results import PARTS, PICTURES, TEXTS, TAGGED, Results
+from results import PARTS, PICTURES, TEXTS, TAGGED, Results, sum_of
 
+DOCUMENTS = (DOCS.parent / "README.md", DOCS / "PERFORMANCE.md")
 MEASURES = (*PHASES, "live", "peak")
 CALLS = ("fill", "known", "unknown")
 # What each picture shows, for whoever cannot see it.
@@ -291,18 +293,39 @@ def put(text, made):
     return text
 
 
+def faults(results):
+    """What the documents show that was not measured of today's code, or not at all."""
+    for part in PARTS:
+        if results.heads[part].get("code") != sum_of(part):
+            yield f"docs/pictures/{part}.tsv: the code has changed since; bench/run --docs --only {part} measures it"
+    made = blocks(results)
+    for document in DOCUMENTS:
+        text = document.read_text(encoding="utf-8")
+        if put(text, made) != text:
+            yield f"{document.relative_to(DOCS.parent)}: shows other results than docs/pictures has"
+
+
+def check():
+    found = list(faults(Results(PICTURES["docs"])))
+    print(*found, f"{len(PARTS) + len(DOCUMENTS) - len(found)} passed, {len(found)} failed", sep="\n")
+    return 1 if found else 0
+
+
 def main():
+    if "--check" in sys.argv:
+        return check()
     results = Results()
     made, more = blocks(results), details(results)
     (HERE / "out/tables.md").write_text("\n\n".join([*made.values(), *more.values()]) + "\n", encoding="utf-8")
     if "--docs" in sys.argv:
-        for document in (DOCS.parent / "README.md", DOCS / "PERFORMANCE.md"):
+        for document in DOCUMENTS:
             document.write_text(put(document.read_text(encoding="utf-8"), made), encoding="utf-8")
         PICTURES["docs"].mkdir(exist_ok=True)
         for part in PARTS:
             shutil.copy(HERE / f"out/{part}.tsv", PICTURES["docs"])
     print(f"{more['nanoseconds']}\n\n{results.line(*PARTS)}")
+    return 0
 
 
 if __name__ == "__main__":
-    main()
+    sys.exit(main())

@@ -31,7 +31,7 @@ PACKAGES = "the packages python3-sphinx, python3-myst-parser and furo of Debian"
 LISTS = {
     "Use": ["docs/GUIDE", "docs/PORTING", "docs/PERFORMANCE", "clients/README", *(f"crates/{it}/README" for it in api.CRATES)],
     "Contracts": ["docs/CONTRACTS", "crates/string_interner/CALLERS", *(f"api/{it}" for it in api.CRATES), "api/definitions", "docs/promises", "genindex"],
-    "Work on it": ["CONTRIBUTING", "docs/DESIGN"],
+    "Work on it": ["CONTRIBUTING", "docs/DESIGN", "docs/DECISIONS"],
 }
 TOCTREE = "\n```{{toctree}}\n:hidden:\n:caption: {caption}\n\n{names}\n```\n"
 ORPHAN = "---\norphan: true\n---\n"
