@@ -15,12 +15,14 @@ from functools import cached_property
 from edits import TOP
 from files import read
 from surface import Crate, sections
-from touched import DEFINES, RECORD
 
 CRATES = ("string_interner", "string_column")
 # The names that a source, or a file of specs/, takes from definitions of a crate.
 IMPORT = re.compile(r"^ *(?:ghost )?use Rattle\.(?P<crate>\w+)\.specs\.(?P<file>\w+)\.\{(?P<names>[^}]*)\}", re.M)
 WORD = re.compile(r"[\w'-]+")
+# The names that a definition of specs/ defines.
+DEFINES = re.compile(r"^ *(?:(?:pub|abbrev|unfoldable) )+(?:record |data )?([^\s:(]+)", re.M)
+RECORD = re.compile(r"^ *(?:pub )?(?:record|data) (\S+)")
 # A line by which an item may be public, whatever words it has.
 ITEM_LINE = re.compile(r"^pub\s+(?:\w+\s+)*?(?:const|enum|fn|static|struct|trait|type|union)\s+(?!fn\b)(\w+)", re.M)
 COMMENT = re.compile(r"^ *(?:///|//|--).*$", re.M)
