@@ -1,13 +1,9 @@
-#!/usr/bin/env python3
 """Writes the pages on what callers of the library have: each public item with its doc and its contract, and the definitions
-that contracts cite. tools/make_site.py puts them into the site.
-
-    tools/api.py    counts the items of each crate, and fails if the pages leave one out. What is public is told line by line
-                    then, and not as the pages tell it
+that contracts cite. tools/make_site.py puts them into the site, and fails if they leave out an item. What is public is told line
+by line then, and not as the pages tell it.
 """
 
 import re
-import sys
 from collections import Counter
 from dataclasses import dataclass
 from functools import cached_property
@@ -248,15 +244,3 @@ def faults(pages):
         told = told_by_lines(crate)
         yield from (f"{crate}: {name} is public, and not shown" for name in told - shown)
         yield from (f"{crate}: {name} is shown, and not public" for name in shown - told)
-
-
-def main():
-    pages = Pages()
-    found = list(faults(pages))
-    counts = (f"{crate}: {sum(told_by_lines(crate).values())} items and methods" for crate in CRATES)
-    print(*counts, f"{len(pages.cited)} definitions", *found, sep="\n")
-    return 1 if found else 0
-
-
-if __name__ == "__main__":
-    sys.exit(main())

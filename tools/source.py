@@ -46,15 +46,18 @@ def block_around(text, function):
     return [None, *BLOCK.finditer(text[: function.start])][-1] if function.is_method else None
 
 
-def names_a_type(text, at):
-    """Reports whether the generic parameters that stand at an offset, if any, are more than lifetimes."""
-    if text[at] != "<":
-        return False
+def end_of_generics(text, at):
+    """The offset behind the generic parameters that stand at an offset, if any."""
     end, depth = at, 0
-    while depth or end == at:
+    while text[at] == "<" and (depth or end == at):
         depth += {"<": 1, ">": -(text[end - 1] != "-")}.get(text[end], 0)
         end += 1
-    return bool(re.search(r"[<,]\s*\w", text[at:end]))
+    return end
+
+
+def names_a_type(text, at):
+    """Reports whether the generic parameters that stand at an offset, if any, are more than lifetimes."""
+    return bool(re.search(r"[<,]\s*\w", text[at : end_of_generics(text, at)]))
 
 
 def outside_functions(text):
