@@ -99,11 +99,16 @@ def choose_edits(of, names, folder=REFUSED):
     return [edit for edit in every if not names or edit.name in names]
 
 
+def listed(top):
+    """The lines of a tree's crates.txt, by crate."""
+    lines = (top / "crates.txt").read_text(encoding="utf-8").splitlines()
+    return {line.partition(":")[0].split()[0]: line for line in lines if line.strip()}
+
+
 @cache
 def crates():
     """The crates in the order of crates.txt, each with the crates that its line names."""
-    lines = (line.partition(":") for line in (TOP / "crates.txt").read_text(encoding="utf-8").splitlines())
-    return {crate.split()[0]: named.split() for crate, _, named in lines if crate.strip()}
+    return {crate: line.partition(":")[2].split() for crate, line in listed(TOP).items()}
 
 
 def below(crate):

@@ -1,10 +1,9 @@
 """Reads and writes files, and copies crates."""
 
-import re
 import shutil
 from pathlib import Path
 
-from edits import CAUGHT, REFUSED, crates
+from edits import CAUGHT, REFUSED, crates, listed
 
 
 def read(path):
@@ -23,6 +22,5 @@ def copy_crates(source, into, names=None, with_built=()):
     for name in names:
         left_out = [REFUSED, CAUGHT] + ([] if name in with_built else ["out"])
         shutil.copytree(source / "crates" / name, into / "crates" / name, ignore=shutil.ignore_patterns(*left_out))
-    lines = read(source / "crates.txt").splitlines(keepends=True)
-    write(into / "crates.txt", "".join(line for line in lines if re.match(r"\w*", line)[0] in names))
+    write(into / "crates.txt", "".join(f"{line}\n" for crate, line in listed(source).items() if crate in names))
     shutil.copy(source / "HANDLES", into)

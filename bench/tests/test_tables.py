@@ -114,13 +114,6 @@ class Tables(unittest.TestCase):
         results = results_of(*((FAST["string"], *row) for row in (*rows, ("words", 30, "fill", 1))))
         self.assertEqual(results.counted("words"), [10, 20])
 
-    def test_rounds_have_a_table_each_for_least_median_and_spread(self):
-        values = {"fill": 100, "fill median": 111, "fill spread": 7}
-        rows = [(FAST["string"], "identifiers", 10, measure, value) for measure, value in values.items()]
-        shown = tables.nanoseconds(results_of(*rows)).split("\n\n")
-        lines = [table.splitlines()[-1] for table in shown[1::2]]
-        self.assertEqual([line.split(" | ")[1] for line in lines], ["100", "111", "7.00"])
-
     def test_calls_through_c_are_shown_once_all_are_measured(self):
         rows = [(kind, "identifiers", 10, "fill", 7) for kind in (FAST["string"], *BY_C)]
         rows.append((FAST["string"], "identifiers", 10, "fill cycles", 5))

@@ -110,8 +110,8 @@ class SmallRepository(unittest.TestCase):
             patch = mock.patch.object(module, "TOP", self.top)
             patch.start()
             self.addCleanup(patch.stop)
-        self.addCleanup(self.forget)
-        self.forget()
+        self.addCleanup(edits.crates.cache_clear)
+        edits.crates.cache_clear()
         self.write("crates.txt", "low: std_alloc\nhigh: low\n")
         self.write("crates/low/src/lib.rt", SOURCE)
         self.write("crates/low/src/shape.rt", SHAPE)
@@ -122,10 +122,6 @@ class SmallRepository(unittest.TestCase):
             self.write_edit(name, old, new, function, goal, crate)
         self.git("init", "-q")
         self.commit = self.commit_all()
-
-    def forget(self):
-        edits.crates.cache_clear()
-        touched.words_of_methods.cache_clear()
 
     def write(self, name, text):
         path = self.top / name

@@ -34,6 +34,9 @@ class PartTest(unittest.TestCase):
             self.assertEqual((is_well, part.failed), (False, 1), script)
             self.assertIn("and no count of what passed", printed)
 
+    def test_a_part_that_a_signal_ends(self):
+        self.assertIn("it: ended by SIGKILL, and no count", self.run_part("kill -9 $$")[2])
+
     def test_tests_of_python(self):
         self.assertEqual(self.run_part("echo 'Ran 157 tests in 0.5s'")[1].passed, 157)
         self.assertEqual(self.run_part("echo 'Ran 157 tests in 0.5s'; exit 1")[1].failed, 1)
@@ -41,12 +44,6 @@ class PartTest(unittest.TestCase):
     def test_a_part_that_counts_nothing(self):
         self.assertTrue(self.run_part("true", is_counted=False)[0])
         self.assertFalse(self.run_part("exit 1", is_counted=False)[0])
-
-    def test_what_is_said_on_the_way(self):
-        part = CHECK["Gate"](None).begin("it", ["sh", "-c", "echo begun; sleep 60"])
-        self.assertTrue(part.says("^begun"))
-        part.end()
-        self.assertFalse(part.says("^done"))
 
     def test_the_count_of_all(self):
         self.run_part("echo '3 passed, 2 failed'")
@@ -58,17 +55,31 @@ class PartTest(unittest.TestCase):
         self.assertEqual(lines[-2:], ["left out: a thing", "3 passed, 2 failed"])
 
 
+class EndedTest(unittest.TestCase):
+    def test_a_gate_that_a_signal_ends(self):
+        """The signal comes to a part that waits for one, after a part that has ended."""
+        words = ["import os, runpy, signal, sys", f"CHECK = runpy.run_path({str(edits.TOP / 'check')!r})", "gate = CHECK['Gate'](None)",
+                 "gate.run('one', ['sh', '-c', 'echo 3 passed, 0 failed'])",
+                 "CHECK['MODES']['quick'] = lambda gate: gate.run('two', ['sh', '-c', f'sleep 0.5; kill -TERM {os.getpid()}; sleep 60'])",
+                 "sys.exit(CHECK['run_mode'](gate, 'quick'))"]
+        ended = subprocess.run([sys.executable, "-c", "\n".join(words)], capture_output=True, encoding="utf-8", check=False)
+        lines = ended.stdout.splitlines()
+        self.assertEqual((ended.returncode, lines[-1]), (1, "3 passed, 1 failed"), ended.stderr)
+        self.assertIn("ended by SIGTERM. Cut: two. What comes after was not begun", lines)
+
+
 class SiteTest(unittest.TestCase):
-    def try_site(self, lacking):
+    def begin_site(self, lacking):
         """What is left out, and which parts run, if this is lacking."""
         gate = CHECK["Gate"](None)
-        with mock.patch.object(CHECK["make_site"], "missing", lambda: lacking), mock.patch.object(gate, "run") as run:
-            CHECK["try_site"](gate)
-        return gate.left_out, [call.args[0] for call in run.call_args_list]
+        named = mock.patch.dict(CHECK["begin_site"].__globals__, {"missing": lambda needs: lacking})
+        with named, mock.patch.object(gate, "begin") as begin:
+            CHECK["begin_site"](gate, "folder")
+        return gate.left_out, [call.args[0] for call in begin.call_args_list]
 
     def test_what_is_left_out(self):
-        self.assertEqual(self.try_site("no sphinx"), (["no sphinx"], []))
-        self.assertEqual(self.try_site(None), ([], ["the site of the documents"]))
+        self.assertEqual(self.begin_site(["no sphinx"]), (["no sphinx"], []))
+        self.assertEqual(self.begin_site([]), ([], ["the site of the documents"]))
 
 
 class SizesTest(unittest.TestCase):

@@ -56,13 +56,11 @@ class PlantedBugsTest(unittest.TestCase):
         self.assertEqual(sorted(set(names)), sorted(names))
 
     def test_each_scenario_is_there(self):
-        names = {path.stem for folder in (scenarios.SMALL, scenarios.LARGE) for path in scenarios.find_calls(folder)}
+        names = {"suite": {path.stem for folder in (scenarios.SMALL, scenarios.LARGE) for path in scenarios.find_calls(folder)}}
+        names |= {"intern": set(intern.parts()), "dictcol": set(dictcol.parts())}
         for edit in self.every(edits.CAUGHT):
             with self.subTest(edit.name):
-                if edit.crate == "string_interner":
-                    self.assertLessEqual(set(edit.scenario), names)
-                else:
-                    self.assertLessEqual(set(edit.scenario), set({"intern": intern, "dictcol": dictcol}[edit.program].parts()))
+                self.assertLessEqual(set(edit.scenario), names[edit.program])
 
 
 if __name__ == "__main__":

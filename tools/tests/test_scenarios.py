@@ -1,10 +1,14 @@
 """What is read from the files of scenarios, and where these files belong."""
 
 import hashlib
+import importlib.util
+import os
+import re
 import subprocess
 import sys
 import tempfile
 import unittest
+from itertools import accumulate, islice
 from pathlib import Path
 
 sys.path.insert(0, str(Path(__file__).resolve().parent.parent))
@@ -90,18 +94,67 @@ class TaggedTest(unittest.TestCase):
         self.assertEqual(parts_of(b"tagged_run string SymbolU32 fold\nIntern a\nLen\n"), [Part(b"run", 3)])
 
 
-@unittest.skipUnless(sys.hash_info.algorithm == "siphash13", "Python hashes by another function")
 class ChosenTest(unittest.TestCase):
-    def test_texts_that_are_chosen_again(self):
-        script = CRATE / LARGE / "choose.py"
+    """The scenarios that large/choose.py wrote. It took the texts that it found first; here they are not searched for again."""
+
+    @classmethod
+    def setUpClass(cls):
+        cls.script = CRATE / LARGE / "choose.py"
+        spec = importlib.util.spec_from_file_location("choose", cls.script)
+        cls.choose = importlib.util.module_from_spec(spec)
+        spec.loader.exec_module(cls.choose)
+        cls.kept = {path.relative_to(cls.script.parent): path.read_bytes() for path in cls.script.parent.rglob("chosen_*")}
+        cls.found = {kind: cls.pairs_of(name) for kind, name in (("words", "chosen_texts_string"), ("blocks", "chosen_blocks_string_sip"))}
+        letters = [letter - ord("!") for letter in cls.call_of("chosen_numbers_under_other_keys", b"distances")]
+        distances = (94 * high + low for high, low in zip(letters[::2], letters[1::2]))
+        cls.found["numbers"] = [b"%d" % number for number in accumulate(distances)]
+
+    @classmethod
+    def call_of(cls, name, word):
+        """What a scenario gives a call besides its count."""
+        text = b"".join(text for path, text in cls.kept.items() if path.stem == name)
+        return re.search(rb"\b%s \d+ (.*)" % word, text)[1]
+
+    @classmethod
+    def pairs_of(cls, name):
+        words = cls.call_of(name, b"choices").split(b",")
+        return list(zip(words[::2], words[1::2]))
+
+    @unittest.skipUnless(sys.hash_info.algorithm == "siphash13", "Python hashes by another function")
+    def test_what_is_written_of_them(self):
         with tempfile.TemporaryDirectory() as folder:
-            subprocess.run([sys.executable, script, folder], check=True)
-            chosen = {path.relative_to(folder): path.read_bytes() for path in Path(folder).rglob("chosen_*")}
-        kept = {path.relative_to(script.parent): path.read_bytes() for path in script.parent.rglob("chosen_*")}
-        self.assertEqual(sorted(kept), sorted(chosen))
-        for name in kept:
+            self.choose.write_scenarios(Path(folder), self.found)
+            written = {path.relative_to(folder): path.read_bytes() for path in Path(folder).rglob("chosen_*")}
+        self.assertEqual(sorted(self.kept), sorted(written))
+        for name, text in self.kept.items():
             with self.subTest(name):
-                self.assertTrue(kept[name] == chosen[name])
+                self.assertTrue(text == written[name])
+
+    def test_words_have_one_code(self):
+        pairs = self.found["words"]
+        texts = [self.choose.choose(pairs, number) for number in (0, 2 ** 16 - 1, *(2 ** at for at in range(16)))]
+        self.assertEqual((len(pairs), len({*texts}), len({self.choose.fnv_1a(text, bits=32) for text in texts})), (16, 18, 1))
+
+    def test_blocks_have_the_code_0(self):
+        pairs = self.found["blocks"]
+        texts = [self.choose.choose(pairs, number) for number in (0, 2 ** len(pairs) - 1, *(2 ** at for at in range(len(pairs))))]
+        self.assertEqual({self.choose.fold_code(text) for text in texts}, {0})
+
+    @unittest.skipUnless(sys.hash_info.algorithm == "siphash13", "Python hashes by another function")
+    def test_numbers_are_in_few_slots(self):
+        script = f"import sys; print(sum(bool(hash(it) & {self.choose.ZERO}) for it in sys.stdin.buffer.read().split()))"
+        keys = {**os.environ, "PYTHONHASHSEED": self.choose.SEEDS["keyed"]}
+        words, numbers = [sys.executable, "-c", script], b"\n".join(self.found["numbers"])
+        self.assertEqual(subprocess.run(words, env=keys, input=numbers, check=True, stdout=subprocess.PIPE).stdout, b"0\n")
+        self.assertEqual(len(self.found["numbers"]), 50000)
+
+    def test_the_searches(self):
+        one, other = self.choose.find_pair(b"front", bits=12)
+        codes = {self.choose.fnv_1a(b"front" + word, bits=12) for word in (one, other)}
+        self.assertEqual((one != other, len(codes)), (True, 1))
+        self.assertEqual(self.choose.find_zero(self.choose.mix(7, b"0123456789abcdef"))[:16].isalnum(), True)
+        first = islice(self.choose.find_numbers(), 3)
+        self.assertEqual([hash(it) & self.choose.ZERO for it in first], [0, 0, 0])
 
 
 class FilesTest(unittest.TestCase):
