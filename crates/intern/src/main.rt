@@ -4,6 +4,8 @@
 mod fault;
 mod line;
 mod serve;
+#[cfg(test)]
+mod tests;
 
 use fault::Fault;
 use std::env;
