@@ -228,7 +228,7 @@ def unreadable(_):
 
 
 def unwritable(_):
-    return UNWRITABLE
+    return 1, UNWRITABLE
 
 
 COMMANDS = b"i Tiger\ng Bear\nr 0\nlen\nshrink\nr 9\n"
