@@ -82,6 +82,35 @@ class SiteTest(unittest.TestCase):
         self.assertEqual(self.begin_site([]), ([], ["the site of the documents"]))
 
 
+class CheckTest(unittest.TestCase):
+    def parts_of_check(self, is_proved):
+        """The parts that ./check runs in order, and whether the libraries that it proved are kept."""
+        gate, kept = CHECK["Gate"](None), []
+        begun = []
+
+        def begin(name, words, folder=None):
+            begun.append((name, words[:2]))
+            return mock.Mock(said="no pip on this machine: it\n", **{"wait.return_value": is_proved})
+
+        changed = {"missing": lambda needs: [], "stamp_libraries": kept.append, "take_libraries": lambda tree, top: kept.append(tree)}
+        changed["copy_crates"] = lambda source, into: (into / "crates.txt").touch()
+        with mock.patch.dict(CHECK["check"].__globals__, changed), mock.patch.object(gate, "begin", begin):
+            CHECK["check"](gate)
+        self.assertEqual(len({*kept}), len(kept) // 2)
+        return [name for name, _ in begun], dict(begun)["proofs"], len(kept), gate.left_out
+
+    def test_the_parts(self):
+        names, words, kept, left_out = self.parts_of_check(True)
+        self.assertEqual(names, ["the site of the documents", "proofs", "the library for C and its clients", "scenarios",
+                                 "the program", "the program dictcol"])
+        self.assertEqual((words, kept), (["rt", "ci"], 2))
+        self.assertIn("no pip on this machine: it", left_out)
+
+    def test_nothing_runs_that_is_not_proved(self):
+        names, _, kept, _ = self.parts_of_check(False)
+        self.assertEqual((names, kept), (["the site of the documents", "proofs"], 0))
+
+
 class SizesTest(unittest.TestCase):
     def test_a_process_and_those_below_it(self):
         hold = "import sys; it = b'x' * (64 << 20); print(flush=True); sys.stdin.read()"
