@@ -98,7 +98,8 @@ def stale(crate, record):
     if not Path(record, "inputs").exists():
         return None if record.is_dir() else f"no proof of {crate.name} is recorded"
     inputs = Path(record, "inputs").read_text(encoding="utf-8")
-    recorded = dict(re.findall(r'^file "(.*)" (\w+)$', inputs, re.M))
+    # `file` has a file as macros leave it, and then `written` has it as it was written.
+    recorded = {path: sum_of for kind in ("file", "written") for path, sum_of in re.findall(rf'^{kind} "(.*)" (\w+)$', inputs, re.M)}
     recorded |= dict.fromkeys(re.findall(r"^library (\w+) --extern ", inputs, re.M), "library")
     files = [Path(it) for it in toolchain().files_of(crate.folder) if it.endswith((".rt", ".antt"))]
     present = {str(it.relative_to(crate.folder)): hashlib.sha256(it.read_bytes()).hexdigest() for it in files}

@@ -15,7 +15,7 @@ intern: string_interner
 dictcol: string_interner
 string_interner_c staticlib: string_interner
 """
-# Stands for the prover. A record has the hashes of files, of the libraries below and of all that; what is built names the sources.
+# Stands for the prover. A record has the hashes of files as macros leave them and as they are, of the libraries below and of all that.
 RATTLE = """#!{python}
 import hashlib, os, re, sys
 words = sys.argv[1:]
@@ -24,7 +24,7 @@ sum_of = lambda text: hashlib.sha256(text.encode()).hexdigest()
 files = [f"{{at}}/{{name}}" for part in ("src", "specs", "proofs") for at, _, names in os.walk(part) for name in names]
 of_kit = [f"library std --extern {{sum_of('std')}}"]
 externs = [it.split("=") for flag, it in zip(words, words[1:]) if flag == "--extern" and "/kit/rlibs/" not in it]
-inputs = [f'file "{{it}}" {{sum_of(open(it).read())}}' for it in sorted(files)] + of_kit
+inputs = [f'file "{{it}}" {{sum_of(open(it).read() * 2)}}\\nwritten "{{it}}" {{sum_of(open(it).read())}}' for it in sorted(files)] + of_kit
 inputs = "\\n".join([*inputs, *(f"library {{name}} --extern {{sum_of(open(at).read())}}" for name, at in externs)])
 record, made, proved = after("--crate-checked"), after("-o"), "logic=proved functions=2 cache=trusted"
 if record:

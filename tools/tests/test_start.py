@@ -14,10 +14,10 @@ TOP = Path(__file__).resolve().parents[2]
 RT = """#!/bin/sh
 [ -d src ] || exit
 mkdir -p out/incremental/of_this_prover
-touch out/incremental/of_this_prover/first.Proof.oantt
+touch out/incremental/of_this_prover/first.Proof.oantt out/incremental/of_this_prover/type.TheImpl.Proof.oantt
 if [ -e ../../takes ]; then
     echo "rt: waiting for another rt to finish in $PWD"
-    echo 'so far: 0 of 8 functions checked'
+    echo 'so far: 0 of 8 functions checked; the verdict comes last'
     sleep "$(cat ../../takes)"
 fi
 echo "echo \\"$(cat src/main.rt) \\$*\\"" > out/intern
