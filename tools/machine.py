@@ -3,6 +3,8 @@
 import os
 import re
 import subprocess
+from functools import cache
+from pathlib import Path
 
 PROCESSORS = len(os.sched_getaffinity(0))
 
@@ -18,3 +20,9 @@ def run_in(folder, *words):
     ran = subprocess.run(list(map(str, words)), cwd=folder, stdin=subprocess.DEVNULL, stdout=subprocess.PIPE,
                          stderr=subprocess.STDOUT, encoding="utf-8", errors="replace", check=False)
     return ran.returncode, ran.stdout
+
+
+@cache
+def toolchain_folder() -> Path:
+    """The folder of the Rattle toolchain."""
+    return Path(run_in("/", "rt", "doc")[1].split()[-1]).parent
