@@ -40,7 +40,7 @@ class Edit:
     changes: list[Change] = field(default_factory=list)
     function: str | None = None
     goal: str | None = None
-    scenario: list[str] | None = None
+    scenario: list[str] = field(default_factory=list)
 
     @property
     def files(self):

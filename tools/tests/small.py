@@ -9,6 +9,7 @@ from unittest import mock
 
 sys.path.insert(0, str(Path(__file__).resolve().parent.parent))
 import edits
+import plan
 import touched
 import trial
 
@@ -106,7 +107,7 @@ class SmallRepository(unittest.TestCase):
         folder = tempfile.TemporaryDirectory()
         self.addCleanup(folder.cleanup)
         self.top = Path(folder.name)
-        for module in (edits, touched, trial):
+        for module in (edits, plan, touched, trial):
             patch = mock.patch.object(module, "TOP", self.top)
             patch.start()
             self.addCleanup(patch.stop)
