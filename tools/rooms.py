@@ -104,7 +104,6 @@ class BucketRoom:
 
     def __init__(self, memory, capacity=0):
         self.entries = BackendRoom(memory, 16, capacity)
-        self.others = Room(memory, 24, capacity)
         self.older = Room(memory, 32)
         self.head = Room(memory, 1, capacity)
         self.older_bytes = 0
@@ -114,7 +113,6 @@ class BucketRoom:
         self.entries.add()
         self.lengths.append(None if is_static else len(text))
         if is_static:
-            self.others.add()
             return
         if self.head.length + len(text) > self.head.capacity:
             self.older.add()
@@ -125,16 +123,15 @@ class BucketRoom:
 
     def keep(self, texts):
         del self.lengths[len(texts):]
-        self.entries.length, self.others.length = len(texts), self.lengths.count(None)
+        self.entries.length = len(texts)
 
     def shrink(self):
         self.entries.shrink()
-        self.others.shrink()
         self.older.shrink()
 
     def copy(self, memory):
         made = BucketRoom(memory)
-        made.entries, made.others, made.lengths = self.entries.copy(), self.others.copy(), list(self.lengths)
+        made.entries, made.lengths = self.entries.copy(), list(self.lengths)
         made.head = Room(memory, 1, self.head.capacity + self.older_bytes, sum(filter(None, self.lengths)))
         return made
 

@@ -27,7 +27,7 @@ part_stays old new bucket from to grow part =
 
 entry_stays : (old new : List Bucket) (e : InternedStr) → Grow old new → IsEntry old e → IsEntry new e
 entry_stays old new (InBucket bucket span) grow h = part_stays old new bucket span.from span.to grow h
-entry_stays old new (Static text) grow h = tt
+entry_stays old new (Static text) grow h = h
 
 text_stays : (old new : List Bucket) (e : InternedStr) → Grow old new → IsEntry old e → interned_text new e ≡ interned_text old e
 text_stays old new (InBucket bucket span) grow h =
@@ -83,24 +83,18 @@ entry_text buckets entries i len e text part standing h is lens text_is part_is 
     let there : get_or (map (interned_text buckets) entries) i text ≡ text = get_or-map (interned_text buckets) entries i e text h ∙ ap (interned_text buckets) (sym is) ∙ sym text_is in
     rw whole (slice_get-get_or (map (interned_text buckets) entries) i text (omega (arith, h, length-map entries (interned_text buckets))) ∙ ap Some there)
 
--- a text at the end of the head is a span of a bucket with a number below 64
-pub last_span : (text : Text) (full : List Bucket) (head : Bucket) (e : InternedStr) → length full < 64 → IsLast text full head e → HasSpan e
-last_span text full head e few last = rw last.entry_is (few, omega arith)
+-- a text at the end of the head is a span of a bucket
+pub last_span : (text : Text) (full : List Bucket) (head : Bucket) (e : InternedStr) → IsLast text full head e → HasSpan e
+last_span text full head e last = rw last.entry_is (omega arith)
 
--- a text at the end of the head packs, if the head was not far too long before
-pub last_packs : (text : Text) (full : List Bucket) (head : Bucket) (new_full : List Bucket) (new_head : Bucket) (e : InternedStr) → length new_full < 64 → length head.bytes < 2 ^ 57 → Puts text full head new_full new_head → IsLast text new_full new_head e → Packs e
-last_packs text full head new_full new_head e few near puts last =
-    let count : length new_head.bytes ≡ length last.before + length text = ap length last.bytes_are ∙ length-append last.before text in
-    let from : length last.before ≤ length head.bytes = elim (cases_lt head.capacity (length head.bytes + length text)) [
-      | inl too_long ↦ omega (arith, count, ap length (puts.too_long too_long).1)
-      | inr fits ↦ omega (arith, count, ap (λ (b : Bucket). length b.bytes) (puts.fits fits).1, length-append head.bytes text)
-    ] in
-    rw last.entry_is (few, omega arith, omega arith)
+-- a text at the end of the head packs unless it is long
+pub last_packs : (text : Text) (full : List Bucket) (head : Bucket) (e : InternedStr) → length text < 2 ^ 32 → IsLast text full head e → Packs e
+last_packs text full head e short last = rw last.entry_is (omega arith)
 
--- or there is room for an entry that does not
-pub last_packs-unless : (far : Bool) (spare : ℕ) (text : Text) (full : List Bucket) (head : Bucket) (new_full : List Bucket) (new_head : Bucket) (e : InternedStr) → length new_full < 64 → (far ≡ false → length head.bytes < 2 ^ 57) → (far ≡ true → 0 < spare) → Puts text full head new_full new_head → IsLast text new_full new_head e → spare ≡ 0 → Packs e
-last_packs-unless true spare text full head new_full new_head e few near room puts last none = absurd (omega (arith, room refl, none))
-last_packs-unless false spare text full head new_full new_head e few near room puts last none = last_packs text full head new_full new_head e few (near refl) puts last
+-- or there is room for a long one
+pub last_packs-unless : (long : Bool) (spare : ℕ) (text : Text) (full : List Bucket) (head : Bucket) (e : InternedStr) → (long ≡ false → length text < 2 ^ 32) → (long ≡ true → 0 < spare) → IsLast text full head e → spare ≡ 0 → Packs e
+last_packs-unless true spare text full head e short room last none = absurd (omega (arith, room refl, none))
+last_packs-unless false spare text full head e short room last none = last_packs text full head e (short refl) last
 
 pub last_static : (text : Text) (full : List Bucket) (head : Bucket) (e : InternedStr) → IsLast text full head e → is_static e ≡ false
 last_static text full head e last = rw last.entry_is refl
