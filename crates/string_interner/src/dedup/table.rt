@@ -332,11 +332,11 @@ impl<S: Symbol, L: Probe<S>> TextIndex<S> for Table<S, L> {
     }
 
     #[inline(always)]
-    fn guess(&self, code: u64) -> Option<S> {
+    fn guess<B: Backend<Symbol = S>>(&self, code: u64, backend: &B) -> Option<S> {
         if self.slots.len() == 0 {
             return None;
         }
-        self.slots.guess(code)
+        self.slots.guess(code, backend)
     }
 
     #[inline(always)]
