@@ -70,7 +70,8 @@ class Interner:
     dict, it finds a text by its number: `interner[number]`.
 
     Any thread may call it; threads wait for each other. Results are copies, so they stay valid. A process may fork while other
-    threads call it: the child finds it as it was before or after such a call.
+    threads call it: the child finds it as it was before or after such a call. A finalizer may call it, too. When the interpreter
+    ends, it stops daemon threads for good, and a call that would wait for one of them raises RuntimeError.
 
     Each call raises TypeError for an argument of a wrong type, and ValueError once the interner is closed. A text without a
     UTF-8 form, such as one with a lone surrogate, is in no interner, and interning it raises `UnicodeEncodeError`.
