@@ -1,5 +1,6 @@
 """What is built from the records of proofs, what is proved anew, and what is refused, over a prover that hashes what it is given."""
 
+import hashlib
 import os
 import shutil
 import subprocess
@@ -200,6 +201,28 @@ class Records(unittest.TestCase):
         self.assertIn("no record of these sources: string_interner is not as its proof was recorded: src/lib.rt\n", said)
         self.assertIn("no record of these sources: intern stands on string_interner\n", said)
         self.assertTrue(said.endswith("0 passed, 0 failed\n"))
+
+
+@unittest.skipUnless(where_rt_is(), "no rt on this machine")
+class ForgedRecord(unittest.TestCase):
+    def test_the_prover_refuses_it(self):
+        """A record by hand, of the right files, which says that a wrong function is proved."""
+        folder = tempfile.TemporaryDirectory()
+        self.addCleanup(folder.cleanup)
+        top, text = Path(folder.name), "pub fn never(x: usize) -> usize { x + 1 }\n"
+        shutil.copytree(TOP / "tools", top / "tools", ignore=shutil.ignore_patterns("tests", "__pycache__"))
+        write(top / "crates.txt", "wrong:\n")
+        write(top / "crates/wrong/src/lib.rt", text)
+        kit = subprocess.run(["rt", "version"], capture_output=True, encoding="utf-8", check=True).stdout.split()[0]
+        sum_of = hashlib.sha256(text.encode()).hexdigest()
+        inputs = f'crate wrong library\nfile "src/lib.rt" {sum_of}\nlibrary std --extern {sum_of}\n'
+        for name, said in ("inputs", inputs), ("verdict", "logic=proved functions=1\n"), ("format", f"rattle crate-checked v2\nsum {sum_of}\n"):
+            write(top / "proved" / kit / "wrong" / name, said)
+        ran = subprocess.run([top / "tools/records.py", "build", "wrong"], capture_output=True, encoding="utf-8", check=False)
+        self.assertEqual((ran.returncode, ran.stdout), (1, ""))
+        self.assertIn("error[unusable-checked-crate]", ran.stderr)
+        self.assertIn(f"wrong: not built: proved/{kit}/wrong is damaged", ran.stderr)
+        self.assertFalse((top / "crates/wrong/out/rlib/recorded/wrong.rlib").exists())
 
 
 if __name__ == "__main__":
