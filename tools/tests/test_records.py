@@ -22,7 +22,7 @@ import hashlib, os, re, sys
 words = sys.argv[1:]
 after = lambda flag: words[words.index(flag) + 1] if flag in words else None
 sum_of = lambda text: hashlib.sha256(text.encode()).hexdigest()
-files = [f"{{at}}/{{name}}" for part in ("src", "specs", "proofs") for at, _, names in os.walk(part) for name in names]
+files = [f"{{at}}/{{name}}" for part in ("src", "specs", "proofs") for at, _, names in os.walk(part) for name in names if name != "tests.rt"]
 of_kit = [f"library std --extern {{sum_of('std')}}"]
 externs = [it.split("=") for flag, it in zip(words, words[1:]) if flag == "--extern" and "/kit/rlibs/" not in it]
 inputs = [f'file "{{it}}" {{sum_of(open(it).read() * 2)}}\\nwritten "{{it}}" {{sum_of(open(it).read())}}' for it in sorted(files)] + of_kit
@@ -133,6 +133,14 @@ class Records(unittest.TestCase):
         ran = self.run_in_copy("bin/intern", "string")
         self.assertEqual(ran.stdout, "proved\n")
         self.assertIn("intern: string_interner is not as its proof was recorded: src/lib.rt\n", ran.stderr)
+
+    def test_a_new_file_of_proofs_is_a_change_and_one_of_tests_is_none(self):
+        write(self.top / "crates/intern/src/tests.rt", "")
+        self.assertRegex(self.run_in_copy("bin/intern", "string").stdout, "^recorded ")
+        shutil.rmtree(self.top / "crates/intern/out")
+        write(self.top / "crates/intern/proofs/main/Answers.antt", "")
+        ran = self.run_in_copy("bin/intern", "string")
+        self.assertIn("intern: intern is not as its proof was recorded: proofs/main/Answers.antt\n", ran.stderr)
 
     def test_another_toolchain_proves(self):
         write(self.here / "kit/KIT-ID", "kit-2 logic 0")
