@@ -17,6 +17,7 @@ import re
 import shutil
 import subprocess
 import sys
+import tempfile
 from contextlib import contextmanager
 from functools import cache
 from pathlib import Path
@@ -101,8 +102,10 @@ def stale(crate, record):
     # `file` has a file as macros leave it, and then `written` has it as it was written.
     recorded = {path: sum_of for kind in ("file", "written") for path, sum_of in re.findall(rf'^{kind} "(.*)" (\w+)$', inputs, re.M)}
     recorded |= dict.fromkeys(re.findall(r"^library (\w+) --extern ", inputs, re.M), "library")
-    files = [Path(it) for it in toolchain().files_of(crate.folder) if it.endswith((".rt", ".antt"))]
-    present = {str(it.relative_to(crate.folder)): hashlib.sha256(it.read_bytes()).hexdigest() for it in files}
+    paths = [os.path.relpath(it, crate.folder) for it in toolchain().files_of(crate.folder)]
+    # A source that the record does not name is read only if one that it names has changed, or by tests.
+    paths = [it for it in paths if it in recorded or it.endswith(".antt")]
+    present = {it: hashlib.sha256(Path(crate.folder, it).read_bytes()).hexdigest() for it in paths}
     present |= dict.fromkeys([*crate.of_kit, *(it.name for it in crate.deps)], "library")
     changed = sorted(it for it in recorded | present if recorded.get(it) != present.get(it))
     more = f" and {len(changed) - 1} more" if changed[1:] else ""
@@ -114,19 +117,20 @@ def made_of(crate):
     return Path(crate.folder, "out", f"lib{crate.name}.a" if crate.is_static else crate.name)
 
 
-def build(crate, record):
-    """Builds a library, a program or an archive for C from its record."""
-    words, made = ["build", *words_for(crate), "--crate-checked", str(record)], str(made_of(crate))
+def build(crate, record, made=None):
+    """Builds a library, a program or an archive for C from its record: the last two under another name if one is given."""
+    made = made or made_of(crate)
+    words = ["build", *words_for(crate), "--crate-checked", str(record)]
     by_llvm = ["--toolchain", f"{toolchain().KIT}/toolchain", "--backend", "llvm"]
-    os.makedirs(os.path.dirname(made), exist_ok=True)
+    os.makedirs(f"{crate.folder}/out", exist_ok=True)
     if crate.makes_rlib():
         build_library(crate, record, words)
     elif crate.is_static:
-        run_tool(crate, "rattle", *words, *by_llvm, "-o", made)
+        run_tool(crate, "rattle", *words, *by_llvm, "-o", str(made))
     else:
         run_tool(crate, "rattle", *words, *by_llvm, "-o", f"{made}.o")
         of_c = [f"{toolchain().KIT}/c/{it}" for it in ("libos_c.a", "liblibc_c.a")]
-        run_tool(crate, "rattle-link", "--target", "x86_64-unknown-linux-gnu", *by_llvm[:2], "-o", made, f"{made}.o", *of_c)
+        run_tool(crate, "rattle-link", "--target", "x86_64-unknown-linux-gnu", *by_llvm[:2], "-o", str(made), f"{made}.o", *of_c)
 
 
 def build_library(crate, record, words):
@@ -181,34 +185,36 @@ def facts(verdict):
 
 def compare_crate(crate, record, verdict):
     """What of a crate's record is other than the proof made anew, whose program is in the crate's folder, or nothing."""
-    made = made_of(crate)
-    code = made.read_bytes() if made.exists() else None
-    try:
-        build(crate, record)
-        recorded = Path(record, "verdict").read_text(encoding="utf-8")
-    except (OSError, Refused) as error:
-        return f"the prover refuses it:\n{error}"
-    if facts(recorded) != facts(verdict):
-        return f"it says {recorded.strip()}, and the proof made anew {verdict}"
-    return "its code is other than that of the proof made anew" if code and made.read_bytes() != code else None
+    with tempfile.TemporaryDirectory() as folder:
+        made, recorded = made_of(crate), Path(folder, made_of(crate).name)
+        try:
+            build(crate, record, recorded)
+            said = Path(record, "verdict").read_text(encoding="utf-8").strip()
+        except (OSError, Refused) as error:
+            return f"the prover refuses it:\n{error}"
+        if facts(said) != facts(verdict):
+            return f"it says {said}, and the proof made anew {verdict}"
+        is_other = made.exists() and made.read_bytes() != recorded.read_bytes()
+        return "its code is other than that of the proof made anew" if is_other else None
 
 
 def compare(tree, log):
-    """Compares each record that fits a copy of the sources with what `rt ci` proved and built there."""
+    """Compares each record that fits a copy of the sources with what `rt ci` proved and built there. Returns the status."""
     verdicts = verdicts_in(Path(log).read_text(encoding="utf-8", errors="replace"))
-    failed, counts = set(), {True: 0, False: 0}
-    for crate in crates_for(BUILT, Path(tree)):
-        record = folder_of_records() / crate.name
-        below = [it.name for it in crate.below() if it.name in failed]
-        if why := stale(crate, record) or below and f"{crate.name} stands on {below[0]}":
-            failed.add(crate.name)
-            print(f"no record of these sources: {why}")
-            continue
-        fault = compare_crate(crate, record, verdicts.get(crate.name, ""))
-        counts[not fault] += 1
-        if fault:
-            failed.add(crate.name)
-            print(f"{record.relative_to(TOP)}: {fault}")
+    crates = crates_for(BUILT, Path(tree))
+    with no_other_run_in(crates):
+        left_out, counts = set(), {True: 0, False: 0}
+        for crate in crates:
+            record = folder_of_records() / crate.name
+            below = [it.name for it in crate.below() if it.name in left_out]
+            if why := stale(crate, record) or below and f"{crate.name} stands on {below[0]}":
+                print(f"no record of these sources: {why}")
+            else:
+                fault = compare_crate(crate, record, verdicts.get(crate.name, ""))
+                counts[not fault] += 1
+                print(f"{record.relative_to(TOP)}: {fault}\n" if fault else "", end="")
+            if why or fault and crate.makes_rlib():
+                left_out.add(crate.name)
     print(f"{counts[True]} passed, {counts[False]} failed")
     return 1 if counts[False] else 0
 

@@ -1,5 +1,6 @@
 """What is built from the records of proofs, what is proved anew, and what is refused, over a prover that hashes what it is given."""
 
+import hashlib
 import os
 import shutil
 import subprocess
@@ -21,7 +22,7 @@ import hashlib, os, re, sys
 words = sys.argv[1:]
 after = lambda flag: words[words.index(flag) + 1] if flag in words else None
 sum_of = lambda text: hashlib.sha256(text.encode()).hexdigest()
-files = [f"{{at}}/{{name}}" for part in ("src", "specs", "proofs") for at, _, names in os.walk(part) for name in names]
+files = [f"{{at}}/{{name}}" for part in ("src", "specs", "proofs") for at, _, names in os.walk(part) for name in names if name != "tests.rt"]
 of_kit = [f"library std --extern {{sum_of('std')}}"]
 externs = [it.split("=") for flag, it in zip(words, words[1:]) if flag == "--extern" and "/kit/rlibs/" not in it]
 inputs = [f'file "{{it}}" {{sum_of(open(it).read() * 2)}}\\nwritten "{{it}}" {{sum_of(open(it).read())}}' for it in sorted(files)] + of_kit
@@ -133,6 +134,14 @@ class Records(unittest.TestCase):
         self.assertEqual(ran.stdout, "proved\n")
         self.assertIn("intern: string_interner is not as its proof was recorded: src/lib.rt\n", ran.stderr)
 
+    def test_a_new_file_of_proofs_is_a_change_and_one_of_tests_is_none(self):
+        write(self.top / "crates/intern/src/tests.rt", "")
+        self.assertRegex(self.run_in_copy("bin/intern", "string").stdout, "^recorded ")
+        shutil.rmtree(self.top / "crates/intern/out")
+        write(self.top / "crates/intern/proofs/main/Answers.antt", "")
+        ran = self.run_in_copy("bin/intern", "string")
+        self.assertIn("intern: intern is not as its proof was recorded: proofs/main/Answers.antt\n", ran.stderr)
+
     def test_another_toolchain_proves(self):
         write(self.here / "kit/KIT-ID", "kit-2 logic 0")
         ran = self.run_in_copy("bin/intern", "string")
@@ -200,6 +209,28 @@ class Records(unittest.TestCase):
         self.assertIn("no record of these sources: string_interner is not as its proof was recorded: src/lib.rt\n", said)
         self.assertIn("no record of these sources: intern stands on string_interner\n", said)
         self.assertTrue(said.endswith("0 passed, 0 failed\n"))
+
+
+@unittest.skipUnless(where_rt_is(), "no rt on this machine")
+class ForgedRecord(unittest.TestCase):
+    def test_the_prover_refuses_it(self):
+        """A record by hand, of the right files, which says that a wrong function is proved."""
+        folder = tempfile.TemporaryDirectory()
+        self.addCleanup(folder.cleanup)
+        top, text = Path(folder.name), "pub fn never(x: usize) -> usize { x + 1 }\n"
+        shutil.copytree(TOP / "tools", top / "tools", ignore=shutil.ignore_patterns("tests", "__pycache__"))
+        write(top / "crates.txt", "wrong:\n")
+        write(top / "crates/wrong/src/lib.rt", text)
+        kit = subprocess.run(["rt", "version"], capture_output=True, encoding="utf-8", check=True).stdout.split()[0]
+        sum_of = hashlib.sha256(text.encode()).hexdigest()
+        inputs = f'crate wrong library\nfile "src/lib.rt" {sum_of}\nlibrary std --extern {sum_of}\n'
+        for name, said in ("inputs", inputs), ("verdict", "logic=proved functions=1\n"), ("format", f"rattle crate-checked v2\nsum {sum_of}\n"):
+            write(top / "proved" / kit / "wrong" / name, said)
+        ran = subprocess.run([top / "tools/records.py", "build", "wrong"], capture_output=True, encoding="utf-8", check=False)
+        self.assertEqual((ran.returncode, ran.stdout), (1, ""))
+        self.assertIn("error[unusable-checked-crate]", ran.stderr)
+        self.assertIn(f"wrong: not built: proved/{kit}/wrong is damaged", ran.stderr)
+        self.assertFalse((top / "crates/wrong/out/rlib/recorded/wrong.rlib").exists())
 
 
 if __name__ == "__main__":
