@@ -8,7 +8,7 @@ if the prover passes it and a run of a built program must catch it. Its lines:
   new:        what replaces it; may repeat, for a text of several lines
   function:   the function whose promise the bug breaks, for must-fail
   opens:      the goal of this function's proof, or the lemma of its proof file, that no longer holds
-  scenario:   what catches the bug, for caught-by-runs: a scenario of the suite, or words for run-program
+  scenario:   what catches the bug, for caught-by-runs: a scenario and words of its first line, or words for run-program
 """
 
 import sys

@@ -179,11 +179,10 @@ def write_scenarios(folder, found):
         texts, interning = find_texts(kind, wanted, found)
         calls = [(f"with_capacity {CAPACITY}", "ok")] if backend == "counting" else []
         calls += [(interning, f"last symbol {wanted - 1}"), *looks(backend, hasher, texts)]
-        path = folder / level / name
+        path = folder / level / f"{name}.scenario"
         path.parent.mkdir(exist_ok=True)
-        lines = [f"{level} {backend} SymbolU32 {hasher}", *(call for call, _ in calls)]
-        path.with_suffix(".calls").write_text("".join(f"{line}\n" for line in lines))
-        path.with_suffix(".answers").write_text("".join(f"{answer}\n" for _, answer in calls))
+        lines = (f"> {call}\n{answer}\n" for call, answer in calls)
+        path.write_text(f"on {level} {backend} SymbolU32 {hasher}\n" + "".join(lines))
 
 
 def main():
