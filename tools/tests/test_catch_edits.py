@@ -71,6 +71,10 @@ class CatchTest(SmallRepository):
     def test_a_bug_that_the_prover_refuses_is_found_among_others(self):
         self.assertEqual(self.accepted(["number / 4"]), {"half": True, "quarter": False, "side": True})
 
+    def test_a_bug_passes_by_both_sides(self):
+        verdicts = [CATCH["Verdict"](*it, "") for it in (("half", True), ("quarter", True), ("half", True), ("quarter", False), ("low", False))]
+        self.assertEqual(CATCH["count_passed"](self.bugs, verdicts), 1)
+
     def test_the_crates_below_are_checked_first(self):
         checked = []
         with mock.patch.dict(NAMES, check=lambda _, crate: checked.append(crate) or ""):
