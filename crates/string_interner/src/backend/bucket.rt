@@ -77,9 +77,7 @@ impl<S: Symbol> BucketBackend<S> {
         ensures text { slice_get self.now.texts index ≡ Some result.now }
         ensures valid { IsValidList S.symbol_of length self.now.texts }
     {
-        let text = interned_text(&self.full, &self.head, self.entries.get(index));
-        // The entry has the length of its text, so a caller that needs only the length reads no bucket.
-        &text[..self.entries.text_len(index)]
+        interned_text(&self.full, &self.head, self.entries.get(index))
     }
 }
 

@@ -1,7 +1,7 @@
 //! Where the texts of all entries are stored, in 16 bytes each.
 
 ghost use Rattle.std.specs.Prelude.{◌≡◌, ◌↔◌, ℕ, ◌+◌, ◌^◌, ◌<◌, ◌≤◌, List, [], ◌∷◌, ◌++◌, length, take, slice_index_or, true, false, IsOk, IsSome, IfOk, IfSome, OnOk, OnErr};
-ghost use Rattle.string_interner.specs.BucketEntries.{text_len, long_count, HasSpan, Packs};
+ghost use Rattle.string_interner.specs.BucketEntries.{long_count, HasSpan, Packs};
 ghost use Rattle.string_interner.specs.declared.backend.bucket.interned_str.InternedStr.{InternedStr};
 
 use crate::backend::bucket::fixed_str::Span;
@@ -18,20 +18,21 @@ const LONG: usize = 1 << 32;
 /// A packed entry. The fields of each kind lie around its tag, so that it takes 16 bytes.
 #[derive(Drop)]
 pub enum Packed {
-    /// A text in a bucket: the bucket's number, the text's length, and the byte where it begins.
-    Copied {
-        bucket: u8,
-        len: u32,
-        from: usize,
-    },
+    /// A long text: the index of its entry among the long ones.
+    Long(usize),
     /// A static text: its length, and where it lies.
     Reference {
         len: u32,
         at: *const u8,
         lasting: Lasting,
     },
-    /// A long text: the index of its entry among the long ones.
-    Long(usize),
+    /// A text in a bucket: the bucket's number, the text's length, and the byte where it begins. It comes last, so that it
+    /// is told apart first.
+    Copied {
+        bucket: u8,
+        len: u32,
+        from: usize,
+    },
 }
 
 const _: () = prove!(size_of::<Packed>() == 16);
@@ -175,19 +176,6 @@ impl Entries {
                 InternedStr::Static(lasting.read(*at, *len as usize))
             }
             Packed::Long(at) => self.long[*at],
-        }
-    }
-
-    /// Returns how many bytes the text of the entry `index` has.
-    #[inline]
-    pub fn text_len(&self, index: usize) -> usize
-        requires { index < length self.now.items }
-        ensures { (d : InternedStr) → text_len (slice_index_or self.now.items index d) ≡ result }
-    {
-        match &self.packed[index] {
-            Packed::Copied { len, .. } => *len as usize,
-            Packed::Reference { len, .. } => *len as usize,
-            Packed::Long(at) => self.long[*at].text_len(),
         }
     }
 

@@ -1,10 +1,8 @@
 -- A `Lasting` may go to another thread, since it only reads.
-use base.Shift.{Keyless}
 use mathlib.Core.List.{[]}
 use denote.Builtin.{u8}
 use denote.Param.Send.{IsSend, IsSync, array_sync, owning_send, sendable}
 use denote.RawPtr.{block_of, count_of}
-use Rattle.string_interner.specs.Lasting.{lasts}
 use Rattle.string_interner.specs.contracts.backend.bucket.lasting.Lasting as C
 
 u8-sync : IsSync u8

@@ -4,7 +4,7 @@ use mir.Val.{Val, vptr}
 use base.Logic.{SProp}
 use base.Fml.{ftrue}
 use prog.Wp.{WpFn}
-use types.Kit.{‵, raw, ◌⊛◌, prop, ◌$◌, ◌∵◌, !, qed, by, move, keep, drop, split, fsplit, fjoin, feq_l, feq_i, flt_l, regoal, suffices, done}
+use types.Kit.{‵, raw, ◌⊛◌, prop, ◌$◌, ◌∵◌, !, qed, move, keep, drop, split, fsplit, fjoin, feq_l, feq_i, flt_l, regoal, suffices, done}
 use types.Part.{agg, sub, whole}
 use types.Run.{enter, returns, and_then, no_more, fld, stop, addr, from, hop}
 use types.ByLocal.{alloc_all, pass_all, free_all, look_at, get, sets, look_in_at}

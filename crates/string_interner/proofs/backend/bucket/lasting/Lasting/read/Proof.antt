@@ -1,5 +1,5 @@
 -- `read` lends what lies at the address for good.
-use Rattle.std.proofs.Common.{◌≡◌, ◌*◌, ◌^◌, List, [], ◌∷◌, ◌++◌, length, refl, sym, ap, ◌∙◌, arith}
+use Rattle.std.proofs.Common.{◌≡◌, ◌*◌, ◌^◌, List, [], ◌∷◌, ◌++◌, length, refl, ap, ◌∙◌, arith}
 use mir.Syntax.{w64, seq, assign, place, rv_opd, copy, return}
 use mir.Val.{Val, vptr, vint}
 use base.Logic.{SProp}
@@ -10,7 +10,7 @@ use types.Run.{enter, returns, of_opd, and_then, no_more, first, blocks, exec}
 use types.ByLocal.{alloc_all, pass_all, free_all, look_at, get, sets, sets_last, env}
 use contract.Monad.{fact}
 use contract.Running.{tables}
-use denote.Builtin.{u8, RefOf, RawPtr, usize}
+use denote.Builtin.{RefOf, RawPtr, usize}
 use denote.Exit.{yes}
 use denote.Opens.{unhide, hide}
 use denote.RattleType.{owns}
