@@ -12,17 +12,17 @@ use denote.Struct.Struct.{Struct, within}
 abbrev pub struct_of : List RattleType → RattleType
 struct_of Rs = Struct (record { name = []; args = []; types = []; fields = Rs })
 
-abbrev pub none : Val
-none = vstruct vnil
+abbrev pub empty : Val
+empty = vstruct vnil
 
 abbrev pub pair : Val → Val → Val
 pair u v = vstruct (vcons u (vcons v vnil))
 
 module _ {M : Type 1} {𝓤 : Ura M} {𝓛 : Logic 𝓤} {K : Type 0} {Γ : List (Item 𝓤)} {G : Goal 𝓤 𝓛.H} where
-  pub makes_none : K → Step K 𝓛 (‵ ((struct_of []).own_val tt (none ∷ [])) ∷ Γ) G Γ G
-  makes_none t = step (λ s.
-      nothing t $ feq_i t (List Val) (none ∷ []) (none ∷ []) refl $ fjoin t $
-      fpack t (Valss []) (within (record { name = []; args = []; types = []; fields = [] }) tt (none ∷ [])) tt $ s)
+  pub makes_empty : K → Step K 𝓛 (‵ ((struct_of []).own_val tt (empty ∷ [])) ∷ Γ) G Γ G
+  makes_empty t = step (λ s.
+      nothing t $ feq_i t (List Val) (empty ∷ []) (empty ∷ []) refl $ fjoin t $
+      fpack t (Valss []) (within (record { name = []; args = []; types = []; fields = [] }) tt (empty ∷ [])) tt $ s)
 
   pub makes_pair : K → (R S : RattleType) (x : R.Denot) (y : S.Denot) (u v : Val)
       → Step K 𝓛 (‵ ((struct_of (R ∷ S ∷ [])).own_val (x, (y, tt)) (pair u v ∷ [])) ∷ Γ) G (‵ (R.own_val x (u ∷ [])) ∷ ‵ (S.own_val y (v ∷ [])) ∷ Γ) G

@@ -19,8 +19,8 @@ pub shares : statement
 shares =
     of_Lends C.struct C.the_codes C.the_heap C.the_lent
     (λ d p. record {
+      mono = λ M 𝓤 𝓛 inner outer. snd∗ 𝓤 (sem 𝓛 (before inner outer)) (sem 𝓛 (C.the_heap d));
       contraction = λ M 𝓤 𝓛 _. contraction 𝓛 (elements_shared u8 d.bytes (block_of d.at) (count_of d.at)) (elements_shr_laws u8 (uint_row_laws w8) d.bytes (block_of d.at) (count_of d.at)) [];
-      mono = λ M 𝓤 𝓛 κ' κ. snd∗ 𝓤 (sem 𝓛 (before κ' κ)) (sem 𝓛 (C.the_heap d));
     })
     tt (λ M 𝓤 𝓛 d p κ ts inc sp.
     let Bytes = C.the_heap d in
