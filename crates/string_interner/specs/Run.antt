@@ -1,13 +1,13 @@
 -- The possible replies to a list of commands: a step for each command, and a run of steps.
 -- Cited by `run`.
-use Rattle.std.specs.Prelude.{◌≡◌, ℕ, List, [], ◌∷◌, ◌++◌, length, take, slice_get, Option, Some, None, MatchOption, option_and_then, Result, Ok, Err, ⊤, IfOk, Vec}
+use Rattle.std.specs.Prelude.{◌≡◌, ℕ, List, [], ◌∷◌, ◌++◌, length, take, slice_get, Option, Some, None, MatchOption, option_and_then, IsSome, Result, Ok, Err, ⊤, IfOk, Vec}
 use Rattle.std.specs.declared.alloc.Global.{Global}
 use Rattle.std.specs.Option.{option_map_or}
 use Rattle.std.specs.String.{string_bytes}
 use Rattle.string_interner.specs.Text.{Text, first}
 use Rattle.string_interner.specs.Numbering.{Numbering}
 use Rattle.string_interner.specs.Interner.{Interns}
-use Rattle.string_interner.specs.Extend.{texts_of, InternsInOrder}
+use Rattle.string_interner.specs.Extend.{texts_of, fresh, InternsInOrder}
 use Rattle.string_interner.specs.declared.backend.InternError.{InternError}
 use Rattle.string_interner.specs.declared.backend.InternError.TheVariants.{NoSymbol as InternNoSymbol, Memory}
 use Rattle.string_interner.specs.declared.run.Command.{Command}
@@ -47,6 +47,14 @@ InternsNone (Intern _) = ⊥
 InternsNone (InternStatic _) = ⊥
 InternsNone (Extend _) = ⊥
 InternsNone _ = ⊤
+
+-- the command interns no text that is new to this list, and drops none
+abbrev pub InternsKnown : List Text → Command → Type 0
+InternsKnown texts (Intern text) = IsSome (first texts text.now)
+InternsKnown texts (InternStatic text) = IsSome (first texts text.now)
+InternsKnown texts (Extend items) = fresh texts (texts_of items.now) ≡ []
+InternsKnown texts (Truncate _) = ⊥
+InternsKnown _ _ = ⊤
 
 module _ {S : Type 0} (numbering : Numbering S) where
   -- the text at a number, if the number has a symbol and a text is read there

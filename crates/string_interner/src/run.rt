@@ -5,10 +5,10 @@
 
 ghost use Rattle.std.specs.Prelude.{◌≡◌, [], All, slice_get, Option, Some, None, IfOk, OnErr};
 ghost use Rattle.std.specs.Option.{option_copied};
-ghost use Rattle.string_interner.specs.Extend.{texts_of};
+ghost use Rattle.string_interner.specs.Extend.{texts_of, fresh};
 ghost use Rattle.string_interner.specs.Interner.{KeepsBucketsAndSlots};
 ghost use Rattle.string_interner.specs.ListAnswers.{AnswersAsAList};
-ghost use Rattle.string_interner.specs.Run.{refusal, intern_reply, reply_number, CopyReply, text_at_number, NumberReply, ExtendReply, InternsNone, Step, RunsAll};
+ghost use Rattle.string_interner.specs.Run.{refusal, intern_reply, reply_number, CopyReply, text_at_number, NumberReply, ExtendReply, InternsNone, InternsKnown, Step, RunsAll};
 
 use crate::backend::{Backend, InternError};
 use crate::dedup::TextIndex;
@@ -89,8 +89,10 @@ fn extend_reply<B: Backend, H: TextHasher, I: TextIndex<B::Symbol>>(
     interner: &mut StringInterner<B, H, I>,
     texts: &[&str],
 ) -> Reply
-    ensures { ExtendReply B.numbering interner.old.texts (texts_of texts.now)
+    ensures replies { ExtendReply B.numbering interner.old.texts (texts_of texts.now)
         result interner.new.texts }
+    ensures known { fresh interner.old.texts (texts_of texts.now) ≡ []
+        → interner.new ≡ interner.old }
 {
     match interner.extend(texts.iter().copied()) {
         Ok(()) => Reply::Done,
@@ -149,6 +151,9 @@ fn step<B: Backend, H: TextHasher, I: TextIndex<B::Symbol>>(
     ensures step { Step B.numbering interner.old.texts earlier.now command.now
         result interner.new.texts }
     ensures stays { InternsNone command.now → KeepsBucketsAndSlots interner.old interner.new }
+    ensures known { InternsKnown interner.old.texts command.now
+        → (interner.new.texts ≡ interner.old.texts)
+        × KeepsBucketsAndSlots interner.old interner.new }
 {
     match command {
         Command::Intern(text) => intern_reply(interner.get_or_intern(text)),
@@ -204,6 +209,11 @@ pub fn run<B: Backend, H: TextHasher, I: TextIndex<B::Symbol>>(
 
     // If no command interns a text, buckets and slots are unchanged.
     ensures stays { All InternsNone commands.now → KeepsBucketsAndSlots interner.old interner.new }
+
+    // If every text that a command interns is known, and none is dropped, texts, buckets and slots are unchanged.
+    ensures known { All (InternsKnown interner.old.texts) commands.now
+        → (interner.new.texts ≡ interner.old.texts)
+        × KeepsBucketsAndSlots interner.old interner.new }
 {
     let mut replies = Vec::with_capacity(alloc, commands.len())?;
     for command in commands {

@@ -235,3 +235,17 @@ in-order numbering rule becomes steps iter old new (Err error) all (items, mid, 
       rw same taken.interned,
       subst (λ (xs : List Text). Interns numbering xs item.now (Err error) new.texts) (sym same) stops.refuses.interns,
     )
+
+-- an extension whose texts are all known changes nothing
+pub known-unchanged : {S : Type 0} (numbering : Numbering S) (rule : SlotRule) {I W : Type 0} (becomes : I → W → Type 0) (steps : W → Option (Bor Text) → W → Type 0) (iter : I) (old new : InternerContents) (outcome : Result (Unit {0}) InternError) (all : List (Bor Text))
+    → Extends numbering rule (YieldedBy becomes steps iter) old outcome new → ((walk : W) → becomes iter walk → YieldsList steps (λ x. x) walk all) → fresh old.texts (texts_of all) ≡ [] → new ≡ old
+known-unchanged numbering rule becomes steps iter old new (Ok done) all (items, mid, taken, grown, ((walk, b, rest, y), same)) lists none =
+    let is = drained steps items walk y.0 rest all y.1 y.2 (lists walk b).runs in
+    same ∙ taken.known (ap (λ (xs : List (Bor Text)). fresh old.texts (texts_of xs)) (sym is) ∙ none)
+known-unchanged numbering rule becomes steps iter old new (Err error) all (items, mid, taken, grown, (item, (walk, b, left, yields), stops)) lists none =
+    let f = fronted steps items walk yields.0 left item all yields.1 yields.2 (lists walk b).runs in
+    let is : texts_of all ≡ texts_of items ++ item.now ∷ texts_of f.0 = ap texts_of f.1 ∙ map-append (λ (b : Bor Text). b.now) items (item ∷ f.0) in
+    let parts = append-empty _ _ (sym (fresh-append old.texts (texts_of items) (item.now ∷ texts_of f.0)) ∙ (ap (λ (ts : List Text). fresh old.texts ts) (sym is) ∙ none)) in
+    let rest : fresh mid.texts (item.now ∷ texts_of f.0) ≡ [] = ap (λ (xs : List Text). fresh xs (item.now ∷ texts_of f.0)) (all-fresh numbering old.texts (texts_of items) mid.texts taken.interned) ∙ parts.1 in
+    let one = (append-empty _ _ (sym (fresh-first mid.texts item.now (texts_of f.0)) ∙ rest)).0 in
+    known-same numbering mid new item.now stops.refuses.known one ∙ taken.known parts.0

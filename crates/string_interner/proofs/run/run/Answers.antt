@@ -14,6 +14,11 @@ loop-command-preserved g c = record {
       let before = c.loop-command.invariant.stays none in
       let after = c.step-reply.ensures.stays (none c.loop-command.command-index _ c.loop-command-test.true) in
       (after.0 ∙ before.0, after.1 ∙ before.1);
+  known = λ all.
+      let before = c.loop-command.invariant.known all in
+      let this = all c.loop-command.command-index _ c.loop-command-test.true in
+      let after = c.step-reply.ensures.known (rw before.0 this) in
+      (after.0 ∙ before.0, after.1.0 ∙ before.1, after.1.1 ∙ before.2);
 }
 
 pub returns-clause-as_a_list : goal.returns-clause-as_a_list
