@@ -18,6 +18,11 @@ def is_complete(output, status):
     return status in (0, 1) and bool(re.search(r"^only=", output, re.M))
 
 
+def first_errors(output: str) -> str:
+    """The first errors that a check prints, or else its end."""
+    return "\n".join(re.findall(r"^.*\berror\b.*$", output, re.M)[:5]) or output[-500:]
+
+
 class Verdicts:
     """What a check says of the goals of functions, and of their proof files."""
 

@@ -11,10 +11,12 @@ CATCH = runpy.run_path(str(edits.TOP / "tools/catch-edits"))
 NAMES = CATCH["main"].__globals__
 
 
-def say(program, count):
-    """A trial that sees so many things, and a fault where the program is one with a bug."""
-    for number in range(count):
-        yield f"thing {number}", program.path, "0"
+def say(program, wanted, more=None):
+    """A trial that compares the name of the program with some."""
+    for number, name in enumerate(wanted):
+        yield f"thing {number}", program.path, name
+    if more:
+        raise AssertionError(more)
 
 
 class CatchTest(SmallRepository):
@@ -32,16 +34,16 @@ class CatchTest(SmallRepository):
 
     def test_a_run_catches_what_it_passes_without_the_bug(self):
         catch = CATCH["catch"]
-        self.assertTrue(catch(self.bugs[0], [], ["1 in the place of 2"]).is_good)
-        self.assertFalse(catch(self.bugs[0], [], []).is_good)
-        self.assertFalse(catch(self.bugs[0], ["1 in the place of 2"], ["1 in the place of 2"]).is_good)
+        self.assertTrue(catch(self.bugs[0], None, "1 in the place of 2").is_good)
+        self.assertFalse(catch(self.bugs[0], None, None).is_good)
+        self.assertFalse(catch(self.bugs[0], "1 in the place of 2", "1 in the place of 2").is_good)
 
-    def test_the_first_trial_with_a_fault_is_enough(self):
+    def test_the_first_fault_is_enough(self):
         program = Program.__new__(Program)
-        trials = [(say, 0), (say, 2), (mock.Mock(side_effect=AssertionError("tried in vain"), __name__="it"),)]
-        faults = CATCH["first_faults"](program, Path("1"), trials)
-        self.assertEqual([it.partition(":")[0] for it in faults], ["thing 0", "thing 1"])
-        self.assertEqual(CATCH["first_faults"](program, Path("0"), trials[:2]), [])
+        trials = [(say, "1"), (say, "0", "in vain"), (mock.Mock(side_effect=AssertionError("in vain"), __name__="it"),)]
+        self.assertEqual(CATCH["first_fault"](program, Path("1"), trials), "thing 0: 1 in the place of 0")
+        self.assertIsNone(CATCH["first_fault"](program, Path("0"), [(say, "00")]))
+        self.assertIn("in vain", CATCH["first_fault"](program, Path("0"), trials[2:]))
 
     def test_all_bugs_of_a_batch_fail_that_is_not_built(self):
         build = mock.Mock(side_effect=CATCH["Unbuilt"]("no module"))

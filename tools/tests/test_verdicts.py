@@ -4,7 +4,7 @@ import unittest
 from dataclasses import dataclass, field
 
 import small  # brings the tools into reach
-from verdicts import BY_FORM_ALONE, LET_THROUGH, REFUSED, Verdicts, is_complete
+from verdicts import BY_FORM_ALONE, LET_THROUGH, REFUSED, Verdicts, first_errors, is_complete
 
 # A goal that its answer does not prove, another that has none here, and the verdict on the function.
 REFUSAL = """\
@@ -90,6 +90,11 @@ class VerdictsTest(unittest.TestCase):
     def test_an_error_of_another_goal_does_not_matter(self):
         other = REFUSAL.replace("`returns`: `search`: no proof", "`returns-then-ne`: `goal.returns`: module has no `x`")
         self.assertEqual(self.outcome(other), LET_THROUGH)
+
+    def test_the_first_errors(self):
+        errors = first_errors(REFUSAL * 9).splitlines()
+        self.assertEqual(errors, ["./proofs/double/Answers.antt:6:15: error: `returns`: `search`: no proof of `c.result ≡ c.number + c.number`"] * 5)
+        self.assertEqual(first_errors("killed\n"), "killed\n")
 
     def test_a_check_that_was_cut_off_says_nothing(self):
         self.assertTrue(is_complete(REFUSAL, 1))
