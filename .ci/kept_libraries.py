@@ -5,9 +5,13 @@ toolchain's own reckoning.
 """
 import os
 import shutil
+import subprocess
 import sys
+from pathlib import Path
 
-sys.path.append(os.path.dirname(os.path.realpath(shutil.which("rt"))))
+# `rt doc` names the first page of the toolchain's folder.
+KIT = Path(subprocess.run(["rt", "doc"], check=True, stdout=subprocess.PIPE, encoding="utf-8").stdout.splitlines()[0]).parent
+sys.path.append(str(KIT / "bin"))
 import rtlib
 
 

@@ -1,13 +1,25 @@
-"""What bench/run measured, as the files of its parts in bench/out have it."""
+"""What bench/run measured, as the files of its parts in bench/out have it, and of what code."""
 import collections
+import hashlib
 import pathlib
+import re
 
 HERE = pathlib.Path(__file__).resolve().parent
-DOCS = HERE.parent / "docs"
+TOP = HERE.parent
+DOCS = TOP / "docs"
 PICTURES = {"out": HERE / "out/pictures", "docs": DOCS / "pictures"}
 # What is measured by itself, each with a file of results.
 PARTS = ("times", "memory", "cycles", "columns")
 TEXTS = ("identifiers", "words", "long")
+# The sources of what each part measures, and of what it is measured by.
+LIBRARY = ("crates/string_interner/src", "crates/handles/src", "crates/string_interner_c/src", "bench/ours", "bench/beside/src")
+SOURCES = {
+    **dict.fromkeys(("times", "memory", "cycles"), LIBRARY),
+    "columns": ("crates/string_interner/src", "crates/string_column/src", "crates/dictcol/src", "bench/columns.py"),
+}
+COMMENT = re.compile(r"^ *(?://|# ).*\n|(?<=\S) +//.*$", re.M)
+# A clause or a ghost item: its line, those that are indented more, and what closes it.
+CONTRACT = re.compile(r"^( *)(?:pub )?(?:ensures|requires|ghost)\b.*\n(?:\1 +.*\n|\1[)}].*\n|\n)*", re.M)
 
 # The phases, and what each is called where it is shown.
 PHASES = {
@@ -48,6 +60,22 @@ KEYED = ("ours", "string", "TaggedIndex", "RandomState")
 MAP = ("HashMap and Vec", "-", "-", "default")
 SET = ("IndexSet", "-", "-", "default")
 BY_C = [("ours through C", "string", "-", of) for of in ("UTF-8", "bytes")]
+
+
+def code_of(text):
+    """The lines of a source without comments, imports of words, contracts and proofs, of which no machine code is made."""
+    text = CONTRACT.sub("", COMMENT.sub("", text))
+    return "\n".join(line.strip() for line in text.splitlines() if line.strip())
+
+
+def sum_of(part, top=TOP):
+    """A short sum of the code that a part measures."""
+    total = hashlib.sha256()
+    for source in SOURCES[part]:
+        paths = sorted(path for path in (top / source).rglob("*") if path.is_file()) or [top / source]
+        for path in paths:
+            total.update(f"{path.relative_to(top)}\n{code_of(path.read_text(encoding='utf-8'))}\n".encode())
+    return total.hexdigest()[:16]
 
 
 class Results:

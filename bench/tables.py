@@ -1,15 +1,17 @@
 #!/usr/bin/env python3
-"""tables.py [--docs]: makes tables of what bench/run measured, in bench/out/tables.md: those of the documents, and more.
+"""tables.py [--docs | --check]: makes the tables of the documents of what bench/run measured, in bench/out/tables.md.
 
 With --docs it also puts each block between its two marker lines in README.md and docs/PERFORMANCE.md, and the results next to
-the pictures."""
+the pictures. With --check it makes nothing, and fails if these are results of other code than today's, or the documents show
+others: comments, contracts and proofs are no code here."""
 import re
 import shutil
 import sys
 
 from results import BACKENDS, BY_C, DEFAULT, DOCS, FAST, FNV, HERE, INPUTS, KEYED, LINES, MAP, ORIGINAL, PHASES, SET
-from results import PARTS, PICTURES, TEXTS, TAGGED, Results
+from results import PARTS, PICTURES, TEXTS, TAGGED, Results, sum_of
 
+DOCUMENTS = (DOCS.parent / "README.md", DOCS / "PERFORMANCE.md")
 MEASURES = (*PHASES, "live", "peak")
 CALLS = ("fill", "known", "unknown")
 # What each picture shows, for whoever cannot see it.
@@ -20,11 +22,6 @@ SHOWN = {
     "index-and-hasher": "Time per call with each index and hasher, by the count of texts",
     "memory": "Bytes per text of each interner",
     "chosen": "Time to fill an interner with chosen texts, by their count",
-}
-PAIRS = {
-    **{f"`Index`, `Fnv1a`, {name}": (DEFAULT[name], FNV[name]) for name in BACKENDS},
-    "`TaggedIndex`, `Fnv1a`, string": (TAGGED, FNV["string"]),
-    **{f"`TaggedIndex`, `FoldState`, {name}": (FAST[name], ORIGINAL[name]) for name in BACKENDS},
 }
 
 
@@ -136,52 +133,6 @@ def measured(results):
     return "\n".join([*head, *rows, "", said])
 
 
-def ratios(results):
-    shown = []
-    for said, of, counts in (("Estimated cycles", cycles, results.counted), ("Least time", str, results.counts.get)):
-        for name in filter(counts, TEXTS):
-            rows = [
-                (f"{label} | {count:,}", [results.ratio(*pair, name, count, of(measure)) for measure in MEASURES])
-                for label, pair in PAIRS.items()
-                for count in counts(name)
-            ]
-            shown.append(table(f"{said}, and bytes, for {INPUTS[name]}", ["", "texts", *MEASURES], rows))
-    return "\n\n".join(shown)
-
-
-def of_kinds(results, said, name, count, measures, kinds=None):
-    """A table of the kinds that have some of these values, or of all these kinds, or nothing where they have none. Each column
-    has a name, and the measure that it shows."""
-    found = [(kind, results.values.get((kind, name, count), {})) for kind in kinds or results.kinds()]
-    rows = [(name_of(kind), [row.get(of) for of in measures.values()]) for kind, row in found]
-    rows = [row for row in rows if any(value is not None for value in row[1])]
-    return table(said, ["", *measures], rows) if rows and len(rows) >= len(kinds or rows) else ""
-
-
-def nanoseconds(results):
-    count = results.middle_count()
-    shown = {
-        "the least of all rounds, and bytes a text": {measure: measure for measure in MEASURES},
-        "the median of all rounds": {phase: f"{phase} median" for phase in PHASES},
-        "how far the middle half of all rounds spreads": {phase: f"{phase} spread" for phase in PHASES},
-    }
-    tables = (
-        of_kinds(results, f"Nanoseconds a call at {count:,} identifiers, {said}", "identifiers", count, measures)
-        for said, measures in shown.items()
-    )
-    return "\n\n".join(filter(None, tables))
-
-
-def estimated(results):
-    measures = {phase: cycles(phase) for phase in PHASES}
-    shown = [
-        of_kinds(results, f"Estimated cycles a call, for {count:,} {INPUTS[name]}", name, count, measures)
-        for name in TEXTS
-        for count in results.counted(name)
-    ]
-    return "\n\n".join(shown) or "Cycles were not estimated."
-
-
 def kinds(results):
     """The library's own kinds: estimated cycles of a call, and bytes of a text."""
     count = max(results.counted("identifiers"), default=results.middle_count())
@@ -193,15 +144,15 @@ def kinds(results):
 
 
 def by_c(results):
-    """The library beside its calls through C."""
-    count, name = min(results.counts["identifiers"]), "identifiers"
-    shown = {"Estimated cycles": cycles, "Least nanoseconds": str}
-    kinds = [FAST["string"], *BY_C]
-    tables = (
-        of_kinds(results, f"{said} per call, {count:,} {name}", name, count, {it: of(it) for it in PHASES}, kinds)
-        for said, of in shown.items()
-    )
-    return "\n\n".join(filter(None, tables)) or "Not measured."
+    """The library beside its calls through C: the measures that all three have."""
+    count = min(results.counts["identifiers"])
+    kinds, shown = [FAST["string"], *BY_C], []
+    for said, of in (("Estimated cycles", cycles), ("Least nanoseconds", str)):
+        measured = ((kind, results.values.get((kind, "identifiers", count), {})) for kind in kinds)
+        rows = [(name_of(kind), [row.get(of(phase)) for phase in PHASES]) for kind, row in measured]
+        if all(any(value is not None for value in values) for _, values in rows):
+            shown.append(table(f"{said} per call, {count:,} identifiers", ["", *PHASES], rows))
+    return "\n\n".join(shown) or "Not measured."
 
 
 def columns(results):
@@ -278,11 +229,6 @@ def blocks(results):
     }
 
 
-def details(results):
-    """More than the documents show, by name."""
-    return {"ratios": ratios(results), "nanoseconds": nanoseconds(results), "cycles": estimated(results)}
-
-
 def put(text, made):
     """The text, with what stands between the marker lines of each block replaced."""
     for name, block in made.items():
@@ -291,18 +237,39 @@ def put(text, made):
     return text
 
 
+def faults(results):
+    """What the documents show that was not measured of today's code, or not at all."""
+    for part in PARTS:
+        if results.heads[part].get("code") != sum_of(part):
+            yield f"docs/pictures/{part}.tsv: the code has changed since; bench/run --docs --only {part} measures it"
+    made = blocks(results)
+    for document in DOCUMENTS:
+        text = document.read_text(encoding="utf-8")
+        if put(text, made) != text:
+            yield f"{document.relative_to(DOCS.parent)}: shows other results than docs/pictures has"
+
+
+def check():
+    found = list(faults(Results(PICTURES["docs"])))
+    print(*found, f"{len(PARTS) + len(DOCUMENTS) - len(found)} passed, {len(found)} failed", sep="\n")
+    return 1 if found else 0
+
+
 def main():
+    if "--check" in sys.argv:
+        return check()
     results = Results()
-    made, more = blocks(results), details(results)
-    (HERE / "out/tables.md").write_text("\n\n".join([*made.values(), *more.values()]) + "\n", encoding="utf-8")
+    made = blocks(results)
+    (HERE / "out/tables.md").write_text("\n\n".join(made.values()) + "\n", encoding="utf-8")
     if "--docs" in sys.argv:
-        for document in (DOCS.parent / "README.md", DOCS / "PERFORMANCE.md"):
+        for document in DOCUMENTS:
             document.write_text(put(document.read_text(encoding="utf-8"), made), encoding="utf-8")
         PICTURES["docs"].mkdir(exist_ok=True)
         for part in PARTS:
             shutil.copy(HERE / f"out/{part}.tsv", PICTURES["docs"])
-    print(f"{more['nanoseconds']}\n\n{results.line(*PARTS)}")
+    print(f"{made['speed']}\n\n{results.line(*PARTS)}")
+    return 0
 
 
 if __name__ == "__main__":
-    main()
+    sys.exit(main())

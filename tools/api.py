@@ -1,13 +1,9 @@
-#!/usr/bin/env python3
 """Writes the pages on what callers of the library have: each public item with its doc and its contract, and the definitions
-that contracts cite. tools/make_site.py puts them into the site.
-
-    tools/api.py    counts the items of each crate, and fails if the pages leave one out. What is public is told line by line
-                    then, and not as the pages tell it
+that contracts cite. tools/make_site.py puts them into the site, and fails if they leave out an item. What is public is told line
+by line then, and not as the pages tell it.
 """
 
 import re
-import sys
 from collections import Counter
 from dataclasses import dataclass
 from functools import cached_property
@@ -15,12 +11,14 @@ from functools import cached_property
 from edits import TOP
 from files import read
 from surface import Crate, sections
-from touched import DEFINES, RECORD
 
 CRATES = ("string_interner", "string_column")
 # The names that a source, or a file of specs/, takes from definitions of a crate.
 IMPORT = re.compile(r"^ *(?:ghost )?use Rattle\.(?P<crate>\w+)\.specs\.(?P<file>\w+)\.\{(?P<names>[^}]*)\}", re.M)
 WORD = re.compile(r"[\w'-]+")
+# The names that a definition of specs/ defines.
+DEFINES = re.compile(r"^ *(?:(?:pub|abbrev|unfoldable) )+(?:record |data )?([^\s:(]+)", re.M)
+RECORD = re.compile(r"^ *(?:pub )?(?:record|data) (\S+)")
 # A line by which an item may be public, whatever words it has.
 ITEM_LINE = re.compile(r"^pub\s+(?:\w+\s+)*?(?:const|enum|fn|static|struct|trait|type|union)\s+(?!fn\b)(\w+)", re.M)
 COMMENT = re.compile(r"^ *(?:///|//|--).*$", re.M)
@@ -246,15 +244,3 @@ def faults(pages):
         told = told_by_lines(crate)
         yield from (f"{crate}: {name} is public, and not shown" for name in told - shown)
         yield from (f"{crate}: {name} is shown, and not public" for name in shown - told)
-
-
-def main():
-    pages = Pages()
-    found = list(faults(pages))
-    counts = (f"{crate}: {sum(told_by_lines(crate).values())} items and methods" for crate in CRATES)
-    print(*counts, f"{len(pages.cited)} definitions", *found, sep="\n")
-    return 1 if found else 0
-
-
-if __name__ == "__main__":
-    sys.exit(main())

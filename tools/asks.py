@@ -1,19 +1,21 @@
-"""Which requests for memory the calls of a scenario make, by the model of an interner's memory (`rooms.py`).
-
-It knows calls on interners, scopes and runs, with either index. What the program asks for itself, before it makes a call,
-the model does not know: that is the same with either index.
-"""
+"""Which requests for memory the calls of a scenario make, by the model of an interner's memory (`rooms.py`), and those of the
+program itself before it makes a call."""
 
 import json
+from collections.abc import Iterable, Iterator
+from itertools import takewhile
+from typing import Any
 
 from rooms import ROOMS, WIDTHS, Interner, Memory, NoMemory, NoSymbol, Room, Slots
-from scenarios import WITH_INDEX, asking_parts, cut, is_run, parts_of, plain_lines, wanted_end, with_tags
+from scenarios import Part, Scenario, cut, without_asks
 
 # What `texts_asked` interns and drops again.
 QUESTION = b"how many texts were you asked for?"
+# In bytes: a text in the list of an `Extend`, a command, a reply, and a JSON value.
+TEXT, COMMAND, REPLY, VALUE = 16, 24, 32, 32
 
 
-def make_texts(name, text):
+def make_texts(name: str, text: bytes) -> Iterator[bytes]:
     """The texts that the program makes for a call: numbers, choices of words by them, or numbers by the distances to each."""
     count, _, letters = text.partition(b" ")
     words, far = letters.split(b","), 0
@@ -29,73 +31,81 @@ def make_texts(name, text):
                 yield b"%d" % number
 
 
-def read_texts(value):
-    """The texts of a JSON list, up to the first element that is none."""
-    for element in value if isinstance(value, list) else []:
-        if not isinstance(element, str):
-            return
-        yield element.encode()
-
-
 class Calls:
     """The calls of a scenario, made on the model. `first` is the scenario's first line."""
 
-    def __init__(self, first):
-        level, self.backend, self.symbol, _ = first.decode().split(" ", 3)
+    def __init__(self, first: bytes) -> None:
+        self.level, self.backend, self.symbol, _ = first.decode().split(" ", 3)
         self.memory = Memory()
-        self.is_tagged = level.encode() in WITH_INDEX.values()
         self.one, self.other = self.new(), self.new()
-        self.starts, self.counts = Room(self.memory, 8), []
+        self.starts, self.counts = Room(self.memory, 8), list[int]()
 
-    def new(self, capacity=0):
-        """A new interner with room for so many texts."""
-        slots = Slots(self.memory, self.symbol, self.is_tagged).with_capacity(capacity)
-        return Interner(slots, ROOMS[self.backend](self.memory, capacity))
+    def new(self, capacity: int = 0) -> Interner:
+        """A new interner with room for so many texts, or a backend, or an index over a backend without room."""
+        slots = Slots(self.memory, self.symbol, self.level.split("_")[0]).with_capacity(capacity)
+        return Interner(slots, ROOMS[self.backend](self.memory, 0 if self.level == "index" else capacity))
 
-    def collect(self, texts):
-        """A new interner of these texts."""
-        made = self.new()
-        for text in texts:
-            made.intern(text)
-        return made
-
-    def asks(self, line):
-        """What a call asks for. One that finds no memory is made again."""
+    def asks_of(self, part: Part) -> list[int]:
+        """What a call asks for, or a block of commands."""
         self.memory.asks = []
-        name, is_bare, text = line.partition(b" ")
+        if part.word == b"run":
+            self.run(part.lines, without_asks(part.printed)[:-1])
+        else:
+            self.call(*part.lines)
+        return self.memory.asks
+
+    def call(self, line: bytes) -> None:
+        """Makes a call. One that finds no memory is made again."""
+        name, has_texts, text = line.partition(b" ")
         try:
-            self.make(name.decode(), text, text.split(b",") if is_bare else [])
+            self.make(name.decode(), text, text.split(b",") if has_texts else [])
         except NoSymbol:
             pass
         except NoMemory:
-            return 2 * self.memory.asks
-        return self.memory.asks
+            self.memory.asks *= 2
 
-    def make(self, name, text, texts):
+    def run(self, lines: list[bytes], replies: list[bytes]) -> None:
+        """Runs a block of commands that has these replies."""
+        commands = [line.partition(b" ") for line in lines]
+        self.join_numbers(max((int(text) for name, _, text in commands if name == b"InternNumbers"), default=0))
+        self.memory.ask(TEXT * sum(text.count(b",") + len(space) for name, space, text in commands if name == b"Extend"))
+        self.memory.ask(COMMAND * len(replies))
+        self.memory.ask(REPLY * len(replies))
+        for line, (name, _, text) in zip(lines, commands):
+            self.command(line, replies[0])
+            replies = replies[int(text) if name == b"InternNumbers" else 1:]
+
+    def command(self, line: bytes, reply: bytes) -> None:
+        """Makes a command of a run, whose reply may be a text that it copies."""
+        if line.startswith((b"Resolve", b"Number")) and reply.startswith(b"text "):
+            self.memory.ask(len(reply) - len(b"text "))
+        self.call(line)
+
+    def make(self, name: str, text: bytes, texts: list[bytes]) -> None:
         """Makes a call, which has a text, or texts between commas."""
         match name:
-            case "get_or_intern" | "resolve_unchecked" | "declare" | "Intern":
+            case "get_or_intern" | "resolve_unchecked" | "declare" | "insert" | "intern" | "Intern":
                 self.one.intern(text)
-            case "get_or_intern_static" | "InternStatic":
+            case "get_or_intern_static" | "intern_static" | "InternStatic":
                 self.one.intern(text, is_static=True)
             case "letters":
+                self.memory.ask(int(text))
                 self.one.intern(b"a" * int(text))
             case "extend" | "Extend":
-                self.extend(texts)
+                self.one.extend(texts)
             case "numbers" | "choices" | "distances" | "InternNumbers":
-                self.intern_many(name, text)
+                self.intern_many(make_texts(name, text))
+            case "empties":
+                self.intern_many([b""] * int(text))
             case "intern_all":
                 self.intern_all(texts)
-            case "extend_numbers":
-                self.extend(numbers(text))
-            case "intern_all_numbers":
-                self.intern_all(numbers(text))
+            case "extend_numbers" | "intern_all_numbers" | "from_iter_numbers":
+                self.make(name.removesuffix("_numbers"), text, self.join_numbers(int(text)))
             case "truncate" | "Truncate":
                 self.one.truncate(int(text))
-            case "texts_asked":
+            case "texts_asked" if self.level not in ("backend", "index"):
                 count = len(self.one.texts)
-                self.one.intern(QUESTION)
-                self.one.truncate(count)
+                self.one.extend([QUESTION]).truncate(count)
             case "shrink_to_fit" | "Shrink":
                 self.one.room.shrink()
             case "enter":
@@ -107,25 +117,26 @@ class Calls:
             case _:
                 self.replace(name, text, texts)
 
-    def extend(self, texts):
-        for text in texts:
-            self.one.intern(text)
+    def join_numbers(self, count: int) -> list[bytes]:
+        """The decimal numbers below a count, which the program joins."""
+        self.memory.ask(count * (len(str(count)) + 1))
+        return [b"%d" % number for number in range(count)]
 
-    def intern_all(self, texts):
+    def intern_all(self, texts: list[bytes]) -> None:
         symbols = Room(self.memory, WIDTHS[self.symbol])
         for text in texts:
             symbols.add()
             self.one.intern(text)
 
-    def intern_many(self, name, text):
+    def intern_many(self, texts: Iterable[bytes]) -> None:
         """Interns texts that the program makes, and goes on where one has no symbol left."""
-        for made in make_texts(name, text):
+        for text in texts:
             try:
-                self.one.intern(made)
+                self.one.intern(text)
             except NoSymbol:
                 pass
 
-    def replace(self, name, text, texts):
+    def replace(self, name: str, text: bytes, texts: list[bytes]) -> None:
         """Makes a call that makes an interner, or puts one in the place of another."""
         match name:
             case "new" | "with_hasher" | "into_backend":
@@ -133,9 +144,7 @@ class Calls:
             case "with_capacity" | "with_capacity_and_hasher":
                 self.one = self.new(int(text))
             case "from_iter":
-                self.one = self.collect(texts)
-            case "from_iter_numbers":
-                self.one = self.collect(numbers(text))
+                self.one = self.new().extend(texts)
             case "clone":
                 self.other = self.one.copy(self.one.slots.with_capacity(len(self.one.texts)))
             case "try_copy":
@@ -143,99 +152,53 @@ class Calls:
             case "swap":
                 self.one, self.other = self.other, self.one
             case "to_json" | "json_again" | "json_exact_again":
-                for size in [32 * len(self.one.texts), *map(len, self.one.texts)]:
+                for size in [VALUE * len(self.one.texts), *map(len, self.one.texts)]:
                     self.memory.ask(size)
                 if name != "to_json":
-                    self.other = self.collect(list(self.one.texts))
-            case "from_json" | "from_json_exact":
-                self.read_json(text, name == "from_json_exact")
+                    self.other = self.new().extend(self.one.texts)
+            case "from_json" | "from_json_exact" | "symbol_from_json":
+                self.memory.ask(max(8, len(text)))
+                value = self.read_value(json.loads(text))
+                if name != "symbol_from_json" and isinstance(value, list):
+                    self.read_texts(value, name == "from_json_exact")
 
-    def read_json(self, text, is_exact):
+    def read_value(self, value: Any) -> Any:
+        """A value of JSON that is read: the bytes of each string, and a list that grows as it is read."""
+        if isinstance(value, str):
+            self.memory.ask(len(value.encode()))
+        elif isinstance(value, list):
+            values = Room(self.memory, VALUE)
+            for element in value:
+                self.read_value(element)
+                values.add()
+        return value
+
+    def read_texts(self, value: list[Any], is_exact: bool) -> None:
         """Reads an interner, up to the first element that is refused; where there is none, it takes the place of `one`."""
-        try:
-            value = json.loads(text)
-        except ValueError:
-            return
-        texts = list(read_texts(value))
         made = self.new()
-        for at, it in enumerate(texts):
-            if is_exact and it in texts[:at]:
+        for element in value:
+            if not isinstance(element, str) or is_exact and element.encode() in made.known:
                 return
-            made.intern(it)
-        if isinstance(value, list) and len(texts) == len(value):
-            self.one = made
-
-    def block_asks(self, block, replies):
-        """What a block of commands asks for that has these replies."""
-        asks = [32 * len(replies)] if replies else []
-        for line in block:
-            name = line.split(b" ")[0]
-            count = int(line.split(b" ")[1]) if name == b"InternNumbers" else 1
-            for reply in replies[:count] if name in (b"Resolve", b"Number") else []:
-                asks += [len(reply) - 5] if reply.startswith(b"text ") and len(reply) > 5 else []
-            replies = replies[count:]
-            asks += self.asks(line)
-        return asks
+            made.intern(element.encode())
+        self.one = made
 
 
-def numbers(count):
-    """The decimal numbers below a count."""
-    return [b"%d" % number for number in range(int(count))]
+def reckon(scenario: Scenario) -> list[list[int]]:
+    """For each part, how many bytes each of its requests for memory is for. From a bad line on, none is made."""
+    made = list(takewhile(lambda part: not part.is_bad, scenario.parts))
+    asked = list(map(Calls(scenario.first).asks_of, made)) if made else []
+    return asked + [[] for _ in scenario.parts[len(made):]]
 
 
-# The calls before which the program asks for something itself.
-PREPARED = {
-    *(b"letters", b"extend_numbers", b"intern_all_numbers", b"from_iter_numbers", b"from_json", b"from_json_exact"),
-    *(b"symbol_from_json", b"run"),
-}
-
-
-def asks_of_parts(parts, answers):
-    """For each part, how many bytes each of its requests for memory is for."""
-    asked = [[] for _ in parts]
-    sizes = (int(line[5:]) for line in cut(answers) if line.startswith(b"asks "))
-    for at, size in zip(asking_parts(parts, answers), sizes):
-        asked[at].append(size)
+def split_asks(parts: list[Part], output: bytes) -> list[list[int]]:
+    """For each part, how many bytes each of its requests for memory is for, as a run told them."""
+    asked: list[list[int]] = [[] for _ in parts]
+    printed = at = 0
+    for line in cut(output):
+        while at < len(parts) - 1 and printed == len(without_asks(parts[at].printed)):
+            at, printed = at + 1, 0
+        if line.startswith(b"asks "):
+            asked[at].append(int(line[5:]))
+        else:
+            printed += 1
     return asked
-
-
-def made_calls(calls, answers):
-    """The calls that were made: those before a bad line, and of a run the blocks before that of the bad line."""
-    message = wanted_end(answers)[2]
-    if not message:
-        return calls
-    number = int(message.split(b" ")[1].rstrip(b":"))
-    before = b"".join(line + b"\n" for line in cut(calls)[:number - 1])
-    return before.rpartition(b"\n\n")[0] + b"\n" if is_run(calls) else before
-
-
-def reckon(calls, answers):
-    """For each part that was made, what its calls ask for by the model."""
-    calls = made_calls(calls, answers)
-    if not calls.strip():
-        return []
-    first, *lines = cut(calls)
-    model = Calls(first)
-    if not is_run(calls):
-        return [model.asks(line) for line in lines]
-    asked, replies = [], plain_lines(wanted_end(answers)[1])
-    for block, part in zip(b"\n".join(lines).split(b"\n\n"), parts_of(calls)):
-        asked.append(model.block_asks(cut(block + b"\n"), replies[:part.printed - 1]))
-        replies = replies[part.printed:]
-    return asked
-
-
-def split_asks(calls, answers):
-    """For each part, what the program asked for itself, and what its calls did. The latter is as the model says."""
-    parts = parts_of(calls)
-    for part, asked, reckoned in zip(parts, asks_of_parts(parts, answers), reckon(calls, answers)):
-        own = asked[:len(asked) - len(reckoned)]
-        if own + reckoned != asked or own and part.word not in PREPARED:
-            raise ValueError(f"{part.word.decode()} asks for {asked}, and by the model for {reckoned}")
-        yield own, reckoned
-
-
-def asks_with_tags(calls, answers):
-    """For each part, what it asks for with a tagged index, where the answers are those with the other index."""
-    own = [asked for asked, _ in split_asks(calls, answers)]
-    return [mine + theirs for mine, theirs in zip(own, reckon(with_tags(calls), answers))]

@@ -8,7 +8,7 @@ from contextlib import nullcontext
 from pathlib import Path
 
 from edits import TOP
-from machine import run_in
+from machine import toolchain_folder
 
 SECONDS = 60
 # What the library says at the end of a run that gave back all memory, and what stands for that line where it is missing.
@@ -34,7 +34,7 @@ class Program:
     def __init__(self, path, folder):
         self.path = str(Path(path).resolve())
         self.library = f"{folder}/failures.so"
-        clang = Path(run_in(TOP, "rt", "doc")[1].split()[-1]).parent / "toolchain/bin/clang"
+        clang = toolchain_folder() / "toolchain/bin/clang"
         words = [clang if clang.exists() else "cc", "-O2", "-shared", "-fPIC", "-nostdlib", "-fuse-ld=lld"]
         subprocess.run([*words, "-o", self.library, TOP / ".ci/failures.c"], check=True)
 

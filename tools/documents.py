@@ -5,10 +5,11 @@
 - a file in a code span or a command that is not there;
 - an identifier in a code span that no file of the repository has, if it has a capital or two words, except what
   docs/PORTING.md names of the original;
+- a worked row or a law in a code span that no proof defines;
 - a block of Rattle that stands in no crate to the word, at the margin or indented as a body, so that nothing proves it; so in
-  the front page of the library, too;
+  the front page of the library, too, but not in the section of the guide that tools/try_guide.py follows;
 - a block in C, Rust, Python or for a shell that stands in no example of clients/ in the same way, so that nothing runs it;
-- a README of more than 120 lines, or more than 14,000 words on all pages for readers, besides tables and docs/promises.md;
+- a README of more than 120 lines, or more than 14,000 words on all pages for readers, besides tables;
 - a place that names another version than the file VERSION.
 """
 
@@ -19,6 +20,7 @@ from functools import cached_property
 from pathlib import PurePosixPath
 from textwrap import indent
 
+import try_guide
 from edits import TOP
 from files import read
 
@@ -40,7 +42,6 @@ SHOWN = {
 }
 FRONT_PAGE = "crates/string_interner/src/lib.rt"
 NAMES_THE_ORIGINAL = "docs/PORTING.md"
-PROMISES = "docs/promises.md"
 # What names the version, and the line that does; of several such lines the first.
 VERSIONS = {
     "CHANGELOG.md": r"^## \[(.*)\] - \d{4}-\d\d-\d\d$",
@@ -61,6 +62,9 @@ FILE = re.compile(r"(?=.*\w)(?!.*\.\.$)(?:[\w./-]*/[\w./-]*|[\w-]+\.(?:antt|c|ed
 COMMAND = re.compile(r"(?<![\w./$-])(?:\.ci|bench|bin|clients|crates|docs|tools)/[\w./-]*\w")
 # A word in small letters alone may be a command, or a word of a format.
 IDENTIFIER = re.compile(r"(?=.*[A-Z_:])[A-Za-z_]\w*(?:::[A-Za-z_]\w*)*")
+# A worked row or a law, as proofs name them, and where they define it.
+ROW = re.compile(r"\b[a-z]\w*(?:-\w+)+")
+DEFINED = re.compile(rf"^ *(?:pub )?({ROW.pattern})", re.M)
 
 
 def anchor_of(heading):
@@ -81,11 +85,21 @@ class Repository:
         return [it for it in listed if (TOP / it).is_file()]
 
     @cached_property
+    def texts(self):
+        """The texts of all files but the pages."""
+        named = (name for name in self.files if not name.endswith((".md", ".svg")))
+        return {name: (TOP / name).read_text(encoding="utf-8", errors="replace") for name in named}
+
+    @cached_property
     def words(self):
         """The words of all files but the pages, and of their names."""
-        named = (TOP / name for name in self.files if not name.endswith((".md", ".svg")))
-        texts = ["\n".join(self.files), *(path.read_text(encoding="utf-8", errors="replace") for path in named)]
-        return {word for text in texts for word in re.findall(r"\w+", text)}
+        return {word for text in ("\n".join(self.files), *self.texts.values()) for word in re.findall(r"\w+", text)}
+
+    @cached_property
+    def rows(self):
+        """The names with hyphens that proofs define, and those that other files than specs and proofs have."""
+        found = ((DEFINED if name.endswith(".antt") else ROW).findall(text) for name, text in self.texts.items())
+        return {row for rows in found for row in rows}
 
     @cached_property
     def ends(self):
@@ -126,6 +140,9 @@ def missing_names(page, text, repository):
         if FILE.fullmatch(span):
             if not repository.has_file(span):
                 yield f"no file `{span}`"
+        elif ROW.fullmatch(span):
+            if span not in repository.rows and not repository.has_file(span):
+                yield f"no row or law `{span}`"
         elif page != NAMES_THE_ORIGINAL and IDENTIFIER.fullmatch(span) and not repository.has_name(span):
             yield f"no `{span}` in any file"
     for command in COMMAND.findall(LINK.sub("", text)):
@@ -148,7 +165,7 @@ def untried_blocks(language, blocks, repository):
 
 
 def untried_examples(page, text, repository):
-    blocks = BLOCK.findall(text)
+    blocks = BLOCK.findall(try_guide.SECTION.sub("", text) if page == try_guide.PAGE else text)
     for language in SHOWN.get(page, ()):
         yield from untried_blocks(language, [block for name, block in blocks if name == language.lower()], repository)
 
@@ -162,7 +179,7 @@ def long_pages(texts):
     """What is too long of the pages for readers: those at the top, and those in docs/."""
     if (lines := len(texts.get("README.md", "").splitlines())) > MOST_LINES:
         yield f"README.md: {lines} lines, and {MOST_LINES} may be"
-    pages = [page for page in texts if PurePosixPath(page).parent in map(PurePosixPath, (".", "docs")) and page != PROMISES]
+    pages = [page for page in texts if PurePosixPath(page).parent in map(PurePosixPath, (".", "docs"))]
     if (words := sum(count_words(texts[page]) for page in pages)) > MOST_WORDS:
         yield f"{words} words in {', '.join(sorted(pages))}, and {MOST_WORDS} may be"
 

@@ -8,7 +8,7 @@ if the prover passes it and a run of a built program must catch it. Its lines:
   new:        what replaces it; may repeat, for a text of several lines
   function:   the function whose promise the bug breaks, for must-fail
   opens:      the goal of this function's proof, or the lemma of its proof file, that no longer holds
-  scenario:   what catches the bug, for caught-by-runs: a scenario of the suite, or words for run-program
+  scenario:   what catches the bug, for caught-by-runs: a scenario and words of its first line, or words for run-program
 """
 
 import sys
@@ -40,7 +40,7 @@ class Edit:
     changes: list[Change] = field(default_factory=list)
     function: str | None = None
     goal: str | None = None
-    scenario: list[str] | None = None
+    scenario: list[str] = field(default_factory=list)
 
     @property
     def files(self):
@@ -99,11 +99,16 @@ def choose_edits(of, names, folder=REFUSED):
     return [edit for edit in every if not names or edit.name in names]
 
 
+def listed(top):
+    """The lines of a tree's crates.txt, by crate."""
+    lines = (top / "crates.txt").read_text(encoding="utf-8").splitlines()
+    return {line.partition(":")[0].split()[0]: line for line in lines if line.strip()}
+
+
 @cache
 def crates():
     """The crates in the order of crates.txt, each with the crates that its line names."""
-    lines = (line.partition(":") for line in (TOP / "crates.txt").read_text(encoding="utf-8").splitlines())
-    return {crate.split()[0]: named.split() for crate, _, named in lines if crate.strip()}
+    return {crate: line.partition(":")[2].split() for crate, line in listed(TOP).items()}
 
 
 def below(crate):

@@ -1,10 +1,10 @@
 """Reads and writes files, and copies crates."""
 
-import re
+import os
 import shutil
 from pathlib import Path
 
-from edits import CAUGHT, REFUSED, crates
+from edits import CAUGHT, REFUSED, below, crates, listed
 
 
 def read(path):
@@ -16,13 +16,27 @@ def write(path, text):
     Path(path).write_text(text, encoding="utf-8")
 
 
-def copy_crates(source, into, names=None, with_built=()):
-    """Copies what `rt` reads of these crates, or of all, into an empty tree: without planted bugs, which `rt ci` would try, and
-    with what is built of some of them alone."""
+def copy_crates(source, into, names=None):
+    """Copies what `rt` reads of these crates, or of all, into an empty tree: without what is built, and without planted bugs,
+    which `rt ci` would try."""
     names = crates() if names is None else names
     for name in names:
-        left_out = [REFUSED, CAUGHT] + ([] if name in with_built else ["out"])
-        shutil.copytree(source / "crates" / name, into / "crates" / name, ignore=shutil.ignore_patterns(*left_out))
-    lines = read(source / "crates.txt").splitlines(keepends=True)
-    write(into / "crates.txt", "".join(line for line in lines if re.match(r"\w*", line)[0] in names))
+        left_out = shutil.ignore_patterns(REFUSED, CAUGHT, "out")
+        shutil.copytree(source / "crates" / name, into / "crates" / name, ignore=left_out)
+    write(into / "crates.txt", "".join(f"{line}\n" for crate, line in listed(source).items() if crate in names))
     shutil.copy(source / "HANDLES", into)
+
+
+def take_kept_work(kept, tree, crate):
+    """Puts into a copy what checks of this crate have kept in another tree, and the libraries below that are built there."""
+    for part in (f"{crate}/out/incremental", *(f"{it}/out/rlib" for it in below(crate))):
+        if (kept / "crates" / part).is_dir():
+            shutil.copytree(kept / "crates" / part, tree / "crates" / part, dirs_exist_ok=True)
+
+
+def copy_with_kept_work(tree, into):
+    """Copies a tree with all that checks have kept there."""
+    shutil.copytree(tree, into, ignore=shutil.ignore_patterns("out"), dirs_exist_ok=True)
+    for kept in tree.glob("crates/*/out"):
+        # rt writes none of these files in its place, so a link serves as a copy.
+        shutil.copytree(kept, into / kept.relative_to(tree), copy_function=os.link)

@@ -3,6 +3,8 @@
 import os
 import re
 import subprocess
+from functools import cache
+from pathlib import Path
 
 PROCESSORS = len(os.sched_getaffinity(0))
 
@@ -18,3 +20,15 @@ def run_in(folder, *words):
     ran = subprocess.run(list(map(str, words)), cwd=folder, stdin=subprocess.DEVNULL, stdout=subprocess.PIPE,
                          stderr=subprocess.STDOUT, encoding="utf-8", errors="replace", check=False)
     return ran.returncode, ran.stdout
+
+
+def tell_count(passed, failed):
+    """Prints what passed and what failed, as the gate reads it. Returns the status: 1 if anything failed, or nothing was tried."""
+    print(f"{passed} passed, {failed} failed", flush=True)
+    return 1 if failed or not passed else 0
+
+
+@cache
+def toolchain_folder() -> Path:
+    """The folder of the Rattle toolchain."""
+    return Path(run_in("/", "rt", "doc")[1].split()[-1]).parent

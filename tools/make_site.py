@@ -14,7 +14,6 @@ import re
 import shutil
 import subprocess
 import sys
-from functools import cache
 from html.parser import HTMLParser
 from pathlib import Path
 from urllib.parse import unquote, urlsplit
@@ -23,15 +22,16 @@ import api
 from documents import LINK, Repository
 from edits import TOP
 from files import read, write
+from machine import tell_count
+from needs import missing, python_with
 
 HOME = "docs/site"
-MODULES = ("sphinx", "myst_parser", "furo")
-PACKAGES = "the packages python3-sphinx, python3-myst-parser and furo of Debian"
+NEEDS = "python sphinx myst_parser furo"
 # The lists of pages beside each page; what is in none of them comes last.
 LISTS = {
     "Use": ["docs/GUIDE", "docs/PORTING", "docs/PERFORMANCE", "clients/README", *(f"crates/{it}/README" for it in api.CRATES)],
     "Contracts": ["docs/CONTRACTS", "crates/string_interner/CALLERS", *(f"api/{it}" for it in api.CRATES), "api/definitions", "docs/promises", "genindex"],
-    "Work on it": ["CONTRIBUTING", "docs/DESIGN"],
+    "Work on it": ["CONTRIBUTING", "docs/DESIGN", "docs/DECISIONS"],
 }
 TOCTREE = "\n```{{toctree}}\n:hidden:\n:caption: {caption}\n\n{names}\n```\n"
 ORPHAN = "---\norphan: true\n---\n"
@@ -39,21 +39,6 @@ INDEX = '<!doctype html><meta http-equiv="refresh" content="0; url=README.html">
 LINK_OF_STYLE = re.compile(r"""\burl\(['"]?([^)'"]+)""")
 LANGUAGES = {".antt": "rattle", ".c": "c", ".h": "c", ".py": "python", ".rs": "rust", ".rt": "rattle"}
 PICTURES = (".png", ".svg")
-
-
-@cache
-def python_with_sphinx():
-    """The first Python that has what the site needs, this shell's or Debian's, or None."""
-    has = "import importlib.util, sys; sys.exit(not all(map(importlib.util.find_spec, sys.argv[1:])))"
-    for python in filter(None, map(shutil.which, ("python3", "/usr/bin/python3"))):
-        if subprocess.run([python, "-c", has, *MODULES], capture_output=True, check=False).returncode == 0:
-            return python
-    return None
-
-
-def missing():
-    """What the machine lacks for the site, or None."""
-    return None if python_with_sphinx() else f"the site of the documents: no Python with sphinx, myst-parser and furo ({PACKAGES})"
 
 
 def targets_of(page, text):
@@ -142,7 +127,7 @@ def make(out):
         shutil.rmtree(out / name, ignore_errors=True)
     lay_out(out / "source", Repository(), pages.write())
     words = ["-W", "--keep-going", "-n", "-q", "-c", TOP / HOME, "-d", out / "doctrees", out / "source", out / "html"]
-    is_quiet = subprocess.run([python_with_sphinx(), "-m", "sphinx", *words], check=False).returncode == 0
+    is_quiet = subprocess.run([python_with(*NEEDS.split()[1:]), "-m", "sphinx", *words], check=False).returncode == 0
     write(out / "html/index.html", INDEX)
     left_out, broken = list(api.faults(pages)), list(broken_links(out / "html"))
     print(*left_out, *broken, sep="\n", end="\n" if left_out or broken else "")
@@ -154,11 +139,11 @@ def main():
     parser = argparse.ArgumentParser(description=__doc__, formatter_class=argparse.RawDescriptionHelpFormatter)
     parser.add_argument("out", metavar="OUT", nargs="?", default=TOP / HOME / "out", help="the folder")
     out = Path(parser.parse_args().out).resolve()
-    if lacking := missing():
-        sys.exit(lacking)
+    if lacking := missing([NEEDS]):
+        sys.exit(*lacking)
     passed, failed = make(out)
-    print(f"the site is in {out}/html\n{passed} passed, {failed} failed")
-    return 1 if failed else 0
+    print(f"the site is in {out}/html")
+    return tell_count(passed, failed)
 
 
 if __name__ == "__main__":

@@ -3,6 +3,9 @@
 from collections import Counter
 
 import proof_file
+from edits import TOP, Edit
+from source import functions
+from trial import placed, text_of
 from verdicts import LET_THROUGH
 
 # A check takes some thirty seconds beside its bugs, so few get so many each, in the mean.
@@ -15,6 +18,40 @@ def batches(trials, workers):
     count = -(-max(most, len(trials) / TOGETHER) // workers) * workers
     dealt = sorted(trials, key=lambda it: it.function)
     return [batch for start in range(int(count)) if (batch := dealt[start :: int(count)])]
+
+
+def places(edit: Edit) -> set[tuple[object, ...]]:
+    """What a planted bug changes: functions, and places outside functions, each by its file and where it begins."""
+    found: set[tuple[object, ...]] = set()
+    for file, start, *_ in placed(edit):
+        path = TOP / "crates" / edit.crate / file
+        around = [it.start for it in functions(text_of(path)) if it.start <= start < it.end] if file.endswith(".rt") else []
+        found.add((file, *around[-1:]) if around else (file, "outside", start))
+    return found
+
+
+def is_about_many(edit: Edit) -> bool:
+    """Reports whether a planted bug changes a definition or a constant, which any function may cite."""
+    return any(it.file.startswith("specs/") or it.old.startswith("const ") for it in edit.changes)
+
+
+def apart(edits: list[Edit]) -> list[list[Edit]]:
+    """Deals out planted bugs so that no batch has two of a function or place. One that is about many functions comes alone."""
+    dealt: list[tuple[list[Edit], set[tuple[object, ...]]]] = []
+    alone = []
+    for edit in edits:
+        if is_about_many(edit):
+            alone.append([edit])
+            continue
+        own = places(edit)
+        for batch, taken in dealt:
+            if not own & taken:
+                batch.append(edit)
+                taken |= own
+                break
+        else:
+            dealt.append(([edit], own))
+    return [*(batch for batch, _ in dealt), *alone]
 
 
 def proof_files_without_bugs(trials):

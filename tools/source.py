@@ -6,7 +6,6 @@ from dataclasses import dataclass
 FUNCTION = re.compile(r'^(?P<indent> *)(?:pub(?:\(\w+\))? |final |unsafe |extern "C" )*fn (?P<name>\w+)\b', re.M)
 # What ends the head of a function: its body, an empty body, or the semicolon of a declaration.
 HEAD_END = re.compile(r";$|\{\}$|\{$", re.M)
-TRAIT = re.compile(r"^(?:pub )?trait \w+.*?^\}$", re.M | re.S)
 BLOCK = re.compile(r"^(?:pub )?(?P<kind>impl|trait)\b.*?\{$", re.M | re.S)
 
 
@@ -42,41 +41,28 @@ def functions(text):
     return found
 
 
-def functions_of_traits(text):
-    """The functions that the traits of a source text declare."""
-    return [function for trait in TRAIT.findall(text) for function in functions(trait)]
-
-
 def block_around(text, function):
     """The line that opens the `impl` or `trait` of a method, as a match with `kind`, or None."""
     return [None, *BLOCK.finditer(text[: function.start])][-1] if function.is_method else None
 
 
-def names_a_type(text, at):
-    """Reports whether the generic parameters that stand at an offset, if any, are more than lifetimes."""
-    if text[at] != "<":
-        return False
+def end_of_generics(text, at):
+    """The offset behind the generic parameters that stand at an offset, if any."""
     end, depth = at, 0
-    while depth or end == at:
+    while text[at] == "<" and (depth or end == at):
         depth += {"<": 1, ">": -(text[end - 1] != "-")}.get(text[end], 0)
         end += 1
-    return bool(re.search(r"[<,]\s*\w", text[at:end]))
+    return end
 
 
-def without_comments(text):
-    """The text without comments and imports, on which no verdict rests."""
-    text = re.sub(r"^ *(?:pub )?(?:ghost )?use [^;{\n]*(?:\{[^{}]*\})?;", "", text, flags=re.M)
-    lines = (line for line in text.splitlines() if not re.match(r"\s*(?://|--|use |(?:pub )?mod \w+;)", line))
-    return "\n".join(line.rstrip() for line in lines if line.strip())
+def names_a_type(text, at):
+    """Reports whether the generic parameters that stand at an offset, if any, are more than lifetimes."""
+    return bool(re.search(r"[<,]\s*\w", text[at : end_of_generics(text, at)]))
 
 
 def outside_functions(text):
-    """What stands outside functions, without comments."""
+    """The lines of a source text outside functions, without comments, imports and modules."""
     for function in functions(text):
         text = text.replace(function.text, "")
-    return without_comments(text)
-
-
-def items(text):
-    """The items of a source text without their functions: types, traits, impls, constants and macros."""
-    return [it for it in re.split(r"^(?=\S)(?![}>])", outside_functions(text), flags=re.M) if not re.match(r"(?:pub )?mod \w+;|$", it)]
+    text = re.sub(r"^ *(?:pub )?(?:ghost )?use [^;]*;", "", text, flags=re.M)
+    return [line for line in text.splitlines() if line.strip() and not re.match(r" *(?://|(?:pub )?mod \w+;)", line)]

@@ -12,7 +12,7 @@ from textwrap import dedent, indent
 from contracts import clauses
 from edits import TOP
 from files import read
-from source import BLOCK, functions
+from source import BLOCK, end_of_generics, functions
 
 ITEM = re.compile(r"^pub (?P<kind>const|enum|fn|struct|trait|type) (?P<name>\w+)", re.M)
 TYPE = re.compile(r"^(?:pub(?:\(\w+\))? )?(?:enum|struct|type) (\w+)", re.M)
@@ -81,13 +81,8 @@ def has_clauses(function):
 
 def parts_of(head):
     """The trait, if any, and the name of the type of a line that opens an `impl`: of a reference or a slice that of its items."""
-    rest, depth = " ".join(head.removeprefix("impl").rstrip("{").split()), 0
-    for at, letter in enumerate(rest):
-        depth += {"<": 1, ">": -(rest[at - 1] != "-")}.get(letter, 0)
-        if not depth:
-            rest = rest[at + 1 :] if letter == ">" else rest
-            break
-    trait, _, of = rest.strip().rpartition(" for ")
+    rest = " ".join(head.removeprefix("impl").rstrip("{").split())
+    trait, _, of = rest[end_of_generics(rest, 0) :].strip().rpartition(" for ")
     return trait, re.search(r"\w+", re.sub(r"'\w+|\bmut\b", "", of))[0]
 
 

@@ -1,6 +1,7 @@
 """How a planted bug is tried: what it changes where, and with which proof file."""
 
 from copy import copy
+from pathlib import Path
 
 import proof_file
 from edits import TOP, Edit
@@ -10,6 +11,26 @@ from source import block_around, functions, names_a_type
 
 class Unfit(Exception):
     """A planted bug that cannot be tried, and why."""
+
+
+def text_of(path: Path) -> str:
+    """The text of a file, which is empty where there is none."""
+    return read(path) if path.exists() else ""
+
+
+def placed(edit: Edit) -> list[tuple[str, int, int, str]]:
+    """The changes of a planted bug: for each the file, where its old text begins and ends there, and the new text."""
+    changes = []
+    for change in edit.changes:
+        text = text_of(TOP / "crates" / edit.crate / change.file)
+        if not change.old:
+            changes.append((change.file, 0, len(text), f"{change.new}\n"))
+            continue
+        if text.count(change.old) != 1:
+            raise Unfit(f"{edit.name}: its old text does not stand once in {change.file}: {change.old}")
+        start = text.index(change.old)
+        changes.append((change.file, start, start + len(change.old), change.new))
+    return changes
 
 
 class Trial:
@@ -22,7 +43,7 @@ class Trial:
     def __init__(self, edit: Edit, is_thorough: bool):
         self.name, self.function, self.goal = edit.name, edit.function, edit.goal
         self.folder = TOP / "crates" / edit.crate
-        self.changes = [self.place(change) for change in edit.changes]
+        self.changes = placed(edit)
         self.definition = self.find_definition()
         self.proof = f"proofs/{self.function.replace('::', '/')}/Answers.antt"
         has_file = (self.folder / self.proof).exists()
@@ -37,14 +58,6 @@ class Trial:
         if not self.goal:
             start = self.definition.start
             self.changes.append((edit.files[0], start, start, "#[tactic(auto)]\n"))
-
-    def place(self, change):
-        """Where a change stands in its file, and what replaces it."""
-        text = read(self.folder / change.file)
-        if text.count(change.old) != 1:
-            raise Unfit(f"{self.name}: its old text does not stand once in {change.file}: {change.old}")
-        start = text.index(change.old)
-        return change.file, start, start + len(change.old), change.new
 
     def find_definition(self):
         """The function, in the file of the first change."""
@@ -87,5 +100,5 @@ class Trial:
 def apply(changes, folder):
     """Makes these changes in a copy of a crate."""
     for file, start, end, new in sorted(changes, reverse=True):
-        text = read(folder / file)
+        text = text_of(folder / file)
         write(folder / file, text[:start] + new + text[end:])

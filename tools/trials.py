@@ -10,7 +10,7 @@ from concurrent.futures import ProcessPoolExecutor
 from functools import partial
 from itertools import zip_longest
 
-from machine import PROCESSORS
+from machine import PROCESSORS, tell_count
 
 SHOWN_FAULTS = 20
 
@@ -58,14 +58,13 @@ class Tally:
         with ProcessPoolExecutor(PROCESSORS) as pool:
             outcomes = list(pool.map(partial(outcome, program), trials))
         faults = [fault for found, _ in outcomes for fault in found]
-        count = sum(count for _, count in outcomes)
+        compared = sum(compared for _, compared in outcomes)
         print(*faults[:SHOWN_FAULTS], sep="\n", end="\n" * bool(faults))
-        print(f"{what}: {count} comparisons in {len(outcomes)} trials, {len(faults)} faults, "
+        print(f"{what}: {compared} comparisons in {len(outcomes)} trials, {len(faults)} faults, "
               f"{time.monotonic() - start:.1f} seconds", flush=True)
-        self.passed += count - len(faults)
+        self.passed += compared - len(faults)
         self.failed += len(faults)
 
     def end(self):
-        """Prints the count, and returns the status: 1 if anything failed, or nothing was tried."""
-        print(f"{self.passed} passed, {self.failed} failed")
-        return 1 if self.failed or not self.passed else 0
+        """Prints the count, and returns the status."""
+        return tell_count(self.passed, self.failed)

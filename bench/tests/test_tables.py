@@ -4,10 +4,11 @@ import sys
 import tempfile
 import unittest
 from pathlib import Path
+from unittest import mock
 
 sys.path.insert(0, str(Path(__file__).resolve().parents[1]))
 import tables
-from results import BY_C, DEFAULT, FAST, FNV, ORIGINAL, PARTS, Results
+from results import BY_C, DEFAULT, DOCS, FAST, FNV, ORIGINAL, PARTS, SOURCES, Results, code_of, sum_of
 
 HEAD = {"commit": "c0ffee", "date": "2026-01-01", "machine": "a machine", "original": "the original", "load": "busy"}
 
@@ -21,6 +22,72 @@ def results_of(*rows):
         with open(Path(folder, "times.tsv"), "a") as file:
             file.writelines("\t".join(map(str, (*kind, *row[:2], "", *row[2:]))) + "\n" for kind, *row in rows)
         return Results(folder)
+
+
+SOURCE = """\
+//! Doubles.
+ghost use Rattle.Words.{IsTwice};
+
+impl Twice for Number {
+    ghost laws = {
+        first
+    };
+
+    /// Doubles.
+    #[inline]
+    fn double(&self) -> u32
+        ensures { IsTwice self.now
+            result }
+        ensures lends { Keeps (
+            self.now
+        ) }
+    {
+        self.value * 2 // No overflow.
+    }
+}
+"""
+
+
+class Code(unittest.TestCase):
+    LINES = ["impl Twice for Number {", "#[inline]", "fn double(&self) -> u32", "{", "self.value * 2", "}", "}"]
+
+    def test_comments_contracts_and_proofs_are_no_code(self):
+        self.assertEqual(code_of(SOURCE).splitlines(), self.LINES)
+
+    def test_the_sum_is_that_of_the_code_and_of_the_names_of_files(self):
+        with tempfile.TemporaryDirectory() as folder:
+            files = [Path(folder, source, "lib.rt") if "." not in source else Path(folder, source) for source in SOURCES["columns"]]
+            for file in files:
+                file.parent.mkdir(parents=True, exist_ok=True)
+                file.write_text(SOURCE)
+            before = sum_of("columns", Path(folder))
+            files[0].write_text(SOURCE.replace("No overflow", "It fits").replace("first", "second"))
+            self.assertEqual(sum_of("columns", Path(folder)), before)
+            files[0].write_text(SOURCE.replace("* 2", "* 3"))
+            self.assertNotEqual(sum_of("columns", Path(folder)), before)
+            files[0].rename(files[0].with_name("main.rt"))
+            files[0].with_name("main.rt").write_text(SOURCE)
+            self.assertNotEqual(sum_of("columns", Path(folder)), before)
+
+    def test_results_of_other_code_are_told(self):
+        results = Results(DOCS / "pictures")
+        results.heads = {part: {**head, "code": sum_of(part)} for part, head in results.heads.items()}
+        with mock.patch.object(tables, "DOCUMENTS", ()):
+            self.assertEqual(list(tables.faults(results)), [])
+            results.heads["memory"]["code"] = "another"
+            del results.heads["columns"]["code"]
+            self.assertEqual([fault.partition(":")[0] for fault in tables.faults(results)], ["docs/pictures/memory.tsv", "docs/pictures/columns.tsv"])
+
+    def test_a_table_of_other_results_is_told(self):
+        results = Results(DOCS / "pictures")
+        results.heads = {part: {**head, "code": sum_of(part)} for part, head in results.heads.items()}
+        with tempfile.TemporaryDirectory() as folder:
+            page = Path(folder, "PAGE.md")
+            with mock.patch.object(tables, "DOCUMENTS", (page,)), mock.patch.object(tables, "DOCS", Path(folder, "docs")):
+                page.write_text(tables.put("<!-- bench/run: speed -->\n<!-- end: speed -->\n", tables.blocks(results)))
+                self.assertEqual(list(tables.faults(results)), [])
+                page.write_text(page.read_text().replace("fill", "full").replace("0.", "1."))
+                self.assertEqual(len(list(tables.faults(results))), 1)
 
 
 class Tables(unittest.TestCase):
@@ -46,13 +113,6 @@ class Tables(unittest.TestCase):
         rows = [("words", 20, "fill cycles", 1), ("words", 10, "fill cycles", 1), ("long", 5, "fill cycles", 1)]
         results = results_of(*((FAST["string"], *row) for row in (*rows, ("words", 30, "fill", 1))))
         self.assertEqual(results.counted("words"), [10, 20])
-
-    def test_rounds_have_a_table_each_for_least_median_and_spread(self):
-        values = {"fill": 100, "fill median": 111, "fill spread": 7}
-        rows = [(FAST["string"], "identifiers", 10, measure, value) for measure, value in values.items()]
-        shown = tables.nanoseconds(results_of(*rows)).split("\n\n")
-        lines = [table.splitlines()[-1] for table in shown[1::2]]
-        self.assertEqual([line.split(" | ")[1] for line in lines], ["100", "111", "7.00"])
 
     def test_calls_through_c_are_shown_once_all_are_measured(self):
         rows = [(kind, "identifiers", 10, "fill", 7) for kind in (FAST["string"], *BY_C)]

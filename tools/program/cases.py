@@ -1,6 +1,12 @@
-"""Folders of cases, and of tables, which have a row for each of many inputs that end alike."""
+"""Folders of cases, which are read as cram reads a test of one command, and of tables, which have a row for each of many inputs
+that end alike."""
 
+import re
+import shlex
+from collections.abc import Callable, Iterator
 from dataclasses import dataclass
+from pathlib import Path
+from typing import Any, Self
 
 from edits import TOP
 
@@ -8,9 +14,15 @@ from edits import TOP
 FIRST_INPUT = 512
 # How much a large input has.
 MANY, MEBIBYTE = 200000, 2**20
+# What stands before the command; standard input, which another command or the lines behind it give; the arguments; what is
+# printed, and the status where it is not 0.
+CASE = re.compile(rb"(?:(?!  ).*\n)*  \$ (?:printf '(.*)' \| )?\w+(.*?)(?: <<'END'\n((?:  > .*\n)*)  > END)?\n"
+                  rb"((?:  .*\n)*?)(?:  \[(\d+)\]\n)?")
+# A line of what is printed, whether it has no newline, and whether its bytes are escaped.
+LINE = re.compile(rb"  (.*?)( \(no-eol\))?( \(esc\))?\n")
 
 
-def rooms_of_input(data):
+def rooms_of_input(data: bytes) -> list[int]:
     """The room asked for to read an input: it doubles until all is read."""
     rooms = [FIRST_INPUT]
     while rooms[-1] < len(data):
@@ -18,45 +30,51 @@ def rooms_of_input(data):
     return rooms
 
 
+def unescape(text: bytes) -> bytes:
+    return text.decode("unicode_escape").encode("latin-1")
+
+
 @dataclass
 class Case:
-    """The files of a case: its arguments and input, how a run must end, and the requests for memory of each line."""
+    """The arguments and the input of a program, and how its run must end."""
 
     name: str
     words: list[bytes]
     data: bytes
-    end: tuple
-    asks: bytes
+    end: tuple[int, bytes, bytes]
 
     @classmethod
-    def read(cls, path, words=()):
-        """Reads a case, whose arguments are these where no file has them."""
-        files = {it.suffix: it.read_bytes() for it in path.parent.glob(f"{path.stem}.*")}
-        if ".args" in files:
-            words = files[".args"].split(b"\n")[:-1]
-        end = int(files.get(".status", b"0")), files.get(".out", b""), files.get(".err", b"")
-        return cls(path.stem, list(words), files[".in"], end, files.get(".asks", b""))
+    def read(cls, path: Path) -> Self:
+        """Reads a case. What it prints is standard output where the status is 0, and else standard error."""
+        found = CASE.fullmatch(path.read_bytes())
+        if not found:
+            raise ValueError(f"{path.name} does not read as a case")
+        made, words, lines, printed, status = found.groups()
+        data = re.sub(rb"(?m)^  > ", b"", lines or b"") if made is None else unescape(made.replace(b"%%", b"%"))
+        told = b"".join((unescape(line) if is_escaped else line) + b"\n" * (not is_cut)
+                        for line, is_cut, is_escaped in LINE.findall(printed))
+        end = (int(status), b"", told) if status else (0, told, b"")
+        return cls(path.stem, [word.encode() for word in shlex.split(words.decode())], data, end)
 
 
-def try_folder(_, folder):
-    """There are cases, and each file that is no table belongs to one."""
+def try_folder(_: Any, folder: str) -> Iterator[tuple[str, Any, Any]]:
+    """There are cases, and each file is one, or a table."""
     files = sorted((TOP / folder).iterdir())
-    strays = [it.name for it in files if it.suffix not in ("", ".md") and not it.with_suffix(".in").exists()]
-    yield f"files of {folder} that belong to no case", strays, []
-    yield f"there are cases in {folder}", any(it.suffix == ".in" for it in files), True
+    yield f"files of {folder} that are no case", [it.name for it in files if it.suffix not in ("", ".md", ".t")], []
+    yield f"there are cases in {folder}", any(it.suffix == ".t" for it in files), True
 
 
-def cases(folder, try_case):
+def cases(folder: str, try_case: Callable[..., Any]) -> Iterator[tuple[Any, ...]]:
     """The trials of a folder's cases."""
     yield try_folder, folder
-    yield from ((try_case, path) for path in sorted((TOP / folder).glob("*.in")))
+    yield from ((try_case, path) for path in sorted((TOP / folder).glob("*.t")))
 
 
-def try_table(_, name, count):
+def try_table(_: Any, name: str, count: int) -> Iterator[tuple[str, Any, Any]]:
     yield f"{name} has rows", count > 0, True
 
 
-def rows(folder, tables):
+def rows(folder: str, tables: dict[str, Callable[..., Any]]) -> Iterator[tuple[Any, ...]]:
     """The trials of a folder's tables: what tries a row, by the name of the table."""
     for name, try_row in tables.items():
         found = (TOP / folder / name).read_bytes().split(b"\n")[:-1]

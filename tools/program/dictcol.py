@@ -48,8 +48,11 @@ def unreadable(error, name=b""):
 
 
 def unwritable(error):
-    """A writer that takes nothing has no error number."""
-    return b"dictcol: cannot write output: %s\n" % (told(error) if error else b"failed to write the buffered data")
+    """If its reader has left it ends silently, with the status that a shell tells of a program that SIGPIPE ended. A writer that
+    takes nothing has no error number."""
+    if error == errno.EPIPE:
+        return 128 + 13, b""
+    return 1, b"dictcol: cannot write output: %s\n" % (told(error) if error else b"failed to write the buffered data")
 
 
 def answer(words, data):

@@ -2,20 +2,26 @@
 
 import random
 
+from asks import COMMAND, REPLY, Calls
 from program.cases import MANY, MEBIBYTE, Case, cases, rooms_of_input, rows
 from program.streams import Streams
-from program.texts import (ANY, BACKENDS, OUT_OF_MEMORY, UNREADABLE, UNWRITABLE, USAGE, Run, answer, bad_line, command_of,
-                           lines_of)
+from program.texts import BACKENDS, OUT_OF_MEMORY, UNREADABLE, UNWRITABLE, USAGE, answer, bad_line, lines_of
 
 CASES = "crates/intern/cases"
-# In bytes: the buffer of standard output, a command and a reply.
-OUTPUT_BUFFER, COMMAND, REPLY = 8192, 24, 32
+# In bytes: the buffer of standard output.
+OUTPUT_BUFFER = 8192
+# The words of lines, as a run of scenarios calls them.
+CALLS = {b"i": b"Intern", b"g": b"Get", b"r": b"Resolve", b"n": b"Number", b"len": b"Len", b"shrink": b"Shrink"}
 
 
 def asks_of_lines(case):
-    """The sizes of the requests of each line, by its number, as the case has them."""
-    lines = (row.removeprefix(b"line ").split(b":") for row in case.asks.splitlines())
-    return {int(line): [int(size) for size in sizes.split()] for line, sizes in lines}
+    """The number of a line, and the size of a request that it makes by the model, for each such request in order."""
+    model = Calls(b"run %s SymbolU32 default" % case.words[0])
+    for number, (line, reply) in enumerate(zip(lines_of(case.data), lines_of(case.end[1])), 1):
+        word, space, rest = line.partition(b" ")
+        model.memory.asks = []
+        model.command(CALLS[word] + space + rest, reply)
+        yield from ((number, size) for size in model.memory.asks)
 
 
 def requests(case):
@@ -30,16 +36,7 @@ def requests(case):
     yield "commands", COMMAND * count
     if case.end[0] == 0:
         yield "replies", REPLY * count
-        yield from ((line, size) for line, sizes in sorted(asks_of_lines(case).items()) for size in sizes)
-
-
-def wrong_asks(case):
-    """The lines of a case that have other requests than by the rules, with these."""
-    asks = asks_of_lines(case)
-    if case.end[0] != 0:
-        return asks
-    wanted = enumerate(Run(case.words[0], map(command_of, lines_of(case.data))).asks, 1)
-    return {line: sizes for line, sizes in wanted if sizes is not ANY and list(sizes) != asks.get(line, [])}
+        yield from asks_of_lines(case)
 
 
 def end_when_refused(case, purpose, is_last_of_words):
@@ -75,10 +72,9 @@ def asked_again(program, case, number, purpose, asks):
 
 def try_case(program, path):
     """A case, and again with each of its requests for memory refused."""
-    case = Case.read(path, [b"string"])
+    case = Case.read(path)
     name = case.name
     yield f"{name}, the case by the rules", answer(case.words, case.data), case.end
-    yield f"{name}, its lines that ask for something else", wrong_asks(case), {}
     yield name, program.run(case.words, case.data), case.end
     ended, asks = program.run_with_asks(case.words, case.data)
     yield f"{name}, its requests told", ended, case.end
@@ -228,7 +224,7 @@ def unreadable(_):
 
 
 def unwritable(_):
-    return UNWRITABLE
+    return 1, UNWRITABLE
 
 
 COMMANDS = b"i Tiger\ng Bear\nr 0\nlen\nshrink\nr 9\n"

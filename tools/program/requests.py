@@ -45,12 +45,12 @@ class Lines:
         self.memory = Memory()
         self.texts = data.removesuffix(b"\n").split(b"\n") if data else []
         codes, symbols = Room(self.memory, 4), Room(self.memory, 4)
-        self.interner = Interner(Slots(self.memory, "SymbolU32", is_tagged=True), ROOMS[backend.decode()](self.memory))
+        self.interner = Interner(Slots(self.memory, "SymbolU32", "tagged"), ROOMS[backend.decode()](self.memory))
         for text in self.texts:
             codes.add()
             # There is room for the symbol of a new line before it is known whether the line is new.
             symbols.add()
-            symbols.length -= text in self.interner.texts
+            symbols.length -= text in self.interner.known
             self.interner.intern(text)
 
     def write_file(self, is_ended):

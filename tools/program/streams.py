@@ -13,8 +13,6 @@ from typing import Callable
 
 from built import SECONDS, holding
 
-# The status that a shell tells of a program that SIGPIPE ended.
-PIPE_CLOSED = 128 + 13
 # A writer that takes nothing is an error too.
 ERRORS = (errno.EPIPE, errno.ENOMEM, 0)
 
@@ -34,7 +32,7 @@ def limit_files(count):
 
 @dataclass(frozen=True)
 class Streams:
-    """Arguments and inputs of a program, and how it tells of an error by its number.
+    """Arguments and inputs of a program, and how it tells of an error by its number: of a failed write by a status and a message.
 
     `answered` has short inputs with what is written for them, and `long` one with more than a buffer or a pipe takes. `failing`
     has inputs that are wrong, with how a run over them ends. If the program writes on where the buffer of its output is refused,
@@ -45,7 +43,7 @@ class Streams:
     failing: tuple
     long: tuple
     unreadable: Callable[[int], bytes]
-    unwritable: Callable[[int], bytes]
+    unwritable: Callable[[int], tuple[int, bytes]]
     buffer: int | None = None
 
     def trials(self):
@@ -66,7 +64,8 @@ class Streams:
 
     def unwritten(self, error, front=b""):
         """How a run ends whose output breaks off by an error behind these bytes."""
-        return (PIPE_CLOSED, front, b"") if error == errno.EPIPE else (1, front, self.unwritable(error))
+        status, message = self.unwritable(error)
+        return status, front, message
 
 
 def failing_input(program, streams):

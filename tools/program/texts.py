@@ -7,8 +7,6 @@ USAGE = (2, b"", b"usage: intern string|bucket|buffer\n")
 UNREADABLE = (1, b"", b"cannot read input\n")
 OUT_OF_MEMORY = (1, b"", b"out of memory\n")
 UNWRITABLE = b"cannot write output\n"
-# What a line asks for where no rule tells how much room it needs.
-ANY = None
 
 
 def bad_line(number):
@@ -64,37 +62,36 @@ def is_text(data):
 class Run:
     """Commands on an empty list of distinct texts over a backend, where the memory that one line asks for is refused.
 
-    Of each line it has the reply, the number that the reply tells, and the sizes of its requests for memory.
+    Of each line it has the reply, and the number that the reply tells.
     """
 
     def __init__(self, backend, commands, refused=None):
         self.is_buffer = backend == b"buffer"
         self.known, self.texts, self.entries = {}, [], bytearray()
-        self.replies, self.numbers, self.asks = [], [], []
+        self.replies, self.numbers = [], []
         for line, (word, argument) in enumerate(commands, 1):
-            number, reply, asks = self.step(word, argument, line == refused)
+            number, reply = self.step(word, argument, line == refused)
             if reply is None:
                 reply = b"none" if number is None else b"symbol %d" % number
             self.replies.append(reply)
             self.numbers.append(number)
-            self.asks.append(asks)
 
     def step(self, word, argument, is_refused):
-        """The number that a command tells, its reply where it is of another kind, and what it asks for."""
+        """The number that a command tells, and its reply where it is of another kind."""
         match word:
             case b"i" if argument not in self.known:
-                return (None, b"no memory", ANY) if is_refused else (self.intern(argument), None, ANY)
+                return (None, b"no memory") if is_refused else (self.intern(argument), None)
             case b"i" | b"g":
-                return self.known.get(argument), None, ()
+                return self.known.get(argument), None
             case b"r" if argument >= len(self.numbers) or self.numbers[argument] is None:
-                return None, b"no reply", ()
+                return None, b"no reply"
             case b"r":
                 return self.read(self.numbers[argument], is_refused)
             case b"n":
                 return self.read(argument, is_refused)
             case b"len":
-                return None, b"len %d" % len(self.texts), ()
-        return None, b"ok", ANY
+                return None, b"len %d" % len(self.texts)
+        return None, b"ok"
 
     def intern(self, text):
         self.known[text] = len(self.entries) if self.is_buffer else len(self.texts)
@@ -107,8 +104,8 @@ class Run:
         if number <= GREATEST_SYMBOL:
             text = read_at(self.entries, number) if self.is_buffer else [*self.texts[number:number + 1], None][0]
         if not text:
-            return None, b"none" if text is None else b"text ", ()
-        return None, b"no memory" if is_refused else b"text " + text, (len(text),)
+            return None, b"none" if text is None else b"text "
+        return None, b"no memory" if is_refused else b"text " + text
 
 
 def answer(words, data, refused=None):

@@ -9,6 +9,7 @@ from unittest import mock
 
 sys.path.insert(0, str(Path(__file__).resolve().parent.parent))
 import edits
+import plan
 import touched
 import trial
 
@@ -106,12 +107,12 @@ class SmallRepository(unittest.TestCase):
         folder = tempfile.TemporaryDirectory()
         self.addCleanup(folder.cleanup)
         self.top = Path(folder.name)
-        for module in (edits, touched, trial):
+        for module in (edits, plan, touched, trial):
             patch = mock.patch.object(module, "TOP", self.top)
             patch.start()
             self.addCleanup(patch.stop)
-        self.addCleanup(self.forget)
-        self.forget()
+        self.addCleanup(edits.crates.cache_clear)
+        edits.crates.cache_clear()
         self.write("crates.txt", "low: std_alloc\nhigh: low\n")
         self.write("crates/low/src/lib.rt", SOURCE)
         self.write("crates/low/src/shape.rt", SHAPE)
@@ -122,10 +123,6 @@ class SmallRepository(unittest.TestCase):
             self.write_edit(name, old, new, function, goal, crate)
         self.git("init", "-q")
         self.commit = self.commit_all()
-
-    def forget(self):
-        edits.crates.cache_clear()
-        touched.words_of_methods.cache_clear()
 
     def write(self, name, text):
         path = self.top / name

@@ -1,86 +1,65 @@
-"""The model of what calls ask for: by the answers of all scenarios that it knows, and by values reckoned by hand."""
+"""The model of what calls ask for, by the scenarios that have the sizes, and by values reckoned by hand."""
 
 import sys
 import unittest
 from pathlib import Path
 
 sys.path.insert(0, str(Path(__file__).resolve().parent.parent))
-from asks import asks_with_tags, reckon, split_asks
-from scenarios import SMALL, WITH_INDEX, find_calls
-
-LEVELS = {level.decode() for pair in WITH_INDEX.items() for level in pair}
+from asks import reckon, split_asks
+from scenarios import Scenario, find_scenarios, read_blocks
 
 
-class AnswersTest(unittest.TestCase):
-    def test_all_scenarios(self):
-        known = [path for path in find_calls(SMALL) if path.parent.name in LEVELS]
-        self.assertEqual({path.parent.name for path in known} & {"interner", "scopes", "run"}, {"interner", "scopes", "run"})
-        for path in known:
-            answers = path.with_suffix(".answers").read_bytes()
-            if not answers.startswith(b"line 1: "):
-                with self.subTest(path.stem):
-                    list(split_asks(path.read_bytes(), answers))
-
-    def test_another_size(self):
-        calls = b"interner string SymbolU32 default\nget_or_intern Tiger\n"
-        self.assertEqual(list(split_asks(calls, b"asks 32\nasks 8\nasks 16\nsymbol 0\n")), [([], [32, 8, 16])])
-        for asks in (b"asks 32\nasks 8\n", b"asks 32\nasks 9\nasks 16\n", b"asks 8\nasks 32\nasks 8\nasks 16\n"):
-            with self.subTest(asks), self.assertRaises(ValueError):
-                list(split_asks(calls, asks + b"symbol 0\n"))
-
-    def test_what_the_program_asks_itself(self):
-        calls = b"interner buffer SymbolU32 default\nletters 6\n"
-        self.assertEqual(list(split_asks(calls, b"asks 6\nasks 32\nasks 8\nsymbol 0\n")), [([6], [32, 8])])
+def asks(first, *calls):
+    """What the parts of a scenario ask for, by the model."""
+    text = "".join(f"{line}\n" for line in (f"on {first}", *calls))
+    [([first], parts)] = read_blocks(text.encode())
+    return reckon(Scenario(Path("it.scenario"), first, parts))
 
 
-    def test_slots_of_each_width(self):
-        for symbol, asked in (("SymbolU16", [32]), ("SymbolU32", [32]), ("SymbolUsize", [128]), ("usize", [128]), ("Even", [32, 32]),
-                              ("Bit", [32, 16])):
-            with self.subTest(symbol):
-                calls = f"interner buffer {symbol} default\nwith_capacity 4\n".encode()
-                self.assertEqual(reckon(calls, b"ok\n"), [[*asked, 52]])
+class ModelTest(unittest.TestCase):
+    def test_scenarios_with_sizes(self):
+        found = [it for it in find_scenarios() if it.has_sizes]
+        levels = {"backend", "index", "interner", "linear", "run", "scopes", "symbol", "tagged"}
+        self.assertEqual({it.path.parent.name for it in found}, levels)
+        for it in found:
+            with self.subTest(str(it)):
+                sizes = [[int(line[5:]) for line in part.printed if line.startswith(b"asks ")] for part in it.parts]
+                self.assertEqual(reckon(it), sizes)
 
-    def test_slots_half_of_which_are_filled(self):
-        for count, asked in ((1, 32), (4, 32), (5, 64), (8, 64), (9, 128)):
+    def test_slots_three_quarters_of_which_are_filled(self):
+        for count, asked in ((1, 32), (6, 32), (7, 64), (12, 64), (13, 128)):
             with self.subTest(count):
-                calls = f"interner buffer SymbolU32 default\nwith_capacity {count}\n".encode()
-                self.assertEqual(reckon(calls, b"ok\n"), [[asked, 13 * count]])
+                calls = f"> with_capacity {count}", "ok"
+                self.assertEqual(asks("interner buffer SymbolU32 default", *calls), [[asked, 13 * count]])
+                self.assertEqual(asks("index buffer SymbolU32 default", *calls), [[asked]])
 
+    def test_tagged_slots(self):
+        self.assertEqual(asks("tagged string Even default", "> with_capacity 7", "ok"), [[64, 24, 35, 28]])
+        self.assertEqual(asks("tagged buffer usize default", "> with_capacity 8", "ok"), [[256, 32, 104]])
+        self.assertEqual(asks("tagged buffer SymbolU32 default", "> extend_numbers 8", "ok"), [[16, 64, 24, 8, 16, 128, 32]])
 
-class TaggedTest(unittest.TestCase):
-    def test_two_requests_for_slots(self):
-        calls = b"interner string Even default\nwith_capacity 7\n"
-        self.assertEqual(asks_with_tags(calls, b"asks 64\nasks 64\nasks 35\nasks 28\nok\n"), [[64, 24, 35, 28]])
+    def test_a_backend_has_repeats(self):
+        calls = "> intern a", "symbol 0", "> intern a", "symbol 1", "> empties 3", "symbol 4"
+        self.assertEqual(asks("backend bucket SymbolU32 default", *calls), [[64, 128, 2], [], [128]])
 
-    def test_wide_symbols(self):
-        calls = b"interner buffer usize default\nwith_capacity 8\n"
-        self.assertEqual(asks_with_tags(calls, b"asks 256\nasks 104\nok\n"), [[256, 32, 104]])
+    def test_what_a_block_of_commands_asks(self):
+        calls = "> Extend a,b", "> InternNumbers 2", "> Number 0", "ok", "symbol 4", "symbol 6", "text a", "4"
+        self.assertEqual(asks("tagged_run buffer SymbolU32 default", *calls), [[4, 32, 96, 128, 64, 24, 8, 1]])
 
-    def test_seven_eighths(self):
-        calls = b"interner buffer SymbolU32 default\nextend_numbers 8\n"
-        self.assertEqual(asks_with_tags(calls, b"asks 16\nasks 32\nasks 8\nasks 64\nasks 16\nok\n"),
-                         [[16, 64, 24, 8, 16, 128, 32]])
+    def test_a_call_that_finds_no_memory_is_made_again(self):
+        self.assertEqual(asks("linear buffer SymbolU32 default", "> with_capacity 709490156681136601", "out of memory"),
+                         [[2837960626724546404] * 2])
 
-    def test_what_the_program_asks_itself_stays(self):
-        calls = b"run bucket SymbolU32 default\nIntern a\nNumber 0\n"
-        answers = b"asks 48\nasks 64\nasks 32\nasks 64\nasks 128\nasks 2\nasks 1\nsymbol 0\ntext a\n1\n"
-        self.assertEqual(asks_with_tags(calls, answers), [[48, 64, 64, 24, 64, 128, 2, 1]])
+    def test_a_bad_line_ends_it(self):
+        calls = "> get_or_intern a", "symbol 0", "> numbers x", "line 3: not a number", "> extend b"
+        self.assertEqual(asks("interner string SymbolU32 default", *calls), [[32, 8, 16], [], []])
+        self.assertEqual(asks("vector", "line 1: unknown backend", "> new"), [[], []])
 
-    def test_scopes(self):
-        calls = b"scopes string SymbolU32 default\nenter\ndeclare b\nleave\n"
-        self.assertEqual(asks_with_tags(calls, b"asks 32\nok\nasks 32\nasks 8\nasks 16\nsymbol 0\ntrue\n"),
-                         [[32], [64, 24, 8, 16], []])
-
-
-class BadLineTest(unittest.TestCase):
-    def test_calls_before_it(self):
-        calls = b"interner string SymbolU32 default\nget_or_intern a\nnumbers x\nget_or_intern b\n"
-        self.assertEqual(reckon(calls, b"asks 32\nasks 8\nasks 16\nsymbol 0\nline 3: not a number\n"), [[32, 8, 16]])
-
-    def test_blocks_before_it(self):
-        calls = b"run string SymbolU32 default\nIntern a\n\nLen\nLen\nget a\n"
-        self.assertEqual(reckon(calls, b"symbol 0\n1\nline 6: unknown word\n"), [[32, 32, 8, 16]])
-        self.assertEqual(reckon(calls, b"line 2: unknown word\n"), [])
+    def test_each_part_has_its_own(self):
+        calls = b"> iter\n  1 left\n0 left\n> entry_at\n> from_iter a\nok\n> clone\nok\n> len\n1\n"
+        [(_, parts)] = read_blocks(b"on tagged string Bit fold\n" + calls)
+        told = b"  1 left\n0 left\nasks 8\nasks 16\nok\nasks 4\nok\n1\nasks 2\n"
+        self.assertEqual(split_asks(parts, told), [[], [], [8, 16], [4], [2]])
 
 
 if __name__ == "__main__":

@@ -7,8 +7,9 @@ from pathlib import Path
 import small  # brings the tools into reach
 from program.cases import Case, cases, rows
 
+
 def try_case(program, path):
-    yield program, Case.read(path, [b"string"]), None
+    yield program, Case.read(path), None
 
 
 def try_row(program, row):
@@ -31,16 +32,32 @@ class CasesTest(unittest.TestCase):
     def faults(self, trials):
         return [(name, found) for name, found, wanted in self.found(trials) if found != wanted]
 
-    def test_the_files_of_a_case(self):
-        self.write(one__in="i", two__in="", two__args="-a\nb\n", two__out="o", two__err="e", two__status="2\n", two__asks="line 1: 8\n")
-        one = Case("one", [b"string"], b"i", (0, b"", b""), b"")
-        two = Case("two", [b"-a", b"b"], b"", (2, b"o", b"e"), b"line 1: 8\n")
-        self.assertEqual(self.faults(cases(self.folder, try_case)), [("p", one), ("p", two)])
+    def read(self, text):
+        self.write(one__t=text)
+        case = Case.read(self.folder / "one.t")
+        return case.words, case.data, case.end
+
+    def test_input(self):
+        self.assertEqual(self.read("A comment.\n\n  $ intern string <<'END'\n  > é \n  > \n  > END\n  text é \n  \n"),
+                         ([b"string"], "é \n\n".encode(), (0, "text é \n\n".encode(), b"")))
+        self.assertEqual(self.read("  $ printf 'a\\n\\377%%\\\\\\047' | intern 'a b' ''\n  bad line 1\n  [2]\n"),
+                         ([b"a b", b""], b"a\n\xff%\\'", (2, b"", b"bad line 1\n")))
+
+    def test_output(self):
+        for text, told in (("a\\x00\\\\ (esc)", b"a\0\\\n"), ("a (no-eol)", b"a"), ("a\n  \\xff (no-eol) (esc)", b"a\n\xff"),
+                           ("[1]x\n  [-1]", b"[1]x\n[-1]\n")):
+            with self.subTest(text):
+                self.assertEqual(self.read(f"  $ printf '' | intern\n  {text}\n"), ([], b"", (0, told, b"")))
+
+    def test_what_is_no_case(self):
+        for text in "", "  > a\n", "  $ intern\nx\n", "  $ intern <<'END'\n  > a\n[2]\n":
+            with self.subTest(text), self.assertRaises(ValueError):
+                self.read(text)
 
     def test_a_file_of_no_case(self):
-        self.write(one__in="", two__out="", three__ask="", README__md="", bad_lines="")
-        [(_, strays), _] = self.faults(cases(self.folder, try_case))
-        self.assertEqual(strays, ["three.ask", "two.out"])
+        self.write(one__t="  $ intern\n", three__ask="", README__md="", bad_lines="")
+        [(_, strays), (_, case)] = self.faults(cases(self.folder, try_case))
+        self.assertEqual((strays, case), (["three.ask"], Case("one", [], b"", (0, b"", b""))))
 
     def test_no_cases(self):
         self.assertEqual(self.faults(cases(self.folder, try_case)), [(f"there are cases in {self.folder}", False)])

@@ -34,6 +34,9 @@ class PartTest(unittest.TestCase):
             self.assertEqual((is_well, part.failed), (False, 1), script)
             self.assertIn("and no count of what passed", printed)
 
+    def test_a_part_that_a_signal_ends(self):
+        self.assertIn("it: ended by SIGKILL, and no count", self.run_part("kill -9 $$")[2])
+
     def test_tests_of_python(self):
         self.assertEqual(self.run_part("echo 'Ran 157 tests in 0.5s'")[1].passed, 157)
         self.assertEqual(self.run_part("echo 'Ran 157 tests in 0.5s'; exit 1")[1].failed, 1)
@@ -41,12 +44,6 @@ class PartTest(unittest.TestCase):
     def test_a_part_that_counts_nothing(self):
         self.assertTrue(self.run_part("true", is_counted=False)[0])
         self.assertFalse(self.run_part("exit 1", is_counted=False)[0])
-
-    def test_what_is_said_on_the_way(self):
-        part = CHECK["Gate"](None).begin("it", ["sh", "-c", "echo begun; sleep 60"])
-        self.assertTrue(part.says("^begun"))
-        part.end()
-        self.assertFalse(part.says("^done"))
 
     def test_the_count_of_all(self):
         self.run_part("echo '3 passed, 2 failed'")
@@ -58,17 +55,61 @@ class PartTest(unittest.TestCase):
         self.assertEqual(lines[-2:], ["left out: a thing", "3 passed, 2 failed"])
 
 
+class EndedTest(unittest.TestCase):
+    def test_a_gate_that_a_signal_ends(self):
+        """The signal comes to a part that waits for one, after a part that has ended."""
+        words = ["import os, runpy, signal, sys", f"CHECK = runpy.run_path({str(edits.TOP / 'check')!r})", "gate = CHECK['Gate'](None)",
+                 "gate.run('one', ['sh', '-c', 'echo 3 passed, 0 failed'])",
+                 "CHECK['MODES']['quick'] = lambda gate: gate.run('two', ['sh', '-c', f'sleep 0.5; kill -TERM {os.getpid()}; sleep 60'])",
+                 "sys.exit(CHECK['run_mode'](gate, 'quick'))"]
+        ended = subprocess.run([sys.executable, "-c", "\n".join(words)], capture_output=True, encoding="utf-8", check=False)
+        lines = ended.stdout.splitlines()
+        self.assertEqual((ended.returncode, lines[-1]), (1, "3 passed, 1 failed"), ended.stderr)
+        self.assertIn("ended by SIGTERM. Cut: two. What comes after was not begun", lines)
+
+
 class SiteTest(unittest.TestCase):
-    def try_site(self, lacking):
+    def begin_site(self, lacking):
         """What is left out, and which parts run, if this is lacking."""
         gate = CHECK["Gate"](None)
-        with mock.patch.object(CHECK["make_site"], "missing", lambda: lacking), mock.patch.object(gate, "run") as run:
-            CHECK["try_site"](gate)
-        return gate.left_out, [call.args[0] for call in run.call_args_list]
+        named = mock.patch.dict(CHECK["begin_site"].__globals__, {"missing": lambda needs: lacking})
+        with named, mock.patch.object(gate, "begin") as begin:
+            CHECK["begin_site"](gate, "folder")
+        return gate.left_out, [call.args[0] for call in begin.call_args_list]
 
     def test_what_is_left_out(self):
-        self.assertEqual(self.try_site("no sphinx"), (["no sphinx"], []))
-        self.assertEqual(self.try_site(None), ([], ["the site of the documents"]))
+        self.assertEqual(self.begin_site(["no sphinx"]), (["no sphinx"], []))
+        self.assertEqual(self.begin_site([]), ([], ["the site of the documents"]))
+
+
+class CheckTest(unittest.TestCase):
+    def parts_of_check(self, is_proved):
+        """The parts that ./check runs in order, and whether the libraries that it proved are kept."""
+        gate, kept = CHECK["Gate"](None), []
+        begun = []
+
+        def begin(name, words, folder=None):
+            begun.append((name, words[:2]))
+            return mock.Mock(said="no pip on this machine: it\n", **{"wait.return_value": is_proved})
+
+        changed = {"missing": lambda needs: [], "stamp_libraries": kept.append, "take_libraries": lambda tree, top: kept.append(tree)}
+        changed["copy_crates"] = lambda source, into: (into / "crates.txt").touch()
+        with mock.patch.dict(CHECK["check"].__globals__, changed), mock.patch.object(gate, "begin", begin):
+            CHECK["check"](gate)
+        self.assertEqual(len({*kept}), len(kept) // 2)
+        return [name for name, _ in begun], dict(begun)["proofs"], len(kept), gate.left_out
+
+    def test_the_parts(self):
+        names, words, kept, left_out = self.parts_of_check(True)
+        self.assertEqual(names, ["the site of the documents", "proofs", "the library for C and its clients", "scenarios",
+                                 "the program", "the program dictcol", "records of proofs", "the guide's first program",
+                                 "what was measured"])
+        self.assertEqual((words, kept), (["rt", "ci"], 2))
+        self.assertIn("no pip on this machine: it", left_out)
+
+    def test_nothing_runs_that_is_not_proved(self):
+        names, _, kept, _ = self.parts_of_check(False)
+        self.assertEqual((names, kept), (["the site of the documents", "proofs", "what was measured"], 0))
 
 
 class SizesTest(unittest.TestCase):

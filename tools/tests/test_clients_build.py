@@ -28,7 +28,8 @@ class ClientsBuild(unittest.TestCase):
         self.top = Path(folder.name, "copy")
         shutil.copytree(TOP / "bin", self.top / "bin")
         (self.top / "clients/c").mkdir(parents=True)
-        for name in ("clients/build", "clients/c/string_interner.h", "VERSION"):
+        (self.top / "tools").mkdir()
+        for name in ("clients/build", "clients/c/string_interner.h", "VERSION", "tools/records.py"):
             shutil.copy(TOP / name, self.top / name)
         self.out = self.top / "clients/out"
         self.made = self.top / "crates/string_interner_c/out/libstring_interner_c.a"

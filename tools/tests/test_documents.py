@@ -74,6 +74,15 @@ class DocumentsTest(SmallRepository):
         self.assertEqual(self.faults_after("`IsTwice`", "`low::IsThrice`"), ["README.md: no `low::IsThrice` in any file"])
         self.assertEqual(self.faults_after("`double`", "`doubles`"), [])
 
+    def test_worked_rows(self):
+        self.write("crates/low/proofs/Worked/Twice.antt", "pub twice-two : twice 2 ≡ 4\ntwice-two = refl twice-three\n")
+        self.write("clients/build", "pkg-config --libs halves\n")
+        self.assertEqual(self.faults_after("`double`", "`twice-two`, `pkg-config`"), [])
+        self.assertEqual(self.faults_after("`double`", "`twice-three`"), ["README.md: no row or law `twice-three`"])
+        self.assertEqual(self.faults_after("`double`", "`twice-tw`"), ["README.md: no row or law `twice-tw`"])
+        self.write("docs/PORTING.md", "Shown by `twice-four`, not by `Treble`.\n")
+        self.assertEqual(self.faults_after("`double`", "`double`"), ["docs/PORTING.md: no row or law `twice-four`"])
+
     def test_the_original(self):
         self.write("docs/PORTING.md", "The original has `Treble`, and `src/treble.rs`.\n")
         self.assertEqual(list(documents.faults()), ["docs/PORTING.md: no file `src/treble.rs`"])
@@ -110,7 +119,6 @@ class DocumentsTest(SmallRepository):
     def test_many_words(self):
         words = documents.count_words(README) + documents.count_words("# Words\n\n## What *they* mean\n")
         self.write("docs/MORE.md", "word " * (14_000 - words) + "\n| a | table |\n")
-        self.write("docs/promises.md", "word " * 20_000)
         self.write("low/MORE.md", "word " * 20_000)
         self.assertEqual(list(documents.faults()), [])
         self.write("docs/MORE.md", "word " * (14_001 - words))

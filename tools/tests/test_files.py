@@ -5,7 +5,7 @@ from pathlib import Path
 
 from small import EDITS, SmallRepository
 import edits
-from files import copy_crates, read, write
+from files import copy_crates, copy_with_kept_work, read, take_kept_work, write
 
 
 class CopyTest(SmallRepository):
@@ -28,8 +28,16 @@ class CopyTest(SmallRepository):
         self.assertEqual([name for name in self.copied(["low"]) if "high" in name], [])
         self.assertEqual(read(self.top / "copy/crates.txt"), "low: std_alloc\n")
 
-    def test_with_what_is_built_of_one(self):
-        self.assertEqual([name for name in self.copied(with_built={"low"}) if "out" in Path(name).parts], ["crates/low/out/kept"])
+    def test_kept_work(self):
+        for name in ("low", "high"):
+            for part in ("rlib", "incremental"):
+                self.write(f"crates/{name}/out/{part}/it", f"{part} of {name}")
+        self.copied()
+        take_kept_work(self.top, self.top / "copy", "high")
+        copy_with_kept_work(self.top / "copy", self.top / "again")
+        kept = {str(path.relative_to(self.top / "again")) for path in self.top.glob("again/crates/*/out/*/*")}
+        self.assertEqual(kept, {"crates/low/out/rlib/it", "crates/high/out/incremental/it"})
+        self.assertEqual(read(self.top / "again/crates/high/out/incremental/it"), "incremental of high")
 
     def test_what_is_written_is_read(self):
         write(self.top / "new/folder/file", "é\n")

@@ -118,7 +118,7 @@ class LinksTest(SmallRepository):
         sphinx.chmod(0o755)
         self.write("out/html/old.html", '<a href="lost">to</a>')
         self.write("out/kept", "")
-        python = mock.patch.object(make_site, "python_with_sphinx", lambda: str(sphinx))
+        python = mock.patch.object(make_site, "python_with", lambda *modules: str(sphinx))
         with python, contextlib.redirect_stdout(io.StringIO()) as printed:
             counts = make_site.make(self.top / "out")
         self.assertTrue((self.top / "out/kept").exists())
@@ -131,17 +131,3 @@ class LinksTest(SmallRepository):
         with mock.patch.object(make_site.api, "faults", lambda pages: ["one is left out"]):
             self.assertEqual(self.make(0, "a page"), ((2, 1), "one is left out\n"))
 
-
-class MissingTest(TestCase):
-    def setUp(self):
-        make_site.python_with_sphinx.cache_clear()
-        self.addCleanup(make_site.python_with_sphinx.cache_clear)
-
-    def test_what_is_missing(self):
-        with mock.patch.object(make_site, "MODULES", ("json", "no_such_module")):
-            self.assertIn("python3-sphinx, python3-myst-parser and furo", make_site.missing())
-
-    def test_nothing_is_missing(self):
-        which = mock.patch.object(make_site.shutil, "which", lambda name: sys.executable)
-        with which, mock.patch.object(make_site, "MODULES", ("json",)):
-            self.assertIsNone(make_site.missing())

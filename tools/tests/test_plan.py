@@ -3,7 +3,7 @@
 import unittest
 from unittest import mock
 
-from small import SmallRepository
+from small import SmallRepository, edits
 import plan
 import proof_file
 from trial import Trial
@@ -39,6 +39,24 @@ class PlanTest(SmallRepository):
         with mock.patch.object(plan, "TOGETHER", 1):
             trials = [self.trial(name) for name in ("doubles_once", "halves_twice", "quarters_once")]
             self.assertEqual([len(it) for it in plan.batches(trials, 1)], [1, 1, 1])
+
+    def caught(self, name, file, old):
+        """A bug that runs catch."""
+        self.write(f"crates/low/caught-by-runs/{name}.edit", f"file: {file}\nold: {old}\nnew: x\nscenario: it\n")
+        return edits.read_edit(self.top / f"crates/low/caught-by-runs/{name}.edit")
+
+    def test_bugs_that_runs_catch_are_apart(self):
+        side, square = self.caught("side", "src/lib.rt", "let side"), self.caught("square", "src/lib.rt", "side * side")
+        half, field = self.caught("half", "src/lib.rt", "number / 2"), self.caught("field", "src/lib.rt", "side: u32")
+        answer, whole = self.caught("answer", "proofs/double/Answers.antt", "lemma = refl"), self.caught("whole", "proofs/new.antt", "")
+        dealt = plan.apart([side, square, half, field, answer, whole])
+        self.assertEqual(dealt, [[side, half, field, answer, whole], [square]])
+
+    def test_a_bug_about_many_functions_comes_alone(self):
+        spec, half = self.caught("spec", "specs/Words.antt", "a + a"), self.caught("half", "src/lib.rt", "number / 2")
+        self.write("crates/low/src/size.rt", "const SIZE: u32 = 2;\n")
+        size = self.caught("size", "src/size.rt", "const SIZE: u32 = 2;")
+        self.assertEqual(plan.apart([spec, half, size]), [[half], [spec], [size]])
 
     def test_goals_are_tried_where_nothing_is_changed(self):
         files = plan.proof_files_without_bugs([self.trial("doubles_once"), self.trial("halves_twice")])

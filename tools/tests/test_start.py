@@ -1,6 +1,7 @@
 """How bin/ starts a program: current, stale or missing, with rt and without."""
 
 import os
+import pty
 import shutil
 import subprocess
 import tempfile
@@ -9,9 +10,16 @@ from pathlib import Path
 
 TOP = Path(__file__).resolve().parents[2]
 
-# Stands for `rt run`: "builds" a program that prints what it was built of.
+# Stands for `rt`: "builds" a program that prints what it was built of, and tells how far it is if a file says how long it takes.
 RT = """#!/bin/sh
-mkdir -p out
+[ -d src ] || exit
+mkdir -p out/incremental/of_this_prover
+touch out/incremental/of_this_prover/first.Proof.oantt out/incremental/of_this_prover/type.TheImpl.Proof.oantt
+if [ -e ../../takes ]; then
+    echo "rt: waiting for another rt to finish in $PWD"
+    echo 'so far: 0 of 8 functions checked; the verdict comes last'
+    sleep "$(cat ../../takes)"
+fi
 echo "echo \\"$(cat src/main.rt) \\$*\\"" > out/intern
 chmod +x out/intern
 echo built
@@ -24,6 +32,8 @@ class Start(unittest.TestCase):
         self.addCleanup(self.folder.cleanup)
         self.top = Path(self.folder.name, "a copy")
         shutil.copytree(TOP / "bin", self.top / "bin")
+        (self.top / "tools").mkdir()
+        shutil.copy(TOP / "tools/records.py", self.top / "tools")
         for name in ("intern", "string_interner", "dictcol"):
             (self.top / "crates" / name / "src").mkdir(parents=True)
         (self.top / "crates.txt").write_text("string_interner: serde_json\nintern: string_interner thiserror\ndictcol: string_interner\n")
@@ -40,9 +50,9 @@ class Start(unittest.TestCase):
         os.utime(path, (1, 1))
         os.utime(path.parent, (1, 1))
 
-    def run_bin(self, *words, has_rt=True):
+    def run_bin(self, *words, has_rt=True, **environment):
         path = f"{self.top}/rt:/usr/bin:/bin" if has_rt else "/usr/bin:/bin"
-        return subprocess.run([str(self.top / "bin/intern"), *words], env={"PATH": path}, stdin=subprocess.DEVNULL,
+        return subprocess.run([str(self.top / "bin/intern"), *words], env={"PATH": path} | environment, stdin=subprocess.DEVNULL,
                               capture_output=True, encoding="utf-8", check=False)
 
     def edit(self, path, text):
@@ -54,6 +64,25 @@ class Start(unittest.TestCase):
         ran = self.run_bin("buffer", "a b")
         self.assertEqual((ran.returncode, ran.stdout), (0, "old buffer a b\n"))
         self.assertIn("proving and building", ran.stderr)
+
+    def test_tells_each_minute_how_far_it_is(self):
+        (self.top / "takes").write_text("1.5")
+        ran = self.run_bin("string", SECONDS="58")
+        self.assertRegex(ran.stderr, r"\nintern: proving \w+ \(crate [12] of 2\), 1 of 8 functions, 1 min \d s\n")
+        for crate in ("string_interner", "intern"):
+            self.assertIn(f"intern: waiting for another run in {self.top}/crates/{crate}\n", ran.stderr)
+
+    def test_tells_each_second_on_a_terminal(self):
+        (self.top / "takes").write_text("1.5")
+        ours, theirs = pty.openpty()
+        words, environment = [str(self.top / "bin/intern"), "string"], {"PATH": f"{self.top}/rt:/usr/bin:/bin", "TERM": "xterm"}
+        subprocess.run(words, env=environment, stdin=subprocess.DEVNULL, stdout=subprocess.DEVNULL, stderr=theirs, check=True)
+        os.close(theirs)
+        said = os.read(ours, 1 << 16).decode()
+        os.close(ours)
+        for number, crate in enumerate(("string_interner", "intern"), 1):
+            self.assertRegex(said, rf"\rintern: proving {crate} \(crate {number} of 2\), 1 of 8 functions, 0 min \d s\x1b\[K")
+        self.assertTrue(said.endswith("\r\x1b[K"))
 
     def test_runs_what_is_current(self):
         self.run_bin("string")

@@ -7,7 +7,8 @@ from small import EDITS, SOURCE, SmallRepository
 import edits
 import touched
 
-LIB, SHAPE, ABOVE, WORDS = ("crates/low/src/lib.rt", "crates/low/src/shape.rt", "crates/high/src/lib.rt", "crates/low/specs/Words.antt")
+LIB, ABOVE, WORDS = "crates/low/src/lib.rt", "crates/high/src/lib.rt", "crates/low/specs/Words.antt"
+LOW = {name for name, (crate, *_) in EDITS.items() if crate == "low"}
 
 
 class TouchedTest(SmallRepository):
@@ -25,76 +26,47 @@ class TouchedTest(SmallRepository):
     def test_nothing_has_changed(self):
         self.assertEqual(self.touched(), set())
 
-    def test_a_body_touches_its_function_alone(self):
-        self.assertEqual(self.touched_by(LIB, "number / 2", "number >> 1"), {"halves_twice"})
+    def test_a_body_touches_its_file(self):
+        self.assertEqual(self.touched_by(LIB, "number / 2", "number >> 1"), LOW)
 
-    def test_a_body_of_several_statements(self):
-        self.assertEqual(self.touched_by(LIB, "side * side", "side + side"), {"area_is_the_side"})
-
-    def test_a_comment_touches_nothing(self):
-        self.assertEqual(self.touched_by(LIB, "/// Doubles.", "/// Returns twice the number."), set())
-
-    def test_a_new_module_touches_nothing(self):
-        self.assertEqual(self.touched_by(LIB, "mod shape;", "mod shape;\nmod size;"), set())
-
-    def test_an_import_over_several_lines_touches_nothing(self):
-        self.assertEqual(self.touched_by(LIB, "mod shape;", "mod shape;\n\nuse shape::{\n    Area, Shape,\n};"), set())
-
-    def test_a_type_touches_its_file(self):
-        low = {name for name, (crate, *_) in EDITS.items() if crate == "low"}
-        self.assertEqual(self.touched_by(LIB, "side: u32", "side: u16"), low)
-
-    def test_a_type_touches_functions_of_other_crates_that_name_it(self):
-        self.write(ABOVE, "fn fourfold(number: u32) -> u32 {\n    Square { side: double(double(number)) }.side\n}\n")
-        self.commit = self.commit_all()
-        self.assertIn("doubles_instead", self.touched_by(LIB, "side: u32", "side: u16"))
-
-    def test_a_type_with_a_new_trait_touches_functions_of_other_crates_that_name_it(self):
-        self.write(ABOVE, "fn fourfold(number: u32) -> u32 {\n    Square { side: double(double(number)) }.side\n}\n")
-        self.commit = self.commit_all()
-        self.assertIn("doubles_instead", self.touched_by(LIB, "pub struct", "impl Drop for Square {\n}\n\npub struct"))
-
-    def test_a_new_function_of_a_known_name_touches_nothing(self):
-        self.write(SHAPE.replace("shape", "size"), "fn double(number: u64) -> u64\n    ensures { result ≡ 0 }\n{\n    0\n}\n")
-        self.assertEqual(self.touched(), set())
-
-    def test_the_head_of_an_impl_touches_its_methods(self):
-        self.write(LIB, SOURCE.replace("impl Shape for Square", "impl<T> Square<T>"))
-        self.commit = self.commit_all()
-        moved = "}\n\nimpl<T: Drop> Square<T> {\n    fn area"
-        self.assertIn("area_is_the_side", self.touched_by(LIB, "    fn area", f"    fn side() {{}}\n{moved}"))
-
-    def test_the_contract_of_a_trait_touches_methods_of_the_name(self):
-        self.assertEqual(self.touched_by(SHAPE, "self.now result };", "self.now 0 };"), {"area_is_the_side"})
+    def test_a_body_touches_no_caller(self):
+        self.assertEqual(self.touched_by(LIB, "number + number", "2 * number"), LOW)
 
     def test_a_contract_touches_callers_in_crates_above(self):
-        self.assertEqual(self.touched_by(LIB, "IsTwice number result", "IsTwice number  result"), {"doubles_once", "doubles_instead"})
+        self.assertEqual(self.touched_by(LIB, "IsTwice number result", "IsTwice number 0"), {*EDITS})
 
-    def test_a_contract_touches_bugs_whose_text_calls_the_function(self):
-        self.write_edit("halves_twice", "number / 2", "quarter(number)", "half", "returns")
+    def test_a_contract_in_another_file(self):
+        self.write("crates/low/src/size.rt", "pub fn half(number: u64) -> u64\n    ensures { result ≡ 1 }\n{\n    1\n}\n")
         self.commit = self.commit_all()
-        self.assertEqual(self.touched_by(LIB, "IsQuarter number result", "IsQuarter number 0"), {"quarters_once", "halves_twice"})
+        self.assertEqual(self.touched_by("crates/low/src/size.rt", "    1", "    2 - 1"), set())
+        self.assertEqual(self.touched_by("crates/low/src/size.rt", "result ≡ 1", "result ≡ 2"), LOW)
 
-    def test_a_definition_touches_what_cites_it_through_others(self):
-        cited = {"doubles_once", "halves_twice", "quarters_once"}
-        self.assertEqual(self.touched_by(WORDS, "b ≡ a + a", "b ≡ 2 * a"), cited)
-
-    def test_a_definition_that_one_contract_cites(self):
-        self.assertEqual(self.touched_by(WORDS, "= ⊤", "= area ≡ 0"), {"area_is_the_side"})
-
-    def test_a_definition_touches_what_an_invariant_of_the_file_cites(self):
-        self.write(LIB, (self.top / LIB).read_text() + "\nimpl Model for Square {\n    invariant { AreaOf self 0 }\n}\n")
+    def test_a_type_touches_what_names_it(self):
+        self.assertEqual(self.touched_by(LIB, "side: u32", "side: u16"), LOW)
+        self.write(ABOVE, "fn fourfold(number: u32) -> u32 {\n    Square { side: double(double(number)) }.side\n}\n")
         self.commit = self.commit_all()
-        low = {name for name, (crate, *_) in EDITS.items() if crate == "low"}
-        self.assertEqual(self.touched_by(WORDS, "= ⊤", "= area ≡ 0"), low)
+        self.assertEqual(self.touched_by(LIB, "side: u16", "side: u8"), {*EDITS})
 
-    def test_a_definition_of_a_crate_below(self):
-        self.write(ABOVE, (self.top / ABOVE).read_text().replace("result ≡ 4 * number", "IsTwice (2 * number) result"))
+    def test_a_crate_that_is_not_below(self):
+        self.write("crates/low/src/size.rt", "fn area() {\n    fourfold()\n}\n")
         self.commit = self.commit_all()
-        self.assertIn("doubles_instead", self.touched_by(WORDS, "b ≡ a + a", "b ≡ 2 * a"))
+        self.assertEqual(self.touched_by(ABOVE, "result ≡ 4 * number", "result ≡ 0"), {"doubles_instead"})
 
-    def test_the_comment_of_a_definition_touches_nothing(self):
-        self.assertEqual(self.touched_by(WORDS, "twice a number", "the double"), set())
+    def test_comments_and_what_is_new_touch_nothing_elsewhere(self):
+        changed = f"{SOURCE.replace('/// Doubles.', '/// Returns twice the number.')}\npub fn fourfold() {{\n}}\n"
+        self.write(LIB, changed.replace("mod shape;", "mod shape;\nmod size;\n\nuse shape::{\n    Area, Shape,\n};"))
+        self.assertEqual(self.touched(), LOW)
+        self.write("crates/low/src/size.rt", "fn fourfold(number: u64) -> u64\n    ensures { result ≡ 0 }\n{\n    0\n}\n")
+        self.assertEqual(self.touched(), LOW)
+
+    def test_a_file_of_specs_touches_what_cites_it_through_others(self):
+        self.write("crates/low/specs/Shapes.antt", "use Rattle.low.specs.Words.{IsTwice}\n")
+        self.write(ABOVE, "ghost use Rattle.low.specs.Shapes.{IsSquare};\n" + (self.top / ABOVE).read_text())
+        self.commit = self.commit_all()
+        self.assertEqual(self.touched_by(WORDS, "b ≡ a + a", "b ≡ 2 * a"), {"doubles_instead"})
+
+    def test_a_file_of_specs_that_nothing_cites(self):
+        self.assertEqual(self.touched_by(WORDS, "b ≡ a + a", "b ≡ 2 * a"), set())
 
     def test_a_proof_file_touches_its_function(self):
         self.assertEqual(self.touched_by("crates/low/proofs/double/Answers.antt", "c = lemma", "c = refl"), {"doubles_once"})
@@ -117,7 +89,7 @@ class FullRunTest(SmallRepository):
 
     def setUp(self):
         super().setUp()
-        for name, value in (("TRIED", self.top / "tried"), ("toolchain", lambda: "kit 1")):
+        for name, value in (("TRIED", self.top / "tried"), ("logic", lambda: "1f")):
             patch = mock.patch.object(touched, name, value)
             patch.start()
             self.addCleanup(patch.stop)
@@ -133,10 +105,14 @@ class FullRunTest(SmallRepository):
         touched.note_full_run("0" * 40)
         self.assertEqual(touched.touched(), self.ALL)
 
-    def test_with_another_toolchain_all_are_touched(self):
+    def test_under_another_logic_all_are_touched(self):
         touched.note_full_run(self.commit)
-        with mock.patch.object(touched, "toolchain", lambda: "kit 2"):
+        with mock.patch.object(touched, "logic", lambda: "2f"):
             self.assertEqual(touched.touched(), self.ALL)
+
+    def test_under_another_kit_of_that_logic_nothing_is_touched(self):
+        self.write("tried", f"{self.commit}\nkit 1 logic 1f\n")
+        self.assertEqual(touched.touched(), {})
 
     def test_a_commit_as_it_stands(self):
         self.assertEqual(touched.commit_as_it_stands(), self.commit)

@@ -18,10 +18,9 @@ class SourceTest(unittest.TestCase):
         self.assertEqual(double.contract, "pub fn double(number: u32) -> u32\n    ensures { IsTwice number result }\n")
 
     def test_outside_functions(self):
-        outside = outside_functions(SOURCE)
-        self.assertIn("side: u32", outside)
-        self.assertNotIn("side * side", outside)
-        self.assertNotIn("Doubles", outside)
+        lines = ["impl Shape for Square {", "}", "pub struct Square {", "    side: u32,", "}"]
+        self.assertEqual(outside_functions(SOURCE), lines)
+        self.assertEqual(outside_functions(f"use a::{{\n    B,\n}};\n{SOURCE}"), lines)
 
     def test_names_a_type(self):
         types = (("<'a>(", False), ("<'a, T>(", True), ("<T: Into<u8>>(", True), ("(", False), ("<'a: 'b>(x: Vec<T>)", False))

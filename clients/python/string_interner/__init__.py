@@ -54,8 +54,8 @@ numbers are below 2 ** 32 - 1, so `buffer` holds less than 4 GiB.
 Hasher = Literal["keyed", "fixed"] | tuple[SupportsIndex, SupportsIndex]
 """How texts are hashed. This decides how long a call takes, and changes no result.
 
-`keyed` is SipHash-1-3 under two random keys of this process, so strangers cannot choose texts with one hash code, which would
-make each call slow. A tuple of two numbers below 2 ** 64 gives keys of your own, which should be random and secret. `fixed` has
+`keyed` is SipHash-1-3 under two random keys of this process. Texts with one hash code would make each call slow, and no way is
+known to choose such texts without the keys. A tuple of two numbers below 2 ** 64 gives keys of your own, which should be random and secret. `fixed` has
 no keys, and is faster, above all for long texts. Do not use it if strangers choose the texts: they easily find many with one code.
 """
 
@@ -70,7 +70,8 @@ class Interner:
     dict, it finds a text by its number: `interner[number]`.
 
     Any thread may call it; threads wait for each other. Results are copies, so they stay valid. A process may fork while other
-    threads call it: the child finds it as it was before or after such a call.
+    threads call it: the child finds it as it was before or after such a call. A finalizer may call it, too. When the interpreter
+    ends, it stops daemon threads for good, and a call that would wait for one of them raises RuntimeError.
 
     Each call raises TypeError for an argument of a wrong type, and ValueError once the interner is closed. A text without a
     UTF-8 form, such as one with a lone surrogate, is in no interner, and interning it raises `UnicodeEncodeError`.

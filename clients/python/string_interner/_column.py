@@ -35,8 +35,8 @@ class Column(Sequence[str | None]):
     ['red', 'green', None, 'red', 'blue', 'green']
 
     It is a sequence of its rows, and equals another column with the same rows. `in`, `count` and `index` look a text up once, and
-    then compare codes. Any thread may call it; threads wait for each other. If a call raises, it adds no row, but it may have
-    added texts to the dictionary.
+    then compare codes. Threads and finalizers may call it as they may call an `Interner`. If a call raises, it adds no row, but it
+    may have added texts to the dictionary.
 
     The texts are in the library, and take little memory there. `dictionary`, `to_pandas`, iteration, `==` and merging this column
     into another one make a string of each, and the column keeps these strings from then on.

@@ -8,8 +8,11 @@ import os
 import struct
 import threading
 from array import array
+from collections.abc import Iterator
+from contextlib import AbstractContextManager, contextmanager
 from itertools import count
 from operator import attrgetter, index
+from sys import is_finalizing
 from typing import TYPE_CHECKING, Any, Literal, SupportsIndex
 from weakref import ref
 
@@ -42,17 +45,50 @@ def _keys_of(hasher: Hasher) -> tuple[int, ...]:
     return key0, key1
 
 
+_untrack = ctypes.pythonapi.PyObject_GC_UnTrack
+_untrack.restype, _untrack.argtypes = None, [ctypes.py_object]
+
+
 class _Address(ctypes.c_void_p):
     """The address of a handle of the library. The handle is freed once nothing refers to this."""
+
+    def __init__(self) -> None:
+        super().__init__()
+        # A collection of garbage finalizes each object of a cycle that it tracks, and then drops them all. So this would be
+        # freed while a finalizer or a thread can still use it.
+        _untrack(self)
 
     def __del__(self, free: Any = library.si_free) -> None:
         free(self)
 
 
+def _take(lock: threading._RLock) -> None:
+    """Takes a lock. Once the interpreter ends, no other thread goes on, so this raises RuntimeError instead of waiting for one."""
+    if not lock.acquire(not is_finalizing()):
+        raise RuntimeError("the interpreter ends, and has stopped a thread within a call")
+
+
+@contextmanager
+def _hold_at_the_end(lock: threading._RLock) -> Iterator[None]:
+    _take(lock)
+    try:
+        yield
+    finally:
+        lock.release()
+
+
+def _hold(lock: threading._RLock) -> AbstractContextManager[object]:
+    """Returns what takes a lock in the same way, and then releases it."""
+    if is_finalizing():
+        return _hold_at_the_end(lock)
+    # The lock itself, because no signal handler comes between taking it and the lines that hold it.
+    return lock
+
+
 class Handle:
     """A handle of the library, and a lock, so that threads take turns."""
 
-    __slots__ = ("_address", "backend", "hasher", "lock", "serial", "__weakref__")
+    __slots__ = ("_address", "_lock", "backend", "hasher", "serial", "__weakref__")
 
     def __init__(self, backend: Backend, hasher: Literal["keyed", "fixed"]) -> None:
         """Makes a closed handle."""
@@ -63,11 +99,13 @@ class Handle:
         self.hasher = hasher
         # Reentrant, because a finalizer or a signal handler may call between any two steps of a call. No call of the library
         # is cut in two by that.
-        self.lock = threading.RLock()
+        self._lock = threading.RLock()
         # Made before, because that may start a collection, and a finalizer may wait for a lock of a thread that forks, which
         # waits for the registry.
         reference = ref(self, _handles.discard)
-        with _registry:
+        # Now, because it is looked for once this is gone, also if what follows raises, and then it has no other hash.
+        hash(reference)
+        with _hold(_registry):
             self.serial = next(_serials)
             _handles.add(reference)
 
@@ -100,6 +138,11 @@ class Handle:
         with self.lock:
             check(library.si_clone(self.at, ctypes.byref(clone._address)))
         return clone
+
+    @property
+    def lock(self) -> AbstractContextManager[object]:
+        """What holds the lock, for `with`."""
+        return self._lock if not is_finalizing() else _hold(self._lock)
 
     @property
     def is_open(self) -> bool:
@@ -187,7 +230,7 @@ def _hold_all() -> None:
     # First, because a signal handler may end the wait by an exception. The process forks all the same.
     _forks.held.append(held)
     while True:
-        _registry.acquire()
+        _take(_registry)
         newest = held[-1].serial if held else -1
         handles = (reference() for reference in list(_handles))
         later = sorted((it for it in handles if it is not None and it.serial > newest), key=attrgetter("serial"))
@@ -195,13 +238,13 @@ def _hold_all() -> None:
             break
         _registry.release()
         for handle in later:
-            handle.lock.acquire()
+            _take(handle._lock)
             held.append(handle)
 
 
 def _release_all() -> None:
     for handle in _forks.held.pop():
-        handle.lock.release()
+        handle._lock.release()
     _registry.release()
 
 

@@ -529,5 +529,131 @@ class CallsBetweenSteps(unittest.TestCase):
         self.assertFalse(any(found))
 
 
+class Finalizers(unittest.TestCase):
+    """A collection finalizes all objects of a cycle before it drops one of them."""
+
+    def run_nodes(self, lines):
+        """Runs lines after those of a class whose finalizer calls `use` with the interner of its cycle."""
+        return run_apart(textwrap.dedent("""
+            import gc
+            from string_interner import Interner
+            class Node:
+                def __init__(self, interner):
+                    self.me, self.interner = self, interner
+                def __del__(self):
+                    use(self.interner)
+            """) + textwrap.dedent(lines))
+
+    def test_a_finalizer_uses_and_keeps_an_interner_of_its_cycle(self):
+        self.assertEqual(self.run_nodes("""
+            kept = []
+            def use(interner):
+                interner.intern("late")
+                kept.append(interner)
+            for _ in range(50):
+                Node(Interner(["a", "b"]))
+                # What is older is finalized first.
+                node = Node(None)
+                node.interner = Interner(["a", "b"])
+                del node
+            gc.collect()
+            texts = [f"text {number}" for number in range(1000)]
+            print(len(kept), all(it.intern_all(texts)[-1] == 1002 for it in kept), {tuple(it)[:3] for it in kept})
+            """), (0, "100 True {('a', 'b', 'late')}", ""))
+
+    def test_a_finalizer_hands_the_interner_to_a_thread(self):
+        # The thread is within one call of the library while the collection goes on.
+        self.assertEqual(self.run_nodes("""
+            import threading, time
+            from array import array
+            rows, found, threads, has_begun = 1_000_000, [], [], threading.Event()
+            joined, ends = b"".join(b"%07d" % row for row in range(rows)), array("Q", range(7, 7 * rows + 1, 7))
+            def call(interner):
+                has_begun.set()
+                found.append((interner.intern_column(joined, ends)[-1], len(interner)))
+            def use(interner):
+                threads.append(threading.Thread(target=call, args=(interner,)))
+                threads[0].start()
+                has_begun.wait()
+                time.sleep(0.05)
+            Node(Interner(["a", "b"]))
+            gc.collect()
+            threads[0].join()
+            print(found)
+            """), (0, "[(1000001, 1000002)]", ""))
+
+    def test_memory_of_a_cycle_is_freed(self):
+        self.assertEqual(self.run_nodes("""
+            import resource
+            use = len
+            texts = [f"{number:0100d}" for number in range(10_000)]
+            for turn in range(110):
+                Node(Interner(texts))
+                gc.collect()
+                if turn == 10:
+                    before = resource.getrusage(resource.RUSAGE_SELF).ru_maxrss
+            # A hundred of them would take 100 MB.
+            print(resource.getrusage(resource.RUSAGE_SELF).ru_maxrss - before < 20_000)
+            """), (0, "True", ""))
+
+
+class Ends(unittest.TestCase):
+    """The interpreter stops daemon threads wherever they are when it ends, and then finalizes what is left."""
+
+    def test_a_finalizer_calls_although_a_stopped_thread_has_locks(self):
+        stopped = "the interpreter ends, and has stopped a thread within a call"
+        self.assertEqual(run_apart("""
+            import faulthandler, sys, threading
+            from functools import partial
+            from string_interner import Column, Interner
+            from string_interner._handle import _registry
+            class Late:
+                def __init__(self, *calls):
+                    self.calls = calls
+                def __del__(self):
+                    for call in self.calls:
+                        try:
+                            print(call())
+                        except RuntimeError as error:
+                            print(error)
+            faulthandler.dump_traceback_later(60, exit=True)
+            used, column, free, inside = Interner(["a"]), Column(["a"]), Interner(["a"]), threading.Event()
+            def stay():
+                with used._handle.lock, column._names._handle.lock, _registry:
+                    inside.set()
+                    threading.Event().wait()
+            threading.Thread(target=stay, daemon=True).start()
+            inside.wait()
+            sys.modules["late"] = Late(partial(used.intern, "b"), partial(column.append, "b"), Interner, partial(free.intern, "b"))
+            """), (0, "\n".join([stopped] * 3 + ["1"]), ""))
+
+    def test_a_finalizer_calls_while_threads_are_stopped_at_any_step(self):
+        self.assertEqual(run_apart("""
+            import faulthandler, sys, threading, time
+            from string_interner import Column, Interner
+            faulthandler.dump_traceback_later(60, exit=True)
+            interner, column = Interner(["a"]), Column(["a"])
+            class Late:
+                def __init__(self, interner, column):
+                    self.me, self.interner, self.column = self, interner, column
+                def __del__(self):
+                    try:
+                        self.interner.intern("late")
+                        self.column.append("late")
+                        list(self.column)
+                    except RuntimeError:
+                        pass
+            sys.modules["late"], cycle = Late(interner, column), Late(interner, column)
+            del cycle
+            def work():
+                while True:
+                    interner.intern_all([f"x{number}" for number in range(2000)])
+                    column.extend(["q"] * 100)
+            for _ in range(3):
+                threading.Thread(target=work, daemon=True).start()
+            time.sleep(0.2)
+            """), (0, "", ""))
+
+
 if __name__ == "__main__":
     unittest.main()

@@ -52,7 +52,7 @@ pub struct FixedHashBuilder;
 
 /// SipHash-1-3 under two keys, as the hasher of an interner.
 ///
-/// If the keys are random and secret, nobody can predict its hash codes. `Debug` does not show the keys.
+/// If the keys are random and secret, no way is known to predict its hash codes. `Debug` does not show the keys.
 #[derive(Clone, Copy)]
 pub struct KeyedHashBuilder {
     keys: Keys,

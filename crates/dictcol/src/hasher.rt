@@ -4,8 +4,8 @@ use crate::fault::Fault;
 use std::hash::RandomState;
 use string_interner::dedup::{StdHasher, TextHasher};
 
-/// SipHash-1-3 under random keys. Nobody who does not know the keys can choose lines with one hash code, which would make
-/// the program slow.
+/// SipHash-1-3 under random keys. Lines with one hash code would make the program slow, and no way is known to choose such
+/// lines without the keys.
 #[derive(Clone, Copy)]
 pub struct LineHasher {
     keyed: StdHasher<RandomState>,

@@ -53,7 +53,7 @@ pub fn intern_fast(alloc: Global) -> Result<bool, InternError>
     Ok(again == width)
 }
 
-/// The same calls under keys. If these are random and secret, texts from strangers make it no slower.
+/// The same calls under keys. If these are random and secret, no way is known to choose texts that make it slow.
 pub fn intern_keyed(alloc: Global, key0: u64, key1: u64) -> Result<bool, InternError>
     ensures { IfOk result (λ same. same ≡ true) }
 {

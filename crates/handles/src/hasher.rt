@@ -11,7 +11,7 @@ use string_interner::dedup::{FoldState, KeyedHasher, KeyedState, TextHasher};
 pub enum ChosenHasher {
     /// The fast one, with the same hash codes in each run. Do not use it if strangers choose the texts.
     Fixed(FoldState),
-    /// SipHash-1-3 under two keys. Without them nobody can predict its hash codes.
+    /// SipHash-1-3 under two keys. Without them no way is known to predict its hash codes.
     Keyed(KeyedHasher),
 }
 

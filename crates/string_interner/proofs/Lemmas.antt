@@ -1,6 +1,7 @@
 pub mod Backend
 pub mod BucketBackend
 pub mod BucketEntries
+pub mod Lasting
 pub mod BufferBackend
 pub mod Index
 pub mod Interner

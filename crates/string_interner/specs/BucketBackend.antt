@@ -1,8 +1,8 @@
 -- How texts lie in buckets: where the text of an entry is stored, how a text is appended, and what bounds the
 -- capacities.
 -- Cited by the model and the contracts of `BucketBackend`.
-use Rattle.std.specs.Prelude.{◌≡◌, ℕ, ◌+◌, ◌-◌, ◌*◌, ◌^◌, ◌<◌, ◌≤◌, max, List, [], ◌∷◌, ◌++◌, length, map, sum_by, slice_index_or, slice_range, All, Bool, true, false, Option, Result}
-use Rattle.std.specs.Str.{IsCharBoundary}
+use Rattle.std.specs.Prelude.{◌≡◌, ℕ, ◌+◌, ◌-◌, ◌*◌, ◌^◌, ◌<◌, ◌≤◌, min, max, List, [], ◌∷◌, ◌++◌, length, map, sum_by, slice_index_or, slice_range, All, Bool, true, false, Option, Result}
+use Rattle.std.specs.Str.{IsUtf8, IsCharBoundary}
 use Rattle.std.specs.Int.{IsNextPowerOfTwo}
 use Rattle.string_interner.specs.Text.{Text}
 use Rattle.string_interner.specs.Numbering.{Numbering, by_index}
@@ -22,6 +22,11 @@ pub record BucketContents : Type 0 where
   -- the bucket to which texts are appended
   pub head : Bucket
   pub room : ℕ
+
+-- How many more entries there is room for. More than 2^32 - 1 count only as far as each may be long, since a text that takes
+-- as many bytes is.
+abbrev pub entry_room : ℕ → ℕ → ℕ
+entry_room spare long_spare = min spare (max (2 ^ 32 - 1) long_spare)
 
 -- a backend without texts, with one bucket of this capacity
 abbrev pub empty_contents : ℕ → ℕ → BucketContents
@@ -127,10 +132,10 @@ pub record IsPart (buckets : List Bucket) (bucket from to : ℕ) : Type 0 where
   pub begins : IsCharBoundary (bucket_at buckets bucket).bytes from
   pub ends : IsCharBoundary (bucket_at buckets bucket).bytes to
 
--- the entry is a part of a bucket, or static
+-- the entry is a part of a bucket, or a static text
 abbrev pub IsEntry : List Bucket → InternedStr → Type 0
 IsEntry buckets (InBucket bucket span) = IsPart buckets bucket span.from span.to
-IsEntry buckets (Static text) = Unit {0}
+IsEntry buckets (Static text) = IsUtf8 text.now
 
 -- how many bytes of the buckets an entry takes
 abbrev pub interned_len : InternedStr → ℕ

@@ -7,6 +7,7 @@ pub mod Ends
 pub mod StringBackend
 pub mod BucketBackend
 pub mod BucketEntries
+pub mod Lasting
 pub mod ByIndexLaws
 pub mod Spelling
 pub mod BufferBackend

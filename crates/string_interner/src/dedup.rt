@@ -6,7 +6,7 @@
 //!
 //! | Index | A slot holds | Load factor at most |
 //! |---|---|---|
-//! | [`Index`], the default | a symbol | one half |
+//! | [`Index`], the default | a symbol | three quarters |
 //! | [`TaggedIndex`], the fast one | a symbol, a tag, 32 bits of a code | seven eighths |
 
 mod count;

@@ -75,12 +75,13 @@ impl TextHasher for FixedState {
 /// - `BuildHasherDefault<FoldHasher>`, which is [`FoldState`], reads 16 bytes at a time, where the default reads one: it
 ///   is fast on long texts too. Its seed is fixed, so codes are the same in each run, and texts can be chosen to have
 ///   one code.
-/// - [`KeyedState`], which makes [`KeyedHasher`], is SipHash-1-3 under two keys that you hand in. It is slower, and
-///   protects where texts come from someone who may choose them, as long as the keys are random and stay secret.
+/// - [`KeyedState`], which makes [`KeyedHasher`], is SipHash-1-3 under two keys that you hand in. It is slower. As long as
+///   the keys are random and stay secret, no way is known to choose texts that share a code.
 /// - `RandomState` is the same under keys that the system draws.
 /// - `BuildHasherDefault<DefaultHasher>` is the same under keys that are 0: it protects from nothing.
 ///
-/// An index takes the low bits of a code. These four spread them; a builder of your own should, too.
+/// An index takes the low bits of a code. These four are made to spread them, which is not proved; a builder of your own
+/// should, too.
 ///
 /// ```
 /// let keyed = StdHasher::new(RandomState::new(&rt)?);
@@ -99,7 +100,7 @@ pub struct StdHasher<S> {
 /// thousand tries, and then any number of texts have one code. Where someone may choose texts, take [`KeyedHasher`].
 pub type FoldState = StdHasher<BuildHasherDefault<FoldHasher>>;
 
-/// SipHash-1-3 under the two keys of a [`KeyedState`]: its codes cannot be foreseen without them.
+/// SipHash-1-3 under the two keys of a [`KeyedState`]. No way is known to foresee its codes without them.
 pub type KeyedHasher = StdHasher<KeyedState>;
 
 /// A fast hasher under the two keys of a [`SeededState`]: as fast as [`FoldState`], and no way is known to choose texts
@@ -108,8 +109,8 @@ pub type SeededHasher = StdHasher<SeededState>;
 
 /// Builds hashers of SipHash-1-3 under two keys of 64 bits.
 ///
-/// Texts cannot be chosen to have one code by someone who does not know the keys, if they are random: so draw them once a
-/// process, or once an interner, from the system. Where a [`HostRuntime`](std::HostRuntime) is at hand, std's
+/// If the keys are random and secret, no way is known to choose texts that share a code; this is not proved. So draw them
+/// once a process, or once an interner, from the system. Where a [`HostRuntime`](std::HostRuntime) is at hand, std's
 /// `RandomState` does so.
 ///
 /// The same keys give the same codes in each run. `Debug` shows no key.

@@ -112,7 +112,8 @@ impl<
     /// Makes an interner from a JSON array of strings, under the hasher's default.
     ///
     /// It interns the elements in order, so a repeat adds no text: `["a", "b", "a"]` gives the texts a and b. The index
-    /// has the least slot count for its texts. What `to_json` returned gives the same texts with the same symbols.
+    /// has the least slot count for its texts. What `to_json` of an interner of the same type returned gives the same
+    /// texts with the same symbols, unless an allocation fails.
     ///
     /// Returns `NotAList` if the value is not an array. Else the first element that fails decides: it returns
     /// `NotAText` if it is not a string, and fails as in `get_or_intern` if it is.

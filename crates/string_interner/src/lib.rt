@@ -1,7 +1,7 @@
 //! A string interner: it stores each distinct text once, and gives it a small symbol.
 //!
 //! Two texts are equal exactly if their symbols are. So a program compares, hashes and stores symbols, which are
-//! numbers, and resolves a symbol only to show its text. Every function has a contract, and is proved to keep it.
+//! numbers, and resolves a symbol only to show its text. Every function is proved to keep its contract.
 //!
 //! # Examples
 //!
@@ -62,7 +62,7 @@
 //! | Module | What it has |
 //! |---|---|
 //! | [`symbol`] | which numbers symbols may have |
-//! | [`hash`] | hashers, and which of them are safe with texts from strangers |
+//! | [`hash`] | hashers, and which of them to take for texts from strangers |
 //! | [`dedup`] | indexes, which find the symbol of a text |
 //! | [`json`] | writing an interner to JSON, and reading it back with the same symbols |
 //! | [`scope`] | names in nested scopes |
@@ -70,8 +70,9 @@
 //!
 //! # Errors
 //!
-//! Anything that allocates takes the allocator when it is made, and returns a `Result`. A failed call changes no text and
-//! no symbol; `extend` and `intern_all` keep the texts before the one that failed.
+//! An interner takes the allocator when it is made, and `to_json`, `symbol_to_json` and `run` take it with the call. A call
+//! that can fail to allocate returns a `Result`. A failed call changes no text and no symbol, but `extend` and `intern_all`
+//! keep the texts before the one that failed.
 #![tactic(auto)]
 
 pub mod backend;

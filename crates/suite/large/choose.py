@@ -52,12 +52,12 @@ def spell(number):
     return bytes(ord("a") + number // 26 ** at % 26 for at in range(6))
 
 
-def find_pair(before):
-    """Two words after which the codes agree in their low 32 bits, if they stand behind this text."""
-    code = fnv_1a(before, bits=32)
+def find_pair(before, bits=32):
+    """Two words after which the codes agree in so many low bits, if they stand behind this text."""
+    code = fnv_1a(before, bits=bits)
     words = {}
     for word in map(spell, count()):
-        low = fnv_1a(word, code, 32)
+        low = fnv_1a(word, code, bits)
         if low in words:
             return words[low], word
         words[low] = word
@@ -173,17 +173,16 @@ def find_texts(kind, wanted, found):
     return [choose(found[kind], number) for number in range(wanted)], f"choices {wanted} {words}"
 
 
-def write_scenarios(folder):
-    found = {}
+def write_scenarios(folder, found):
+    """Writes them, of the texts that were found before, by their kinds, and of those that are found now."""
     for name, (level, backend, hasher, kind, wanted) in SCENARIOS.items():
         texts, interning = find_texts(kind, wanted, found)
         calls = [(f"with_capacity {CAPACITY}", "ok")] if backend == "counting" else []
         calls += [(interning, f"last symbol {wanted - 1}"), *looks(backend, hasher, texts)]
-        path = folder / level / name
+        path = folder / level / f"{name}.scenario"
         path.parent.mkdir(exist_ok=True)
-        lines = [f"{level} {backend} SymbolU32 {hasher}", *(call for call, _ in calls)]
-        path.with_suffix(".calls").write_text("".join(f"{line}\n" for line in lines))
-        path.with_suffix(".answers").write_text("".join(f"{answer}\n" for _, answer in calls))
+        lines = (f"> {call}\n{answer}\n" for call, answer in calls)
+        path.write_text(f"on {level} {backend} SymbolU32 {hasher}\n" + "".join(lines))
 
 
 def main():
@@ -195,7 +194,7 @@ def main():
         case ["count"]:
             print(count_asked(sys.stdin.buffer.read().split(b"\n"), hash))
         case [folder]:
-            write_scenarios(Path(folder))
+            write_scenarios(Path(folder), {})
         case _:
             sys.exit(__doc__)
 

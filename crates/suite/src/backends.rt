@@ -7,7 +7,8 @@ use crate::many::intern_empties;
 use crate::own::SuiteBackend;
 use crate::sight::Sight;
 use crate::tell::{
-    require, symbol_of, tell, tell_done, tell_entries, tell_found, tell_symbol, tell_text,
+    put, require, symbol_of, tell, tell_done, tell_entries, tell_found, tell_offered, tell_symbol,
+    tell_text,
 };
 use crate::texts::{Texts, sight_of};
 use std::alloc::Global;
@@ -28,6 +29,16 @@ fn read_back<'b, B: Backend>(backend: &'b mut B, text: &str) -> Result<&'b str, 
     Ok(backend.resolve_unchecked(symbol))
 }
 
+/// The same, and prints the text.
+fn tell_read_back<B: Backend>(rt: &HostRuntime, backend: &mut B, text: &str) -> Told {
+    tell_text(rt, Some(read_back(backend, text)?))
+}
+
+/// Prints the text of the symbol with a number.
+fn tell_resolved<B: Backend>(rt: &HostRuntime, backend: &B, number: usize) -> Told {
+    tell_text(rt, backend.resolve(symbol_of(number)?))
+}
+
 /// Prints each entry by `entry_at`: its place, its symbol, its text, and the place of the next one.
 fn tell_places<B: Backend>(rt: &HostRuntime, backend: &B) -> Told {
     let mut at = 0;
@@ -43,7 +54,8 @@ fn tell_places<B: Backend>(rt: &HostRuntime, backend: &B) -> Told {
 }
 
 /// Prints how many bytes there are, and the first of them.
-fn tell_bytes(rt: &HostRuntime, bytes: &[u8]) -> Told {
+fn tell_bytes(rt: &HostRuntime, offered: Option<&[u8]>) -> Told {
+    let bytes = require(offered)?;
     let first = bytes.get(..24).unwrap_or(bytes);
     tell(rt, &format_args!("{} bytes, {first:?}", bytes.len()))
 }
@@ -51,19 +63,13 @@ fn tell_bytes(rt: &HostRuntime, bytes: &[u8]) -> Told {
 impl<B: SuiteBackend> Level for Backends<B> {
     fn call(&mut self, rt: &HostRuntime, call: Call<'_>) -> Told {
         match call.name {
-            "count" => tell(rt, &self.one.count()),
-            "next_symbol" => tell_found(rt, self.one.next_symbol()),
-            "resolve" => tell_text(rt, self.one.resolve(symbol_of(call.number)?)),
-            "entry_at" => tell_places(rt, &self.one),
-            "iter" => tell_entries(rt, &mut self.one.iter()),
-            "as_bytes" => tell_bytes(rt, require(self.one.bytes())?),
-            "texts_asked" => tell(rt, &require(self.one.count_asked())?),
-            "equal" => tell(rt, &(self.one == self.other)),
             "intern" | "letters" => tell_symbol(rt, self.one.intern(call.text)),
             "intern_static" => tell_symbol(rt, self.one.intern_static(call.static_text)),
-            "resolve_unchecked" => tell_text(rt, Some(read_back(&mut self.one, call.text)?)),
+            "resolve_unchecked" => tell_read_back(rt, &mut self.one, call.text),
             "empties" => intern_empties(rt, self, call),
-            _ => self.change(rt, call),
+            "entry_at" => tell_places(rt, &self.one),
+            "iter" => tell_entries(rt, &mut self.one.iter()),
+            _ => self.look(rt, call),
         }
     }
 
@@ -102,18 +108,39 @@ impl<B: SuiteBackend> Backends<B> {
         }
     }
 
+    /// Makes a call that changes nothing.
+    fn look(&mut self, rt: &HostRuntime, call: Call<'_>) -> Told {
+        match call.name {
+            "count" => tell(rt, &self.one.count()),
+            "next_symbol" => tell_found(rt, self.one.next_symbol()),
+            "resolve" => tell_resolved(rt, &self.one, call.number),
+            "as_bytes" => tell_bytes(rt, self.one.bytes()),
+            "texts_asked" => tell_offered(rt, self.one.count_asked()),
+            "equal" => tell(rt, &(self.one == self.other)),
+            _ => self.change(rt, call),
+        }
+    }
+
     /// Makes a call that prints `ok`.
     fn change(&mut self, rt: &HostRuntime, call: Call<'_>) -> Told {
         match call.name {
-            "new" => self.one = B::new(rt.alloc()),
-            "with_capacity" => self.one = B::with_capacity(rt.alloc(), call.number)?,
-            "shrink_to_fit" => self.one.shrink_to_fit(),
-            "truncate" => self.one.truncate(call.number),
-            "clone" => self.other = self.one.make_clone()?,
-            "try_copy" => self.other = self.one.try_copy()?,
-            "swap" => swap(&mut self.one, &mut self.other),
-            _ => return Err(Failure::Line(Mistake::Call)),
+            "new" => put(rt, &mut self.one, Ok::<_, Failure>(B::new(rt.alloc()))),
+            "with_capacity" => put(rt, &mut self.one, B::with_capacity(rt.alloc(), call.number)),
+            "shrink_to_fit" => {
+                self.one.shrink_to_fit();
+                tell_done(rt)
+            }
+            "truncate" => {
+                self.one.truncate(call.number);
+                tell_done(rt)
+            }
+            "clone" => put(rt, &mut self.other, self.one.make_clone()),
+            "try_copy" => put(rt, &mut self.other, self.one.try_copy()),
+            "swap" => {
+                swap(&mut self.one, &mut self.other);
+                tell_done(rt)
+            }
+            _ => Err(Failure::Line(Mistake::Call)),
         }
-        tell_done(rt)
     }
 }

@@ -8,7 +8,7 @@ use crate::line::Call;
 use crate::many::intern_many;
 use crate::own::{SuiteBackend, SuiteHasher};
 use crate::sight::Sight;
-use crate::tell::{require, tell, tell_done, tell_found, tell_symbol};
+use crate::tell::{put, tell, tell_done, tell_found, tell_offered, tell_symbol};
 use crate::texts::{Texts, sight_of};
 pub use filled::Filled;
 use std::mem::size_of;
@@ -37,12 +37,14 @@ fn change<B: SuiteBackend, H: SuiteHasher>(
     call: Call<'_>,
 ) -> Told {
     match call.name {
-        "new" => *filled = Filled::new(rt.alloc()),
-        "with_capacity" => *filled = Filled::with_capacity(rt.alloc(), call.number)?,
-        "truncate" => filled.truncate(call.number),
-        _ => return Err(Failure::Line(Mistake::Call)),
+        "new" => put(rt, filled, Ok::<_, Failure>(Filled::new(rt.alloc()))),
+        "with_capacity" => put(rt, filled, Filled::with_capacity(rt.alloc(), call.number)),
+        "truncate" => {
+            filled.truncate(call.number);
+            tell_done(rt)
+        }
+        _ => Err(Failure::Line(Mistake::Call)),
     }
-    tell_done(rt)
 }
 
 impl<B: SuiteBackend, H: SuiteHasher> Level for Filled<B, H> {
@@ -55,7 +57,7 @@ impl<B: SuiteBackend, H: SuiteHasher> Level for Filled<B, H> {
             "put_back" => tell(rt, &self.index().put_back()),
             "greatest" => tell(rt, &self.index().greatest()),
             "looks_size" => tell(rt, &size_of::<Looks<'_, B>>()),
-            "texts_asked" => tell(rt, &require(self.backend().count_asked())?),
+            "texts_asked" => tell_offered(rt, self.backend().count_asked()),
             _ => change(rt, self, call),
         }
     }

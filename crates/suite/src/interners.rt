@@ -10,7 +10,7 @@ use crate::many::{as_str, format_number, intern_many};
 use crate::own::{SuiteBackend, SuiteHasher};
 use crate::sight::Sight;
 use crate::tell::{
-    symbol_of, tell, tell_done, tell_entries, tell_found, tell_hashed, tell_symbol, tell_text,
+    put, symbol_of, tell, tell_done, tell_entries, tell_found, tell_hashed, tell_symbol, tell_text,
 };
 use crate::texts::sight_of;
 pub use json::{symbol_from_json, symbol_to_json};
@@ -45,6 +45,24 @@ fn read_back<'i, B: Backend, H: TextHasher, I: TextIndex<B::Symbol>>(
 ) -> Result<&'i str, InternError> {
     let symbol = interner.get_or_intern(text)?;
     Ok(interner.resolve_unchecked(symbol))
+}
+
+/// The same, and prints the text.
+fn tell_read_back<B: Backend, H: TextHasher, I: TextIndex<B::Symbol>>(
+    rt: &HostRuntime,
+    interner: &mut StringInterner<B, H, I>,
+    text: &str,
+) -> Told {
+    tell_text(rt, Some(read_back(interner, text)?))
+}
+
+/// Prints the text of the symbol with a number.
+fn tell_resolved<B: Backend, H: TextHasher, I: TextIndex<B::Symbol>>(
+    rt: &HostRuntime,
+    interner: &StringInterner<B, H, I>,
+    number: usize,
+) -> Told {
+    tell_text(rt, interner.resolve(symbol_of(number)?))
 }
 
 /// What a call returned that interns texts one by one: where it was refused memory, it may have interned the first.
@@ -101,6 +119,14 @@ fn tell_asked<B: Backend, H: TextHasher, I: TextIndex<B::Symbol>>(
     tell(rt, &(refusals / 2))
 }
 
+/// Prints the symbols of a list.
+fn tell_symbols<S: Symbol>(rt: &HostRuntime, symbols: &[S]) -> Told {
+    for symbol in symbols {
+        println!(rt; "  symbol {}", symbol.to_usize())?;
+    }
+    Ok(())
+}
+
 /// Reads an interner from a value by the call that is named.
 fn read_by<B: Backend + Drop, H: TextHasher + Default + Drop, I: TextIndex<B::Symbol> + Drop>(
     alloc: Global,
@@ -116,25 +142,16 @@ fn read_by<B: Backend + Drop, H: TextHasher + Default + Drop, I: TextIndex<B::Sy
 impl<B: SuiteBackend, H: SuiteHasher, I: CopyIndex<B::Symbol> + Drop> Level for Interners<B, H, I> {
     fn call(&mut self, rt: &HostRuntime, call: Call<'_>) -> Told {
         match call.name {
-            "get" => tell_found(rt, self.one.get(call.text)),
-            "contains" => tell(rt, &self.one.contains(call.text)),
-            "next_symbol" => tell_found(rt, self.one.next_symbol()),
-            "get_numbers" => get_numbers(rt, &self.one, call.number),
-            "resolve" => tell_text(rt, self.one.resolve(symbol_of(call.number)?)),
-            "len" => tell(rt, &self.one.len()),
-            "is_empty" => tell(rt, &self.one.is_empty()),
-            "iter" => tell_entries(rt, &mut self.one.iter()),
-            "equal" => tell(rt, &(self.one == self.other)),
             "get_or_intern" | "letters" => tell_symbol(rt, self.one.get_or_intern(call.text)),
             "get_or_intern_static" => tell_symbol(
                 rt,
                 self.one.get_or_intern_static(call.static_text),
             ),
-            "resolve_unchecked" => tell_text(rt, Some(read_back(&mut self.one, call.text)?)),
+            "resolve_unchecked" => tell_read_back(rt, &mut self.one, call.text),
             "numbers" | "choices" | "distances" => intern_many(rt, &mut self.one, call),
             "texts_asked" => tell_asked(rt, &mut self.one, call),
             "texts_hashed" => tell_hashed(rt, call.scenario),
-            _ => self.change(rt, call),
+            _ => self.look(rt, call),
         }
     }
 
@@ -154,67 +171,118 @@ impl<B: SuiteBackend, H: SuiteHasher, I: CopyIndex<B::Symbol> + Drop> Interners<
         }
     }
 
-    /// Makes a call that prints `ok` and takes the hasher of an interner, or one that the program made.
-    fn change(&mut self, rt: &HostRuntime, call: Call<'_>) -> Told {
-        let alloc = rt.alloc();
+    /// Makes a call that changes nothing.
+    fn look(&mut self, rt: &HostRuntime, call: Call<'_>) -> Told {
         match call.name {
-            "shrink_to_fit" => self.one.shrink_to_fit(),
-            "truncate" => self.one.truncate(call.number),
-            "extend" | "extend_numbers" => mark_partly(self.one.extend(call.texts()))?,
-            "intern_all" | "intern_all_numbers" => self.intern_all(rt, call)?,
-            "with_hasher" => self.one = StringInterner::with_hasher(
-                alloc,
-                clone_hasher(&self.hasher),
-            ),
-            "with_capacity_and_hasher" => {
-                let hasher = clone_hasher(&self.hasher);
-                self.one = StringInterner::with_capacity_and_hasher(alloc, call.number, hasher)?;
-            }
-            "clone" => self.other = self.one.clone()?,
-            "try_copy" => self.other = H::copy_interner(&self.one)?,
-            "swap" => swap(&mut self.one, &mut self.other),
-            _ => return self.make(rt, call),
+            "get" => tell_found(rt, self.one.get(call.text)),
+            "contains" => tell(rt, &self.one.contains(call.text)),
+            "next_symbol" => tell_found(rt, self.one.next_symbol()),
+            "get_numbers" => get_numbers(rt, &self.one, call.number),
+            "resolve" => tell_resolved(rt, &self.one, call.number),
+            "len" => tell(rt, &self.one.len()),
+            "is_empty" => tell(rt, &self.one.is_empty()),
+            "iter" => tell_entries(rt, &mut self.one.iter()),
+            "equal" => tell(rt, &(self.one == self.other)),
+            _ => self.change(rt, call),
         }
+    }
+
+    /// Makes a call that changes an interner, or makes one with the hasher of one.
+    fn change(&mut self, rt: &HostRuntime, call: Call<'_>) -> Told {
+        match call.name {
+            "shrink_to_fit" => {
+                self.one.shrink_to_fit();
+                tell_done(rt)
+            }
+            "truncate" => {
+                self.one.truncate(call.number);
+                tell_done(rt)
+            }
+            "extend" | "extend_numbers" => self.extend(rt, call),
+            "intern_all" | "intern_all_numbers" => self.intern_all(rt, call),
+            "with_hasher" => self.begin(rt),
+            "with_capacity_and_hasher" => self.begin_with_capacity(rt, call.number),
+            "clone" => put(rt, &mut self.other, self.one.clone()),
+            "try_copy" => put(rt, &mut self.other, H::copy_interner(&self.one)),
+            "swap" => {
+                swap(&mut self.one, &mut self.other);
+                tell_done(rt)
+            }
+            _ => self.make(rt, call),
+        }
+    }
+
+    /// Interns texts.
+    fn extend(&mut self, rt: &HostRuntime, call: Call<'_>) -> Told {
+        mark_partly(self.one.extend(call.texts()))?;
         tell_done(rt)
     }
 
-    /// Makes a call that prints `ok` and takes the default of the hasher. One that counts has no default that does.
+    /// Makes a new interner under the hasher.
+    fn begin(&mut self, rt: &HostRuntime) -> Told {
+        self.one = StringInterner::with_hasher(rt.alloc(), clone_hasher(&self.hasher));
+        tell_done(rt)
+    }
+
+    /// The same with room for some texts.
+    fn begin_with_capacity(&mut self, rt: &HostRuntime, capacity: usize) -> Told {
+        let hasher = clone_hasher(&self.hasher);
+        let made = StringInterner::with_capacity_and_hasher(rt.alloc(), capacity, hasher);
+        put(rt, &mut self.one, made)
+    }
+
+    /// Makes a call that takes the default of the hasher. One that counts has no default that does.
     fn make(&mut self, rt: &HostRuntime, call: Call<'_>) -> Told {
         match call.name {
-            _ if call.scenario.hasher == "counting" => return Err(Failure::Line(
-                Mistake::NotOffered,
-            )),
-            "new" => self.one = StringInterner::new(rt.alloc()),
-            "with_capacity" => self.one = StringInterner::with_capacity(rt.alloc(), call.number)?,
-            "from_iter" | "from_iter_numbers" => self.one = StringInterner::from_iter(
-                rt.alloc(),
-                call.texts(),
-            )?,
-            _ => return self.with_json(rt, call),
-        }
-        tell_done(rt)
-    }
-
-    /// Makes a call of JSON, or one that takes the interner apart.
-    fn with_json(&mut self, rt: &HostRuntime, call: Call<'_>) -> Told {
-        match call.name {
-            "to_json" => tell(rt, &self.one.to_json(rt.alloc())?),
+            _ if call.scenario.hasher == "counting" => Err(Failure::Line(Mistake::NotOffered)),
+            "new" => put(
+                rt,
+                &mut self.one,
+                Ok::<_, Failure>(StringInterner::new(rt.alloc())),
+            ),
+            "with_capacity" => put(
+                rt,
+                &mut self.one,
+                StringInterner::with_capacity(rt.alloc(), call.number),
+            ),
+            "from_iter" | "from_iter_numbers" => put(
+                rt,
+                &mut self.one,
+                StringInterner::from_iter(rt.alloc(), call.texts()),
+            ),
+            "to_json" => self.write_json(rt),
             "symbol_to_json" => symbol_to_json::<B::Symbol>(rt, call.number),
             "symbol_from_json" => symbol_from_json::<B::Symbol>(rt, call.text),
-            "from_json" | "from_json_exact" => {
-                self.one = read_by(rt.alloc(), call.name, &parse_json(rt.alloc(), call.text)?)?;
-                tell_read(rt, self.one.len())
-            }
-            "json_again" | "json_exact_again" => {
-                self.other = read_by(rt.alloc(), call.name, &self.one.to_json(rt.alloc())?)?;
-                tell_read(rt, self.other.len())
-            }
-            "into_backend" => {
-                let new = StringInterner::new(rt.alloc());
-                tell_entries(rt, &mut replace(&mut self.one, new).into_backend().iter())
-            }
+            "from_json" | "from_json_exact" => self.read_json(rt, call),
+            "json_again" | "json_exact_again" => self.read_json_again(rt, call),
+            "into_backend" => self.take_backend(rt),
             _ => Err(Failure::Line(Mistake::Call)),
         }
+    }
+
+    /// Prints the JSON text.
+    fn write_json(&self, rt: &HostRuntime) -> Told {
+        tell(rt, &self.one.to_json(rt.alloc())?)
+    }
+
+    /// Reads an interner from a JSON text.
+    fn read_json(&mut self, rt: &HostRuntime, call: Call<'_>) -> Told {
+        let value = parse_json(rt.alloc(), call.text)?;
+        self.one = read_by(rt.alloc(), call.name, &value)?;
+        tell_read(rt, self.one.len())
+    }
+
+    /// Reads the other interner from the JSON value of this one.
+    fn read_json_again(&mut self, rt: &HostRuntime, call: Call<'_>) -> Told {
+        let value = self.one.to_json(rt.alloc())?;
+        self.other = read_by(rt.alloc(), call.name, &value)?;
+        tell_read(rt, self.other.len())
+    }
+
+    /// Takes the interner apart, and prints the entries of its backend.
+    fn take_backend(&mut self, rt: &HostRuntime) -> Told {
+        let new = StringInterner::new(rt.alloc());
+        tell_entries(rt, &mut replace(&mut self.one, new).into_backend().iter())
     }
 
     /// Calls `intern_all` with the texts that have no symbol in the list yet, which is new where nothing was refused, and
@@ -226,10 +294,9 @@ impl<B: SuiteBackend, H: SuiteHasher, I: CopyIndex<B::Symbol> + Drop> Interners<
         let texts = call.texts().skip(self.symbols.len());
         let outcome = mark_partly(self.one.intern_all(texts, &mut self.symbols));
         if !is_refused(&outcome) {
-            for symbol in &self.symbols {
-                println!(rt; "  symbol {}", symbol.to_usize())?;
-            }
+            tell_symbols(rt, &self.symbols)?;
         }
-        outcome
+        outcome?;
+        tell_done(rt)
     }
 }

@@ -115,6 +115,23 @@ fn intern_again<B: Backend, T: Texts<B>>(
     Ok(again)
 }
 
+/// The text of this number that the program makes for a call of many texts. `far` is the sum of the distances before it.
+fn make_one(
+    call: Call<'_>,
+    number: usize,
+    letters: &mut Bytes<'_>,
+    far: &mut usize,
+) -> io::Result<SmallText> {
+    match call.name {
+        "choices" => choose_words(call.text, number),
+        "distances" => {
+            *far = far.wrapping_add(read_distance(letters));
+            format_number(*far)
+        }
+        _ => format_number(number),
+    }
+}
+
 /// Interns the decimal numbers below a count, choices of words by them, or as many numbers as there are distances from each to
 /// the next one. Prints a symbol where the step from the one before is another one than that one's was; the first is to be 0,
 /// and the next one 1.
@@ -128,14 +145,7 @@ pub fn intern_many<B: Backend, T: Texts<B>>(
     let mut letters = call.text.bytes();
     let mut far: usize = 0;
     for number in 0..call.number {
-        let text = match call.name {
-            "choices" => choose_words(call.text, number)?,
-            "distances" => {
-                far = far.wrapping_add(read_distance(&mut letters));
-                format_number(far)?
-            }
-            _ => format_number(number)?,
-        };
+        let text = make_one(call, number, &mut letters, &mut far)?;
         match intern_again(rt, texts, call, as_str(&text))? {
             Ok(symbol) => {
                 let symbol = symbol.to_usize();

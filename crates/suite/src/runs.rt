@@ -39,6 +39,14 @@ fn tell_reply(rt: &HostRuntime, reply: &Reply) -> Told {
     }
 }
 
+/// Prints replies.
+fn tell_replies(rt: &HostRuntime, replies: &[Reply]) -> Told {
+    for reply in replies {
+        tell_reply(rt, reply)?;
+    }
+    Ok(())
+}
+
 impl<B: Backend, H: TextHasher, I: TextIndex<B::Symbol>> Runs<B, H, I> {
     /// An interner with no texts.
     pub fn new(alloc: Global, hasher: H) -> Self {
@@ -47,6 +55,14 @@ impl<B: Backend, H: TextHasher, I: TextIndex<B::Symbol>> Runs<B, H, I> {
             plan: Plan::default(),
             before: 0,
         }
+    }
+
+    /// Runs the commands of a block.
+    fn run_commands(&mut self, alloc: Global, call: Call<'_>) -> Result<Vec<Reply>, Failure> {
+        let numbers = join_numbers(alloc, self.plan.numbers)?;
+        let texts = read_texts(alloc, call, self.plan)?;
+        let commands = read_commands(alloc, call, self.plan, &texts, &numbers)?;
+        Ok(run(alloc, &mut self.interner, &commands)?)
     }
 
     /// Drops the texts that came since the block began, as one of its commands was refused memory. Texts that a command
@@ -67,16 +83,11 @@ impl<B: Backend, H: TextHasher, I: TextIndex<B::Symbol>> Level for Runs<B, H, I>
         if !call.is_again {
             self.before = self.interner.len();
         }
-        let numbers = join_numbers(rt.alloc(), self.plan.numbers)?;
-        let texts = read_texts(rt.alloc(), call, self.plan)?;
-        let commands = read_commands(rt.alloc(), call, self.plan, &texts, &numbers)?;
-        let replies = run(rt.alloc(), &mut self.interner, &commands)?;
+        let replies = self.run_commands(rt.alloc(), call)?;
         if replies.iter().any(|reply| matches!(reply, Reply::NoMemory)) {
             return Err(self.take_back());
         }
-        for reply in &replies {
-            tell_reply(rt, reply)?;
-        }
+        tell_replies(rt, &replies)?;
         tell(rt, &self.interner.len())
     }
 

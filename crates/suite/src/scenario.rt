@@ -5,11 +5,12 @@ use crate::counting::Counting;
 use crate::fault::{Fault, Mistake};
 use crate::indexes::Filled;
 use crate::interners::Interners;
-use crate::level::run_calls;
+use crate::level::{Level, run_calls};
 use crate::linear::LinearIndex;
 use crate::odd::{Bit, ByteCount, Constant, CountingHasher, Even, Keyed, Salted};
 use crate::own::{SuiteBackend, SuiteHasher};
 use crate::runs::{Runs, run_blocks};
+use std::alloc::Global;
 use std::cell::Cell;
 use std::hash::{BuildHasherDefault, DefaultHasher};
 use std::marker::PhantomData;
@@ -56,66 +57,128 @@ pub fn blame_first_line<T>(mistake: Mistake) -> Result<T, Fault> {
     Err(Fault::Line { line: 1, mistake })
 }
 
+/// Makes the calls of a scenario on what it is about.
+fn run_on<L: Level + Drop>(
+    rt: &HostRuntime,
+    scenario: Scenario<'_>,
+    level: L,
+) -> Result<(), Fault> {
+    let mut level = level;
+    run_calls(rt, scenario, &mut level)
+}
+
+/// Runs a scenario of commands.
+fn run_commands<B: SuiteBackend, H: SuiteHasher, I: CopyIndex<B::Symbol> + Drop>(
+    rt: &HostRuntime,
+    scenario: Scenario<'_>,
+    hasher: H,
+) -> Result<(), Fault> {
+    let mut runs = Runs::<B, H, I>::new(rt.alloc(), hasher);
+    run_blocks(rt, scenario, &mut runs)
+}
+
+/// New scopes under a hasher.
+fn make_scopes<B: SuiteBackend, H: SuiteHasher, I: CopyIndex<B::Symbol> + Drop>(
+    alloc: Global,
+    hasher: H,
+) -> Scopes<B, H, I> {
+    Scopes::new(alloc, StringInterner::with_hasher(alloc, hasher))
+}
+
 /// Runs a scenario on interners, on scopes, or of commands, which have this index.
 fn run_with<B: SuiteBackend, H: SuiteHasher, I: CopyIndex<B::Symbol> + Drop>(
     rt: &HostRuntime,
     scenario: Scenario<'_>,
     hasher: H,
 ) -> Result<(), Fault> {
-    let alloc = rt.alloc();
     match scenario.level {
-        "scopes" | "tagged_scopes" => run_calls(
+        "scopes" | "tagged_scopes" => run_on(
             rt,
             scenario,
-            &mut Scopes::new(alloc, StringInterner::<B, H, I>::with_hasher(alloc, hasher)),
+            make_scopes::<B, H, I>(rt.alloc(), hasher),
         ),
-        "run" | "tagged_run" => run_blocks(rt, scenario, &mut Runs::<B, H, I>::new(alloc, hasher)),
-        _ => run_calls(rt, scenario, &mut Interners::<B, H, I>::new(alloc, hasher)),
+        "run" | "tagged_run" => run_commands::<B, H, I>(rt, scenario, hasher),
+        _ => run_on(rt, scenario, Interners::<B, H, I>::new(rt.alloc(), hasher)),
     }
 }
 
-/// Runs a scenario over a backend and under a hasher.
-fn run_over<B: SuiteBackend, H: SuiteHasher>(
+/// Runs a scenario on interners or on an index, over a backend and under a hasher.
+fn run_interners<B: SuiteBackend, H: SuiteHasher>(
     rt: &HostRuntime,
     scenario: Scenario<'_>,
     hasher: H,
 ) -> Result<(), Fault> {
     match scenario.level {
-        "interner" | "scopes" | "run" => run_with::<B, H, Index<B::Symbol>>(rt, scenario, hasher),
-        "tagged" | "tagged_scopes" | "tagged_run" => run_with::<B, H, TaggedIndex<B::Symbol>>(
-            rt, scenario, hasher,
+        "interner" => run_on(
+            rt,
+            scenario,
+            Interners::<B, H, Index<B::Symbol>>::new(rt.alloc(), hasher),
         ),
-        "backend" => run_calls(rt, scenario, &mut Backends::<B>::new(rt.alloc())),
-        "index" => run_calls(rt, scenario, &mut Filled::<B, H>::new(rt.alloc())),
+        "tagged" => run_on(
+            rt,
+            scenario,
+            Interners::<B, H, TaggedIndex<B::Symbol>>::new(rt.alloc(), hasher),
+        ),
+        "index" => run_on(rt, scenario, Filled::<B, H>::new(rt.alloc())),
+        _ => blame_first_line(Mistake::NotBuilt),
+    }
+}
+
+/// Runs a scenario on interners, on a backend or on an index, under the default hasher.
+fn run_lists<B: SuiteBackend>(rt: &HostRuntime, scenario: Scenario<'_>) -> Result<(), Fault> {
+    match scenario.level {
+        "backend" => run_on(rt, scenario, Backends::<B>::new(rt.alloc())),
+        _ => run_interners::<B, _>(rt, scenario, FixedState),
+    }
+}
+
+/// Runs a scenario of any level over a backend, under the default hasher.
+fn run_over<B: SuiteBackend>(rt: &HostRuntime, scenario: Scenario<'_>) -> Result<(), Fault> {
+    match scenario.level {
+        "scopes" | "run" => run_with::<B, _, Index<B::Symbol>>(rt, scenario, FixedState),
+        "tagged_scopes" | "tagged_run" => run_with::<B, _, TaggedIndex<B::Symbol>>(
+            rt, scenario, FixedState,
+        ),
+        "interner" | "tagged" | "backend" | "index" => run_lists::<B>(rt, scenario),
         "linear" | "symbol" => blame_first_line(Mistake::NotBuilt),
         _ => blame_first_line(Mistake::Level),
     }
 }
 
-/// Runs a scenario over a backend of the library with these symbols, under a hasher.
-fn run_with_symbols<S: Symbol, H: SuiteHasher>(
-    rt: &HostRuntime,
-    scenario: Scenario<'_>,
-    hasher: H,
-) -> Result<(), Fault> {
+/// Runs a scenario of any level over a backend of the library with these symbols.
+fn run_with_symbols<S: Symbol>(rt: &HostRuntime, scenario: Scenario<'_>) -> Result<(), Fault> {
     match scenario.backend {
-        "string" => run_over::<StringBackend<S>, H>(rt, scenario, hasher),
-        "bucket" => run_over::<BucketBackend<S>, H>(rt, scenario, hasher),
-        "buffer" => run_over::<BufferBackend<S>, H>(rt, scenario, hasher),
+        "string" => run_over::<StringBackend<S>>(rt, scenario),
+        "bucket" => run_over::<BucketBackend<S>>(rt, scenario),
+        "buffer" => run_over::<BufferBackend<S>>(rt, scenario),
         "counting" | "none" => blame_first_line(Mistake::NotBuilt),
         _ => blame_first_line(Mistake::Backend),
     }
 }
 
-/// Runs a scenario with `SymbolU32` under a hasher.
+/// Runs a scenario with symbols of other widths than that of `SymbolU32`.
+fn run_with_widths(rt: &HostRuntime, scenario: Scenario<'_>) -> Result<(), Fault> {
+    match (scenario.backend, scenario.symbol) {
+        ("string", "SymbolU16") => run_lists::<StringBackend<SymbolU16>>(rt, scenario),
+        ("bucket", "SymbolU16") => run_lists::<BucketBackend<SymbolU16>>(rt, scenario),
+        ("buffer", "SymbolU16") => run_lists::<BufferBackend<SymbolU16>>(rt, scenario),
+        ("string", "SymbolUsize") => run_lists::<StringBackend<SymbolUsize>>(rt, scenario),
+        ("string", "usize") => run_lists::<StringBackend<usize>>(rt, scenario),
+        _ => blame_first_line(Mistake::NotBuilt),
+    }
+}
+
+/// Runs a scenario on interners with `SymbolU32`, under a hasher.
 fn run_under<H: SuiteHasher>(
     rt: &HostRuntime,
     scenario: Scenario<'_>,
     hasher: H,
 ) -> Result<(), Fault> {
     match (scenario.backend, scenario.symbol) {
-        ("counting", "SymbolU32") => run_over::<Counting, H>(rt, scenario, hasher),
-        (_, "SymbolU32") => run_with_symbols::<SymbolU32, H>(rt, scenario, hasher),
+        ("string", "SymbolU32") => run_interners::<StringBackend, _>(rt, scenario, hasher),
+        ("bucket", "SymbolU32") => run_interners::<BucketBackend, _>(rt, scenario, hasher),
+        ("buffer", "SymbolU32") => run_interners::<BufferBackend, _>(rt, scenario, hasher),
+        ("counting", "SymbolU32") => run_interners::<Counting, _>(rt, scenario, hasher),
         _ => blame_first_line(Mistake::NotBuilt),
     }
 }
@@ -127,9 +190,44 @@ fn run_under_few<H: SuiteHasher>(
     hasher: H,
 ) -> Result<(), Fault> {
     match (scenario.backend, scenario.symbol) {
-        ("string", "SymbolU32") => run_over::<StringBackend, H>(rt, scenario, hasher),
-        ("counting", "SymbolU32") => run_over::<Counting, H>(rt, scenario, hasher),
+        ("string", "SymbolU32") => run_interners::<StringBackend, _>(rt, scenario, hasher),
+        ("counting", "SymbolU32") => run_interners::<Counting, _>(rt, scenario, hasher),
         _ => blame_first_line(Mistake::NotBuilt),
+    }
+}
+
+/// Runs a scenario under `fold`: with a tagged index on a fast type, which has all levels.
+fn run_fast<B: SuiteBackend>(rt: &HostRuntime, scenario: Scenario<'_>) -> Result<(), Fault> {
+    let hasher = FoldState::default();
+    match scenario.level {
+        "tagged_scopes" | "tagged_run" => run_with::<B, _, TaggedIndex<B::Symbol>>(
+            rt, scenario, hasher,
+        ),
+        _ => run_interners::<B, _>(rt, scenario, hasher),
+    }
+}
+
+/// The same by the backend.
+fn run_fold(rt: &HostRuntime, scenario: Scenario<'_>) -> Result<(), Fault> {
+    match (scenario.backend, scenario.symbol) {
+        ("string", "SymbolU32") => run_fast::<StringBackend>(rt, scenario),
+        ("bucket", "SymbolU32") => run_fast::<BucketBackend>(rt, scenario),
+        ("buffer", "SymbolU32") => run_fast::<BufferBackend>(rt, scenario),
+        ("counting", "SymbolU32") => run_fast::<Counting>(rt, scenario),
+        _ => blame_first_line(Mistake::NotBuilt),
+    }
+}
+
+/// Runs a scenario under the hasher that counts.
+fn run_counting(rt: &HostRuntime, scenario: Scenario<'_>) -> Result<(), Fault> {
+    let hasher = CountingHasher {
+        hashed: Some(scenario.hashed),
+    };
+    match (scenario.level, scenario.backend, scenario.symbol) {
+        ("scopes", "string", "SymbolU32") => run_with::<StringBackend, _, Index<SymbolU32>>(
+            rt, scenario, hasher,
+        ),
+        _ => run_under_few(rt, scenario, hasher),
     }
 }
 
@@ -157,15 +255,14 @@ fn run_symbols(rt: &HostRuntime, scenario: Scenario<'_>) -> Result<(), Fault> {
 
 /// Runs a scenario under the default hasher.
 fn run_default(rt: &HostRuntime, scenario: Scenario<'_>) -> Result<(), Fault> {
-    match (scenario.level, scenario.symbol) {
-        ("symbol", _) => run_symbols(rt, scenario),
-        ("linear", _) => run_linear(rt, scenario),
-        (_, "SymbolU16") => run_with_symbols::<SymbolU16, _>(rt, scenario, FixedState),
-        (_, "SymbolUsize") => run_with_symbols::<SymbolUsize, _>(rt, scenario, FixedState),
-        (_, "usize") => run_with_symbols::<usize, _>(rt, scenario, FixedState),
-        (_, "Even") => run_with_symbols::<Even, _>(rt, scenario, FixedState),
-        (_, "Bit") => run_with_symbols::<Bit, _>(rt, scenario, FixedState),
-        (_, "SymbolU32") => run_under(rt, scenario, FixedState),
+    match (scenario.level, scenario.backend, scenario.symbol) {
+        ("symbol", _, _) => run_symbols(rt, scenario),
+        ("linear", _, _) => run_linear(rt, scenario),
+        (_, "counting", "SymbolU32") => run_over::<Counting>(rt, scenario),
+        (_, _, "SymbolU32") => run_with_symbols::<SymbolU32>(rt, scenario),
+        (_, _, "Even") => run_with_symbols::<Even>(rt, scenario),
+        (_, _, "Bit") => run_with_symbols::<Bit>(rt, scenario),
+        (_, _, "SymbolU16" | "SymbolUsize" | "usize") => run_with_widths(rt, scenario),
         _ => blame_first_line(Mistake::Symbol),
     }
 }
@@ -177,13 +274,10 @@ pub fn run_scenario(rt: &HostRuntime, scenario: Scenario<'_>) -> Result<(), Faul
         "constant" => run_under(rt, scenario, Constant),
         "length" => run_under(rt, scenario, ByteCount),
         "salted" => run_under(rt, scenario, Salted::default()),
-        "fold" => run_under(rt, scenario, FoldState::default()),
+        "fold" => run_fold(rt, scenario),
         "sip" => run_under_few(rt, scenario, SipState::default()),
         "keyed" => run_under_few(rt, scenario, Keyed::default()),
-        "counting" => {
-            let hashed = Some(scenario.hashed);
-            run_under_few(rt, scenario, CountingHasher { hashed })
-        }
+        "counting" => run_counting(rt, scenario),
         _ => blame_first_line(Mistake::Hasher),
     }
 }

@@ -18,6 +18,15 @@ pub fn tell_done(rt: &HostRuntime) -> Told {
     tell(rt, &"ok")
 }
 
+/// Puts what a call made into its place, and prints that the call returned.
+pub fn put<T: Drop, E>(rt: &HostRuntime, place: &mut T, made: Result<T, E>) -> Told
+where
+    Failure: From<E>,
+{
+    *place = made?;
+    tell_done(rt)
+}
+
 /// Prints the number of a symbol, or that there is none.
 pub fn tell_found<S: Symbol>(rt: &HostRuntime, symbol: Option<S>) -> Told {
     match symbol {
@@ -47,6 +56,11 @@ pub fn symbol_of<S: Symbol>(number: usize) -> Result<S, Failure> {
 /// What a backend offers, or that the line is wrong because it does not.
 pub fn require<T>(offered: Option<T>) -> Result<T, Failure> {
     offered.ok_or(Failure::Line(Mistake::NotOffered))
+}
+
+/// Prints a count that a backend offers.
+pub fn tell_offered(rt: &HostRuntime, offered: Option<usize>) -> Told {
+    tell(rt, &require(offered)?)
 }
 
 /// Prints how many texts were hashed since this was last done, where the hasher counts them.

@@ -6,6 +6,7 @@ mod entries;
 mod fixed_str;
 mod full_bucket;
 mod interned_str;
+mod lasting;
 
 ghost use Rattle.std.specs.Prelude.{◌≡◌, ◌+◌, ◌^◌, max, ◌<◌, ◌≤◌, [], ◌∷◌, ◌++◌, length, take, map, slice_get, true, false, Some, IfOk, OnOk, OnErr, refl};
 ghost use Rattle.std.specs.Cmp.{partial_equiv_from_equiv, on_equiv};
@@ -20,7 +21,7 @@ use crate::backend::{Backend, CopyBackend, InternError, Iter};
 use crate::symbol::{DefaultSymbol, Symbol};
 use buckets::{interned_text, store};
 use copies::{copies_of, joint_capacity};
-use entries::{Entries, is_far};
+use entries::{Entries, is_long};
 use fixed_str::FixedString;
 use full_bucket::FullBucket;
 use interned_str::InternedStr;
@@ -30,8 +31,9 @@ use std::marker::{Model, PhantomData};
 /// Stores texts in append-only buckets of bytes, and static texts by reference.
 ///
 /// Best where texts are long or many, since a text is copied once and not moved after that, and where static texts are
-/// common, since those are not copied at all. Places are 0, 1, 2, .. without gaps. An entry takes 16 bytes, and that of a
-/// static text 24 more; a text that is not static also takes its bytes. Resolving reads the entry and makes the slice.
+/// common, since those are not copied at all. Places are 0, 1, 2, .. without gaps. An entry takes 16 bytes, and 24 more if
+/// its text takes 4 GiB or more; a text that is not static also takes its bytes. Resolving reads the entry and makes the
+/// slice.
 ///
 /// A text is appended to the last bucket, the head, if it fits the head's capacity. Else it begins a new head, whose
 /// capacity in bytes is the least power of two above both the old head's capacity and the text's length: the rule of
@@ -47,11 +49,11 @@ pub struct BucketBackend<S: Symbol = DefaultSymbol> {
     symbols: PhantomData<S>,
 }
 
-/// Contracts see the texts, which of them are static, the buckets, and as room the least of the head's spare bytes, the
-/// spare entries, and the spare entries of static texts.
+/// Contracts see the texts, which of them are static, the buckets, and as room the lesser of the head's spare bytes and the
+/// spare entries.
 impl<S: Symbol> Model for BucketBackend<S> {
     ghost use Rattle.std.specs.Prelude.{◌-◌, min, length, map};
-    ghost use Rattle.string_interner.specs.BucketBackend.{BucketContents, buckets_of, interned_text, is_static, IsInBuckets};
+    ghost use Rattle.string_interner.specs.BucketBackend.{BucketContents, buckets_of, entry_room, interned_text, is_static, IsInBuckets};
 
     ghost Value = { BucketContents };
 
@@ -61,7 +63,7 @@ impl<S: Symbol> Model for BucketBackend<S> {
       full = b.full.items;
       head = b.head;
       room = min (b.head.capacity - length b.head.bytes)
-          (min b.entries.spare b.entries.other_spare);
+          (entry_room b.entries.spare b.entries.long_spare);
     } };
 
     ghost invariant = { λ b. IsInBuckets S.symbol_of b.full.items b.head b.entries.items };
@@ -75,9 +77,7 @@ impl<S: Symbol> BucketBackend<S> {
         ensures text { slice_get self.now.texts index ≡ Some result.now }
         ensures valid { IsValidList S.symbol_of length self.now.texts }
     {
-        let text = interned_text(&self.full, &self.head, self.entries.get(index));
-        // The entry has the length of its text, so a caller that needs only the length reads no bucket.
-        &text[..self.entries.text_len(index)]
+        interned_text(&self.full, &self.head, self.entries.get(index))
     }
 }
 
@@ -106,8 +106,8 @@ impl<S: Symbol> Backend for BucketBackend<S> {
         }
     }
 
-    /// Makes an empty backend with capacity for `capacity` entries, all of which may be static, and a head of `capacity`
-    /// bytes: 41 bytes for each.
+    /// Makes an empty backend with capacity for `capacity` entries and a head of `capacity` bytes: 17 bytes for each, and 41
+    /// from 2^32 entries on, since so many may have texts of 4 GiB or more.
     ///
     /// Returns `Err` only if an allocation fails or a size does not fit a `usize`.
     fn with_capacity(alloc: Global, capacity: usize) -> Result<Self, AllocError>
@@ -115,8 +115,9 @@ impl<S: Symbol> Backend for BucketBackend<S> {
         ensures fits { OnOk result (capacity < 2 ^ 64) }
         ensures empty { IfOk result (λ backend. backend ≡ empty_contents capacity backend.room) }
     {
+        let long = if is_long(capacity) { capacity } else { 0 };
         Ok(BucketBackend {
-            entries: Entries::with_capacity(alloc, capacity, capacity)?,
+            entries: Entries::with_capacity(alloc, capacity, long)?,
             full: Vec::new(alloc),
             head: FixedString::with_capacity(alloc, capacity)?,
             symbols: PhantomData,
@@ -152,8 +153,8 @@ impl<S: Symbol> Backend for BucketBackend<S> {
     {
         // Asks for the symbol and allocates before it stores anything, so that nothing changes on `Err`.
         let symbol = self.next_symbol().ok_or(InternError::NoSymbol)?;
-        let is_far = is_far(self.head.len());
-        self.entries.reserve(is_far).map_err(InternError::Memory)?;
+        let is_long = is_long(text.len());
+        self.entries.reserve(is_long).map_err(InternError::Memory)?;
         let interned = store(&mut self.full, &mut self.head, text).map_err(InternError::Memory)?;
         self.entries.push_reserved(interned);
         Ok(symbol)
@@ -169,7 +170,7 @@ impl<S: Symbol> Backend for BucketBackend<S> {
     {
         let symbol = self.next_symbol().ok_or(InternError::NoSymbol)?;
         self.entries
-            .push(InternedStr::Static(text))
+            .push(InternedStr::Static(text.as_bytes()))
             .map_err(InternError::Memory)?;
         Ok(symbol)
     }

@@ -11,10 +11,10 @@ use crate::dedup::tagged::TaggedSlots;
 /// and four bytes more if the number 2^32 - 1 has no symbol.
 ///
 /// A look-up compares the text of each symbol from the text's home on, and growth hashes each text anew. The load
-/// factor is at most one half.
+/// factor is at most three quarters.
 ///
 /// ```
-/// let mut index = Index::<DefaultSymbol>::with_capacity(alloc, 4)?;
+/// let mut index = Index::<DefaultSymbol>::with_capacity(alloc, 6)?;
 /// assert_eq!(index.slots(), 8);
 /// ```
 pub type Index<S> = Table<S, Slots<S>>;

@@ -1,6 +1,7 @@
 //! What a table asks of its slots: how they lie in memory, and how full they may get.
 
-ghost use Rattle.std.specs.Prelude.{◌≡◌, ◌≢◌, ℕ, ◌+◌, ◌%◌, ◌<◌, ◌^◌, ◌↔◌, length, slice_index_or, slice_set, replicate, [], IsTrue, IfNone, IfOk, IfSome, None, Some};
+ghost use Rattle.std.specs.Prelude.{◌≡◌, ◌≢◌, ℕ, ◌+◌, ◌%◌, ◌<◌, ◌^◌, ◌↔◌, length, slice_index_or, slice_set, replicate, Contains, [], IsTrue, IfNone, IfOk, IfSome, None, Some};
+ghost use Rattle.string_interner.specs.Text.{Text};
 ghost use Rattle.string_interner.specs.Entry.{entry_text};
 ghost use Rattle.string_interner.specs.Slots.{symbols};
 ghost use Rattle.string_interner.specs.LoadFactor.{IsSlotCount};
@@ -44,7 +45,7 @@ pub trait Layout<S: Symbol>: Drop {
 
     /// Returns the symbol of a slot, if any, and a code that has the same home among `count` slots as its text's.
     ///
-    /// Takes the backend, so that `Table::find`, which has it in its `Looks` alone, cannot call this.
+    /// Takes a backend that the slots fit, so that `Table::find`, which has it in its `Looks` alone, cannot call this.
     fn rehash_slot<H: TextHasher, B: Backend<Symbol = S>>(
         &self,
         at: usize,
@@ -66,6 +67,16 @@ pub trait Layout<S: Symbol>: Drop {
         ensures stored { IfSome result (λ moved. layout.stores moved.0
             ≡ layout.stores (H.code hasher.now
             (text_of (entry_text B.numbering (B.texts backend.now)) moved.1))) };
+
+    /// Returns the symbol that a probe for a text with this code is likely to look at first, if any. Reads no text.
+    ///
+    /// Takes the backend for the same reason as `rehash_slot`: neither is a look.
+    fn guess<B: Backend<Symbol = S>>(&self, code: u64, backend: &B) -> Option<S>
+        requires some { 0 < length (layout.slots self.now) }
+        requires count { IsSlotCount (length (layout.slots self.now)) }
+        requires fits { (of : Text → ℕ)
+            × layout.fits (entry_text B.numbering (B.texts backend.now)) of self.now }
+        ensures { IfSome result (λ symbol. Contains (layout.slots self.now) (Some symbol)) };
 
     /// Puts the symbol of a text with this code into this slot.
     fn set(&mut self, at: usize, symbol: S, code: u64)

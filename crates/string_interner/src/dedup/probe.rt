@@ -1,6 +1,6 @@
 //! Linear probing: from the home of a text on, slot by slot, round the end to the first.
 
-ghost use Rattle.std.specs.Prelude.{◌≡◌, ℕ, ◌+◌, ◌<◌, ◌≤◌, ◌%◌, length, Contains, Some, IfSome};
+ghost use Rattle.std.specs.Prelude.{◌≡◌, ℕ, ◌+◌, ◌<◌, ◌≤◌, ◌%◌, length};
 ghost use Rattle.string_interner.specs.Text.{Text};
 ghost use Rattle.string_interner.specs.Entry.{entry_text};
 ghost use Rattle.string_interner.specs.Slots.{probe_cluster};
@@ -94,12 +94,6 @@ pub trait Probe<S: Symbol>: Layout<S> {
         ensures backend { looks.new.backend ≡ looks.old.backend }
         ensures counts { looks.old.count ≤ looks.new.count }
         ensures looks { looks.new.count ≤ looks.old.count + 1 };
-
-    /// Returns the symbol that a probe for a text with this code is likely to look at first, if any. Reads no text.
-    fn guess(&self, code: u64) -> Option<S>
-        requires some { 0 < length (Self.layout.slots self.now) }
-        requires count { IsSlotCount (length (Self.layout.slots self.now)) }
-        ensures { IfSome result (λ symbol. Contains (Self.layout.slots self.now) (Some symbol)) };
 }
 
 /// Probes for a text with this code from its home on, up to the first slot that has its symbol or is empty.
@@ -196,10 +190,5 @@ impl<S: Symbol> Probe<S> for Slots<S> {
             Some(seen) if seen.matches => Step::Found(seen.symbol),
             Some(_) => Step::On(slot_after(at, self.len())),
         }
-    }
-
-    #[inline(always)]
-    fn guess(&self, code: u64) -> Option<S> {
-        self.symbol_at(home_of(code, self.len()))
     }
 }

@@ -6,7 +6,7 @@ ghost use Rattle.string_interner.specs.Symbol.{AreNarrow};
 use crate::backend::Backend;
 use crate::dedup::layout::Layout;
 use crate::dedup::looks::Slot;
-use crate::dedup::probe::slot_after;
+use crate::dedup::probe::{home_of, slot_after};
 use crate::hash::TextHasher;
 use crate::symbol::Symbol;
 use std::alloc::{AllocError, Global};
@@ -67,9 +67,9 @@ impl<S: Symbol> Slots<S> {
         Slot::new(self.symbol_at(at))
     }
 
-    /// Returns the symbol of a slot, if any.
+    /// Returns the symbol of a slot, if any. Growth and insertion read slots by this; a look-up gets a `Slot`.
     #[inline(always)]
-    pub fn symbol_at(&self, at: usize) -> Option<S>
+    fn symbol_at(&self, at: usize) -> Option<S>
         requires { at < length self.now }
         ensures { result ≡ slice_index_or self.now at None }
     {
@@ -139,6 +139,11 @@ impl<S: Symbol> Layout<S> for Slots<S> {
     ) -> Option<(u64, S)> {
         let symbol = self.symbol_at(at)?;
         Some((hasher.hash_text(backend.resolve_unchecked(symbol)), symbol))
+    }
+
+    #[inline(always)]
+    fn guess<B: Backend<Symbol = S>>(&self, code: u64, _backend: &B) -> Option<S> {
+        self.symbol_at(home_of(code, self.len()))
     }
 
     #[inline(always)]

@@ -81,8 +81,8 @@ impl<S: Symbol, L: Probe<S>> Table<S, L> {
     }
 
     /// Makes an index without entries, with the least slot count that the load factor allows for `capacity` of them:
-    /// none for 0, and else a power of two from 8 on. With one half, 8 for 4 entries and 16 for 5; with seven
-    /// eighths, 8 for 7 and 16 for 8.
+    /// none for 0, and else a power of two from 8 on. With three quarters, 8 for 6 entries and 16 for 7; with
+    /// seven eighths, 8 for 7 and 16 for 8.
     ///
     /// Returns `Err` only if an allocation fails or that count does not fit a `usize`.
     pub fn with_capacity(alloc: Global, capacity: usize) -> Result<Self, AllocError>
@@ -332,11 +332,11 @@ impl<S: Symbol, L: Probe<S>> TextIndex<S> for Table<S, L> {
     }
 
     #[inline(always)]
-    fn guess(&self, code: u64) -> Option<S> {
+    fn guess<B: Backend<Symbol = S>>(&self, code: u64, backend: &B) -> Option<S> {
         if self.slots.len() == 0 {
             return None;
         }
-        self.slots.guess(code)
+        self.slots.guess(code, backend)
     }
 
     #[inline(always)]

@@ -185,6 +185,13 @@ impl<S: Symbol> Layout<S> for TaggedSlots<S> {
         ))
     }
 
+    #[inline(always)]
+    fn guess<B: Backend<Symbol = S>>(&self, code: u64, _backend: &B) -> Option<S> {
+        let tag = tag_of(stored_code(code));
+        let reached = self.pass(home_of(code, self.len()), tag);
+        Some(self.item_with(reached, tag)?.symbol)
+    }
+
     #[inline]
     fn set(&mut self, at: usize, symbol: S, code: u64) {
         let code = stored_code(code);
@@ -245,12 +252,5 @@ impl<S: Symbol> Probe<S> for TaggedSlots<S> {
             None if self.item_at(reached).is_none() => Step::Free(reached),
             None => Step::On(slot_after(reached, count)),
         }
-    }
-
-    #[inline(always)]
-    fn guess(&self, code: u64) -> Option<S> {
-        let tag = tag_of(stored_code(code));
-        let reached = self.pass(home_of(code, self.len()), tag);
-        Some(self.item_with(reached, tag)?.symbol)
     }
 }

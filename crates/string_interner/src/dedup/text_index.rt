@@ -92,11 +92,14 @@ pub trait TextIndex<S: Symbol> {
     ///
     /// To look up many texts, ask for all guesses first, and then read the texts of the symbols, so that they wait for
     /// memory at the same time. By default there is no guess.
-    fn guess(&self, code: u64) -> Option<S>
-        ensures { (entry : S → Option Text) (of : Text → ℕ) → indexes self.now entry of
-            → IfSome result (λ symbol. IsSome (entry symbol)) }
+    fn guess<B: Backend<Symbol = S>>(&self, code: u64, backend: &B) -> Option<S>
+        requires { (of : Text → ℕ)
+            × indexes self.now (entry_text B.numbering (B.texts backend.now)) of }
+        ensures { IfSome result (λ symbol.
+            IsSome (entry_text B.numbering (B.texts backend.now) symbol)) }
     {
         let _ = code;
+        let _ = backend;
         None
     }
 

@@ -35,28 +35,36 @@ pub fn hash_each<H: TextHasher>(hasher: &H, texts: &[&str], codes: &mut [u64])
 ///
 /// It stores numbers, because an array of a symbol type would have a size that only the caller knows.
 #[inline(always)]
-pub fn guess_each<S: Symbol, I: TextIndex<S>>(
+pub fn guess_each<B: Backend, I: TextIndex<B::Symbol>>(
     index: &I,
+    backend: &B,
     codes: &[u64],
     guesses: &mut [Option<usize>],
 )
-    requires { length guesses.old ≡ length codes.now }
+    requires count { length guesses.old ≡ length codes.now }
+    requires indexed { (of : Text → ℕ)
+        × I.indexes index.now (entry_text B.numbering (B.texts backend.now)) of }
     ensures count { length guesses.new ≡ length guesses.old }
-    ensures guesses { (entry : S → Option Text) (of : Text → ℕ) → I.indexes index.now entry of
-        → AreGuesses S.symbol_of entry guesses.new }
+    ensures guesses { AreGuesses B.Symbol.symbol_of
+        (entry_text B.numbering (B.texts backend.now)) guesses.new }
 {
     for (at, code) in codes.iter().enumerate() {
-        guesses[at] = guess_number(index, *code);
+        guesses[at] = guess_number(index, backend, *code);
     }
 }
 
 /// Returns the number of the symbol that the index guesses for a code.
 #[inline(always)]
-fn guess_number<S: Symbol, I: TextIndex<S>>(index: &I, code: u64) -> Option<usize>
-    ensures { (entry : S → Option Text) (of : Text → ℕ) → I.indexes index.now entry of
-        → IsGuess S.symbol_of entry result }
+fn guess_number<B: Backend, I: TextIndex<B::Symbol>>(
+    index: &I,
+    backend: &B,
+    code: u64,
+) -> Option<usize>
+    requires { (of : Text → ℕ)
+        × I.indexes index.now (entry_text B.numbering (B.texts backend.now)) of }
+    ensures { IsGuess B.Symbol.symbol_of (entry_text B.numbering (B.texts backend.now)) result }
 {
-    let Some(symbol) = index.guess(code) else {
+    let Some(symbol) = index.guess(code, backend) else {
         return None;
     };
     Some(symbol.to_usize())

@@ -98,7 +98,7 @@ impl<B: Backend, H: TextHasher, I: TextIndex<B::Symbol>> StringInterner<B, H, I>
         hash_each(&self.hasher, texts, codes);
         let mut known = [None; BLOCK_LEN];
         let known = &mut known[..texts.len()];
-        guess_each(&self.index, codes, known);
+        guess_each(&self.index, &self.backend, codes, known);
         check_each(&self.backend, texts, known);
         intern_each(
             &mut self.backend,

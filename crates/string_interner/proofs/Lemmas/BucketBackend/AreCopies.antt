@@ -38,7 +38,7 @@ AreCopies-more buckets entries copies old new (InBucket bucket span) copy there 
     }
 AreCopies-more buckets entries copies old new (Static text) copy there utf8 are is =
     rw (is.0, is.1) (record {
-      standing = All-push (IsEntry (old ∷ [])) copies (Static text) are.standing tt;
+      standing = All-push (IsEntry (old ∷ [])) copies (Static text) are.standing there;
       texts = rw (map_push (interned_text (old ∷ [])) copies (Static text), map_push (interned_text buckets) entries (Static text), are.texts) refl;
       statics = rw (map_push is_static copies (Static text), map_push is_static entries (Static text), are.statics) refl;
       bytes = rw (copied_bytes-more entries buckets (Static text), append-nil) are.bytes;

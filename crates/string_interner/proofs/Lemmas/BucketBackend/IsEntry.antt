@@ -1,19 +1,18 @@
 -- What an entry reads stays while texts are put into the buckets.
-use Rattle.std.proofs.Common.{◌≡◌, ℕ, ◌+◌, ◌-◌, ◌^◌, ◌<◌, ◌≤◌, List, [], ◌∷◌, ◌++◌, length, map, get_or, subst, sym, All, Bool, true, false, refl, ap, ◌∙◌, inl, inr, arith}
-use Rattle.std.proofs.lemmas.Bool.{cases_lt}
+use Rattle.std.proofs.Common.{◌≡◌, ℕ, ◌+◌, ◌-◌, ◌^◌, ◌<◌, List, [], ◌∷◌, ◌++◌, length, map, get_or, sym, All, Bool, true, false, refl, ap, ◌∙◌, arith}
 use Rattle.std.proofs.lemmas.Option.{slice_get-get_or}
-use Rattle.std.specs.Prelude.{slice_range, slice_get, Some}
+use Rattle.std.specs.Prelude.{slice_get, Some}
 use Rattle.std.specs.Str.{IsUtf8}
 use Rattle.std.proofs.lemmas.Str.{IsCharBoundary-at_seam, IsCharBoundary-end}
 use Rattle.std.proofs.lemmas.List.{get_or_push, length_push, length-append, drop_at, map_push, take_all, get_or-map, length-map}
-use Rattle.std.proofs.lemmas.List.Elements.{All-push, All-head, All-tail, All-weaker, All-get_or}
+use Rattle.std.proofs.lemmas.List.Elements.{All-push, All-head, All-tail, All-weaker}
 use Rattle.string_interner.specs.Text.{Text}
 use Rattle.string_interner.specs.Backend.{Bucket}
-use Rattle.string_interner.specs.BucketBackend.{buckets_of, bucket_at, is_static, interned_text, IsPart, IsEntry, interned_len, IsLast, Puts}
-use Rattle.string_interner.specs.BucketEntries.{text_len, HasSpan, Packs}
+use Rattle.string_interner.specs.BucketBackend.{buckets_of, bucket_at, is_static, interned_text, IsPart, IsEntry, interned_len, IsLast}
+use Rattle.string_interner.specs.BucketEntries.{HasSpan, Packs}
 use Rattle.string_interner.specs.declared.backend.bucket.interned_str.InternedStr.{InternedStr}
 use Rattle.string_interner.specs.declared.backend.bucket.interned_str.InternedStr.TheVariants.{InBucket, Static}
-use Rattle.string_interner.proofs.Lemmas.BucketBackend.Stays.{IsCharBoundary-append, slice_range-append, length-slice_range, Grow}
+use Rattle.string_interner.proofs.Lemmas.BucketBackend.Stays.{IsCharBoundary-append, slice_range-append, Grow}
 
 part_stays : (old new : List Bucket) (bucket from to : ℕ) → Grow old new → IsPart old bucket from to → IsPart new bucket from to
 part_stays old new bucket from to grow part =
@@ -27,7 +26,7 @@ part_stays old new bucket from to grow part =
 
 entry_stays : (old new : List Bucket) (e : InternedStr) → Grow old new → IsEntry old e → IsEntry new e
 entry_stays old new (InBucket bucket span) grow h = part_stays old new bucket span.from span.to grow h
-entry_stays old new (Static text) grow h = tt
+entry_stays old new (Static text) grow h = h
 
 text_stays : (old new : List Bucket) (e : InternedStr) → Grow old new → IsEntry old e → interned_text new e ≡ interned_text old e
 text_stays old new (InBucket bucket span) grow h =
@@ -66,41 +65,24 @@ last_entry text full head e utf8 last =
 pub last_len : (text : Text) (full : List Bucket) (head : Bucket) (e : InternedStr) → IsLast text full head e → interned_len e ≡ length text
 last_len text full head e last = rw last.entry_is (omega arith)
 
--- an entry knows how long its text is
-pub interned_text-len : (buckets : List Bucket) (e : InternedStr) → IsEntry buckets e → length (interned_text buckets e) ≡ text_len e
-interned_text-len buckets (InBucket bucket span) h = length-slice_range (bucket_at buckets bucket).bytes span.from span.to h.ends.0
-interned_text-len buckets (Static text) h = refl
-
-pub entry_len : (buckets : List Bucket) (entries : List InternedStr) (i len : ℕ) (e : InternedStr) (text : Text) → All (IsEntry buckets) entries → i < length entries → e ≡ get_or entries i e → ((d : InternedStr) → text_len (get_or entries i d) ≡ len) → text ≡ interned_text buckets e → length text ≡ len
-entry_len buckets entries i len e text standing h is lens text_is =
-    let entry : IsEntry buckets e = subst (IsEntry buckets) (sym is) (All-get_or (IsEntry buckets) entries i e h standing) in
-    ap length text_is ∙ interned_text-len buckets e entry ∙ ap text_len is ∙ lens e
-
--- so its text is whole where it is cut after so many bytes
-pub entry_text : (buckets : List Bucket) (entries : List InternedStr) (i len : ℕ) (e : InternedStr) (text part : Text) → All (IsEntry buckets) entries → i < length entries → e ≡ get_or entries i e → ((d : InternedStr) → text_len (get_or entries i d) ≡ len) → text ≡ interned_text buckets e → part ≡ slice_range text 0 len → slice_get (map (interned_text buckets) entries) i ≡ Some part
-entry_text buckets entries i len e text part standing h is lens text_is part_is =
-    let whole : part ≡ text = part_is ∙ take_all (len - 0) text (omega (arith, entry_len buckets entries i len e text standing h is lens text_is)) in
+-- the text of an entry is the text at its index
+pub entry_text : (buckets : List Bucket) (entries : List InternedStr) (i : ℕ) (e : InternedStr) (text : Text) → i < length entries → e ≡ get_or entries i e → text ≡ interned_text buckets e → slice_get (map (interned_text buckets) entries) i ≡ Some text
+entry_text buckets entries i e text h is text_is =
     let there : get_or (map (interned_text buckets) entries) i text ≡ text = get_or-map (interned_text buckets) entries i e text h ∙ ap (interned_text buckets) (sym is) ∙ sym text_is in
-    rw whole (slice_get-get_or (map (interned_text buckets) entries) i text (omega (arith, h, length-map entries (interned_text buckets))) ∙ ap Some there)
+    slice_get-get_or (map (interned_text buckets) entries) i text (omega (arith, h, length-map entries (interned_text buckets))) ∙ ap Some there
 
--- a text at the end of the head is a span of a bucket with a number below 64
-pub last_span : (text : Text) (full : List Bucket) (head : Bucket) (e : InternedStr) → length full < 64 → IsLast text full head e → HasSpan e
-last_span text full head e few last = rw last.entry_is (few, omega arith)
+-- a text at the end of the head is a span of a bucket
+pub last_span : (text : Text) (full : List Bucket) (head : Bucket) (e : InternedStr) → IsLast text full head e → HasSpan e
+last_span text full head e last = rw last.entry_is (omega arith)
 
--- a text at the end of the head packs, if the head was not far too long before
-pub last_packs : (text : Text) (full : List Bucket) (head : Bucket) (new_full : List Bucket) (new_head : Bucket) (e : InternedStr) → length new_full < 64 → length head.bytes < 2 ^ 57 → Puts text full head new_full new_head → IsLast text new_full new_head e → Packs e
-last_packs text full head new_full new_head e few near puts last =
-    let count : length new_head.bytes ≡ length last.before + length text = ap length last.bytes_are ∙ length-append last.before text in
-    let from : length last.before ≤ length head.bytes = elim (cases_lt head.capacity (length head.bytes + length text)) [
-      | inl too_long ↦ omega (arith, count, ap length (puts.too_long too_long).1)
-      | inr fits ↦ omega (arith, count, ap (λ (b : Bucket). length b.bytes) (puts.fits fits).1, length-append head.bytes text)
-    ] in
-    rw last.entry_is (few, omega arith, omega arith)
+-- a text at the end of the head packs unless it is long
+pub last_packs : (text : Text) (full : List Bucket) (head : Bucket) (e : InternedStr) → length text < 2 ^ 32 → IsLast text full head e → Packs e
+last_packs text full head e short last = rw last.entry_is (omega arith)
 
--- or there is room for an entry that does not
-pub last_packs-unless : (far : Bool) (spare : ℕ) (text : Text) (full : List Bucket) (head : Bucket) (new_full : List Bucket) (new_head : Bucket) (e : InternedStr) → length new_full < 64 → (far ≡ false → length head.bytes < 2 ^ 57) → (far ≡ true → 0 < spare) → Puts text full head new_full new_head → IsLast text new_full new_head e → spare ≡ 0 → Packs e
-last_packs-unless true spare text full head new_full new_head e few near room puts last none = absurd (omega (arith, room refl, none))
-last_packs-unless false spare text full head new_full new_head e few near room puts last none = last_packs text full head new_full new_head e few (near refl) puts last
+-- or there is room for a long one
+pub last_packs-unless : (long : Bool) (spare : ℕ) (text : Text) (full : List Bucket) (head : Bucket) (e : InternedStr) → (long ≡ false → length text < 2 ^ 32) → (long ≡ true → 0 < spare) → IsLast text full head e → spare ≡ 0 → Packs e
+last_packs-unless true spare text full head e short room last none = absurd (omega (arith, room refl, none))
+last_packs-unless false spare text full head e short room last none = last_packs text full head e (short refl) last
 
 pub last_static : (text : Text) (full : List Bucket) (head : Bucket) (e : InternedStr) → IsLast text full head e → is_static e ≡ false
 last_static text full head e last = rw last.entry_is refl

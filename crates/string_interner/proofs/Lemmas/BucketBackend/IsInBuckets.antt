@@ -42,7 +42,7 @@ stored-static symbol_of text full head entries more stored utf8 some small is =
     let count : length texts ≡ length entries = length-map entries (interned_text (buckets_of full head)) in
     let now : map (interned_text (buckets_of full head)) (entries ++ Static text ∷ []) ≡ texts ++ text.now ∷ [] = map_push (interned_text (buckets_of full head)) entries (Static text) in
     rw is (record {
-      standing = All-push (IsEntry (buckets_of full head)) entries (Static text) stored.standing tt;
+      standing = All-push (IsEntry (buckets_of full head)) entries (Static text) stored.standing utf8;
       shared = omega (arith, sum_by_push interned_len entries (Static text), stored.shared);
       tight = stored.tight;
       valid = rw now (valid-more symbol_of length texts text.now stored.valid utf8 some (omega (arith, count, length_push texts text.now)));

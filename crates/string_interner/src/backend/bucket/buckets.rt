@@ -8,7 +8,7 @@ use crate::backend::bucket::fixed_str::{FixedString, Span};
 use crate::backend::bucket::full_bucket::FullBucket;
 use crate::backend::bucket::interned_str::InternedStr;
 use std::alloc::{AllocError, Global};
-use std::mem;
+use std::{mem, str};
 
 /// Returns the text of a bucket by its number: the older buckets come first, then the head.
 #[inline]
@@ -37,7 +37,8 @@ pub fn interned_text<'a>(
             let bytes = bucket_text(full, head, bucket);
             &bytes[span.from..span.to]
         }
-        InternedStr::Static(text) => text,
+        // The text is UTF-8, which the contract asks, so it is not tested again.
+        InternedStr::Static(text) => unsafe { str::from_utf8_unchecked(text) },
     }
 }
 

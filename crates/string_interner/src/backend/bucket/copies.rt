@@ -139,7 +139,7 @@ pub fn copies_of(
     ensures copies { IfOk result (λ made. AreCopies (buckets_of full.now head.now) entries.now.items
         made.0.items made.1) }
 {
-    let mut copies = Entries::with_capacity(alloc, entries.len(), entries.other_len())?;
+    let mut copies = Entries::with_capacity(alloc, entries.len(), entries.long_len())?;
     let mut bucket = FixedString::with_capacity(alloc, capacity)?;
     // For the proof: states that the first bucket is a text, so that one can begin at its first byte.
     let _ = bucket_text(full, head, 0);

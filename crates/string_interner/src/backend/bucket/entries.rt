@@ -1,79 +1,108 @@
 //! Where the texts of all entries are stored, in 16 bytes each.
 
-ghost use Rattle.std.specs.Prelude.{◌≡◌, ◌↔◌, ℕ, ◌+◌, ◌^◌, ◌/◌, ◌%◌, ◌<◌, ◌≤◌, List, [], ◌∷◌, ◌++◌, length, take, slice_index_or, true, false, IsOk, IsSome, IfOk, IfSome, OnOk, OnErr};
-ghost use Rattle.string_interner.specs.BucketEntries.{text_len, other_count, HasSpan, Packs};
+ghost use Rattle.std.specs.Prelude.{◌≡◌, ◌↔◌, ℕ, ◌+◌, ◌^◌, ◌<◌, ◌≤◌, List, [], ◌∷◌, ◌++◌, length, take, slice_index_or, true, false, IsOk, IsSome, IfOk, IfSome, OnOk, OnErr};
+ghost use Rattle.string_interner.specs.BucketEntries.{long_count, HasSpan, Packs};
 ghost use Rattle.string_interner.specs.declared.backend.bucket.interned_str.InternedStr.{InternedStr};
 
 use crate::backend::bucket::fixed_str::Span;
 use crate::backend::bucket::interned_str::InternedStr;
+use crate::backend::bucket::lasting::Lasting;
 use crate::backend::reserve::reserve_items;
 use std::alloc::{AllocError, Global};
-use std::marker::Model;
+use std::marker::{Model, Send, Sync};
 use std::mem::size_of;
 
-/// An entry is packed if its text begins before this byte of its bucket.
-const NEAR: usize = 1 << 57;
+/// A text of so many bytes is long: its length does not fit the entry.
+const LONG: usize = 1 << 32;
 
-/// A packed entry: its place, and the length of its text in bytes.
-///
-/// An even place is in a bucket: half of it is the bucket's number, plus 64 times the byte where the text begins. Half of
-/// an odd place is the index of the entry among the others.
-#[derive(Clone, Copy)]
-pub struct Packed {
-    place: usize,
-    len: usize,
+/// A packed entry. The fields of each kind lie around its tag, so that it takes 16 bytes.
+#[derive(Drop)]
+pub enum Packed {
+    /// A long text: the index of its entry among the long ones.
+    Long(usize),
+    /// A static text: its length, and where it lies.
+    Reference {
+        len: u32,
+        at: *const u8,
+        lasting: Lasting,
+    },
+    /// A text in a bucket: the bucket's number, the text's length, and the byte where it begins. It comes last, so that it
+    /// is told apart first.
+    Copied {
+        bucket: u8,
+        len: u32,
+        from: usize,
+    },
 }
 
 const _: () = prove!(size_of::<Packed>() == 16);
 
-impl Packed {
-    ghost use Rattle.string_interner.specs.BucketEntries.{unpack, EndFits};
+/// What a static text's address leads to is only read.
+unsafe impl Send for Packed {}
 
-    /// Packs an entry: `None` unless its text begins in the first 2^57 bytes of a bucket.
+/// What a static text's address leads to is only read.
+unsafe impl Sync for Packed {}
+
+impl Packed {
+    ghost use Rattle.string_interner.specs.BucketEntries.{unpack, is_long, IsSound};
+
+    /// Packs an entry: `None` exactly if its text is long.
     #[inline]
     fn of(interned: InternedStr) -> Option<Packed>
         requires { HasSpan interned }
-        ensures even { IfSome result (λ packed. packed.place % 2 ≡ 0) }
-        ensures same { IfSome result (λ packed. (others : List InternedStr)
-            → unpack others packed ≡ interned) }
-        ensures fits { IfSome result EndFits }
-        ensures len { IfSome result (λ packed. packed.len ≡ text_len interned) }
+        ensures short { IfSome result (λ packed. is_long packed ≡ 0) }
+        ensures same { IfSome result (λ packed. (long : List InternedStr)
+            → unpack long packed ≡ interned) }
+        ensures sound { IfSome result IsSound }
         ensures packs { IsSome result ↔ Packs interned }
     {
         match interned {
             InternedStr::InBucket { bucket, span } => {
-                if span.from >= NEAR {
+                let len = span.to - span.from;
+                if is_long(len) {
                     return None;
                 }
-                let place = 2 * (64 * span.from + usize::from(bucket));
-                let len = span.to - span.from;
-                Some(Packed { place, len })
+                Some(Packed::Copied {
+                    bucket,
+                    len: len as u32,
+                    from: span.from,
+                })
             }
-            InternedStr::Static(_) => None,
+            InternedStr::Static(text) => {
+                if is_long(text.len()) {
+                    return None;
+                }
+                let (at, lasting) = Lasting::of(text);
+                Some(Packed::Reference {
+                    len: text.len() as u32,
+                    at,
+                    lasting,
+                })
+            }
         }
     }
 }
 
-/// Reports whether a text that begins at this byte of a bucket is too far behind for a packed entry.
+/// Reports whether a text of so many bytes is too long for a packed entry.
 #[inline]
-pub fn is_far(from: usize) -> bool
-    ensures near { result ≡ false → from < 2 ^ 57 }
-    ensures far { result ≡ true → 2 ^ 57 ≤ from }
+pub fn is_long(len: usize) -> bool
+    ensures short { result ≡ false → len < 2 ^ 32 }
+    ensures long { result ≡ true → 2 ^ 32 ≤ len }
 {
-    from >= NEAR
+    len >= LONG
 }
 
 /// The entries, in order.
 ///
-/// An entry takes 16 bytes. The *others* do not fit these, and take 24 more in a list of their own: the entries of
-/// static texts, and of texts that begin behind the first 2^57 bytes of their bucket, which no memory has today.
+/// An entry takes 16 bytes. The *long* ones, of texts that take 4 GiB or more, do not fit these, and take 24 more in a
+/// list of their own.
 #[derive(Drop)]
 pub struct Entries {
     packed: Vec<Packed>,
-    others: Vec<InternedStr>,
+    long: Vec<InternedStr>,
 }
 
-/// Contracts see the entries unpacked, the spare capacity in entries, and that in others.
+/// Contracts see the entries unpacked, the spare capacity in entries, and that in long ones.
 impl Model for Entries {
     ghost use Rattle.std.specs.Prelude.{◌-◌, map, vec_len, vec_capacity};
     ghost use Rattle.string_interner.specs.BucketEntries.{EntryList, ArePacked, unpack};
@@ -81,36 +110,36 @@ impl Model for Entries {
     ghost Value = { EntryList };
 
     ghost view = { λ e. record {
-      items = map (unpack e.others.items) e.packed.items;
+      items = map (unpack e.long.items) e.packed.items;
       spare = vec_capacity e.packed - vec_len e.packed;
-      other_spare = vec_capacity e.others - vec_len e.others;
+      long_spare = vec_capacity e.long - vec_len e.long;
     } };
 
-    ghost invariant = { λ e. ArePacked e.others.items e.packed.items };
+    ghost invariant = { λ e. ArePacked e.long.items e.packed.items };
 }
 
 impl Entries {
     /// Makes an empty list without spare capacity. Allocates nothing.
     pub fn new(alloc: Global) -> Self
-        ensures { result ≡ record { items = []; spare = 0; other_spare = 0 } }
+        ensures { result ≡ record { items = []; spare = 0; long_spare = 0 } }
     {
         Entries {
             packed: Vec::new(alloc),
-            others: Vec::new(alloc),
+            long: Vec::new(alloc),
         }
     }
 
-    /// Makes an empty list with capacity for `capacity` entries, of which `others` may be others.
+    /// Makes an empty list with capacity for `capacity` entries, of which `long` may be long.
     ///
     /// Returns `Err` only if an allocation fails or a size does not fit a `usize`.
-    pub fn with_capacity(alloc: Global, capacity: usize, others: usize) -> Result<Self, AllocError>
+    pub fn with_capacity(alloc: Global, capacity: usize, long: usize) -> Result<Self, AllocError>
         ensures items { IfOk result (λ entries. entries.items ≡ []) }
         ensures spare { IfOk result (λ entries. capacity ≤ entries.spare) }
-        ensures other_spare { IfOk result (λ entries. others ≤ entries.other_spare) }
+        ensures long_spare { IfOk result (λ entries. long ≤ entries.long_spare) }
     {
         Ok(Entries {
             packed: Vec::with_capacity(alloc, capacity)?,
-            others: Vec::with_capacity(alloc, others)?,
+            long: Vec::with_capacity(alloc, long)?,
         })
     }
 
@@ -122,11 +151,11 @@ impl Entries {
         self.packed.len()
     }
 
-    /// Returns how many of the entries are others.
-    pub fn other_len(&self) -> usize
+    /// Returns how many of the entries are long.
+    pub fn long_len(&self) -> usize
         ensures { result ≤ length self.now.items }
     {
-        self.others.len()
+        self.long.len()
     }
 
     /// Returns the entry `index`.
@@ -135,45 +164,38 @@ impl Entries {
         requires { index < length self.now.items }
         ensures { result ≡ slice_index_or self.now.items index result }
     {
-        let packed = self.packed[index];
-        let half = packed.place / 2;
-        if packed.place % 2 == 0 {
-            let from = half / 64;
-            let to = from + packed.len;
-            let bucket = (half % 64) as u8;
-            return InternedStr::InBucket {
-                bucket,
-                span: Span { from, to },
-            };
+        match &self.packed[index] {
+            Packed::Copied { bucket, len, from } => InternedStr::InBucket {
+                bucket: *bucket,
+                span: Span {
+                    from: *from,
+                    to: *from + *len as usize,
+                },
+            },
+            Packed::Reference { len, at, lasting } => {
+                InternedStr::Static(lasting.read(*at, *len as usize))
+            }
+            Packed::Long(at) => self.long[*at],
         }
-        self.others[half]
     }
 
-    /// Returns how many bytes the text of the entry `index` has.
-    #[inline]
-    pub fn text_len(&self, index: usize) -> usize
-        requires { index < length self.now.items }
-        ensures { (d : InternedStr) → text_len (slice_index_or self.now.items index d) ≡ result }
-    {
-        self.packed[index].len
-    }
-
-    /// Makes room for one more entry, and for one more other if `is_other`.
+    /// Makes room for one more entry, and for one more long one if `is_long`.
     ///
     /// Returns `Err` only if an allocation fails or a size does not fit a `usize`.
     #[inline]
-    pub fn reserve(&mut self, is_other: bool) -> Result<(), AllocError>
+    pub fn reserve(&mut self, is_long: bool) -> Result<(), AllocError>
         ensures items { self.new.items ≡ self.old.items }
         ensures spare { self.old.spare ≤ self.new.spare }
-        ensures other_spare { self.old.other_spare ≤ self.new.other_spare }
+        ensures long_spare { self.old.long_spare ≤ self.new.long_spare }
         ensures ok { OnOk result (0 < self.new.spare) }
-        ensures other { OnOk result (is_other ≡ true → 0 < self.new.other_spare) }
-        ensures no_other { is_other ≡ false → self.new.other_spare ≡ self.old.other_spare }
-        ensures granted { 0 < self.old.spare → 0 < self.old.other_spare → IsOk result }
+        ensures long { OnOk result (is_long ≡ true → 0 < self.new.long_spare) }
+        ensures short { is_long ≡ false → self.new.long_spare ≡ self.old.long_spare }
+        ensures granted { 0 < self.old.spare → is_long ≡ false → IsOk result }
+        ensures granted_long { 0 < self.old.spare → 0 < self.old.long_spare → IsOk result }
     {
         reserve_items(&mut self.packed, 1)?;
-        if is_other {
-            self.others.reserve(1)?;
+        if is_long {
+            self.long.reserve(1)?;
         }
         Ok(())
     }
@@ -183,19 +205,18 @@ impl Entries {
     pub fn push_reserved(&mut self, interned: InternedStr)
         requires span { HasSpan interned }
         requires spare { 0 < self.old.spare }
-        requires other { self.old.other_spare ≡ 0 → Packs interned }
+        requires long { self.old.long_spare ≡ 0 → Packs interned }
         ensures items { self.new.items ≡ self.old.items ++ interned ∷ [] }
         ensures fits { length self.new.items < 2 ^ 64 }
         ensures spare { self.old.spare ≡ self.new.spare + 1 }
-        ensures other_spare { self.old.other_spare ≤ self.new.other_spare + 1 }
+        ensures long_spare { self.old.long_spare ≤ self.new.long_spare + 1 }
+        ensures short { Packs interned → self.new.long_spare ≡ self.old.long_spare }
     {
         match Packed::of(interned) {
             Some(packed) => self.packed.push_reserved(packed),
             None => {
-                let place = 2 * self.others.len() + 1;
-                let len = interned.text_len();
-                self.packed.push_reserved(Packed { place, len });
-                self.others.push_reserved(interned);
+                self.packed.push_reserved(Packed::Long(self.long.len()));
+                self.long.push_reserved(interned);
             }
         }
     }
@@ -209,12 +230,14 @@ impl Entries {
         ensures fits { OnOk result (length self.new.items < 2 ^ 64) }
         ensures err { OnErr result (self.new.items ≡ self.old.items) }
         ensures spare { self.old.spare ≤ self.new.spare + 1 }
-        ensures other_spare { self.old.other_spare ≤ self.new.other_spare + 1 }
+        ensures long_spare { self.old.long_spare ≤ self.new.long_spare + 1 }
         ensures unspent { OnErr result (self.old.spare ≤ self.new.spare) }
-        ensures other_unspent { OnErr result (self.old.other_spare ≤ self.new.other_spare) }
-        ensures granted { 0 < self.old.spare → 0 < self.old.other_spare → IsOk result }
+        ensures long_unspent { OnErr result (self.old.long_spare ≤ self.new.long_spare) }
+        ensures short { Packs interned → self.new.long_spare ≡ self.old.long_spare }
+        ensures granted { 0 < self.old.spare → Packs interned → IsOk result }
+        ensures granted_long { 0 < self.old.spare → 0 < self.old.long_spare → IsOk result }
     {
-        self.reserve(Packed::of(interned).is_none())?;
+        self.reserve(is_long(interned.text_len()))?;
         self.push_reserved(interned);
         Ok(())
     }
@@ -225,11 +248,11 @@ impl Entries {
         ensures items { self.new.items ≡ take len self.old.items }
         ensures same { length self.old.items ≤ len → self.new ≡ self.old }
         ensures spare { self.old.spare ≤ self.new.spare }
-        ensures other_spare { self.old.other_spare ≤ self.new.other_spare }
+        ensures long_spare { self.old.long_spare ≤ self.new.long_spare }
     {
         if len < self.packed.len() {
-            let dropped = count_others(&self.packed[len..]);
-            self.others.truncate(self.others.len() - dropped);
+            let dropped = count_long(&self.packed[len..]);
+            self.long.truncate(self.long.len() - dropped);
             self.packed.truncate(len);
         }
     }
@@ -238,22 +261,24 @@ impl Entries {
     pub fn shrink_to_fit(&mut self)
         ensures items { self.new.items ≡ self.old.items }
         ensures spare { self.new.spare ≤ self.old.spare }
-        ensures other_spare { self.new.other_spare ≤ self.old.other_spare }
+        ensures long_spare { self.new.long_spare ≤ self.old.long_spare }
         ensures frees { self.old.items ≡ [] → self.new.spare ≡ 0 }
-        ensures frees_others { self.old.items ≡ [] → self.new.other_spare ≡ 0 }
+        ensures frees_long { self.old.items ≡ [] → self.new.long_spare ≡ 0 }
     {
         self.packed.shrink_to_fit();
-        self.others.shrink_to_fit();
+        self.long.shrink_to_fit();
     }
 }
 
-/// Returns how many of the entries are others.
-fn count_others(packed: &[Packed]) -> usize
-    ensures { result ≡ other_count packed.now }
+/// Returns how many of the entries are long.
+fn count_long(packed: &[Packed]) -> usize
+    ensures { result ≡ long_count packed.now }
 {
     let mut count = 0;
     for entry in packed {
-        count += entry.place % 2;
+        if matches!(entry, Packed::Long(_)) {
+            count += 1;
+        }
     }
     count
 }

@@ -10,8 +10,8 @@ pub enum InternedStr {
     /// In a bucket, by its number and a byte range: older buckets count from 0, and the head comes after them. There are
     /// at most 64 buckets, since the capacity of each new head is a power of two above the one before.
     InBucket { bucket: u8, span: Span },
-    /// A static text, by reference: it is not copied.
-    Static(&'static str),
+    /// A static text, by a reference to its bytes: it is not copied.
+    Static(&'static [u8]),
 }
 
 impl InternedStr {

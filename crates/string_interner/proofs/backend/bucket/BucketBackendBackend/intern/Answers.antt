@@ -1,6 +1,6 @@
-use Rattle.std.proofs.Common.{◌≡◌, List, true, false, length, ◌<◌, ◌+◌, ◌≤◌, ◌++◌, ◌∷◌, [], map, min, arith, rules, refl, ap, ◌∙◌}
+use Rattle.std.proofs.Common.{◌≡◌, List, true, false, length, ◌<◌, ◌+◌, ◌≤◌, ◌++◌, ◌∷◌, [], map, arith, rules, refl, ap, ◌∙◌}
 use Rattle.std.proofs.lemmas.List.{map_push, length_push}
-use Rattle.string_interner.specs.BucketBackend.{BucketContents, Puts, buckets_of, interned_text, is_static, IsLast, IsInBuckets}
+use Rattle.string_interner.specs.BucketBackend.{BucketContents, Puts, buckets_of, entry_room, interned_text, is_static, IsLast, IsInBuckets}
 use Rattle.string_interner.specs.declared.backend.bucket.interned_str.InternedStr.{InternedStr}
 use Rattle.string_interner.proofs.Lemmas.BucketBackend.IsInBuckets.{stored-puts}
 use Rattle.string_interner.proofs.Lemmas.BucketBackend.AreCopies.{spent-puts}
@@ -31,17 +31,13 @@ stored : (g : Over) (c : After-push_reserved g) → (map (interned_text (buckets
 stored g c = stored-puts g.S.Symbol.symbol_of c.args.text.now _ _ _ _ c.in_ok-interned.interned _ _ c.self.invariant c.utf8.text (rw (ap (λ (b : BucketContents). b.texts) c.self.view_is) (search rules)) (omega (arith, c.push_reserved.ensures.fits, ap length (more g c), length_push c.self.inside.entries.items c.in_ok-interned.interned)) (puts g c) (last g c) (more g c)
 
 pub push_reserved-requires-clause-span : goal.push_reserved-requires-clause-span
-push_reserved-requires-clause-span g c =
-    let few : length c.store.new.full.items < 64 = OnOk-passed c.store.result _ c.in_ok-interned.ensures.variant c.store.ensures.few in
-    last_span c.args.text.now c.store.new.full.items c.store.new.head c.in_ok-interned.interned few (search rules)
+push_reserved-requires-clause-span g c = last_span c.args.text.now c.store.new.full.items c.store.new.head c.in_ok-interned.interned (search rules)
 
-pub push_reserved-requires-clause-other : goal.push_reserved-requires-clause-other
-push_reserved-requires-clause-other g c =
-    let puts : Puts c.args.text.now c.self.inside.full.items c.self.inside.head c.store.new.full.items c.store.new.head = OnOk-passed c.store.result _ c.in_ok-interned.ensures.variant c.store.ensures.puts in
-    let few : length c.store.new.full.items < 64 = OnOk-passed c.store.result _ c.in_ok-interned.ensures.variant c.store.ensures.few in
+pub push_reserved-requires-clause-long : goal.push_reserved-requires-clause-long
+push_reserved-requires-clause-long g c =
     let last : IsLast c.args.text.now c.store.new.full.items c.store.new.head c.in_ok-interned.interned = search rules in
-    let room : c.is_far-is_far.result ≡ true → 0 < c.reserve.new.self.other_spare = OnOk-passed c.reserve.result _ c.in_ok-map_err.ensures.variant c.reserve.ensures.other in
-    last_packs-unless c.is_far-is_far.result _ c.args.text.now c.self.inside.full.items c.self.inside.head c.store.new.full.items c.store.new.head _ few (λ near. omega (arith, c.is_far-is_far.ensures.near near, c.len.ensures.value)) room puts last
+    let room : c.is_long-is_long.result ≡ true → 0 < c.reserve.new.self.long_spare = OnOk-passed c.reserve.result _ c.in_ok-map_err.ensures.variant c.reserve.ensures.long in
+    last_packs-unless c.is_long-is_long.result _ c.args.text.now c.store.new.full.items c.store.new.head _ (λ short. omega (arith, c.is_long-is_long.ensures.short short)) room last
 
 pub returns-in_err-interned-clause-appends : goal.returns-in_err-interned-clause-appends
 returns-in_err-interned-clause-appends g c =
@@ -63,8 +59,8 @@ invariant_of-self-2 g c = (stored g c).1
 
 pub returns-clause-appends : goal.returns-clause-appends
 returns-clause-appends g c =
-    let free = min c.self.inside.entries.spare c.self.inside.entries.other_spare in
-    let left = min c.push_reserved.new.self.spare c.push_reserved.new.self.other_spare in
+    let free = entry_room c.self.inside.entries.spare c.self.inside.entries.long_spare in
+    let left = entry_room c.push_reserved.new.self.spare c.push_reserved.new.self.long_spare in
     let entry : free ≤ left + 1 = omega arith in
     let spent = spent-puts c.args.text.now _ _ _ _ free left (puts g c) entry in
     record {

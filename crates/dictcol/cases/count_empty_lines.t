@@ -1,0 +1,8 @@
+  $ dictcol count <<'END'
+  > 
+  > 
+  > a
+  > 
+  > END
+  3 
+  1 a

@@ -1,0 +1,2 @@
+  $ dictcol count <<'END'
+  > END

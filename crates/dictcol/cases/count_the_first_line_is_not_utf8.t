@@ -1,0 +1,3 @@
+  $ printf '\377\na\n' | dictcol count
+  dictcol: line 1 is not UTF-8
+  [2]

@@ -1,0 +1,3 @@
+  $ printf 'a\n\342\202' | dictcol count
+  dictcol: line 2 is not UTF-8
+  [2]

@@ -1,0 +1,2 @@
+  $ printf '{"dictionary":[""],"final_newline":true,"lines":[0]}' | dictcol decode
+  

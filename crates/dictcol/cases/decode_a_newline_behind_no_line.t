@@ -1,0 +1,2 @@
+  $ printf '{"dictionary":[],"final_newline":true,"lines":[]}' | dictcol decode
+  

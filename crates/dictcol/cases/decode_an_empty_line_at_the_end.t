@@ -1,0 +1,3 @@
+  $ printf '{"dictionary":["a",""],"final_newline":true,"lines":[0,1]}' | dictcol decode
+  a
+  

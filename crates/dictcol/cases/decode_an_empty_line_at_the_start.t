@@ -1,0 +1,3 @@
+  $ printf '{"dictionary":["","a"],"final_newline":false,"lines":[0,1]}' | dictcol decode
+  
+  a (no-eol)

@@ -1,0 +1,1 @@
+  $ printf '{"dictionary":[""],"final_newline":false,"lines":[0]}' | dictcol decode

@@ -1,0 +1,3 @@
+  $ printf '{"dictionary":["{\\"dictionary\\":[]}","0"],"final_newline":true,"lines":[0,1]}' | dictcol decode
+  {"dictionary":[]}
+  0

@@ -1,0 +1,1 @@
+  $ printf '{"dictionary":[],"final_newline":false,"lines":[]}' | dictcol decode

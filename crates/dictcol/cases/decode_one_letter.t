@@ -1,0 +1,2 @@
+  $ printf '{"dictionary":["a"],"final_newline":false,"lines":[0]}' | dictcol decode
+  a (no-eol)

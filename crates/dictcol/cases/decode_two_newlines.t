@@ -1,0 +1,3 @@
+  $ printf '{"dictionary":[""],"final_newline":true,"lines":[0,0]}' | dictcol decode
+  
+  

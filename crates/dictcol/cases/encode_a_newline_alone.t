@@ -1,0 +1,4 @@
+  $ dictcol encode <<'END'
+  > 
+  > END
+  {"dictionary":[""],"final_newline":true,"lines":[0]}

@@ -1,0 +1,3 @@
+  $ dictcol encode <<'END'
+  > END
+  {"dictionary":[],"final_newline":false,"lines":[]}

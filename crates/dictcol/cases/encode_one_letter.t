@@ -1,0 +1,2 @@
+  $ printf 'a' | dictcol encode
+  {"dictionary":["a"],"final_newline":false,"lines":[0]}

@@ -1,0 +1,6 @@
+  $ dictcol encode <<'END'
+  > "
+  > \
+  > /
+  > END
+  {"dictionary":["\"","\\","/"],"final_newline":true,"lines":[0,1,2]}

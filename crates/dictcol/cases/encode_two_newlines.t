@@ -1,0 +1,5 @@
+  $ dictcol encode <<'END'
+  > 
+  > 
+  > END
+  {"dictionary":[""],"final_newline":true,"lines":[0,0]}

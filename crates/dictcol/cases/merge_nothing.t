@@ -1,0 +1,2 @@
+  $ printf '{"dictionary":[],"final_newline":false,"lines":[]}' | dictcol merge -
+  {"dictionary":[],"final_newline":false,"lines":[]}

@@ -1,0 +1,16 @@
+  $ intern buffer <<'END'
+  > i Tiger
+  > i Horse
+  > i Tiger
+  > g Horse
+  > r 1
+  > len
+  > g Bear
+  > END
+  symbol 0
+  symbol 6
+  symbol 0
+  symbol 6
+  text Horse
+  len 2
+  none

@@ -1,0 +1,3 @@
+  $ printf 'x\ni a\377' | intern string
+  cannot read input
+  [1]

@@ -1,0 +1,3 @@
+  $ printf '\377i a\n' | intern string
+  cannot read input
+  [1]

@@ -1,0 +1,6 @@
+  $ intern string <<'END'
+  > len
+  > 
+  > END
+  bad line 2
+  [2]

@@ -1,0 +1,3 @@
+  $ printf 'i a\n\ni b' | intern string
+  bad line 2
+  [2]

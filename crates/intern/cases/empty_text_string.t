@@ -1,0 +1,6 @@
+  $ intern string <<'END'
+  > i 
+  > r 0
+  > END
+  symbol 0
+  text 

@@ -1,0 +1,8 @@
+  $ intern string <<'END'
+  > i Elephant
+  > i Tiger
+  > i Tiger
+  > END
+  symbol 0
+  symbol 1
+  symbol 1

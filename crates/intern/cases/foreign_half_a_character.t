@@ -1,0 +1,3 @@
+  $ printf 'i \001é\nn 1\n' | intern buffer
+  symbol 0
+  none

@@ -1,0 +1,4 @@
+  $ intern buffer <<'END'
+  > n 0
+  > END
+  none

@@ -1,0 +1,3 @@
+  $ printf 'i a\ni \303' | intern string
+  cannot read input
+  [1]

@@ -1,0 +1,2 @@
+  $ printf 'len' | intern string
+  len 0

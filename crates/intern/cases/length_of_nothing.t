@@ -1,0 +1,4 @@
+  $ intern string <<'END'
+  > len
+  > END
+  len 0

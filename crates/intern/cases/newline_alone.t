@@ -1,0 +1,5 @@
+  $ intern string <<'END'
+  > 
+  > END
+  bad line 1
+  [2]

@@ -1,0 +1,2 @@
+  $ intern bucket <<'END'
+  > END

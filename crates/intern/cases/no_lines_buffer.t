@@ -1,0 +1,2 @@
+  $ intern buffer <<'END'
+  > END

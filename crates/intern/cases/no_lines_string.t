@@ -1,0 +1,2 @@
+  $ intern string <<'END'
+  > END

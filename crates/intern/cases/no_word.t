@@ -1,0 +1,5 @@
+  $ intern <<'END'
+  > i Elephant
+  > END
+  usage: intern string|bucket|buffer
+  [2]

@@ -1,0 +1,4 @@
+  $ intern <<'END'
+  > END
+  usage: intern string|bucket|buffer
+  [2]

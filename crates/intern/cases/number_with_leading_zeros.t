@@ -1,0 +1,6 @@
+  $ intern string <<'END'
+  > i a
+  > n 000
+  > END
+  symbol 0
+  text a

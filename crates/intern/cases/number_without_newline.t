@@ -1,0 +1,3 @@
+  $ printf 'i a\nn 000' | intern string
+  symbol 0
+  text a

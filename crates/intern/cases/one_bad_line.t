@@ -1,0 +1,5 @@
+  $ intern string <<'END'
+  > x
+  > END
+  bad line 1
+  [2]

@@ -1,0 +1,4 @@
+  $ intern string <<'END'
+  > r 0
+  > END
+  no reply

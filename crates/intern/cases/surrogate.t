@@ -1,0 +1,3 @@
+  $ printf 'i \355\240\200\n' | intern string
+  cannot read input
+  [1]

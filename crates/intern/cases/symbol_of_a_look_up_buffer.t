@@ -1,0 +1,10 @@
+  $ intern buffer <<'END'
+  > i a
+  > i b
+  > g b
+  > r 2
+  > END
+  symbol 0
+  symbol 2
+  symbol 2
+  text b

@@ -1,0 +1,3 @@
+  $ printf 'i \377\n' | intern string
+  cannot read input
+  [1]

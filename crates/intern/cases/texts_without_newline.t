@@ -1,0 +1,3 @@
+  $ printf 'i Elephant\ni Tiger' | intern string
+  symbol 0
+  symbol 1

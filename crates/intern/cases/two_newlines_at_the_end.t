@@ -1,0 +1,6 @@
+  $ intern string <<'END'
+  > i a
+  > 
+  > END
+  bad line 2
+  [2]

@@ -1,0 +1,65 @@
+#!/usr/bin/env python3
+"""What a machine has of the commands and Python modules that .ci/packages lists with their packages.
+
+    tools/needs.py                     prints the packages of all that is missing
+    tools/needs.py NEED..              names each of these that is missing, with its packages, and then fails. A NEED is what is
+                                       before the colon of a line: a command, or `python MODULE ..`
+    tools/needs.py --python MODULE..   prints the first Python that has these modules, this shell's or Debian's, or fails
+"""
+
+import re
+import shutil
+import subprocess
+import sys
+from functools import cache
+from pathlib import Path
+
+PACKAGES = Path(__file__).resolve().parent.parent / ".ci/packages"
+HAS = "import importlib.util, sys; sys.exit(not all(map(importlib.util.find_spec, sys.argv[1:])))"
+# What is said of something that is missing.
+MISSING = re.compile(r"^no .* on this machine: .*$", re.M)
+
+
+def packages():
+    """The packages of each need."""
+    lines = (line.partition(": ") for line in PACKAGES.read_text(encoding="utf-8").splitlines() if not line.startswith("#"))
+    return {need: names.split() for need, _, names in lines}
+
+
+@cache
+def python_with(*modules):
+    """The first Python that has these modules, or None."""
+    for python in filter(None, map(shutil.which, ("python3", "/usr/bin/python3"))):
+        if subprocess.run([python, "-c", HAS, *modules], capture_output=True, check=False).returncode == 0:
+            return python
+    return None
+
+
+def is_there(need):
+    """Reports whether a command is there, or some Python with modules."""
+    command, *modules = need.split()
+    return bool(python_with(*modules) if modules else shutil.which(command))
+
+
+def missing(needs):
+    """What is said of each of these that is missing."""
+    lacking = (it for it in needs if not is_there(it))
+    return [f"no {it} on this machine: what needs it is left out. Debian's packages: {' '.join(packages()[it])}" for it in lacking]
+
+
+def main(*words):
+    match words:
+        case ():
+            print(*(name for need, names in packages().items() if not is_there(need) for name in names))
+            return 0
+        case ("--python", *modules):
+            found = python_with(*modules)
+            print(found or "", end="\n" if found else "")
+            return 0 if found else 1
+    lacking = missing(words)
+    print(*lacking, sep="\n", end="\n" if lacking else "")
+    return 1 if lacking else 0
+
+
+if __name__ == "__main__":
+    sys.exit(main(*sys.argv[1:]))

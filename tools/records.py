@@ -1,0 +1,228 @@
+#!/usr/bin/env python3
+"""Builds what users run from the records of proofs in proved/, and compares these records with other proofs.
+
+    tools/records.py build CRATE         builds a program or the library for C, and proves nothing. Status 3 says that no record fits, so
+                                         that the crate is to be proved
+    tools/records.py compare TREE LOG    builds all of them in a copy in which `rt ci` passed, and compares code and verdicts with what
+                                         `rt ci` built there and said in its log. A record of other sources is named and passed over
+
+A record is what the prover wrote of a crate that it proved: the hashes of the crate's files, of the libraries below it and of
+its code, and the verdict. It is of one build of the toolchain, so it lies in proved/KIT/CRATE. `rattle build --crate-checked`
+compares all of it with what it reads, and stops where anything differs. tools/record-proofs writes the records.
+"""
+
+import hashlib
+import os
+import re
+import shutil
+import subprocess
+import sys
+import tempfile
+from contextlib import contextmanager
+from functools import cache
+from pathlib import Path
+
+TOP = Path(__file__).resolve().parent.parent
+# What users run. The libraries below these have records, too.
+BUILT = ("intern", "dictcol", "string_interner_c")
+NO_RECORD_FITS = 3
+# The words of a verdict that say what it took from an earlier run, and not what is proved.
+TRUSTS = {"cache", "libraries-built", "logic-built", "statements", "crate-checked", "batches", "incremental"}
+
+
+class Refused(Exception):
+    """A tool of the toolchain refuses what it is given."""
+
+
+@cache
+def ask_rt(verb):
+    return subprocess.run(["rt", verb], stdout=subprocess.PIPE, encoding="utf-8", check=True).stdout.splitlines()[0]
+
+
+@cache
+def toolchain():
+    """The toolchain's own module, which knows how `rt` calls the prover."""
+    sys.path.append(f"{os.path.dirname(ask_rt('doc'))}/bin")
+    import rtlib
+
+    return rtlib
+
+
+def folder_of_records(top=TOP):
+    return top / "proved" / ask_rt("version").split()[0]
+
+
+def crates_for(names, top=TOP):
+    """What the toolchain knows of these crates and of the libraries below them, each below those that use it."""
+    known, found = {}, []
+    for name in names:
+        crate = toolchain().Crate(f"{top}/crates/{name}", str(top), known)
+        found += [it for it in (*crate.below(), crate) if it not in found]
+    for it in found:
+        # Beside the libraries that `rt` builds, which hold their proofs.
+        it.rlib = f"{it.folder}/out/rlib/recorded/{it.name}.rlib"
+    return found
+
+
+@contextmanager
+def no_other_run_in(crates):
+    """Waits until no other run works in the folders of these crates, which it says, and lets none in."""
+    held = toolchain().lock(crates)
+    try:
+        yield
+    finally:
+        for it in held:
+            os.close(it)
+
+
+def words_for(crate):
+    """The words of `rt` for the prover, less those that say how a check goes."""
+    words = crate.words(["--jobs", "1"])
+    for flag in ("--logic-built", "--jobs"):
+        at = words.index(flag)
+        del words[at:at + 2]
+    return words
+
+
+def run_tool(crate, tool, *words):
+    """Runs a tool of the toolchain in a crate's folder, and returns what it said. It ends when this process does."""
+    whole = [*toolchain().guarded(), f"{toolchain().KIT}/bin/{tool}", *words]
+    ran = subprocess.run(whole, cwd=crate.folder, stdin=subprocess.DEVNULL, stdout=subprocess.PIPE, stderr=subprocess.STDOUT,
+                         encoding="utf-8", errors="replace", check=False)
+    if ran.returncode:
+        raise Refused(ran.stdout)
+    return ran.stdout
+
+
+def stale(crate, record):
+    """Why a record is not of this crate's files and libraries, or nothing. What else it tells is for the prover to compare."""
+    if not Path(record, "inputs").exists():
+        return None if record.is_dir() else f"no proof of {crate.name} is recorded"
+    inputs = Path(record, "inputs").read_text(encoding="utf-8")
+    # `file` has a file as macros leave it, and then `written` has it as it was written.
+    recorded = {path: sum_of for kind in ("file", "written") for path, sum_of in re.findall(rf'^{kind} "(.*)" (\w+)$', inputs, re.M)}
+    recorded |= dict.fromkeys(re.findall(r"^library (\w+) --extern ", inputs, re.M), "library")
+    paths = [os.path.relpath(it, crate.folder) for it in toolchain().files_of(crate.folder)]
+    # A source that the record does not name is read only if one that it names has changed, or by tests.
+    paths = [it for it in paths if it in recorded or it.endswith(".antt")]
+    present = {it: hashlib.sha256(Path(crate.folder, it).read_bytes()).hexdigest() for it in paths}
+    present |= dict.fromkeys([*crate.of_kit, *(it.name for it in crate.deps)], "library")
+    changed = sorted(it for it in recorded | present if recorded.get(it) != present.get(it))
+    more = f" and {len(changed) - 1} more" if changed[1:] else ""
+    return f"{crate.name} is not as its proof was recorded: {changed[0]}{more}" if changed else None
+
+
+def made_of(crate):
+    """The program or the archive for C that is built of a crate."""
+    return Path(crate.folder, "out", f"lib{crate.name}.a" if crate.is_static else crate.name)
+
+
+def build(crate, record, made=None):
+    """Builds a library, a program or an archive for C from its record: the last two under another name if one is given."""
+    made = made or made_of(crate)
+    words = ["build", *words_for(crate), "--crate-checked", str(record)]
+    by_llvm = ["--toolchain", f"{toolchain().KIT}/toolchain", "--backend", "llvm"]
+    os.makedirs(f"{crate.folder}/out", exist_ok=True)
+    if crate.makes_rlib():
+        build_library(crate, record, words)
+    elif crate.is_static:
+        run_tool(crate, "rattle", *words, *by_llvm, "-o", str(made))
+    else:
+        run_tool(crate, "rattle", *words, *by_llvm, "-o", f"{made}.o")
+        of_c = [f"{toolchain().KIT}/c/{it}" for it in ("libos_c.a", "liblibc_c.a")]
+        run_tool(crate, "rattle-link", "--target", "x86_64-unknown-linux-gnu", *by_llvm[:2], "-o", str(made), f"{made}.o", *of_c)
+
+
+def build_library(crate, record, words):
+    """Builds a library from its record, unless that has been done."""
+    stamp, folder = b"".join(it.read_bytes() for it in sorted(record.iterdir())), Path(crate.rlib).parent
+    kept = folder / "stamp"
+    if not kept.exists() or kept.read_bytes() != stamp:
+        shutil.rmtree(folder, ignore_errors=True)
+        folder.mkdir(parents=True)
+        run_tool(crate, "rattle", *words, "-o", crate.rlib)
+        kept.write_bytes(stamp)
+
+
+def build_crate(name, top=TOP):
+    """Builds a crate and what it stands on from their records. Returns the status of this command."""
+    if not (top / "proved").is_dir() or not folder_of_records(top).is_dir():
+        print(f"{name}: no proof is recorded for this toolchain", file=sys.stderr)
+        return NO_RECORD_FITS
+    crates = crates_for([name], top)
+    records = {it.name: folder_of_records(top) / it.name for it in crates}
+    with no_other_run_in(crates):
+        if why := next(filter(None, (stale(it, records[it.name]) for it in crates)), None):
+            print(f"{name}: {why}", file=sys.stderr)
+            return NO_RECORD_FITS
+        print(f"{name}: building from the recorded proof of these sources; ./check proves them here", file=sys.stderr)
+        for crate in crates:
+            record = records[crate.name]
+            try:
+                build(crate, record)
+            except (OSError, Refused) as error:
+                where = record.relative_to(top)
+                print(f"{error}\n{name}: not built: {where} is damaged, or no record of these sources. Restore it; or remove it, "
+                      "and all is proved here", file=sys.stderr)
+                return 1
+    return 0
+
+
+def verdicts_in(log):
+    """The last verdict of each crate in what `rt ci` printed."""
+    found = {}
+    for name, said in re.findall(r"^== (\w+)$(.*?)(?=^== |\Z)", log, re.M | re.S):
+        lines = re.findall(r"^logic=proved .*$", said, re.M)
+        if lines:
+            found[name] = lines[-1]
+    return found
+
+
+def facts(verdict):
+    """What a verdict says of a proof, whatever it took from an earlier run."""
+    return {it for it in verdict.split() if it.partition("=")[0] not in TRUSTS}
+
+
+def compare_crate(crate, record, verdict):
+    """What of a crate's record is other than the proof made anew, whose program is in the crate's folder, or nothing."""
+    with tempfile.TemporaryDirectory() as folder:
+        made, recorded = made_of(crate), Path(folder, made_of(crate).name)
+        try:
+            build(crate, record, recorded)
+            said = Path(record, "verdict").read_text(encoding="utf-8").strip()
+        except (OSError, Refused) as error:
+            return f"the prover refuses it:\n{error}"
+        if facts(said) != facts(verdict):
+            return f"it says {said}, and the proof made anew {verdict}"
+        is_other = made.exists() and made.read_bytes() != recorded.read_bytes()
+        return "its code is other than that of the proof made anew" if is_other else None
+
+
+def compare(tree, log):
+    """Compares each record that fits a copy of the sources with what `rt ci` proved and built there. Returns the status."""
+    verdicts = verdicts_in(Path(log).read_text(encoding="utf-8", errors="replace"))
+    crates = crates_for(BUILT, Path(tree))
+    with no_other_run_in(crates):
+        left_out, counts = set(), {True: 0, False: 0}
+        for crate in crates:
+            record = folder_of_records() / crate.name
+            below = [it.name for it in crate.below() if it.name in left_out]
+            if why := stale(crate, record) or below and f"{crate.name} stands on {below[0]}":
+                print(f"no record of these sources: {why}")
+            else:
+                fault = compare_crate(crate, record, verdicts.get(crate.name, ""))
+                counts[not fault] += 1
+                print(f"{record.relative_to(TOP)}: {fault}\n" if fault else "", end="")
+            if why or fault and crate.makes_rlib():
+                left_out.add(crate.name)
+    print(f"{counts[True]} passed, {counts[False]} failed")
+    return 1 if counts[False] else 0
+
+
+if __name__ == "__main__":
+    if len(sys.argv) == 3 and sys.argv[1] == "build":
+        sys.exit(build_crate(sys.argv[2]))
+    if len(sys.argv) == 4 and sys.argv[1] == "compare":
+        sys.exit(compare(*sys.argv[2:]))
+    print(__doc__, file=sys.stderr)
+    sys.exit(2)

@@ -1,0 +1,96 @@
+"""How what runs and the prover say of planted bugs is judged, with a prover and programs that are made up."""
+
+import runpy
+from pathlib import Path
+from unittest import main, mock
+
+from small import SmallRepository, edits
+from built import Program
+
+CATCH = runpy.run_path(str(edits.TOP / "tools/catch-edits"))
+NAMES = CATCH["main"].__globals__
+
+
+def say(program, count):
+    """A trial that sees so many things, and a fault where the program is one with a bug."""
+    for number in range(count):
+        yield f"thing {number}", program.path, "0"
+
+
+class CatchTest(SmallRepository):
+    def setUp(self):
+        super().setUp()
+        patch = mock.patch.dict(NAMES, TOP=self.top)
+        patch.start()
+        self.addCleanup(patch.stop)
+        self.write("HANDLES", "")
+        self.bugs = [self.bug(name, old) for name, old in (("half", "number / 2"), ("quarter", "number / 4"), ("side", "side * side"))]
+
+    def bug(self, name, old):
+        self.write(f"crates/low/caught-by-runs/{name}.edit", f"file: src/lib.rt\nold: {old}\nnew: 0\nscenario: it\n")
+        return next(it for it in edits.edits_of("low", edits.CAUGHT) if it.name == name)
+
+    def test_a_run_catches_what_it_passes_without_the_bug(self):
+        catch = CATCH["catch"]
+        self.assertTrue(catch(self.bugs[0], [], ["1 in the place of 2"]).is_good)
+        self.assertFalse(catch(self.bugs[0], [], []).is_good)
+        self.assertFalse(catch(self.bugs[0], ["1 in the place of 2"], ["1 in the place of 2"]).is_good)
+
+    def test_the_first_trial_with_a_fault_is_enough(self):
+        program = Program.__new__(Program)
+        trials = [(say, 0), (say, 2), (mock.Mock(side_effect=AssertionError("tried in vain"), __name__="it"),)]
+        faults = CATCH["first_faults"](program, Path("1"), trials)
+        self.assertEqual([it.partition(":")[0] for it in faults], ["thing 0", "thing 1"])
+        self.assertEqual(CATCH["first_faults"](program, Path("0"), trials[:2]), [])
+
+    def test_all_bugs_of_a_batch_fail_that_is_not_built(self):
+        build = mock.Mock(side_effect=CATCH["Unbuilt"]("no module"))
+        with mock.patch.dict(NAMES, build_copies=build):
+            self.assertEqual([it.is_good for it in CATCH["try_runs"](self.bugs)], [False] * 3)
+
+    def test_batches_are_of_one_crate(self):
+        other = edits.Edit("other", "high", scenario=["it"])
+        with mock.patch.dict(NAMES, TOGETHER=2):
+            dealt = CATCH["run_batches"]([*self.bugs, other])
+        self.assertEqual([[it.name for it in batch] for batch in dealt], [["half"], ["quarter", "side"], ["other"]])
+
+    def accepted(self, refuses):
+        """What comes of all bugs if the prover refuses a source that has one of these texts no longer."""
+        def check(tree, crate):
+            text = (tree / "crates" / crate / "src/lib.rt").read_text()
+            self.tried.append([it.name for it in self.bugs if it.changes[0].old not in text])
+            return "fn half: not proved" if any(it not in text for it in refuses) else ""
+        self.tried = []
+        with mock.patch.dict(NAMES, check=check):
+            return {it.edit: it.is_good for it in CATCH["accept"](self.top, self.bugs)}
+
+    def test_one_check_serves_all(self):
+        self.assertEqual(self.accepted([]), {"half": True, "quarter": True, "side": True})
+        self.assertEqual(self.tried, [["half", "quarter", "side"]])
+
+    def test_a_bug_that_the_prover_refuses_is_found_among_others(self):
+        self.assertEqual(self.accepted(["number / 4"]), {"half": True, "quarter": False, "side": True})
+
+    def test_a_bug_passes_by_both_sides(self):
+        verdicts = [CATCH["Verdict"](*it, "") for it in (("half", True), ("quarter", True), ("half", True), ("quarter", False), ("low", False))]
+        self.assertEqual(CATCH["count_passed"](self.bugs, verdicts), 1)
+
+    def test_the_crates_below_are_checked_first(self):
+        checked = []
+        with mock.patch.dict(NAMES, check=lambda _, crate: checked.append(crate) or ""):
+            self.assertEqual(CATCH["prepare"](self.top / "copy", ["high", "high"], None), [])
+        self.assertEqual(checked, ["low", "high"])
+
+    def test_nothing_is_tried_over_a_tree_that_is_not_proved(self):
+        with mock.patch.dict(NAMES, check=lambda _, crate: "not proved"):
+            [verdict] = CATCH["prepare"](self.top / "copy", ["high"], None)
+        self.assertEqual((verdict.edit, verdict.is_good), ("low", False))
+
+    def test_a_check_passes_by_its_last_line(self):
+        for status, said, is_good in ((0, "logic=proved functions=3\n", True), (0, "only=1 holes=0\n", False), (1, "logic=proved \n", False)):
+            with mock.patch.dict(NAMES, run_in=lambda *_, end=(status, said): end):
+                self.assertEqual(not CATCH["check"](self.top, "low"), is_good)
+
+
+if __name__ == "__main__":
+    main()

@@ -1,0 +1,93 @@
+"""What a program with copies for planted bugs is made of."""
+
+import subprocess
+from pathlib import Path
+from unittest import main, mock
+
+from small import SOURCE, SmallRepository, edits
+import copies
+
+SCENARIO = """\
+use crate::level::run_calls;
+
+/// Reads it.
+pub fn read_scenario(text: &str) -> Option<Scenario<'_>> {
+    None
+}
+
+/// Runs a scenario of any kind.
+fn run_with<B: SuiteBackend>(scenario: Scenario<'_>) -> Result<(), Fault> {
+    run_calls(scenario)
+}
+"""
+
+
+class CopiesTest(SmallRepository):
+    def setUp(self):
+        super().setUp()
+        for module, name, value in ((copies, "TOP", self.top), (edits, "PROGRAMS", {"low": "high"})):
+            patch = mock.patch.object(module, name, value)
+            patch.start()
+            self.addCleanup(patch.stop)
+        self.write("crates.txt", "low: std_alloc\nside: json\nhigh: low side\n")
+        self.write("crates/side/src/lib.rt", "pub fn aside() {}\n")
+        self.write("crates/high/src/main.rt", "use low::double;\n\nfn main(rt: HostRuntime) {\n    slow::double(side::aside())\n}\n")
+        self.write("crates/low/caught-by-runs/halves_once.edit", "file: src/lib.rt\nold: number / 2\nnew: number\nscenario: cases\n")
+        [self.bug] = edits.edits_of("low", edits.CAUGHT)
+        self.room = self.top / "room"
+
+    def written(self, path):
+        return (self.room / path).read_text(encoding="utf-8")
+
+    def test_only_what_a_bug_can_change_is_copied(self):
+        self.assertEqual(copies.copied_crates(self.bug), ["high", "low"])
+        self.assertEqual(copies.copied_crates(edits.Edit("bug", "high")), ["high"])
+
+    def test_crates_of_the_program(self):
+        copies.write_program(self.room, [self.bug])
+        self.assertEqual(self.written("crates.txt"), "side: json\nhigh_0: low_0 side\nlow_0: std_alloc\nhigh_1: low_1 side\n"
+                         "low_1: std_alloc\ncopies: high_0 high_1\n")
+        self.assertEqual(self.written("crates/side/src/lib.rt"), "pub fn aside() {}\n")
+        self.assertIn("        1 => high_1::main(rt),\n", self.written("crates/copies/src/main.rt"))
+
+    def test_a_bug_is_in_its_copy_alone(self):
+        copies.write_program(self.room, [self.bug])
+        self.assertEqual(self.written("crates/low_0/src/lib.rt"), SOURCE)
+        self.assertEqual(self.written("crates/low_1/src/lib.rt"), SOURCE.replace("number / 2", "number"))
+
+    def test_a_copy_of_a_program_is_a_library_over_copies(self):
+        copies.write_program(self.room, [self.bug])
+        wanted = "use low_1::double;\n\npub fn main(rt: HostRuntime) {\n    slow::double(side::aside())\n}\n"
+        self.assertEqual(self.written("crates/high_1/src/lib.rt"), wanted)
+
+    def test_proofs_are_not_copied(self):
+        self.bug.changes.append(edits.Change("proofs/double/Answers.antt", "refl", "none"))
+        copies.write_program(self.room, [self.bug])
+        self.assertEqual([it.name for it in (self.room / "crates/low_1").iterdir()], ["src"])
+
+    def test_the_suite_is_cut_to_what_a_bug_runs_on(self):
+        kept = copies.cut_suite(SCENARIO, {("run", "string", "SymbolU16", "default"), ("tagged", "counting", "SymbolU32", "counting")})
+        self.assertTrue(kept.startswith(SCENARIO.partition("/// Runs")[0]))
+        self.assertNotIn("run_with", kept)
+        self.assertIn('("run", "string", "SymbolU16", "default") => run_blocks(rt, scenario, &mut '
+                      "Runs::<StringBackend<SymbolU16>, FixedState, Index<SymbolU16>>::new(rt.alloc(), FixedState)),\n", kept)
+        self.assertIn("Interners::<Counting, CountingHasher<'_>, TaggedIndex<SymbolU32>>::new(", kept)
+
+    def test_the_module_of_the_program_is_kept(self):
+        kept = copies.write_toolchain(self.room)
+        (self.top / "module.bc").write_bytes(b"BC")
+        words = [kept.with_suffix(""), "-c", "-x", "ir", "module.bc"]
+        self.assertNotEqual(subprocess.run([*words, "-o", "it"], cwd=self.top, capture_output=True, check=False).returncode, 0)
+        self.assertFalse(kept.exists())
+        subprocess.run([*words, "-fsanitize=address"], cwd=self.top, check=False)
+        self.assertEqual(kept.read_bytes(), b"BC")
+        self.assertTrue(Path(self.room, "bin/ld.lld").samefile(copies.CLANG))
+
+    def test_what_is_not_lowered_is_told(self):
+        with mock.patch.object(copies, "run_in", return_value=(2, "error: no such name")), self.assertRaises(copies.Unbuilt) as fault:
+            copies.build_copies(self.room, [self.bug])
+        self.assertIn("error: no such name", str(fault.exception))
+
+
+if __name__ == "__main__":
+    main()
