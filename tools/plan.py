@@ -35,8 +35,9 @@ def is_about_many(edit: Edit) -> bool:
     return any(it.file.startswith("specs/") or it.old.startswith("const ") for it in edit.changes)
 
 
-def apart(edits: list[Edit]) -> list[list[Edit]]:
-    """Deals out planted bugs so that no batch has two of a function or place. One that is about many functions comes alone."""
+def apart(edits: list[Edit], most: int) -> list[list[Edit]]:
+    """Deals out planted bugs so that no batch has more than so many, or two of a function or place. One that is about many
+    functions comes alone."""
     dealt: list[tuple[list[Edit], set[tuple[object, ...]]]] = []
     alone = []
     for edit in edits:
@@ -45,7 +46,7 @@ def apart(edits: list[Edit]) -> list[list[Edit]]:
             continue
         own = places(edit)
         for batch, taken in dealt:
-            if not own & taken:
+            if len(batch) < most and not own & taken:
                 batch.append(edit)
                 taken |= own
                 break

@@ -49,14 +49,15 @@ class PlanTest(SmallRepository):
         side, square = self.caught("side", "src/lib.rt", "let side"), self.caught("square", "src/lib.rt", "side * side")
         half, field = self.caught("half", "src/lib.rt", "number / 2"), self.caught("field", "src/lib.rt", "side: u32")
         answer, whole = self.caught("answer", "proofs/double/Answers.antt", "lemma = refl"), self.caught("whole", "proofs/new.antt", "")
-        dealt = plan.apart([side, square, half, field, answer, whole])
-        self.assertEqual(dealt, [[side, half, field, answer, whole], [square]])
+        bugs = [side, square, half, field, answer, whole]
+        self.assertEqual(plan.apart(bugs, 5), [[side, half, field, answer, whole], [square]])
+        self.assertEqual(plan.apart(bugs, 3), [[side, half, field], [square, answer, whole]])
 
     def test_a_bug_about_many_functions_comes_alone(self):
         spec, half = self.caught("spec", "specs/Words.antt", "a + a"), self.caught("half", "src/lib.rt", "number / 2")
         self.write("crates/low/src/size.rt", "const SIZE: u32 = 2;\n")
         size = self.caught("size", "src/size.rt", "const SIZE: u32 = 2;")
-        self.assertEqual(plan.apart([spec, half, size]), [[half], [spec], [size]])
+        self.assertEqual(plan.apart([spec, half, size], 3), [[half], [spec], [size]])
 
     def test_goals_are_tried_where_nothing_is_changed(self):
         files = plan.proof_files_without_bugs([self.trial("doubles_once"), self.trial("halves_twice")])
