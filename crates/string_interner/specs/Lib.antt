@@ -18,7 +18,6 @@ pub mod EntryLaws
 pub mod StandsFor
 pub mod Given
 pub mod Hasher
-pub mod SeededHash
 pub mod Slots
 pub mod SlotRule
 pub mod LoadFactor

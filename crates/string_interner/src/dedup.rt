@@ -20,8 +20,8 @@ mod tagged;
 mod text_index;
 
 pub use crate::hash::{
-    DefaultHashBuilder, FixedState, Fnv1a, FoldState, KeyedHasher, KeyedState, SeededHasher,
-    SeededState, StdHasher, TextHasher,
+    DefaultHashBuilder, FixedState, Fnv1a, FoldState, KeyedHasher, KeyedState, StdHasher,
+    TextHasher,
 };
 pub use index::{DefaultIndex, Index, TaggedIndex, WindowIndex};
 pub use looks::Looks;

@@ -1,17 +1,14 @@
 //! Hashers: they compute the hash code by which an index finds a text.
 //!
 //! An index is correct under every hasher. The hasher decides how fast look-ups are, and whether someone who chooses the
-//! texts can make them slow: take [`SeededHasher`] for texts from strangers, and [`FoldState`] for all others.
+//! texts can make them slow: take [`KeyedHasher`] for texts from strangers, and [`FoldState`] for all others.
 
 ghost use Rattle.std.specs.Prelude.{◌≡◌, ℕ};
 ghost use Rattle.std.specs.Hash.DefaultHasher.{with_keys};
 ghost use Rattle.string_interner.specs.Text.{Text};
 ghost use Rattle.string_interner.specs.Hasher.{fnv_1a, one_write};
 
-mod seeded;
-
 use core::hash::keyed_hasher;
-pub use seeded::{SeededHash, SeededState};
 use std::fmt;
 use std::fmt::{Debug, Formatter};
 use std::hash::{BuildHasher, BuildHasherDefault, DefaultHasher, FoldHasher, Hasher};
@@ -30,8 +27,7 @@ pub type Fnv1a = FixedState;
 /// |---|---|---|
 /// | [`FoldState`] | the same in each run | you trust where the texts come from: it is the fastest |
 /// | [`Fnv1a`] | the same in each run | the same, and texts are short, or you want the codes of 64-bit FNV-1a |
-/// | [`SeededHasher`] | those of two keys | strangers may choose the texts, and you have 128 random bits |
-/// | [`KeyedHasher`] | those of two keys | the same, and they may see codes, or time single calls |
+/// | [`KeyedHasher`] | those of two keys | an attacker may choose the texts, and you have 128 random bits |
 /// | [`StdHasher`] over `RandomState` | other ones in each run | the same, and you have a `HostRuntime`, which draws the keys |
 pub trait TextHasher {
     /// The code of a text. It depends on the hasher's value and the text alone.
@@ -102,10 +98,6 @@ pub type FoldState = StdHasher<BuildHasherDefault<FoldHasher>>;
 
 /// SipHash-1-3 under the two keys of a [`KeyedState`]. No way is known to foresee its codes without them.
 pub type KeyedHasher = StdHasher<KeyedState>;
-
-/// A fast hasher under the two keys of a [`SeededState`]: as fast as [`FoldState`], and no way is known to choose texts
-/// with one code without the keys.
-pub type SeededHasher = StdHasher<SeededState>;
 
 /// Builds hashers of SipHash-1-3 under two keys of 64 bits.
 ///

@@ -1,7 +1,0 @@
-use mathlib.Core.Path.{refl}
-use Rattle.std.specs.Hash.FoldHasher.{folded_multiply}
-use Rattle.string_interner.proofs.hash.seeded.folded_multiply.Goals as goal
-
-pub returns : goal.returns
-unfolding folded_multiply
-returns c = refl
