@@ -187,11 +187,17 @@ class Records(unittest.TestCase):
         write(self.top / "log", "".join(f"== {crate}\n{verdict}\nrt: {crate} proved\n" for crate, verdict in said.items()))
         return self.run_in_copy("tools/records.py", "compare", str(self.top), "log", status=status).stdout
 
+    def build_programs(self):
+        for words in ("bin/intern", "string"), ("bin/dictcol", "count"):
+            self.run_in_copy(*words)
+
     def test_records_are_compared_with_the_proof_made_anew(self):
-        self.run_in_copy("bin/intern", "string")
+        self.assertIn("proved/kit-1/intern: no program was built of the proof made anew", self.compare(1))
+        self.build_programs()
         self.assertEqual(self.compare(), "4 passed, 0 failed\n")
 
     def test_another_verdict_or_code_fails(self):
+        self.build_programs()
         said = self.compare(1, intern="logic=proved functions=3")
         self.assertIn("proved/kit-1/intern: it says logic=proved functions=2 cache=trusted, and the proof made anew logic=proved "
                       "functions=3\n3 passed, 1 failed\n", said)
@@ -200,6 +206,7 @@ class Records(unittest.TestCase):
         self.assertEqual(self.compare(1), "proved/kit-1/intern: its code is other than that of the proof made anew\n3 passed, 1 failed\n")
 
     def test_a_record_that_the_prover_refuses_fails(self):
+        self.build_programs()
         write(self.record("intern") / "verdict", "logic=proved functions=3")
         self.assertIn("proved/kit-1/intern: the prover refuses it", self.compare(status=1))
 

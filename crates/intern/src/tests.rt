@@ -231,7 +231,11 @@ fn output_that_fails_is_blamed(rt: HostRuntime) -> Result<(), Fail> {
         let mut input = "i Tiger\nr 0\n".as_bytes();
         let (message, status) = end_of(rt.alloc(), &["string"], &mut input, &mut output)?;
         assert_eq!(rt; (message.as_str(), status), ("cannot write output", 1));
+        // A write that fails may have written a part of its line.
         assert!(rt; front.as_bytes().starts_with(output.bytes.as_slice()));
+        if writes == usize::MAX {
+            assert_eq!(rt; output.bytes.as_slice(), front.as_bytes());
+        }
     }
     Ok(())
 }

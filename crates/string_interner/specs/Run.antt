@@ -48,7 +48,7 @@ InternsNone (InternStatic _) = ⊥
 InternsNone (Extend _) = ⊥
 InternsNone _ = ⊤
 
--- the command interns no text that is new to this list, and drops none
+-- the command interns no text that is new to this list, and is no `Truncate`
 abbrev pub InternsKnown : List Text → Command → Type 0
 InternsKnown texts (Intern text) = IsSome (first texts text.now)
 InternsKnown texts (InternStatic text) = IsSome (first texts text.now)

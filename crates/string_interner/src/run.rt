@@ -210,7 +210,7 @@ pub fn run<B: Backend, H: TextHasher, I: TextIndex<B::Symbol>>(
     // If no command interns a text, buckets and slots are unchanged.
     ensures stays { All InternsNone commands.now → KeepsBucketsAndSlots interner.old interner.new }
 
-    // If every text that a command interns is known, and none is dropped, texts, buckets and slots are unchanged.
+    // If every text that a command interns is known, and none is a `Truncate`, texts, buckets and slots are unchanged.
     ensures known { All (InternsKnown interner.old.texts) commands.now
         → (interner.new.texts ≡ interner.old.texts)
         × KeepsBucketsAndSlots interner.old interner.new }

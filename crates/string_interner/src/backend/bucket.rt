@@ -50,7 +50,7 @@ pub struct BucketBackend<S: Symbol = DefaultSymbol> {
 }
 
 /// Contracts see the texts, which of them are static, the buckets, and as room the lesser of the head's spare bytes and the
-/// spare entries.
+/// spare entries; more than 2^32 - 1 of these count only as far as each may be that of a long text.
 impl<S: Symbol> Model for BucketBackend<S> {
     ghost use Rattle.std.specs.Prelude.{◌-◌, min, length, map};
     ghost use Rattle.string_interner.specs.BucketBackend.{BucketContents, buckets_of, entry_room, interned_text, is_static, IsInBuckets};

@@ -67,7 +67,7 @@ impl<S: Symbol> Slots<S> {
         Slot::new(self.symbol_at(at))
     }
 
-    /// Returns the symbol of a slot, if any. Growth and insertion read slots by this; a look-up gets a `Slot`.
+    /// Returns the symbol of a slot, if any. Growth, insertion and guesses read slots by this; a look-up gets a `Slot`.
     #[inline(always)]
     fn symbol_at(&self, at: usize) -> Option<S>
         requires { at < length self.now }
