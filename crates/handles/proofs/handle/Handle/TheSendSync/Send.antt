@@ -14,13 +14,14 @@ use Rattle.std.proofs.Crossing as crossing
 use Rattle.std.proofs.Crossing.{crosses}
 use Rattle.std.specs.contracts.alloc.Global as heap
 use Rattle.std.specs.Box.Ownership.{box_owns}
+use Rattle.string_interner.proofs.backend.bucket.entries.Packed.TheSendSync.{the_send as packed}
 use Rattle.handles.specs.Owns.{Inner, freed}
 use Rattle.handles.specs.contracts.any.AnyInterner as any
 use Rattle.handles.specs.contracts.handle.Handle.{the_row, the_type}
 
 inner : IsSend Inner
 inner = recorded_send (Enum (shape_of any.the_type)) _ _ any.the_type.to_one (enum_send (shape_of any.the_type)
-    ((search (sendable, crosses) depth 60 fits 5000, tt), ((search (sendable, crosses) depth 60 fits 5000, tt), ((search (sendable, crosses) depth 60 fits 5000, tt), tt))))
+    ((search (sendable, crosses) depth 60 fits 5000, tt), ((search (sendable, crosses, packed) depth 60 fits 5000, tt), ((search (sendable, crosses) depth 60 fits 5000, tt), tt))))
 
 keyless : (a : heap.the_row.Denot) (p : Ptr) (x : Inner.Denot) → Keyless (box_owns (freed a) Inner p x)
 keyless a p x = (lies Inner inner p x, crossing.frees.frees a (raw (lone Inner.mir)) p)
