@@ -95,12 +95,18 @@ class Hashers(unittest.TestCase):
             Interner(hasher=(keys[0], LIMIT))
         self.assertNotIn(str(keys[0]), str(raised.exception))
 
-    def test_each_process_has_keys_of_its_own(self):
-        lines = "from string_interner._handle import _KEYS; print(*_KEYS)"
-        told = [subprocess.run([sys.executable, "-c", lines], capture_output=True, text=True, check=True).stdout.split()
-                for _ in range(2)]
-        self.assertEqual(list(map(len, told)), [2, 2])
-        self.assertEqual(len({*told[0], *told[1]}), 4)
+    def test_the_keys_of_a_process_are_random(self):
+        # Nothing shows them. So what this shows is that they are drawn, once and at the import.
+        lines = """if True:
+            import os
+            urandom, asked = os.urandom, []
+            os.urandom = lambda count: asked.append(count) or urandom(count)
+            from string_interner import Column, Interner
+            Interner(["a"]), Column(["a"])
+            print(asked)
+            """
+        told = subprocess.run([sys.executable, "-c", lines], capture_output=True, text=True, check=True).stdout
+        self.assertEqual(told, "[16]\n")
 
 
 class ChosenTexts(unittest.TestCase):

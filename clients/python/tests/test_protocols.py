@@ -10,8 +10,9 @@ import weakref
 from array import array
 from collections.abc import Collection
 
+from test_safety import run_apart
+
 from string_interner import Interner
-from string_interner._copies import copy_ends
 
 BACKENDS = ("string", "bucket", "buffer")
 WRONG_TEXTS = (b"a", bytearray(b"a"), 1, 1.5, None, ["a"], object())
@@ -135,13 +136,6 @@ class Ends(unittest.TestCase):
                     interner.intern_column(b"abcd", given)
                 self.assertEqual(list(interner), ["a"], (bad, given))
 
-    def test_a_negative_end_passes_even_long_bytes(self):
-        for length in (0, 2**31 - 1, 2**31, 2**32, 2**40):
-            for given in self.ends_of(1, -1, -(2**31), 2):
-                ends = copy_ends(given, length)
-                self.assertEqual((ends[0], ends[3]), (1, 2))
-                self.assertGreater(min(ends[1:3]), length)
-
     def test_what_is_no_row_of_integers(self):
         for wrong in (None, 1, 1.5, [1.5], ["1"], array("d", [1]), memoryview(array("f", [1])), memoryview(b"ab").cast("c"),
                       memoryview(array("Q", [1, 2])).cast("B").cast("Q", (1, 2)), [[1]]):
@@ -172,15 +166,17 @@ class Codes(unittest.TestCase):
     def test_codes_of_4_and_of_8_bytes(self):
         texts = ["a", "b" * 300, "a", "", "ß"]
         for backend in BACKENDS:
-            wide = Interner(backend=backend).intern_all(texts)
-            narrow = Interner(backend=backend).intern_all(texts, typecode="I")
+            wide = Interner(backend=backend).intern_all(texts, typecode="Q")
+            narrow = Interner(backend=backend).intern_all(texts)
             self.assertEqual((wide.typecode, wide.itemsize), ("Q", 8))
             self.assertEqual((narrow.typecode, narrow.itemsize), ("I", 4))
             self.assertEqual(narrow.tolist(), wide.tolist())
             self.assertEqual(memoryview(narrow).tolist(), wide.tolist())
             self.assertEqual(Interner().intern_all([], typecode="I"), array("I"))
             interner = Interner(backend=backend)
-            self.assertEqual(interner.intern_column(b"aba", [1, 2, 3], typecode="I"), interner.intern_all("aba", typecode="I"))
+            for options in ({}, {"typecode": "I"}, {"typecode": "Q"}):
+                codes = interner.intern_column(b"aba", [1, 2, 3], **options)
+                self.assertEqual((codes, codes.typecode), (interner.intern_all("aba", **options), options.get("typecode", "I")))
 
     def test_resolves_columns(self):
         texts = ["a", "b" * 300, "a", "", "ß", 'q"\\\n'] * 3
@@ -290,17 +286,24 @@ class Closing(unittest.TestCase):
         with self.assertRaises(ValueError):
             len(interner)
 
-    def test_a_second_constructor_leaks_nothing(self):
+    def test_a_second_constructor(self):
         interner = Interner(["a"], backend="bucket")
-        there = weakref.ref(interner._handle)
+        walk = iter(interner)
         interner.__init__(["b"])
-        self.assertIsNone(there())
-        self.assertEqual((list(interner), interner.backend), (["b"], "string"))
+        self.assertEqual((list(interner), interner.backend, list(walk)), (["b"], "string", ["a"]))
         # One that is refused changes nothing.
         for wrong in ({"backend": "tree"}, {"capacity": -1}, {"capacity": 1.5}, {"capacity": 2**64 - 1}):
             with self.assertRaises((TypeError, ValueError, MemoryError)):
                 interner.__init__(**wrong)
             self.assertEqual(list(interner), ["b"])
+
+    def test_what_no_constructor_made(self):
+        interner = Interner.__new__(Interner)
+        for call in (lambda: interner.intern("a"), lambda: len(interner), lambda: list(interner), interner.copy):
+            with self.assertRaisesRegex(ValueError, "^the interner is closed$"):
+                call()
+        interner.__init__(["a"])
+        self.assertEqual(list(interner), ["a"])
 
 
 class Subclasses(unittest.TestCase):
@@ -340,10 +343,39 @@ class Subclasses(unittest.TestCase):
         self.assertEqual(pickle.loads(pickle.dumps(Quiet(["a"]))), ["a"])
 
     def test_a_pickle_whose_texts_repeat_is_refused(self):
-        written = pickle.dumps(Interner(["a", "b"]))
-        self.assertEqual(written.count(b'["a","b"]'), 1)
-        with self.assertRaisesRegex(ValueError, "repeats"):
-            pickle.loads(written.replace(b'["a","b"]', b'["a","a"]'))
+        for protocol in range(pickle.HIGHEST_PROTOCOL + 1):
+            written = pickle.dumps(Interner(["aaaa", "bbbb"]), protocol)
+            self.assertEqual(written.count(b"aaaabbbb"), 1)
+            self.assertEqual(list(pickle.loads(written.replace(b"aaaabbbb", b"bbbbaaaa"))), ["bbbb", "aaaa"])
+            with self.assertRaisesRegex(ValueError, "repeats"):
+                pickle.loads(written.replace(b"aaaabbbb", b"aaaaaaaa"))
+
+    def test_a_pickle_with_texts_out_of_band(self):
+        for backend in BACKENDS:
+            for hasher in ("keyed", "fixed"):
+                interner, buffers = Interner(["a" * 1000, "", "ß" * 300], backend=backend, hasher=hasher), []
+                written = pickle.dumps(interner, 5, buffer_callback=buffers.append)
+                self.assertLess(len(written), 300)
+                self.assertEqual([len(it.raw()) for it in buffers], [1600, 24])
+                other = pickle.loads(written, buffers=[bytearray(it.raw()) for it in buffers])
+                self.assertEqual((other, other.backend, other.hasher), (interner, backend, hasher))
+                with self.assertRaises(ValueError):
+                    pickle.loads(written, buffers=[bytes(it.raw())[:-1] for it in buffers])
+
+    def test_a_state_that_is_changed(self):
+        (_, slots), interner = Interner(["a"]).__getstate__(), Interner(["b"])
+        for wrong in (None, 1, ["a"], interner):
+            with self.assertRaises(TypeError):
+                interner._parts = wrong
+        with self.assertRaises((AttributeError, TypeError)):
+            del interner._parts
+        walk = iter(interner)
+        interner._parts = slots["_parts"]
+        self.assertEqual((list(interner), list(walk)), (["a"], ["b"]))
+        # The texts moved, so that they are not copied twice.
+        with self.assertRaises(ValueError):
+            interner._parts = slots["_parts"]
+        self.assertEqual(list(interner), ["a"])
 
     def test_from_json_keeps_the_class(self):
         for kind in (Named, Interner):
@@ -356,21 +388,37 @@ class Subclasses(unittest.TestCase):
         self.assertEqual(repr(Named("n", [])), "<Named of 0 texts, backend 'buffer'>")
 
     def test_no_leak(self):
-        """Handles that were copied, pickled and refused are freed."""
-        from string_interner._handle import _handles
-
-        gc.collect()
-        before = len(_handles)
-        interner = Named("n", ["a"])
-        self.copies(interner)
-        for wrong in ("{", '["a","a"]'):
-            with self.assertRaises(ValueError):
-                Interner.from_json(wrong, exact=True)
-        with self.assertRaises(TypeError):
-            Interner([1])
-        del interner
-        gc.collect()
-        self.assertEqual(len(_handles), before)
+        """What was copied, pickled, refused, closed and walked is freed."""
+        self.assertEqual(run_apart("""
+            import copy, pickle, resource
+            from string_interner import Interner
+            texts = [f"{number:0100d}" for number in range(10_000)]
+            def refuse(call, error):
+                try:
+                    call()
+                except error:
+                    return
+                raise AssertionError
+            def use():
+                interner = Interner(texts)
+                walk = iter(interner)
+                next(walk)
+                for make in (copy.copy, copy.deepcopy, Interner.copy, lambda it: pickle.loads(pickle.dumps(it))):
+                    make(interner)
+                interner.intern_all(texts), interner.resolve_all(range(10_000)), interner.get_all(texts), interner.entries()
+                refuse(lambda: interner.intern_all([*texts, "new" * 10**5, 1]), TypeError)
+                refuse(lambda: interner.intern_lines(b"new" * 10**5 + b"\\n\\xff"), ValueError)
+                refuse(lambda: Interner.from_json(interner.to_json()[:-1]), ValueError)
+                refuse(lambda: interner.resolve_all([*range(10_000), 10**9]), KeyError)
+                interner.__init__(texts)
+                interner.close()
+            for turn in range(60):
+                use()
+                if turn == 10:
+                    before = resource.getrusage(resource.RUSAGE_SELF).ru_maxrss
+            # Fifty of any of these would take 50 MB.
+            print(resource.getrusage(resource.RUSAGE_SELF).ru_maxrss - before < 15_000)
+            """), (0, "True", ""))
 
 
 if __name__ == "__main__":

@@ -1,5 +1,5 @@
 """Tests that no Python program can make the module read or keep what nobody gave it: lying subclasses, threads that change
-what a call reads, forks, and calls between two steps of a call."""
+what a call reads, forks, calls between two steps of a call, and the ends of interpreters."""
 
 import gc
 import mmap
@@ -14,8 +14,7 @@ import unittest
 from array import array
 from contextlib import contextmanager
 
-from string_interner import Interner
-from string_interner._handle import _registry
+from string_interner import Column, Interner
 
 BACKENDS = ("string", "bucket", "buffer")
 
@@ -358,74 +357,6 @@ class Forks(unittest.TestCase):
             self.assertEqual(self.fork(look), 0)
 
 
-    def test_nothing_is_called_or_made_at_the_fork(self):
-        # What is registered first runs last before the fork: all locks are then taken.
-        self.assertEqual(run_apart("""
-            import os, signal, threading
-            signal.alarm(30)
-            blocked = []
-            def look():
-                for call in (lambda: known.get("a"), lambda: made[0].get("b"), Interner):
-                    caller = threading.Thread(target=call, daemon=True)
-                    caller.start()
-                    caller.join(0.2)
-                    blocked.append(caller.is_alive())
-            os.register_at_fork(before=look)
-            from string_interner import Interner
-            known, made, inside = Interner(["a"]), [], threading.Event()
-            def make():
-                with known._handle.lock:
-                    inside.set()
-                    threading.Event().wait(0.2)
-                    made.append(Interner(["b"]))
-            threading.Thread(target=make).start()
-            inside.wait()
-            child = os.fork()
-            if child:
-                print(blocked, os.waitpid(child, 0)[1], known.get("a"), made[0].get("b"), len(Interner()))
-            else:
-                signal.alarm(10)
-                os._exit((known.get("a"), made[0].get("b"), len(Interner())) != (0, 0, 0))
-            """), (0, "[True, True, True] 0 0 0 0", ""))
-
-    def test_an_exception_while_a_fork_waits(self):
-        first, busy, later, caught = Interner(["a"]), Interner(["a"]), Interner(["a"]), []
-        inside, ended = threading.Event(), threading.Event()
-
-        def call():
-            with busy._handle.lock:
-                inside.set()
-                ended.wait()
-
-        def interrupt(*_):
-            raise KeyboardInterrupt
-
-        caller = threading.Thread(target=call)
-        caller.start()
-        self.assertTrue(inside.wait(10))
-        before, hook = signal.signal(signal.SIGALRM, interrupt), sys.unraisablehook
-        sys.unraisablehook = lambda raised: caught.append(raised.exc_type)
-        signal.setitimer(signal.ITIMER_REAL, 0.3)
-        try:
-            child = os.fork()
-            if not child:
-                os._exit(0)
-            os.waitpid(child, 0)
-        finally:
-            signal.signal(signal.SIGALRM, before)
-            sys.unraisablehook = hook
-            ended.set()
-            caller.join()
-        self.assertIn(KeyboardInterrupt, caught)
-        # No lock was kept.
-        found = []
-        asker = threading.Thread(target=lambda: found.extend([it.get("a") for it in (first, busy, later, Interner(["a"]))]),
-                                 daemon=True)
-        asker.start()
-        asker.join(10)
-        self.assertEqual(found, [0, 0, 0, 0])
-
-
 class CallsBetweenSteps(unittest.TestCase):
     """A finalizer or a signal handler runs between any two steps of the thread that it comes upon."""
 
@@ -514,20 +445,6 @@ class CallsBetweenSteps(unittest.TestCase):
             print(closed)
         """), (0, "1000", ""))
 
-    def test_no_collection_runs_while_a_handle_is_registered(self):
-        found = []
-        note = lambda phase, _: found.append(_registry._is_owned())
-        threshold = gc.get_threshold()
-        gc.callbacks.append(note)
-        gc.set_threshold(1)
-        try:
-            interners = [Interner() for _ in range(1000)]
-        finally:
-            gc.set_threshold(*threshold)
-            gc.callbacks.remove(note)
-        self.assertGreater(len(found), len(interners))
-        self.assertFalse(any(found))
-
 
 class Finalizers(unittest.TestCase):
     """A collection finalizes all objects of a cycle before it drops one of them."""
@@ -600,33 +517,6 @@ class Finalizers(unittest.TestCase):
 class Ends(unittest.TestCase):
     """The interpreter stops daemon threads wherever they are when it ends, and then finalizes what is left."""
 
-    def test_a_finalizer_calls_although_a_stopped_thread_has_locks(self):
-        stopped = "the interpreter ends, and has stopped a thread within a call"
-        self.assertEqual(run_apart("""
-            import faulthandler, sys, threading
-            from functools import partial
-            from string_interner import Column, Interner
-            from string_interner._handle import _registry
-            class Late:
-                def __init__(self, *calls):
-                    self.calls = calls
-                def __del__(self):
-                    for call in self.calls:
-                        try:
-                            print(call())
-                        except RuntimeError as error:
-                            print(error)
-            faulthandler.dump_traceback_later(60, exit=True)
-            used, column, free, inside = Interner(["a"]), Column(["a"]), Interner(["a"]), threading.Event()
-            def stay():
-                with used._handle.lock, column._names._handle.lock, _registry:
-                    inside.set()
-                    threading.Event().wait()
-            threading.Thread(target=stay, daemon=True).start()
-            inside.wait()
-            sys.modules["late"] = Late(partial(used.intern, "b"), partial(column.append, "b"), Interner, partial(free.intern, "b"))
-            """), (0, "\n".join([stopped] * 3 + ["1"]), ""))
-
     def test_a_finalizer_calls_while_threads_are_stopped_at_any_step(self):
         self.assertEqual(run_apart("""
             import faulthandler, sys, threading, time
@@ -637,12 +527,9 @@ class Ends(unittest.TestCase):
                 def __init__(self, interner, column):
                     self.me, self.interner, self.column = self, interner, column
                 def __del__(self):
-                    try:
-                        self.interner.intern("late")
-                        self.column.append("late")
-                        list(self.column)
-                    except RuntimeError:
-                        pass
+                    self.interner.intern("late")
+                    self.column.append("late")
+                    list(self.column)
             sys.modules["late"], cycle = Late(interner, column), Late(interner, column)
             del cycle
             def work():
@@ -653,6 +540,285 @@ class Ends(unittest.TestCase):
                 threading.Thread(target=work, daemon=True).start()
             time.sleep(0.2)
             """), (0, "", ""))
+
+
+class Batches(unittest.TestCase):
+    """A batch is all or nothing, whatever runs in the middle of it."""
+
+    def test_a_wrong_value_undoes_all(self):
+        for backend in BACKENDS:
+            interner = Interner(["a"], backend=backend)
+            for wrong, error in ((1, TypeError), ("\ud800", UnicodeEncodeError)):
+                for rows in (["b", wrong], ("b", wrong), iter(["b", wrong]), ["b"] * 200_000 + ["c", wrong]):
+                    with self.assertRaises(error):
+                        interner.intern_all(rows)
+                    self.assertEqual(list(interner), ["a"])
+            with self.assertRaisesRegex(ValueError, "^line 3 is not UTF-8$"):
+                interner.intern_lines(b"b\nc\n\xff\nd")
+            self.assertEqual(list(interner), ["a"])
+
+    def test_a_finalizer_after_a_wrong_value(self):
+        # Finds nothing that is undone later.
+        interner, found = Interner(["a"]), []
+
+        class Late:
+            def __init__(self):
+                self.me = self
+
+            def __del__(self):
+                found.append(tuple(interner))
+
+        with collecting(lambda: None):
+            for number in range(300):
+                Late()
+                with self.assertRaises(TypeError):
+                    interner.intern_all([f"new {number}", 1])
+        self.assertGreater(len(found), 100)
+        self.assertEqual({*found}, {("a",)})
+
+    def test_a_type_with_a_name_of_its_own(self):
+        interner, column = Interner(["a"]), Column(["a"])
+
+        class Meta(type):
+            def __repr__(cls):
+                interner.close()
+                return "lie"
+
+        class Wrong(metaclass=Meta):
+            def __repr__(self):
+                interner.close()
+                return "lie"
+
+        for call in (interner.intern, interner.get, lambda it: interner.intern_all([it]), lambda it: interner.get_all([it]),
+                     column.append, lambda it: column.extend([it]), column.merge, column.code):
+            with self.assertRaisesRegex(TypeError, "Wrong"):
+                call(Wrong())
+        self.assertEqual((list(interner), list(column)), (["a"], ["a"]))
+
+    def run_with_handler(self, handle, call):
+        """Makes a call during which a handler of a signal runs, once. Returns what the call returned or raised."""
+        handled = []
+
+        def note(*_):
+            if not handled:
+                handled.append(True)
+                handle()
+
+        before = signal.signal(signal.SIGALRM, note)
+        try:
+            signal.setitimer(signal.ITIMER_REAL, 0.004)
+            try:
+                found = call()
+            except (RuntimeError, ValueError, ZeroDivisionError) as error:
+                found = error
+            self.assertEqual(handled, [True], "the call ended before the signal came")
+        finally:
+            signal.setitimer(signal.ITIMER_REAL, 0)
+            signal.signal(signal.SIGALRM, before)
+        return found
+
+    def test_a_handler_within_a_batch(self):
+        texts = [f"text {number}" for number in range(1_000_000)]
+        lines = "\n".join(texts).encode()
+        kept = []
+        for encode in (lambda it: it.intern_all(texts), lambda it: it.intern_lines(lines), lambda it: it.get_all(texts)):
+            for name, handle, kind in (
+                ("raises", lambda it: 1 // 0, ZeroDivisionError),
+                ("closes", Interner.close, ValueError),
+                ("truncates", lambda it: it.truncate(0), RuntimeError),
+                ("makes again", lambda it: it.__init__(["x"]), RuntimeError),
+                ("interns", lambda it: it.intern("handler"), array),
+                ("interns and raises", lambda it: it.intern("handler") // 0, ZeroDivisionError),
+                ("walks and raises", lambda it: kept.append(iter(it)) or 1 // 0, ZeroDivisionError),
+                ("nothing", len, array),
+            ):
+                with self.subTest(name):
+                    interner = Interner(["first"])
+                    found = self.run_with_handler(lambda: handle(interner), lambda: encode(interner))
+                    self.assertIsInstance(found, kind)
+                    if name == "raises":
+                        self.assertEqual(list(interner), ["first"])
+                    elif name.startswith("interns"):
+                        self.assertEqual(interner[interner.get("handler")], "handler")
+                    elif name == "walks and raises":
+                        self.assertEqual(list(kept.pop()), list(interner))
+
+    def test_a_handler_changes_the_list(self):
+        texts = [f"text {number}" for number in range(1_000_000)]
+        for handle in (list.clear, lambda it: it.append("more")):
+            interner, column = Interner(), Column()
+            for call, it in ((interner.intern_all, interner), (column.extend, column)):
+                rows = texts[:]
+                found = self.run_with_handler(lambda: handle(rows), lambda: call(rows))
+                self.assertEqual((str(found), len(it)), ("the list changed its length during the call", 0))
+
+    def test_a_handler_uses_the_column(self):
+        texts = [f"text {number}" for number in range(1_000_000)]
+        for name, handle, kind in (
+            ("appends", lambda it: it.append("handler"), type(None)), ("slices", lambda it: kept.append(it[:]), type(None)),
+            ("makes again", lambda it: it.__init__(["x"]), RuntimeError), ("raises", lambda it: 1 // 0, ZeroDivisionError),
+            ("slices and raises", lambda it: kept.append(it[:]) or 1 // 0, ZeroDivisionError),
+        ):
+            for rows in (texts, iter(texts)):
+                with self.subTest(name):
+                    kept, column = [], Column(["first", None])
+                    found = self.run_with_handler(lambda: handle(column), lambda: column.extend(rows))
+                    self.assertIsInstance(found, kind)
+                    before = {"appends": ["first", None, "handler"], "makes again": ["x"]}.get(name, ["first", None])
+                    self.assertEqual(list(column), before + texts * (kind is type(None)))
+                    self.assertTrue(all(list(part) == ["first", None] for part in kept))
+
+    def test_signals_everywhere(self):
+        interner, column, handled = Interner(["s"]), Column(["s", None]), 0
+
+        def handle(*_):
+            nonlocal handled
+            handled += 1
+            interner.intern(f"handler {handled}")
+            interner.truncate(5000)
+            column[-3:].extend(["p", None])
+            assert list(column[:2]) == ["s", None] and interner.copy() == interner and sum(column.counts()) < len(column)
+            if handled % 3 == 0:
+                raise ZeroDivisionError
+
+        texts = [f"text {number % 1000}" for number in range(70_000)]
+        before, failed = signal.signal(signal.SIGALRM, handle), []
+        signal.setitimer(signal.ITIMER_REAL, 0.0002, 0.0002)
+        end = time.monotonic() + 2
+        while True:
+            try:
+                if time.monotonic() > end:
+                    signal.setitimer(signal.ITIMER_REAL, 0)
+                    break
+                rows = list(interner)
+                failed += [rows] if rows[0] != "s" else []
+                interner.intern_all(texts)
+                interner.resolve_all([0] * 70_000)
+                column.extend(texts[:500])
+                column.extend(iter(texts[:50]))
+                Column(texts), list(interner.entries()), interner.copy()
+            except (ZeroDivisionError, RuntimeError):
+                pass
+        signal.signal(signal.SIGALRM, before)
+        self.assertGreater(handled, 50)
+        self.assertEqual((failed, list(column)[:2]), ([], ["s", None]))
+
+
+class Walks(unittest.TestCase):
+    def test_a_walk_shows_what_there_was_whatever_happens(self):
+        texts = ["a", "b" * 200, "", "ß"]
+        for backend in BACKENDS:
+            for change in (lambda it: it.truncate(1), lambda it: it.truncate(0), Interner.close, lambda it: it.__init__(["x"]),
+                           lambda it: it.intern_all("xyz"), Interner.shrink):
+                for read in range(5):
+                    interner = Interner(texts, backend=backend)
+                    pairs = list(interner.entries())
+                    walks = [iter(interner), interner.entries(), iter(interner), reversed(interner)]
+                    for walk in walks:
+                        for _ in range(read):
+                            next(walk, None)
+                    change(interner)
+                    rest = [list(walk) for walk in walks]
+                    self.assertEqual(rest, [texts[read:], pairs[read:], texts[read:], texts[::-1][read:]])
+                    self.assertEqual([next(walk, "end") for walk in walks], ["end"] * 4)
+
+    def test_the_next_text_is_read_at_once(self):
+        walk = iter(Interner(map(str, range(100_000))))
+        self.assertEqual((next(walk), next(walk), walk.__length_hint__()), ("0", "1", 99_998))
+
+    def test_walks_that_are_dropped(self):
+        interner = Interner(["a", "b"])
+        walks = [iter(interner) for _ in range(9)]
+        del walks[::2]
+        del walks[1]
+        interner.close()
+        self.assertEqual([*map(list, walks)], [["a", "b"]] * 3)
+
+    def test_a_walk_in_a_cycle(self):
+        class Holder:
+            pass
+
+        for _ in range(100):
+            holder = Holder()
+            holder.interner = Interner(["a", "b"])
+            holder.walk, holder.me = iter(holder.interner), holder
+            next(holder.walk)
+            del holder
+        gc.collect()
+
+
+class Limits(unittest.TestCase):
+    def test_at_the_limit_of_recursion(self):
+        self.assertEqual(run_apart("""
+            from string_interner import Column, Interner
+            interner, column, seen = Interner(["a"]), Column(["a", None]), set()
+            class Number:
+                def __index__(self):
+                    return 0
+            def calls():
+                yield lambda: interner.intern("new")
+                yield lambda: interner[Number()]
+                yield lambda: interner.intern_all(str(k) for k in range(3))
+                yield lambda: Interner(["x", "y"]).copy()
+                yield lambda: column.extend(str(k) for k in range(3))
+                yield lambda: [*column, *interner]
+            def go(call, depth):
+                try:
+                    call()
+                except RecursionError:
+                    seen.add("recursion")
+                try:
+                    go(call, depth + 1)
+                except RecursionError:
+                    pass
+            for call in calls():
+                go(call, 0)
+            print(seen, column[0], interner[0])
+            """), (0, "{'recursion'} a a", ""))
+
+    def test_a_thread_with_a_small_stack(self):
+        self.assertEqual(run_apart("""
+            import threading
+            from string_interner import Column, Interner
+            threading.stack_size(32768)
+            def work():
+                texts = [f"text {k}" for k in range(10_000)]
+                interner = Interner(texts)
+                interner.intern_all(texts), interner.get_all(texts), interner.resolve_all(range(10_000)), list(interner)
+                column = Column(texts)
+                column.merge(Column(texts[::-1]))
+                print(len(list(column)), column == column[:])
+            thread = threading.Thread(target=work)
+            thread.start()
+            thread.join()
+            """), (0, "20000 True", ""))
+
+    def test_subinterpreters(self):
+        self.assertEqual(run_apart("""
+            import sys, threading
+            try:
+                import _interpreters as interpreters
+            except ImportError:
+                import _xxsubinterpreters as interpreters
+            lines = "import sys; sys.path[:] = " + repr(sys.path) + "; " + "; ".join([
+                "from string_interner import Column, Interner", "interner = Interner(f'text {k}' for k in range(10_000))",
+                "assert interner.intern_all(list(interner))[-1] == 9999 and len(Column(['a', None]).codes) == 2",
+                "walk = iter(interner)"])
+            def run():
+                apart = interpreters.create()
+                failed.append(interpreters.run_string(apart, lines))
+                interpreters.destroy(apart)
+            failed = []
+            for _ in range(3):
+                run()
+            threads = [threading.Thread(target=run) for _ in range(3)]
+            for thread in threads:
+                thread.start()
+            for thread in threads:
+                thread.join()
+            from string_interner import Interner
+            print(failed, Interner(["a"]).get("a"))
+            """), (0, f"{[None] * 6} 0", ""))
 
 
 if __name__ == "__main__":

@@ -1,0 +1,182 @@
+/* Columns for Arrow, by its C data interface in capsules: dictionary<int32 or int64, large_utf8>. */
+#include "native.h"
+
+#include <stdlib.h>
+
+enum { ARROW_FLAG_NULLABLE = 2 };
+
+struct ArrowSchema {
+  const char *format, *name, *metadata;
+  int64_t flags, n_children;
+  struct ArrowSchema **children, *dictionary;
+  void (*release)(struct ArrowSchema *);
+  void *private_data;
+};
+
+struct ArrowArray {
+  int64_t length, null_count, offset, n_buffers, n_children;
+  const void **buffers;
+  struct ArrowArray **children, *dictionary;
+  void (*release)(struct ArrowArray *);
+  void *private_data;
+};
+
+static void release_schema(struct ArrowSchema *schema) {
+  if (schema->dictionary) {
+    if (schema->dictionary->release) schema->dictionary->release(schema->dictionary);
+    free(schema->dictionary);
+  }
+  schema->release = NULL;
+}
+
+static void free_schema(PyObject *capsule) {
+  struct ArrowSchema *schema = PyCapsule_GetPointer(capsule, "arrow_schema");
+  if (schema->release) schema->release(schema);
+  free(schema);
+}
+
+/* What an array has: its buffers, those of them that are its own, and codes that it shares. */
+typedef struct Held {
+  const void *buffers[3];
+  void *owned[2];
+  Block *block;
+} Held;
+
+/* May be called without the GIL. */
+static void release_array(struct ArrowArray *array) {
+  Held *held = array->private_data;
+  if (array->dictionary) {
+    if (array->dictionary->release) array->dictionary->release(array->dictionary);
+    free(array->dictionary);
+  }
+  free(held->owned[0]);
+  free(held->owned[1]);
+  drop_block(held->block);
+  free(held);
+  array->release = NULL;
+}
+
+static void free_array(PyObject *capsule) {
+  struct ArrowArray *array = PyCapsule_GetPointer(capsule, "arrow_array");
+  if (array->release) array->release(array);
+  free(array);
+}
+
+static PyObject *make_schema(int width) {
+  struct ArrowSchema *schema = calloc(1, sizeof *schema), *texts = calloc(1, sizeof *texts);
+  if (!schema || !texts) {
+    free(schema);
+    free(texts);
+    return PyErr_NoMemory();
+  }
+  *texts = (struct ArrowSchema){.format = "U", .name = "", .flags = ARROW_FLAG_NULLABLE, .release = release_schema};
+  *schema = (struct ArrowSchema){
+      .format = width == 4 ? "i" : "l", .name = "", .flags = ARROW_FLAG_NULLABLE, .dictionary = texts, .release = release_schema};
+  PyObject *capsule = PyCapsule_New(schema, "arrow_schema", free_schema);
+  if (!capsule) {
+    release_schema(schema);
+    free(schema);
+  }
+  return capsule;
+}
+
+PyObject *column_arrow_schema(Column *self, PyObject *unused) {
+  (void)unused;
+  return is_made(self) ? make_schema(width_of(si_len(self->dictionary->h))) : NULL;
+}
+
+/* An array that has what is held, which it takes over. */
+static struct ArrowArray *make_array(int64_t length, int64_t buffers, Held *held) {
+  struct ArrowArray *array = calloc(1, sizeof *array);
+  if (array)
+    *array = (struct ArrowArray){
+        .length = length, .n_buffers = buffers, .buffers = held->buffers, .release = release_array, .private_data = held};
+  return array;
+}
+
+static void drop_held(Held *held) {
+  if (!held) return;
+  free(held->owned[0]);
+  free(held->owned[1]);
+  drop_block(held->block);
+  free(held);
+}
+
+/* A copy of the dictionary. */
+static struct ArrowArray *make_texts(const si_interner *h) {
+  size_t count = si_len(h), length = 0;
+  si_text text;
+  Held *held = calloc(1, sizeof *held);
+  int64_t *offsets = malloc((count + 1) * sizeof *offsets);
+  for (size_t row = 0; offsets && row < count; row++) {
+    si_resolve(h, row, &text);
+    offsets[row] = length;
+    length += text.len;
+  }
+  char *bytes = offsets && held ? malloc(length + 1) : NULL;
+  if (bytes) {
+    offsets[count] = length;
+    for (size_t row = 0; row < count; row++) {
+      si_resolve(h, row, &text);
+      memcpy(bytes + offsets[row], text.bytes, text.len);
+    }
+    *held = (Held){{NULL, offsets, bytes}, {offsets, bytes}, NULL};
+    struct ArrowArray *array = make_array(count, 3, held);
+    if (array) return array;
+    drop_held(held);
+  } else {
+    free(held);
+    free(offsets);
+  }
+  return NULL;
+}
+
+/* The codes, and which of them are of texts, if not all are. */
+static struct ArrowArray *make_codes(const Column *self) {
+  static const int64_t nothing;
+  int64_t missing = 0;
+  uint8_t *valid = NULL;
+  Held *held = calloc(1, sizeof *held);
+  if (!held) return NULL;
+  for (Py_ssize_t row = 0; row < self->n; row++) missing += code_at(self->block, row) < 0;
+  if (missing && !(valid = calloc(self->n / 8 + 1, 1))) {
+    free(held);
+    return NULL;
+  }
+  for (Py_ssize_t row = 0; missing && row < self->n; row++)
+    valid[row >> 3] |= (uint8_t)((code_at(self->block, row) >= 0) << (row & 7));
+  const void *codes = self->n ? (const void *)self->block->data : &nothing;
+  *held = (Held){{valid, codes, NULL}, {valid, NULL}, share_block(self->block)};
+  struct ArrowArray *array = make_array(self->n, 2, held);
+  if (array) array->null_count = missing;
+  else drop_held(held);
+  return array;
+}
+
+static PyObject *make_capsule(const Column *self) {
+  struct ArrowArray *texts = make_texts(self->dictionary->h), *array = texts ? make_codes(self) : NULL;
+  if (!array) {
+    if (texts) texts->release(texts);
+    free(texts);
+    return PyErr_NoMemory();
+  }
+  array->dictionary = texts;
+  PyObject *capsule = PyCapsule_New(array, "arrow_array", free_array);
+  if (!capsule) {
+    array->release(array);
+    free(array);
+  }
+  return capsule;
+}
+
+PyObject *column_arrow_array(Column *self, PyObject *args, PyObject *keywords) {
+  static char *words[] = {"requested_schema", NULL};
+  PyObject *requested = NULL, *schema, *array, *both = NULL;
+  /* A schema that is asked for is a wish, which the specification lets a producer pass over. */
+  if (!PyArg_ParseTupleAndKeywords(args, keywords, "|O:__arrow_c_array__", words, &requested)) return NULL;
+  if (!is_made(self) || !(schema = make_schema(width_of(si_len(self->dictionary->h))))) return NULL;
+  if ((array = make_capsule(self))) both = PyTuple_Pack(2, schema, array);
+  Py_XDECREF(array);
+  Py_DECREF(schema);
+  return both;
+}

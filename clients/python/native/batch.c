@@ -1,0 +1,212 @@
+/* Encoding many texts. */
+#include "native.h"
+
+bool open_rows_in_place(PyObject *given, Rows *rows) {
+  *rows = (Rows){0};
+  if (PyList_CheckExact(given) || PyTuple_CheckExact(given)) {
+    rows->sequence = Py_NewRef(given), rows->n = PySequence_Size(given);
+    return true;
+  }
+  if (!PyObject_CheckBuffer(given)) return false;
+  if (PyObject_GetBuffer(given, &rows->view, PyBUF_FULL_RO)) {
+    PyErr_Clear();
+    return false;
+  }
+  if (rows->view.ndim == 1 && rows->view.format && !strcmp(rows->view.format, "O") && !rows->view.suboffsets) {
+    rows->n = rows->view.shape[0];
+    return true;
+  }
+  PyBuffer_Release(&rows->view);
+  return false;
+}
+
+bool open_rows(PyObject *given, Rows *rows) {
+  PyObject *values = without_mask(given, Py_None);
+  bool is_open = values && open_rows_in_place(values, rows);
+  if (values && !is_open) {
+    PyObject *list = PySequence_List(values);
+    is_open = list && open_rows_in_place(list, rows);
+    Py_XDECREF(list);
+  }
+  Py_XDECREF(values);
+  return is_open;
+}
+
+void close_rows(Rows *rows) {
+  if (rows->sequence) Py_CLEAR(rows->sequence);
+  else PyBuffer_Release(&rows->view);
+}
+
+/* Whether a handler of a signal left the rows as long as they were. */
+static bool has_its_length(const Rows *rows) {
+  if (!rows->sequence || PySequence_Size(rows->sequence) == rows->n) return true;
+  PyErr_SetString(PyExc_RuntimeError, "the list changed its length during the call");
+  return false;
+}
+
+/* Some rows. Each is borrowed, and stays until Python code runs. */
+static void read_part(const Rows *rows, Py_ssize_t at, Py_ssize_t n, PyObject **part) {
+  if (!rows->sequence) {
+    const char *from = rows->view.buf;
+    for (Py_ssize_t row = 0; row < n; row++) {
+      memcpy(&part[row], from + (at + row) * rows->view.strides[0], sizeof *part);
+      if (!part[row]) part[row] = Py_None; /* as numpy reads it */
+    }
+  } else if (PyList_Check(rows->sequence))
+    for (Py_ssize_t row = 0; row < n; row++) part[row] = PyList_GetItem(rows->sequence, at + row);
+  else
+    for (Py_ssize_t row = 0; row < n; row++) part[row] = PyTuple_GetItem(rows->sequence, at + row);
+}
+
+Batch *new_batch(Interner *interner, Column *column, si_interner *h) {
+  Batch *batch = PyMem_Calloc(1, sizeof *batch);
+  if (!batch) return PyErr_NoMemory(), NULL;
+  batch->interner = interner, batch->column = column, batch->h = h;
+  batch->kept = batch->count = si_len(h);
+  return batch;
+}
+
+void free_batch(Batch *batch) {
+  if (batch) drop_block(batch->block);
+  PyMem_Free(batch);
+}
+
+bool reserve_batch(Batch *batch, Py_ssize_t more) {
+  int width = width_of(si_len(batch->h)) > batch->width ? width_of(si_len(batch->h)) : batch->width;
+  if (!reserve_codes(&batch->block, batch->first, more, width)) return false;
+  batch->out = batch->block->data, batch->width = width;
+  return true;
+}
+
+/* How often others added texts. */
+static size_t uses_of(const Batch *batch) {
+  if (batch->interner) return batch->interner->uses;
+  return batch->column ? batch->column->dictionary->uses : 0;
+}
+
+void note_changes(Batch *batch) {
+  batch->count = si_len(batch->h);
+  batch->uses = uses_of(batch);
+  if (batch->interner) batch->cuts = batch->interner->cuts;
+  if (batch->column) batch->begins = batch->column->begins;
+}
+
+/* Whether all that was encoded still holds. */
+static bool still_holds(const Batch *batch) {
+  if (batch->interner) return batch->interner->h && batch->interner->cuts == batch->cuts;
+  return !batch->column || batch->column->begins == batch->begins;
+}
+
+bool adopt_changes(Batch *batch) {
+  memset(batch->seen, 0, sizeof batch->seen);
+  if (!still_holds(batch)) {
+    batch->h = NULL;
+    if (PyErr_Occurred() || (batch->interner && !is_open(batch->interner))) return false;
+    PyErr_SetString(PyExc_RuntimeError, "a handler or an iterator changed this during the call");
+    return false;
+  }
+  if (batch->column) batch->h = batch->column->dictionary->h;
+  if (uses_of(batch) != batch->uses || si_len(batch->h) != batch->count || (batch->interner && shows_more(batch->interner, batch->kept)))
+    batch->kept = si_len(batch->h);
+  return !PyErr_Occurred();
+}
+
+void begin_batch(Batch *batch) { batch->collects = PyGC_Disable(); }
+
+void end_batch(Batch *batch) {
+  if (batch->collects) PyGC_Enable();
+  batch->collects = false;
+}
+
+bool resume_batch(Batch *batch) {
+  note_changes(batch);
+  end_batch(batch);
+  PyErr_CheckSignals(); /* What it raises is found by adopt_changes. */
+  begin_batch(batch);
+  return adopt_changes(batch);
+}
+
+void undo_batch(Batch *batch) {
+  if (!batch->h || batch->only_looks || (batch->column && batch->column->dictionary->references > 1)) return;
+  si_truncate(batch->h, batch->kept);
+}
+
+bool put_number(Batch *batch, Py_ssize_t row, int64_t number) {
+  if (batch->width == 4 && batch->block && number >= MOST_NARROW) {
+    /* The dictionary has more texts now than codes of 4 bytes. */
+    if (!reserve_codes(&batch->block, row, batch->block->room - row, 8)) return false;
+    batch->out = batch->block->data, batch->width = 8;
+  }
+  if (batch->width == 4) ((uint32_t *)batch->out)[row] = (uint32_t)number;
+  else ((int64_t *)batch->out)[row] = number;
+  return true;
+}
+
+static bool raise_row(const Batch *batch, Py_ssize_t row, PyObject *object) {
+  PyObject *name = PyType_GetName(Py_TYPE(object));
+  if (name)
+    PyErr_Format(PyExc_TypeError, batch->takes_none ? "row %zd is of type %U, not str or None" : "text %zd is of type %U, not str",
+                 row, name);
+  Py_XDECREF(name);
+  return false;
+}
+
+/* Finds the number of a text, or adds the text. */
+static bool encode_text(Batch *batch, Py_ssize_t row, PyObject *text, int64_t *number) {
+  Py_ssize_t length;
+  size_t found;
+  if (!PyUnicode_Check(text)) return raise_row(batch, row, text);
+  const char *bytes = PyUnicode_AsUTF8AndSize(text, &length);
+  *number = batch->missing;
+  if (!bytes) {
+    if (!batch->only_looks || !PyErr_ExceptionMatches(PyExc_UnicodeEncodeError)) return false;
+    PyErr_Clear();
+    return true;
+  }
+  si_result status = batch->only_looks ? si_get_utf8(batch->h, bytes, length, &found)
+                     : batch->column   ? add_text(batch->column, bytes, length, &found)
+                                       : si_get_or_intern_utf8(batch->h, bytes, length, &found);
+  if (status == SI_OK) *number = (int64_t)found;
+  else if (status != SI_NOTHING) raise_status(status);
+  return status == SI_OK || status == SI_NOTHING;
+}
+
+/* Encodes some objects. A small table has the number of the last object at each place. That is sound because the caller holds the
+ * objects, so an address means one text until Python code runs. */
+static bool encode_part(Batch *batch, PyObject *const *part, Py_ssize_t at, Py_ssize_t n) {
+  enum { AHEAD = 8 };
+  for (Py_ssize_t row = 0; row < n; row++) {
+    PyObject *text = part[row];
+    int64_t number;
+    if (row + AHEAD < n) __builtin_prefetch((const char *)part[row + AHEAD] + 48);
+    size_t place = ((uintptr_t)text >> 4) * 0x9E3779B97F4A7C15u >> 52;
+    if (batch->seen[place] == text) number = batch->seen_number[place];
+    else if (batch->takes_none && text == Py_None) number = -1;
+    else {
+      if (!encode_text(batch, at + row, text, &number)) return false;
+      if (number == (uint32_t)number) batch->seen[place] = text, batch->seen_number[place] = (uint32_t)number;
+    }
+    if (!put_number(batch, at + row, number)) return false;
+  }
+  return true;
+}
+
+bool encode_rows(Batch *batch, Rows *rows) {
+  enum { AT_ONCE = 1024 };
+  PyObject *part[AT_ONCE];
+  bool is_done = has_its_length(rows);
+  begin_batch(batch);
+  for (Py_ssize_t at = 0; is_done && at < rows->n; at += AT_ONCE) {
+    if (at && at % ROWS_OF_A_PART == 0) is_done = resume_batch(batch) && has_its_length(rows);
+    if (!is_done) break;
+    Py_ssize_t n = rows->n - at < AT_ONCE ? rows->n - at : AT_ONCE;
+    read_part(rows, at, n, part);
+    is_done = encode_part(batch, part, batch->first + at, n);
+    if (batch->column) batch->h = batch->column->dictionary->h;
+  }
+  if (!is_done) undo_batch(batch);
+  else if (batch->interner) batch->interner->uses++;
+  else if (batch->column) batch->column->dictionary->uses++;
+  end_batch(batch);
+  return is_done;
+}

@@ -1,0 +1,305 @@
+/* The module string_interner._native: Interner and Column over string_interner.h, for the limited API of CPython 3.11.
+ *
+ * The library neither locks nor checks handles. The GIL is held during each call of it, so calls take turns. What is left to guard
+ * against is Python code that runs in the middle of a call: finalizers, __index__, iterators, handlers of signals. It may close
+ * or truncate what the call works on. So each body keeps these rules:
+ *
+ *   1. Order: convert the arguments and make what can start a collection, which may run Python code; then test that the handle is
+ *      open (is_open, is_made); then call the library; then make the results.
+ *   2. No repr of what is given, because it may be written in Python. Types are named by PyType_GetName.
+ *   3. A batch runs under PyGC_Disable, so that no finalizer comes between a failure and its undoing. It is all or nothing:
+ *      undone by si_truncate.
+ *   4. A text that the library lends becomes a str before anything else is called.
+ *   5. Between the parts of a batch PyErr_CheckSignals runs handlers. After it all is tested again (resume_batch): the handle,
+ *      the length of the list, the counts of changes. The table of seen objects is cleared, because a handler may have dropped them.
+ *
+ * No variable of the module is changed after the import; what an interpreter needs is in a State. */
+#ifndef NATIVE_H
+#define NATIVE_H
+
+#define PY_SSIZE_T_CLEAN
+#define Py_LIMITED_API 0x030B0000
+#include <Python.h>
+#include <structmember.h>
+
+#include <stdatomic.h>
+#include <stdbool.h>
+#include <stddef.h>
+#include <stdint.h>
+#include <string.h>
+
+#include "string_interner.h"
+
+#ifndef MOST_NARROW
+/** The most texts of a dictionary whose codes take 4 bytes. A test builds the module with fewer. */
+#define MOST_NARROW INT32_MAX
+#endif
+
+/** How many rows, or bytes of lines, a part of a batch has: handlers of signals run in between. */
+enum { ROWS_OF_A_PART = 1 << 16, BYTES_OF_A_PART = 1 << 20 };
+
+/** What an interpreter has of the module. */
+typedef struct State {
+  PyTypeObject *interner, *walk, *column, *rows_walk, *codes, *parts;
+  PyObject *array;  /* array.array */
+  uint64_t keys[2]; /* random keys of this interpreter */
+} State;
+
+/** How texts are stored and hashed. */
+typedef struct Options {
+  si_kind kind;
+  bool is_keyed;
+  uint64_t keys[2];
+} Options;
+
+/* interner.c */
+
+typedef struct Walk Walk;
+
+/** An interner of Python. */
+typedef struct Interner {
+  PyObject_HEAD
+  si_interner *h; /* null if it is closed */
+  State *state;
+  PyObject *weak;
+  Walk *walks;   /* iterators that have not read all yet */
+  size_t cuts;   /* how often texts were dropped or the handle was replaced */
+  size_t uses;   /* how often texts were interned */
+  si_kind kind;
+  bool is_keyed;
+} Interner;
+
+extern PyType_Spec interner_spec, walk_spec;
+
+bool is_open(const Interner *self);
+State *state_of_type(PyTypeObject *type);
+
+/** Whether an iterator shows more texts than the first few. */
+bool shows_more(const Interner *self, size_t count);
+
+/** Reads the rest of each live iterator, so that what it shows stays, and lets go of it. Nothing changes if this fails. */
+bool read_walks(Interner *self);
+
+/* options.c */
+
+/** An attribute of a module. */
+PyObject *import_from(const char *name, const char *attribute);
+
+PyObject *raise_status(si_result status);
+PyObject *raise_type(const char *before, PyObject *object, const char *after);
+bool read_backend(PyObject *given, si_kind *kind);
+bool read_hasher(const State *state, PyObject *given, Options *options);
+const char *backend_name(si_kind kind);
+si_interner *make_handle(const Options *options, size_t capacity);
+
+/** The UTF-8 form of a text, which lives as long as the text. Raises TypeError for what is no text. */
+const char *utf8_of(PyObject *text, Py_ssize_t *length);
+
+/** The number of the text after one. On a buffer, as the header says, it is greater by the bytes of the text and of its length. */
+size_t number_after(si_kind kind, size_t number, size_t length);
+
+/** An array of the module array with n items, and a writable view of it. Runs no Python code. */
+PyObject *new_array(const State *state, const char *typecode, Py_ssize_t n, Py_buffer *view);
+
+/* numbers.c: integers of a buffer or an iterable, copied. */
+
+typedef struct Numbers {
+  Py_ssize_t n;
+  int64_t *at;       /* those that do not fit are INT64_MIN or INT64_MAX */
+  PyObject *exact;   /* a list of them, or null if they are from a buffer */
+  bool is_unsigned;  /* whether those of a buffer that are INT64_MIN or more are great */
+} Numbers;
+
+bool read_numbers(PyObject *given, Numbers *numbers);
+void drop_numbers(Numbers *numbers);
+PyObject *exact_number(const Numbers *numbers, Py_ssize_t row);
+
+/** The values, or for a masked array of numpy an array of objects with a filler in each masked place. */
+PyObject *without_mask(PyObject *values, PyObject *filler);
+
+/* A copy of a buffer, which others may change without the GIL, or the bytes themselves, which nobody changes. */
+typedef struct Bytes {
+  const char *at;
+  Py_ssize_t length;
+  PyObject *held; /* the bytes, or null */
+  char *copy;     /* or null */
+} Bytes;
+
+bool read_bytes(PyObject *given, Bytes *bytes);
+void drop_bytes(Bytes *bytes);
+
+/* codes.c */
+
+/** Codes that only grow at their end. Whoever refers to a block reads the rows that it had then: these never change or move while
+ * there is a second reference. It is no object of Python, so a consumer of Arrow may drop it without the GIL. */
+typedef struct Block {
+  atomic_size_t references;
+  Py_ssize_t used, room;
+  int width; /* 4 or 8 bytes a code */
+  int64_t data[];
+} Block;
+
+extern PyType_Spec codes_spec;
+
+int width_of(size_t distinct);
+Block *new_block(Py_ssize_t room, int width);
+Block *share_block(Block *block);
+void drop_block(Block *block);
+
+static inline int64_t code_at(const Block *block, Py_ssize_t row) {
+  return block->width == 4 ? ((const int32_t *)block->data)[row] : block->data[row];
+}
+
+static inline void set_code(Block *block, Py_ssize_t row, int64_t code) {
+  if (block->width == 4) ((int32_t *)block->data)[row] = (int32_t)code;
+  else block->data[row] = code;
+}
+
+/** Makes room for more codes of a width behind the first n. Others that refer to the block keep what they see. */
+bool reserve_codes(Block **block, Py_ssize_t n, Py_ssize_t more, int width);
+
+/** A view of the first n codes. */
+PyObject *view_codes(State *state, Block *block, Py_ssize_t n, int width);
+
+/* column.c */
+
+/** A list of distinct texts. Columns share it; one that adds a text to a shared one copies it first. */
+typedef struct Dictionary {
+  size_t references;
+  si_interner *h;
+  size_t uses;        /* how often texts were added */
+  PyObject **texts;   /* a str of each text at the front, as far as they were read */
+  size_t texts_count;
+  si_kind kind;
+  bool is_keyed;
+} Dictionary;
+
+/** A column of Python. */
+typedef struct Column {
+  PyObject_HEAD
+  Dictionary *dictionary; /* null before __init__ */
+  Block *block;           /* null if there is no row */
+  Py_ssize_t n;           /* rows */
+  State *state;
+  PyObject *weak;
+  size_t begins;          /* how often it got another dictionary and other rows */
+} Column;
+
+extern PyType_Spec column_spec, rows_walk_spec;
+bool is_made(const Column *self);
+Dictionary *new_dictionary(const Options *options);
+Dictionary *wrap_handle(si_interner *h, si_kind kind, bool is_keyed);
+Dictionary *share_dictionary(Dictionary *dictionary);
+void drop_dictionary(Dictionary *dictionary);
+
+/** Finds the number of a text, or adds the text to a dictionary that is the column's own. */
+si_result add_text(Column *self, const char *bytes, size_t length, size_t *number);
+
+/** Appends codes. If there is no row yet, takes the block as it is. */
+bool add_codes(Column *self, Block *codes, Py_ssize_t n);
+
+/** Has a column begin again, with a dictionary and rows, whose references it takes over. */
+void begin_column(Column *self, Dictionary *dictionary, Block *block, Py_ssize_t n);
+
+/** Makes a column of a class without its __init__. */
+Column *make_column(State *state, PyTypeObject *type);
+
+/** Makes a column of the class that slices have. */
+Column *make_plain(Column *like);
+
+/* batch.c */
+
+/** Where a batch of objects comes from: a list, a tuple, or a buffer of objects, each read in place. */
+typedef struct Rows {
+  PyObject *sequence; /* or null */
+  Py_buffer view;     /* if there is no sequence */
+  Py_ssize_t n;
+} Rows;
+
+bool open_rows(PyObject *given, Rows *rows);
+bool open_rows_in_place(PyObject *given, Rows *rows);
+void close_rows(Rows *rows);
+
+enum { SEEN = 4096 };
+
+/** What encodes many texts. Zeroed before it is filled. */
+typedef struct Batch {
+  /* Whose handle it is: an interner's, a column's, or one that nobody else has. */
+  Interner *interner;
+  Column *column;
+  si_interner *h;
+  bool only_looks;    /* whether unknown texts are `missing`, and not added */
+  int64_t missing;
+  bool takes_none;    /* whether None is a row, with the code -1 */
+  Py_ssize_t first;   /* rows of earlier calls with this batch */
+  void *out;          /* numbers of `width` bytes; those of `block`, if there is one */
+  int width;
+  Block *block;       /* grows wider if the dictionary needs that */
+  size_t kept;        /* texts that stay if this fails */
+  size_t count;       /* texts after the last step */
+  size_t cuts, uses, begins;
+  bool collects;      /* whether the collection of garbage is to be enabled */
+  PyObject *seen[SEEN]; /* an object of which the number is known, at a place that depends on its address */
+  uint32_t seen_number[SEEN];
+} Batch;
+
+Batch *new_batch(Interner *interner, Column *column, si_interner *h);
+void free_batch(Batch *batch);
+
+/** Gives the batch codes of its own, with room for more rows behind the first `batch->first`. */
+bool reserve_batch(Batch *batch, Py_ssize_t more);
+
+/** Notes how all is before Python code runs, and tests afterwards what it changed. What others added or saw stays. */
+void note_changes(Batch *batch);
+bool adopt_changes(Batch *batch);
+
+void begin_batch(Batch *batch);
+void end_batch(Batch *batch);
+
+/** Lets handlers of signals run between two parts, and tests what they changed. */
+bool resume_batch(Batch *batch);
+
+/** Drops the texts that this added, unless others share or saw them. */
+void undo_batch(Batch *batch);
+
+/** Encodes all rows, or undoes the batch. */
+bool encode_rows(Batch *batch, Rows *rows);
+
+/** Notes the number of a row, in codes that are wide enough for it. */
+bool put_number(Batch *batch, Py_ssize_t row, int64_t number);
+
+/* lines.c */
+
+PyObject *intern_lines(Interner *self, PyObject *given);
+PyObject *column_from_file(PyTypeObject *type, PyObject *args, PyObject *keywords);
+
+/* parts.c */
+
+/** A dictionary and codes as they were: what copies and pickles of an interner or a column hold. */
+typedef struct Parts {
+  PyObject_HEAD
+  State *state;
+  Dictionary *dictionary;
+  Block *block;
+  Py_ssize_t n; /* -1 for those of an interner */
+} Parts;
+
+extern PyType_Spec parts_spec;
+
+PyObject *new_parts(State *state, Dictionary *dictionary, Block *block, Py_ssize_t n);
+
+/** The texts of a dictionary end to end, and where each ends, in 8 bytes each. */
+bool join_texts(const Dictionary *dictionary, PyObject **joined, PyObject **ends);
+
+/** Adds the texts between ends to an empty handle. Raises ValueError if one repeats. */
+bool split_texts(si_interner *h, const Bytes *joined, const size_t *ends, Py_ssize_t n);
+
+/** The numbers as codes of a dictionary. Raises ValueError at the first that is none. */
+Block *check_codes(const Numbers *numbers, size_t distinct);
+
+/* arrow.c */
+
+PyObject *column_arrow_schema(Column *self, PyObject *unused);
+PyObject *column_arrow_array(Column *self, PyObject *args, PyObject *keywords);
+
+#endif

@@ -1,0 +1,134 @@
+/* Integers and bytes of buffers, copied: others may change a buffer without the GIL. */
+#include "native.h"
+
+/* The width of a format of integers in this machine's byte order, or 0. */
+static Py_ssize_t width_of_format(const char *format) {
+  if (!format || !*format || format[1]) return 0;
+  switch (*format) {
+  case 'b': case 'B': return 1;
+  case 'h': case 'H': return sizeof(short);
+  case 'i': case 'I': return sizeof(int);
+  case 'l': case 'L': return sizeof(long);
+  case 'q': case 'Q': return sizeof(long long);
+  default: return 0;
+  }
+}
+
+static int64_t widen(const char *at, Py_ssize_t width, bool is_unsigned) {
+  union { int8_t one; int16_t two; int32_t four; int64_t eight; } number;
+  memcpy(&number, at, width);
+  switch (width) {
+  case 1: return is_unsigned ? (uint8_t)number.one : number.one;
+  case 2: return is_unsigned ? (uint16_t)number.two : number.two;
+  case 4: return is_unsigned ? (int64_t)(uint32_t)number.four : (int64_t)number.four;
+  default: return number.eight;
+  }
+}
+
+/* Reads a buffer of integers. */
+static bool copy_view(const Py_buffer *view, Numbers *numbers) {
+  Py_ssize_t width = width_of_format(view->format), n = view->len / width;
+  char *raw = PyMem_Malloc(view->len + 1);
+  int64_t *at = PyMem_Malloc(n * sizeof *at + 1);
+  bool is_done = raw && at && !PyBuffer_ToContiguous(raw, view, view->len, 'C');
+  bool is_unsigned = *view->format < 'a';
+  for (Py_ssize_t row = 0; is_done && row < n; row++) at[row] = widen(raw + row * width, width, is_unsigned);
+  PyMem_Free(raw);
+  if (is_done) {
+    *numbers = (Numbers){.n = n, .at = at, .is_unsigned = is_unsigned};
+    return true;
+  }
+  PyMem_Free(at);
+  if (!PyErr_Occurred()) PyErr_NoMemory();
+  return false;
+}
+
+/* Appends the integer that an object is. */
+static bool read_number(PyObject *given, PyObject *exact) {
+  PyObject *number = PyNumber_Index(given);
+  bool is_done = number && !PyList_Append(exact, number);
+  Py_XDECREF(number);
+  return is_done;
+}
+
+/* Clips the integers of a list of its own to 8 bytes. */
+static bool clip_numbers(PyObject *exact, Numbers *numbers) {
+  Py_ssize_t n = PyList_Size(exact);
+  int64_t *at = PyMem_Malloc(n * sizeof *at + 1);
+  if (!at) return PyErr_NoMemory(), false;
+  for (Py_ssize_t row = 0; row < n; row++) {
+    int overflow;
+    at[row] = PyLong_AsLongLongAndOverflow(PyList_GetItem(exact, row), &overflow);
+    if (overflow) at[row] = overflow < 0 ? INT64_MIN : INT64_MAX;
+  }
+  *numbers = (Numbers){.n = n, .at = at, .exact = exact};
+  return true;
+}
+
+bool read_numbers(PyObject *given, Numbers *numbers) {
+  Py_buffer view;
+  if (PyObject_CheckBuffer(given)) {
+    if (PyObject_GetBuffer(given, &view, PyBUF_FULL_RO)) PyErr_Clear();
+    else {
+      bool is_integers = view.ndim == 1 && width_of_format(view.format), is_done = is_integers && copy_view(&view, numbers);
+      PyBuffer_Release(&view);
+      if (is_integers) return is_done;
+    }
+  }
+  PyObject *items = PySequence_Tuple(given), *exact = items ? PyList_New(0) : NULL;
+  bool is_done = exact != NULL;
+  for (Py_ssize_t row = 0; is_done && row < PyTuple_Size(items); row++)
+    is_done = read_number(PyTuple_GetItem(items, row), exact);
+  Py_XDECREF(items);
+  if (is_done && clip_numbers(exact, numbers)) return true;
+  Py_XDECREF(exact);
+  return false;
+}
+
+void drop_numbers(Numbers *numbers) {
+  PyMem_Free(numbers->at);
+  Py_CLEAR(numbers->exact);
+}
+
+PyObject *exact_number(const Numbers *numbers, Py_ssize_t row) {
+  if (numbers->exact) return Py_NewRef(PyList_GetItem(numbers->exact, row));
+  if (numbers->is_unsigned) return PyLong_FromUnsignedLongLong((uint64_t)numbers->at[row]);
+  return PyLong_FromLongLong(numbers->at[row]);
+}
+
+PyObject *without_mask(PyObject *values, PyObject *filler) {
+  PyObject *name = PyUnicode_FromString("numpy.ma"), *module = name ? PyImport_GetModule(name) : NULL;
+  PyObject *type = module ? PyObject_GetAttrString(module, "MaskedArray") : NULL, *objects = NULL, *filled = NULL;
+  int is_masked = type ? PyObject_IsInstance(values, type) : 0;
+  if (is_masked > 0 && (objects = PyObject_CallMethod(values, "astype", "O", (PyObject *)&PyBaseObject_Type)))
+    filled = PyObject_CallMethod(objects, "filled", "O", filler);
+  else if (!is_masked && !PyErr_Occurred()) filled = Py_NewRef(values);
+  Py_XDECREF(name);
+  Py_XDECREF(module);
+  Py_XDECREF(type);
+  Py_XDECREF(objects);
+  return filled;
+}
+
+bool read_bytes(PyObject *given, Bytes *bytes) {
+  Py_buffer view;
+  *bytes = (Bytes){0};
+  if (PyBytes_CheckExact(given)) {
+    *bytes = (Bytes){.at = PyBytes_AsString(given), .length = PyBytes_Size(given), .held = Py_NewRef(given)};
+    return true;
+  }
+  if (PyObject_GetBuffer(given, &view, PyBUF_FULL_RO)) return false;
+  bytes->copy = PyMem_Malloc(view.len + 1);
+  if (!bytes->copy) PyErr_NoMemory();
+  else if (!PyBuffer_ToContiguous(bytes->copy, &view, view.len, 'C')) bytes->at = bytes->copy, bytes->length = view.len;
+  PyBuffer_Release(&view);
+  if (bytes->at) return true;
+  PyMem_Free(bytes->copy);
+  return false;
+}
+
+void drop_bytes(Bytes *bytes) {
+  Py_CLEAR(bytes->held);
+  PyMem_Free(bytes->copy);
+  bytes->copy = NULL;
+}

@@ -1,0 +1,161 @@
+/* What copies and pickles of interners and columns hold. */
+#include "native.h"
+
+PyObject *new_parts(State *state, Dictionary *dictionary, Block *block, Py_ssize_t n) {
+  Parts *parts = (Parts *)PyType_GenericAlloc(state->parts, 0);
+  if (parts) parts->state = state, parts->dictionary = dictionary, parts->block = block, parts->n = n;
+  return (PyObject *)parts;
+}
+
+bool join_texts(const Dictionary *dictionary, PyObject **joined, PyObject **ends) {
+  size_t count = si_len(dictionary->h), length = 0, number = 0;
+  si_text text;
+  if (!(*ends = PyBytes_FromStringAndSize(NULL, count * sizeof(uint64_t)))) return false;
+  uint64_t *end = (uint64_t *)PyBytes_AsString(*ends);
+  for (size_t row = 0; row < count; row++, number = number_after(dictionary->kind, number, text.len)) {
+    si_resolve(dictionary->h, number, &text);
+    end[row] = length += text.len;
+  }
+  if (!(*joined = PyBytes_FromStringAndSize(NULL, length))) return false;
+  char *at = PyBytes_AsString(*joined);
+  number = 0;
+  for (size_t row = 0; row < count; row++, number = number_after(dictionary->kind, number, text.len)) {
+    si_resolve(dictionary->h, number, &text);
+    memcpy(at, text.bytes, text.len);
+    at += text.len;
+  }
+  return true;
+}
+
+bool split_texts(si_interner *h, const Bytes *joined, const size_t *ends, Py_ssize_t n) {
+  size_t done = 0, *numbers = PyMem_Malloc(n * sizeof *numbers + 1);
+  si_result status = numbers ? si_intern_all(h, joined->at, joined->length, ends, n, numbers, n, &done) : SI_NO_MEMORY;
+  PyMem_Free(numbers);
+  if (status == SI_BAD_TEXT) PyErr_Format(PyExc_ValueError, "text %zu is not UTF-8", done);
+  else if (status != SI_OK) raise_status(status);
+  else if (si_len(h) < (size_t)n) PyErr_SetString(PyExc_ValueError, "a text repeats an earlier one");
+  return !PyErr_Occurred();
+}
+
+static bool is_code(int64_t code, size_t distinct) { return code >= -1 && (code < 0 || (size_t)code < distinct); }
+
+Block *check_codes(const Numbers *numbers, size_t distinct) {
+  Block *block = new_block(numbers->n, width_of(distinct));
+  for (Py_ssize_t row = 0; block && row < numbers->n; row++) {
+    int64_t code = numbers->at[row];
+    if (is_code(code, distinct) && (code >= 0 || !numbers->is_unsigned)) set_code(block, row, code);
+    else {
+      PyObject *exact = exact_number(numbers, row);
+      if (exact) PyErr_Format(PyExc_ValueError, "row %zd has code %S, and the dictionary has %zu texts", row, exact, distinct);
+      Py_XDECREF(exact);
+      drop_block(block);
+      return NULL;
+    }
+  }
+  if (block) block->used = numbers->n;
+  return block;
+}
+
+/* Codes of as many bytes as this dictionary's have. */
+static Block *read_codes(const Bytes *bytes, size_t distinct, Py_ssize_t *n) {
+  int width = width_of(distinct);
+  if (bytes->length % width) return PyErr_SetString(PyExc_ValueError, "the codes have another width"), NULL;
+  *n = bytes->length / width;
+  Block *block = new_block(*n, width);
+  if (!block) return NULL;
+  memcpy(block->data, bytes->at, bytes->length);
+  block->used = *n;
+  for (Py_ssize_t row = 0; row < *n; row++)
+    if (!is_code(code_at(block, row), distinct)) {
+      PyErr_Format(PyExc_ValueError, "row %zd has code %lld, and the dictionary has %zu texts", row, (long long)code_at(block, row), distinct);
+      drop_block(block);
+      return NULL;
+    }
+  return block;
+}
+
+/* Reads what `parts_reduce` wrote into parts without anything. */
+static bool fill_parts(Parts *self, const Options *options, PyObject *const *given) {
+  Bytes joined = {0}, ends = {0}, codes = {0};
+  bool is_done = (self->dictionary = new_dictionary(options)) && read_bytes(given[0], &joined) && read_bytes(given[1], &ends);
+  if (is_done && ends.length % sizeof(size_t)) {
+    PyErr_SetString(PyExc_ValueError, "the ends have another width");
+    is_done = false;
+  }
+  is_done = is_done && split_texts(self->dictionary->h, &joined, (const size_t *)ends.at, ends.length / sizeof(size_t));
+  if (is_done && given[2] != Py_None) {
+    is_done = read_bytes(given[2], &codes) && (self->block = read_codes(&codes, si_len(self->dictionary->h), &self->n));
+    if (is_done && options->kind != SI_STRING) {
+      PyErr_SetString(PyExc_ValueError, "the codes have another backend");
+      is_done = false;
+    }
+  }
+  drop_bytes(&joined);
+  drop_bytes(&ends);
+  drop_bytes(&codes);
+  return is_done;
+}
+
+static PyObject *parts_new(PyTypeObject *type, PyObject *args, PyObject *keywords) {
+  PyObject *backend, *hasher, *given[3];
+  Options options;
+  State *state = state_of_type(type);
+  (void)keywords;
+  if (!state || !PyArg_ParseTuple(args, "OOOOO:_Parts", &backend, &hasher, &given[0], &given[1], &given[2])) return NULL;
+  if (!read_backend(backend, &options.kind) || !read_hasher(state, hasher, &options)) return NULL;
+  Parts *self = (Parts *)new_parts(state, NULL, NULL, -1);
+  if (self && !fill_parts(self, &options, given)) Py_CLEAR(self);
+  return (PyObject *)self;
+}
+
+static void parts_dealloc(Parts *self) {
+  PyTypeObject *type = Py_TYPE((PyObject *)self);
+  drop_dictionary(self->dictionary);
+  drop_block(self->block);
+  ((freefunc)PyType_GetSlot(type, Py_tp_free))(self);
+  Py_DECREF(type);
+}
+
+/* The same texts and codes, shared: whoever changes them copies them first. */
+static PyObject *parts_deepcopy(Parts *self, PyObject *memo) {
+  (void)memo;
+  if (!self->dictionary) return PyErr_SetString(PyExc_ValueError, "these parts were taken"), NULL;
+  return new_parts(self->state, share_dictionary(self->dictionary), share_block(self->block), self->n);
+}
+
+/* Something with a buffer, as a pickle of a protocol holds it: from 5 on it may be out of band. */
+static PyObject *wrap_buffer(PyObject *buffer, long protocol) {
+  if (!buffer || buffer == Py_None) return Py_XNewRef(buffer);
+  if (protocol < 5) return PyBytes_FromObject(buffer);
+  PyObject *type = import_from("pickle", "PickleBuffer");
+  PyObject *wrapped = type ? PyObject_CallFunctionObjArgs(type, buffer, NULL) : NULL;
+  Py_XDECREF(type);
+  return wrapped;
+}
+
+/* Without keys, which are secret: what reads this hashes by the keys of its own process. */
+static PyObject *parts_reduce(Parts *self, PyObject *given) {
+  long protocol = PyLong_AsLong(given);
+  PyObject *joined = NULL, *ends = NULL, *reduced = NULL;
+  if (protocol == -1 && PyErr_Occurred()) return NULL;
+  if (!self->dictionary) return PyErr_SetString(PyExc_ValueError, "these parts were taken"), NULL;
+  Dictionary *dictionary = share_dictionary(self->dictionary);
+  PyObject *codes = self->n < 0 ? Py_NewRef(Py_None) : view_codes(self->state, self->block, self->n, width_of(si_len(dictionary->h)));
+  if (codes && join_texts(dictionary, &joined, &ends))
+    reduced = Py_BuildValue("O(ssNNN)", (PyObject *)Py_TYPE((PyObject *)self), backend_name(dictionary->kind),
+                            dictionary->is_keyed ? "keyed" : "fixed", wrap_buffer(joined, protocol),
+                            wrap_buffer(ends, protocol), wrap_buffer(codes, protocol));
+  drop_dictionary(dictionary);
+  Py_XDECREF(joined);
+  Py_XDECREF(ends);
+  Py_XDECREF(codes);
+  return reduced;
+}
+
+static PyMethodDef parts_methods[] = {
+    {"__deepcopy__", (PyCFunction)parts_deepcopy, METH_O, NULL},
+    {"__reduce_ex__", (PyCFunction)parts_reduce, METH_O, NULL},
+    {NULL, NULL, 0, NULL}};
+static PyType_Slot parts_slots[] = {
+    {Py_tp_doc, "What copies and pickles hold."}, {Py_tp_new, parts_new}, {Py_tp_methods, parts_methods}, {Py_tp_dealloc, parts_dealloc}, {0, NULL}};
+PyType_Spec parts_spec = {"string_interner._native._Parts", sizeof(Parts), 0, Py_TPFLAGS_DEFAULT, parts_slots};
