@@ -1,41 +1,56 @@
-"""Copies the shared library into the package, and tags the wheel for this platform and any Python 3."""
+"""Builds the module in C with the library for C, which clients/build makes, linked in. One file serves CPython from 3.11 on."""
 
 import os
+import sysconfig
 from pathlib import Path
 
-from setuptools import Distribution, setup
-from setuptools.command.build_py import build_py
+from setuptools import Extension, setup
+from setuptools.command.build_ext import build_ext
 from wheel.bdist_wheel import bdist_wheel
 
-NAME = "libstring_interner.so"
+ARCHIVE = "libstring_interner.a"
 HERE = Path(__file__).resolve().parent
+FLAGS = ["-O2", "-std=c11", "-Wall", "-Wextra", "-Wno-cast-function-type", "-Wno-missing-field-initializers", "-fvisibility=hidden"]
 
 
-class BuildWithLibrary(build_py):
-    def run(self):
-        super().run()
-        # An editable package stays in its sources, and finds the library as they do.
-        if not getattr(self, "editable_mode", False):
-            self.copy_file(str(find_library()), os.path.join(self.build_lib, "string_interner", NAME))
+class BuildWithLibrary(build_ext):
+    def build_extensions(self):
+        if sysconfig.get_config_var("Py_GIL_DISABLED"):
+            raise SystemExit("setup.py: the module needs the global lock, which this Python is built without")
+        folder = find_library()
+        for extension in self.extensions:
+            extension.include_dirs.append(str(folder))
+            extension.extra_objects.append(str(folder / ARCHIVE))
+            extension.depends.append(str(folder / ARCHIVE))
+        super().build_extensions()
 
 
-class PlatformDistribution(Distribution):
-    def has_ext_modules(self):
-        return True
-
-
-class PlatformWheel(bdist_wheel):
+class ManyLinuxWheel(bdist_wheel):
     def get_tag(self):
-        # It needs nothing of Python but ctypes.
-        return "py3", "none", super().get_tag()[2]
+        python, abi, platform = super().get_tag()
+        # It needs nothing but the C library, of 2.14 or later; clients/check looks.
+        return python, abi, platform.replace("linux_x86_64", "manylinux_2_17_x86_64")
 
 
 def find_library():
-    """Returns the library in the folder that STRING_INTERNER_LIB names, or else in that of clients/build."""
-    library = Path(os.environ.get("STRING_INTERNER_LIB") or HERE.parent / "out") / NAME
-    if not library.exists():
-        raise SystemExit(f"setup.py: no {library}: run clients/build, or name its folder in STRING_INTERNER_LIB")
-    return library
+    """Returns the folder that STRING_INTERNER_LIB names, or else that of clients/build, if the library is there."""
+    folder = Path(os.environ.get("STRING_INTERNER_LIB") or HERE.parent / "out")
+    if not (folder / ARCHIVE).exists():
+        raise SystemExit(f"setup.py: no {folder / ARCHIVE}: run clients/build, or name its folder in STRING_INTERNER_LIB")
+    return folder
 
 
-setup(distclass=PlatformDistribution, cmdclass={"build_py": BuildWithLibrary, "bdist_wheel": PlatformWheel})
+setup(
+    ext_modules=[
+        Extension(
+            "string_interner._native",
+            sorted(str(path.relative_to(HERE)) for path in HERE.glob("native/*.c")),
+            depends=["native/native.h"],
+            py_limited_api=True,
+            extra_compile_args=FLAGS,
+            extra_link_args=["-Wl,--exclude-libs,ALL"],
+        )
+    ],
+    cmdclass={"build_ext": BuildWithLibrary, "bdist_wheel": ManyLinuxWheel},
+    options={"bdist_wheel": {"py_limited_api": "cp311"}},
+)

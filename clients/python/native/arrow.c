@@ -82,7 +82,7 @@ static PyObject *make_schema(int width) {
 
 PyObject *column_arrow_schema(Column *self, PyObject *unused) {
   (void)unused;
-  return is_made(self) ? make_schema(width_of(si_len(self->dictionary->h))) : NULL;
+  return is_made(self) ? make_schema(column_width(self)) : NULL;
 }
 
 /* An array that has what is held, which it takes over. */
@@ -174,7 +174,7 @@ PyObject *column_arrow_array(Column *self, PyObject *args, PyObject *keywords) {
   PyObject *requested = NULL, *schema, *array, *both = NULL;
   /* A schema that is asked for is a wish, which the specification lets a producer pass over. */
   if (!PyArg_ParseTupleAndKeywords(args, keywords, "|O:__arrow_c_array__", words, &requested)) return NULL;
-  if (!is_made(self) || !(schema = make_schema(width_of(si_len(self->dictionary->h))))) return NULL;
+  if (!is_made(self) || !(schema = make_schema(column_width(self)))) return NULL;
   if ((array = make_capsule(self))) both = PyTuple_Pack(2, schema, array);
   Py_XDECREF(array);
   Py_DECREF(schema);

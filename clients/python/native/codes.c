@@ -81,7 +81,7 @@ static void codes_dealloc(Codes *self) {
 PyObject *view_codes(State *state, Block *block, Py_ssize_t n, int width) {
   Codes *codes = (Codes *)PyType_GenericAlloc(state->codes, 0);
   if (!codes) return NULL;
-  codes->block = share_block(n ? block : NULL), codes->n = n, codes->width = width;
+  codes->block = share_block(n ? block : NULL), codes->n = n, codes->width = n ? block->width : width;
   PyObject *view = PyMemoryView_FromObject((PyObject *)codes);
   Py_DECREF(codes);
   return view;

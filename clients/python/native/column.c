@@ -6,6 +6,8 @@ bool is_made(const Column *self) {
   return self->dictionary != NULL;
 }
 
+int column_width(const Column *self) { return self->n ? self->block->width : width_of(si_len(self->dictionary->h)); }
+
 /* Dictionaries */
 
 Dictionary *wrap_handle(si_interner *h, si_kind kind, bool is_keyed) {
@@ -203,9 +205,8 @@ static PyObject *extend_in_place(Column *self, Rows *rows) {
 
 /* The next values, in a list. A short one is the last. */
 static PyObject *read_values(PyObject *walk) {
-  enum { AT_ONCE = 1 << 18 };
   PyObject *values = PyList_New(0), *value;
-  while (values && PyList_Size(values) < AT_ONCE && (value = PyIter_Next(walk))) {
+  while (values && PyList_Size(values) < VALUES_AT_ONCE && (value = PyIter_Next(walk))) {
     if (PyList_Append(values, value)) Py_CLEAR(values);
     Py_DECREF(value);
   }
@@ -228,7 +229,7 @@ static bool extend_by_part(Batch *batch, PyObject *walk, bool *is_done) {
   if (!is_last) *is_done = reserve_batch(batch, rows.n) && encode_rows(batch, &rows);
   batch->first += rows.n;
   close_rows(&rows);
-  if (*is_done) batch->block ? (void)(batch->block->used = batch->first) : (void)0;
+  if (*is_done && batch->block) batch->block->used = batch->first;
   return *is_done && !is_last;
 }
 
@@ -338,7 +339,7 @@ static PyObject *column_dictionary(Column *self, void *unused) {
 
 static PyObject *column_codes(Column *self, void *unused) {
   (void)unused;
-  return is_made(self) ? view_codes(self->state, self->block, self->n, width_of(si_len(self->dictionary->h))) : NULL;
+  return is_made(self) ? view_codes(self->state, self->block, self->n, column_width(self)) : NULL;
 }
 
 static PyObject *column_distinct(Column *self, void *unused) {

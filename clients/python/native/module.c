@@ -34,7 +34,8 @@ static int fill_module(PyObject *module) {
   bool is_done = draw_keys(state) && add_type(module, &state->interner, &interner_spec) && add_type(module, &state->walk, &walk_spec) &&
                  add_type(module, &state->codes, &codes_spec) && add_type(module, &state->column, &column_spec) &&
                  add_type(module, &state->rows_walk, &rows_walk_spec) && add_type(module, &state->parts, &parts_spec);
-  return is_done && !PyModule_AddIntConstant(module, "_MOST_NARROW", MOST_NARROW) ? 0 : -1;
+  is_done = is_done && !PyModule_AddIntConstant(module, "_MOST_NARROW", MOST_NARROW);
+  return is_done && !PyModule_AddIntConstant(module, "_VALUES_AT_ONCE", VALUES_AT_ONCE) ? 0 : -1;
 }
 
 static int traverse_module(PyObject *module, visitproc visit, void *arg) {

@@ -35,6 +35,11 @@
 #define MOST_NARROW INT32_MAX
 #endif
 
+#ifndef VALUES_AT_ONCE
+/** How many values of an iterator are in memory at once. With fewer it takes longer. A test builds the module with fewer. */
+#define VALUES_AT_ONCE (1 << 18)
+#endif
+
 /** How many rows, or bytes of lines, a part of a batch has: handlers of signals run in between. */
 enum { ROWS_OF_A_PART = 1 << 16, BYTES_OF_A_PART = 1 << 20 };
 
@@ -158,7 +163,7 @@ static inline void set_code(Block *block, Py_ssize_t row, int64_t code) {
 /** Makes room for more codes of a width behind the first n. Others that refer to the block keep what they see. */
 bool reserve_codes(Block **block, Py_ssize_t n, Py_ssize_t more, int width);
 
-/** A view of the first n codes. */
+/** A view of the first n codes, which have `width` bytes each if there are none. */
 PyObject *view_codes(State *state, Block *block, Py_ssize_t n, int width);
 
 /* column.c */
@@ -187,6 +192,9 @@ typedef struct Column {
 
 extern PyType_Spec column_spec, rows_walk_spec;
 bool is_made(const Column *self);
+
+/** The bytes of a code. They may be fewer than its dictionary needs now, if texts were added without rows. */
+int column_width(const Column *self);
 Dictionary *new_dictionary(const Options *options);
 Dictionary *wrap_handle(si_interner *h, si_kind kind, bool is_keyed);
 Dictionary *share_dictionary(Dictionary *dictionary);

@@ -56,10 +56,10 @@ Block *check_codes(const Numbers *numbers, size_t distinct) {
   return block;
 }
 
-/* Codes of as many bytes as this dictionary's have. */
-static Block *read_codes(const Bytes *bytes, size_t distinct, Py_ssize_t *n) {
-  int width = width_of(distinct);
-  if (bytes->length % width) return PyErr_SetString(PyExc_ValueError, "the codes have another width"), NULL;
+/* Codes of `width` bytes each. */
+static Block *read_codes(const Bytes *bytes, int width, size_t distinct, Py_ssize_t *n) {
+  if ((width != 4 && width != 8) || bytes->length % width)
+    return PyErr_SetString(PyExc_ValueError, "the codes have another width"), NULL;
   *n = bytes->length / width;
   Block *block = new_block(*n, width);
   if (!block) return NULL;
@@ -75,7 +75,7 @@ static Block *read_codes(const Bytes *bytes, size_t distinct, Py_ssize_t *n) {
 }
 
 /* Reads what `parts_reduce` wrote into parts without anything. */
-static bool fill_parts(Parts *self, const Options *options, PyObject *const *given) {
+static bool fill_parts(Parts *self, const Options *options, PyObject *const *given, int width) {
   Bytes joined = {0}, ends = {0}, codes = {0};
   bool is_done = (self->dictionary = new_dictionary(options)) && read_bytes(given[0], &joined) && read_bytes(given[1], &ends);
   if (is_done && ends.length % sizeof(size_t)) {
@@ -84,7 +84,7 @@ static bool fill_parts(Parts *self, const Options *options, PyObject *const *giv
   }
   is_done = is_done && split_texts(self->dictionary->h, &joined, (const size_t *)ends.at, ends.length / sizeof(size_t));
   if (is_done && given[2] != Py_None) {
-    is_done = read_bytes(given[2], &codes) && (self->block = read_codes(&codes, si_len(self->dictionary->h), &self->n));
+    is_done = read_bytes(given[2], &codes) && (self->block = read_codes(&codes, width, si_len(self->dictionary->h), &self->n));
     if (is_done && options->kind != SI_STRING) {
       PyErr_SetString(PyExc_ValueError, "the codes have another backend");
       is_done = false;
@@ -98,13 +98,14 @@ static bool fill_parts(Parts *self, const Options *options, PyObject *const *giv
 
 static PyObject *parts_new(PyTypeObject *type, PyObject *args, PyObject *keywords) {
   PyObject *backend, *hasher, *given[3];
+  int width;
   Options options;
   State *state = state_of_type(type);
   (void)keywords;
-  if (!state || !PyArg_ParseTuple(args, "OOOOO:_Parts", &backend, &hasher, &given[0], &given[1], &given[2])) return NULL;
+  if (!state || !PyArg_ParseTuple(args, "OOOOOi:_Parts", &backend, &hasher, &given[0], &given[1], &given[2], &width)) return NULL;
   if (!read_backend(backend, &options.kind) || !read_hasher(state, hasher, &options)) return NULL;
   Parts *self = (Parts *)new_parts(state, NULL, NULL, -1);
-  if (self && !fill_parts(self, &options, given)) Py_CLEAR(self);
+  if (self && !fill_parts(self, &options, given, width)) Py_CLEAR(self);
   return (PyObject *)self;
 }
 
@@ -140,11 +141,12 @@ static PyObject *parts_reduce(Parts *self, PyObject *given) {
   if (protocol == -1 && PyErr_Occurred()) return NULL;
   if (!self->dictionary) return PyErr_SetString(PyExc_ValueError, "these parts were taken"), NULL;
   Dictionary *dictionary = share_dictionary(self->dictionary);
-  PyObject *codes = self->n < 0 ? Py_NewRef(Py_None) : view_codes(self->state, self->block, self->n, width_of(si_len(dictionary->h)));
+  int width = self->n > 0 ? self->block->width : 4;
+  PyObject *codes = self->n < 0 ? Py_NewRef(Py_None) : view_codes(self->state, self->block, self->n, width);
   if (codes && join_texts(dictionary, &joined, &ends))
-    reduced = Py_BuildValue("O(ssNNN)", (PyObject *)Py_TYPE((PyObject *)self), backend_name(dictionary->kind),
+    reduced = Py_BuildValue("O(ssNNNi)", (PyObject *)Py_TYPE((PyObject *)self), backend_name(dictionary->kind),
                             dictionary->is_keyed ? "keyed" : "fixed", wrap_buffer(joined, protocol),
-                            wrap_buffer(ends, protocol), wrap_buffer(codes, protocol));
+                            wrap_buffer(ends, protocol), wrap_buffer(codes, protocol), width);
   drop_dictionary(dictionary);
   Py_XDECREF(joined);
   Py_XDECREF(ends);

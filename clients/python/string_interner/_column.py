@@ -66,7 +66,9 @@ class Column(_native.Column):
         rows = getattr(values, "array", values)
         if isinstance(rows, pandas.Categorical):
             return cls.from_parts(rows.categories.tolist(), rows.codes, hasher=hasher)
-        rows = numpy.asanyarray(rows, dtype=object)
+        if isinstance(rows, numpy.ma.MaskedArray):
+            rows = rows.astype(object).filled(None)
+        rows = numpy.asarray(rows, dtype=object)
         try:
             return cls.from_values(rows, hasher=hasher)
         except TypeError:

@@ -1,6 +1,7 @@
-"""Tests of columns: random calls beside a plain list of rows, with and without numpy, and each refusal.
+"""Tests of columns: random calls beside a plain list of rows, and each refusal.
 
-EXAMPLES=10000 makes as many runs of each, each time others. Else there are fifty, always the same.
+EXAMPLES=10000 makes as many runs of each, each time others. Else there are fifty, always the same. clients/check runs this twice:
+the second time over a module whose codes take 8 bytes from 3 texts on, and which reads iterators 3 values at a time.
 """
 
 import copy
@@ -10,16 +11,16 @@ import pickle
 import signal
 import sys
 import threading
+import tracemalloc
 import unittest
 from array import array
-from unittest import mock
 
 from hypothesis import settings, strategies
 from hypothesis.stateful import RuleBasedStateMachine, initialize, invariant, rule
 from test_protocols import Number
 from test_safety import LyingStr, collecting, run_apart, running
 
-from string_interner import Column, Interner, _column
+from string_interner import Column, Interner, _column, _native
 
 try:
     import numpy
@@ -29,6 +30,11 @@ try:
     import pandas
 except ImportError:
     pandas = None
+
+MOST = _native._MOST_NARROW
+"""How many texts a dictionary may have for codes of 4 bytes."""
+WIDTH = 4 if MOST > 2**30 else 8
+"""The bytes of a code of a dictionary with three texts."""
 
 # Few texts, so that they repeat, and are known to the other column or not.
 TEXTS = strategies.text("abß語", max_size=2) | strategies.text(max_size=3)
@@ -49,21 +55,9 @@ def first_appearances(texts):
 class BesideAList(RuleBasedStateMachine):
     """A column, its rows, and the texts of its dictionary."""
 
-    # How many texts a dictionary may have for codes of 4 bytes, and whether numpy is used if it is there.
-    most, with_numpy = _column._MOST_OF_4_BYTES, True
-
     def __init__(self):
         super().__init__()
-        self.patches = [mock.patch.multiple(_column, _MOST_OF_4_BYTES=self.most, _AT_ONCE=3)]
-        if not self.with_numpy:
-            self.patches.append(mock.patch.object(_column, "_find_numpy", lambda: None))
-        for patch in self.patches:
-            patch.start()
         self.column, self.rows, self.texts, self.lent = Column(), [], [], []
-
-    def teardown(self):
-        for patch in self.patches:
-            patch.stop()
 
     def add(self, rows, texts=None):
         """Notes that rows were added, and texts if these are not only those of the rows."""
@@ -110,6 +104,32 @@ class BesideAList(RuleBasedStateMachine):
                 continue
             raise AssertionError("a wrong value was taken")
 
+    @rule(rows=ROWS)
+    def extend_by_an_iterator_that_fails(self, rows):
+        def fail():
+            yield from rows
+            raise ZeroDivisionError
+
+        try:
+            self.column.extend(fail())
+        except ZeroDivisionError:
+            return
+        raise AssertionError("the exception is gone")
+
+    @rule(rows=ROWS, start=PLACES, stop=PLACES)
+    def share_the_dictionary_and_part(self, rows, start, stop):
+        part, texts = self.column[start:stop], self.texts
+        self.column.extend(rows)
+        self.add(rows)
+        part.append("only there")
+        assert part.dictionary == first_appearances([*texts, "only there"])
+
+    @rule(places=strategies.lists(strategies.integers(-100, 100), max_size=8), form=strategies.sampled_from((list, iter, tuple)))
+    def take(self, places, form):
+        places = [place % len(self.rows) - len(self.rows) * (place < 0) for place in places] if self.rows else []
+        taken = self.column.take(form(places))
+        assert list(taken) == [self.rows[place] for place in places] and taken.dictionary == self.texts
+
     @rule(start=PLACES, stop=PLACES, step=PLACES.filter(lambda step: step != 0))
     def slice(self, start, stop, step):
         part = self.column[start:stop:step]
@@ -123,6 +143,7 @@ class BesideAList(RuleBasedStateMachine):
 
     @rule(make=strategies.sampled_from((
         copy.copy, copy.deepcopy, lambda it: pickle.loads(pickle.dumps(it)), lambda it: pickle.loads(pickle.dumps(it, 0)),
+        lambda it: pickle.loads(pickle.dumps(it, 5)), lambda it: Column.from_buffers(*it.to_buffers()),
         lambda it: Column.from_parts(it.dictionary, it.codes),
         lambda it: Column.from_parts(Interner(it.dictionary), iter(it.codes)),
     )))
@@ -153,9 +174,13 @@ class BesideAList(RuleBasedStateMachine):
         codes = [-1 if row is None else self.texts.index(row) for row in rows]
         assert (list(column), len(column), column.dictionary, column.distinct) == (rows, len(rows), self.texts, len(self.texts))
         assert column.codes.tolist() == codes and column.codes.readonly
-        assert column.codes.itemsize == (4 if len(self.texts) <= self.most else 8)
+        assert column.codes.itemsize == (4 if len(self.texts) <= MOST else 8)
+        assert list(reversed(column)) == rows[::-1]
         assert [column[row] for row in range(-len(rows), len(rows))] == rows + rows
         assert column.counts() == array("Q", map(rows.count, self.texts))
+        counted = sorted(((text, rows.count(text)) for text in self.texts if text in rows), key=lambda row: -row[1])
+        assert list(column.value_counts().items()) == counted
+        assert column.__dask_tokenize__() == Column(rows, hasher="fixed").__dask_tokenize__()
         assert [column.code(text) for text in self.texts] == [*range(len(self.texts))] and column.code("not there") is None
         for value in (*self.texts, None, "not there"):
             assert (value in column, column.count(value)) == (value in rows, rows.count(value))
@@ -176,23 +201,9 @@ class BesideAList(RuleBasedStateMachine):
             assert list(walk) == rows
 
 
-class WithoutNumpy(BesideAList):
-    with_numpy = False
-
-
-class InEightBytes(BesideAList):
-    most = 2
-
-
-class InEightBytesWithoutNumpy(BesideAList):
-    most, with_numpy = 2, False
-
-
-TestBesideAList, TestWithoutNumpy = BesideAList.TestCase, WithoutNumpy.TestCase
-TestInEightBytes, TestInEightBytesWithoutNumpy = InEightBytes.TestCase, InEightBytesWithoutNumpy.TestCase
-for case in (TestBesideAList, TestWithoutNumpy, TestInEightBytes, TestInEightBytesWithoutNumpy):
-    case.settings = settings(max_examples=int(os.environ.get("EXAMPLES", 50)), stateful_step_count=30, deadline=None,
-                             derandomize="EXAMPLES" not in os.environ, database=None)
+TestBesideAList = BesideAList.TestCase
+TestBesideAList.settings = settings(max_examples=int(os.environ.get("EXAMPLES", 50)), stateful_step_count=30, deadline=None,
+                                    derandomize="EXAMPLES" not in os.environ, database=None)
 
 
 class Named(Column):
@@ -265,7 +276,7 @@ class Refusals(unittest.TestCase):
             for rows in ([wrong], ["a", wrong], [None, wrong], ["a", None, wrong], ["ß", "a", "a", None, wrong, None, 1]):
                 for make in (list, tuple, iter):
                     said = f"^row {rows.index(wrong)} is of type {type(wrong).__name__}, not str or None$"
-                    with self.assertRaisesRegex(TypeError, said), mock.patch.object(_column, "_AT_ONCE", 2):
+                    with self.assertRaisesRegex(TypeError, said):
                         Column(make(rows))
         for before in (["a"] * 300000, ["a", None] * 150000):
             for make in (list, iter):
@@ -296,14 +307,46 @@ class Refusals(unittest.TestCase):
             with self.assertRaisesRegex(ValueError, "^no hasher 'none'$"):
                 make([], hasher="none")
 
-    def test_a_failed_call_adds_no_row(self):
-        column = Column(["a", None])
-        for error in (MemoryError, OverflowError):
-            with mock.patch.multiple(Interner, intern=mock.Mock(side_effect=error), intern_all=mock.Mock(side_effect=error)):
-                for call in (lambda: column.append("b"), lambda: column.extend(["b"]), lambda: column.merge(Column())):
-                    with self.assertRaises(error):
-                        call()
-            self.assertEqual(list(column), ["a", None])
+    def test_a_call_without_memory_adds_no_row(self):
+        # The library's own requests fail, too.
+        self.assertEqual(run_apart("""
+            import resource
+            from string_interner import Column
+            column, part, texts = Column(["a", None]), Column(["b"]), [str(number) * 100 for number in range(100_000)]
+            other, wide = Column(texts), Column(["a"] * 10**7)
+            used = int(open("/proc/self/statm").read().split()[0]) * resource.getpagesize()
+            resource.setrlimit(resource.RLIMIT_AS, (used + 10_000_000,) * 2)
+            for call in (lambda: column.extend(texts), lambda: column.extend(iter(texts)), lambda: column.merge(other),
+                         lambda: part.merge(wide), lambda: wide.append("z"), lambda: wide[1:], lambda: wide.take(range(10**7)),
+                         lambda: Column.from_parts(texts, [0]), lambda: other.__arrow_c_array__(), lambda: other.dictionary):
+                try:
+                    call()
+                except MemoryError:
+                    continue
+                print("enough memory")
+            print(list(column), column.dictionary, list(part), part.dictionary, len(wide), wide.dictionary)
+            """), (0, "['a', None] ['a'] ['b'] ['b'] 10000000 ['a']", ""))
+
+    def test_a_call_whose_requests_are_refused(self):
+        try:
+            from _testcapi import remove_mem_hooks, set_nomemory
+        except ImportError:
+            self.skipTest("no _testcapi")
+        for call in (lambda it: it.extend(["b", None]), lambda it: it.append("c"), lambda it: it.merge(Column(["d"])), list,
+                     lambda it: it.extend(map(str, range(9))), lambda it: it.codes, lambda it: it[::2], lambda it: it.counts(),
+                     lambda it: it.dictionary, lambda it: it._buffers(), lambda it: it.take([0]), lambda it: it._parts):
+            for request in range(60):
+                column = Column(["a", None])
+                set_nomemory(request, request + 1)
+                try:
+                    call(column)
+                    failed = False
+                except MemoryError:
+                    failed = True
+                finally:
+                    remove_mem_hooks()
+                if failed:
+                    self.assertEqual((list(column), column.dictionary), (["a", None], ["a"]))
 
 
 class Calls(unittest.TestCase):
@@ -312,7 +355,7 @@ class Calls(unittest.TestCase):
             for column in (Column(["a", None, "a"], hasher=hasher), Column.encode(["a", None, "a"], hasher=hasher),
                            Column.from_parts(["a"], [0, -1, 0], hasher=hasher)):
                 self.assertEqual(list(column), ["a", None, "a"])
-                self.assertEqual(column._names.hasher, "fixed" if hasher == "fixed" else "keyed")
+                self.assertEqual(column.hasher, "fixed" if hasher == "fixed" else "keyed")
 
     def test_a_dictionary_of_any_backend(self):
         for backend in ("string", "bucket", "buffer"):
@@ -347,8 +390,6 @@ class Calls(unittest.TestCase):
                     else:
                         self.assertEqual(column.index(value, *ends), found)
         self.assertEqual(column.index("a", start=1), 3)
-        with mock.patch.object(Column, "_read", side_effect=AssertionError("reads all rows")):
-            self.assertTrue("ß" in column and column.count("a") == column.count(None) == 2 and column.index("b") == 2)
 
     def test_a_text_is_looked_up(self):
         column = Column(["a", None, "ß", "a"])
@@ -364,33 +405,25 @@ class Calls(unittest.TestCase):
         column.extend([None] * 1000)
         self.assertEqual(sys.getsizeof(column) - empty, 4000)
         column.extend(map(str, range(1000)))
-        self.assertEqual(sys.getsizeof(column) - empty, 8000 + 64 * 1000)
+        self.assertEqual(sys.getsizeof(column) - empty, 2000 * WIDTH + 64 * 1000)
 
     def test_a_text_is_what_it_holds(self):
         self.assertEqual(list(Column([LyingStr("Tiger"), None])), ["Tiger", None])
 
     def test_a_row_is_read_without_the_whole_dictionary(self):
-        column, fails = Column(["a", None, "b"]), mock.Mock(side_effect=AssertionError)
-        with mock.patch.multiple(Interner, __iter__=fails, resolve_all=fails):
+        column = Column(["a", None, *map(str, range(10_000)), "b"])
+        tracemalloc.start()
+        try:
             self.assertEqual([column[0], column[1], column[-1]], ["a", None, "b"])
-        self.assertEqual(column.dictionary, ["a", "b"])
-        column.append("c")
-        with mock.patch.multiple(Interner, __iter__=fails, resolve_all=fails):
-            self.assertEqual([column[0], column[-1]], ["a", "c"])
+            self.assertTrue("7" in column and column.count("a") == 1 and column.index("b") == 10_002)
+            self.assertLess(tracemalloc.get_traced_memory()[1], 10_000)
+        finally:
+            tracemalloc.stop()
 
-    def test_merging_looks_up_each_text_once(self):
-        intern_all, given = Interner.intern_all, []
-
-        def note(self, texts, **options):
-            given.append(list(texts))
-            return intern_all(self, given[-1], **options)
-
+    def test_merging_by_either_name(self):
         for add in (Column.merge, Column.extend):
             one, other = Column(["a", "b"] * 50), Column(["b", "c", None] * 50)
-            given.clear()
-            with mock.patch.multiple(Interner, intern_all=note, intern=mock.Mock(side_effect=AssertionError)):
-                add(one, other)
-            self.assertEqual(given, [["b", "c"]])
+            add(one, other)
             self.assertEqual(list(one), ["a", "b"] * 50 + ["b", "c", None] * 50)
 
     def test_texts_of_an_iterator_are_not_all_in_memory(self):
@@ -406,27 +439,50 @@ class Calls(unittest.TestCase):
                 nonlocal alive
                 alive -= 1
 
-        with mock.patch.object(_column, "_AT_ONCE", 100):
-            column = Column(Counted(row % 7) for row in range(2000))
-        self.assertEqual(list(column), [str(row % 7) for row in range(2000)])
-        self.assertLess(most, 250)
+        at_once = _native._VALUES_AT_ONCE
+        rows = 100 + 3 * at_once
+        column = Column(Counted(row % 7) for row in range(rows))
+        self.assertEqual(list(column), [str(row % 7) for row in range(rows)])
+        self.assertLess(most, at_once + 10)
 
     def test_an_iterator_that_fails_adds_no_row(self):
         def rows(last):
             yield from "abcde"
             yield last
 
-        with mock.patch.object(_column, "_AT_ONCE", 2):
-            for last, error in ((7, TypeError), (b"a", TypeError), ("\ud800", UnicodeEncodeError)):
-                column = Column(["x", None])
-                with self.assertRaises(error):
-                    column.extend(rows(last))
-                self.assertEqual(list(column), ["x", None])
+        for last, error in ((7, TypeError), (b"a", TypeError), ("\ud800", UnicodeEncodeError)):
+            column = Column(["x", None])
+            with self.assertRaises(error):
+                column.extend(rows(last))
+            self.assertEqual((list(column), column.dictionary), (["x", None], ["x"]))
+        with self.assertRaises(ZeroDivisionError):
+            column.extend(str(1 // (3 - row)) for row in range(5))
+        self.assertEqual((list(column), column.dictionary), (["x", None], ["x"]))
+        column.extend(rows(None))
+        self.assertEqual((list(column), column.distinct), (["x", None, *"abcde", None], 6))
+
+    def test_an_iterator_that_uses_the_column(self):
+        column, kept = Column(["x", None]), []
+
+        def rows(act):
+            yield from "abcd"
+            act()
+            yield from "efg"
+
+        column.extend(rows(lambda: column.append("y")))
+        self.assertEqual(list(column), ["x", None, "y", *"abcdefg"])
+        column = Column(["x", None])
+        column.extend(rows(lambda: kept.append(column[:])))
+        self.assertEqual((list(column), list(kept[0])), (["x", None, *"abcdefg"], ["x", None]))
+        for act in (lambda: column.append("z") or 1 // 0, lambda: kept.append(column[:]) or 1 // 0):
+            column = Column(["x", None])
             with self.assertRaises(ZeroDivisionError):
-                column.extend(str(1 // (3 - row)) for row in range(5))
-            self.assertEqual(list(column), ["x", None])
-            column.extend(rows(None))
-        self.assertEqual((list(column), column.distinct >= 6), (["x", None, *"abcde", None], True))
+                column.extend(rows(act))
+            self.assertIn(list(column), (["x", None], ["x", None, "z"]))
+            self.assertEqual([column.dictionary[code] for code in column.codes if code >= 0], [it for it in column if it])
+        with self.assertRaisesRegex(RuntimeError, "changed this during the call"):
+            column.extend(rows(lambda: column.__init__(["new"])))
+        self.assertEqual(list(column), ["new"])
 
     def test_merging_is_associative(self):
         parts = [["a", None, "b"], ["c", "a"], ["d", "c", "b", None]]
@@ -481,7 +537,6 @@ class Buffers(unittest.TestCase):
     def test_the_codes_are_lent(self):
         column = Column(["a", None, "b"])
         view = column.codes
-        self.assertIs(view.obj, column.codes.obj)
         self.assertEqual((view.format, view.nbytes, view.readonly), ("i", 12, True))
         with self.assertRaises(TypeError):
             view[0] = 1
@@ -495,28 +550,40 @@ class Buffers(unittest.TestCase):
         column.dictionary.append("c")
         self.assertEqual((list(column), column.dictionary, column[2]), (["a", None, "b"], ["a", "b"], "b"))
 
-    def test_codes_grow_in_place_if_nobody_has_them(self):
-        column = Column(["a"])
-        codes = column._codes
-        column.append("b")
-        column.extend([None, "a"])
-        column.merge(Column("xy"))
-        self.assertIs(column._codes, codes)
-        self.assertEqual(codes.tolist(), [0, 1, -1, 0, 2, 3])
-
-    @unittest.skipUnless(numpy, "no numpy")
+    @unittest.skipUnless(numpy and WIDTH == 4, "no numpy, or wide codes")
     def test_numpy_shares_the_codes(self):
         column = Column(["a", None, "b"] * 100)
-        address, _ = column._codes.buffer_info()
+        address = numpy.asarray(column.codes).ctypes.data
         for codes in (numpy.frombuffer(column.codes, numpy.int32), numpy.asarray(column.codes)):
             self.assertEqual((codes.dtype, codes.tolist()), (numpy.int32, [0, -1, 1] * 100))
             self.assertEqual(codes.__array_interface__["data"], (address, True))
             self.assertFalse(codes.flags.writeable)
         self.assertTrue(numpy.shares_memory(numpy.frombuffer(column.codes, numpy.int32), numpy.asarray(column.codes)))
-        with mock.patch.object(_column, "_MOST_OF_4_BYTES", 1):
-            column.append("c")
-        self.assertEqual((numpy.asarray(column.codes).dtype, codes.dtype), (numpy.int64, numpy.int32))
         self.assertEqual(numpy.asarray(Column().codes).tolist(), [])
+
+    @unittest.skipUnless(numpy, "no numpy")
+    def test_rows_are_added_behind_a_view_without_a_copy(self):
+        column, addresses, views = Column(["a"] * 1000), set(), []
+        for number in range(500):
+            views.append(numpy.asarray(column.codes))
+            addresses.add(views[-1].ctypes.data)
+            column.append("b" if number % 2 else None)
+        self.assertLess(len(addresses), 9)
+        rows = ["a"] * 1000 + [None, "b"] * 250
+        self.assertEqual(list(column), rows)
+        wanted = [{"a": 0, None: -1, "b": 1}[row] for row in rows]
+        for number, view in enumerate(views):
+            self.assertEqual(view.tolist(), wanted[: 1000 + number])
+
+    @unittest.skipUnless(numpy, "no numpy")
+    def test_two_columns_that_add_behind_one_block(self):
+        one = Column(["a"] * 100)
+        one.append("b")
+        other, third = one[:], copy.copy(one)
+        for column, rows in ((one, "cd"), (other, "ef"), (third, ["c", None])):
+            column.extend(rows)
+        self.assertEqual([list(it)[-3:] for it in (one, other, third)], [["b", "c", "d"], ["b", "e", "f"], ["b", "c", None]])
+        self.assertEqual([it.dictionary[2:] for it in (one, other, third)], [["c", "d"], ["e", "f"], ["c"]])
 
     @unittest.skipUnless(numpy, "no numpy")
     def test_codes_of_numpy(self):
@@ -574,7 +641,7 @@ class Pandas(unittest.TestCase):
             column = Column(map(str, range(distinct)))
             there = column.to_pandas()
             self.assertEqual(there.codes.dtype.itemsize, width)
-            self.assertEqual(numpy.shares_memory(there.codes, numpy.asarray(column.codes)), width == 4)
+            self.assertEqual(numpy.shares_memory(there.codes, numpy.asarray(column.codes)), width == WIDTH)
             # What pandas does with it, it does without changing the column, and the column without changing it.
             series, last = pandas.Series(there), str(distinct - 1)
             column.extend(["0", None, "new"])
@@ -589,7 +656,7 @@ class Pandas(unittest.TestCase):
             changed = there.copy()
             changed[0] = last
             self.assertEqual((changed[0], there[0], column[0]), (last, "0", "0"))
-            if width == 4:
+            if width == WIDTH:
                 with self.assertRaises(ValueError):
                     there[0] = last
 
@@ -682,7 +749,7 @@ class SharedColumns(unittest.TestCase):
 
         own = []
         with collecting(add):
-            for number in range(200):
+            for number in range(400):
                 view = column.codes
                 column.extend([f"row {number}", None])
                 column.merge(other)
