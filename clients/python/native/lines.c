@@ -145,10 +145,17 @@ static int open_file(PyObject *path) {
   return file;
 }
 
+/* The number of an open file. */
+static int read_file_number(PyObject *given) {
+  long file = PyLong_AsLong(given);
+  if (file != (int)file && !PyErr_Occurred()) PyErr_SetString(PyExc_OverflowError, "no file has this number");
+  return (int)file;
+}
+
 /* Encodes the lines of a file in a dictionary that nobody else has. */
 static Block *encode_named(Dictionary *dictionary, PyObject *name, Py_ssize_t *rows) {
   bool is_number = PyLong_Check(name);
-  int file = is_number ? (int)PyLong_AsLong(name) : open_file(name);
+  int file = is_number ? read_file_number(name) : open_file(name);
   if (PyErr_Occurred()) return NULL;
   Batch *batch = new_batch(NULL, NULL, dictionary->h);
   Block *block = NULL;

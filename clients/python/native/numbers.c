@@ -96,17 +96,26 @@ PyObject *exact_number(const Numbers *numbers, Py_ssize_t row) {
   return PyLong_FromLongLong(numbers->at[row]);
 }
 
+/* A copy of a masked array with a filler in each masked place. */
+static PyObject *fill_masked(PyObject *module, PyObject *values, PyObject *filler) {
+  PyObject *data = PyObject_GetAttrString(values, "data"), *mask = NULL, *filled = NULL;
+  if (data && (filled = PyObject_CallMethod(data, "astype", "O", (PyObject *)&PyBaseObject_Type)))
+    mask = PyObject_CallMethod(module, "getmaskarray", "O", values);
+  if (!mask || PyObject_SetItem(filled, mask, filler)) Py_CLEAR(filled);
+  Py_XDECREF(data);
+  Py_XDECREF(mask);
+  return filled;
+}
+
 PyObject *without_mask(PyObject *values, PyObject *filler) {
   PyObject *name = PyUnicode_FromString("numpy.ma"), *module = name ? PyImport_GetModule(name) : NULL;
-  PyObject *type = module ? PyObject_GetAttrString(module, "MaskedArray") : NULL, *objects = NULL, *filled = NULL;
+  PyObject *type = module ? PyObject_GetAttrString(module, "MaskedArray") : NULL, *filled = NULL;
   int is_masked = type ? PyObject_IsInstance(values, type) : 0;
-  if (is_masked > 0 && (objects = PyObject_CallMethod(values, "astype", "O", (PyObject *)&PyBaseObject_Type)))
-    filled = PyObject_CallMethod(objects, "filled", "O", filler);
+  if (is_masked > 0) filled = fill_masked(module, values, filler);
   else if (!is_masked && !PyErr_Occurred()) filled = Py_NewRef(values);
   Py_XDECREF(name);
   Py_XDECREF(module);
   Py_XDECREF(type);
-  Py_XDECREF(objects);
   return filled;
 }
 

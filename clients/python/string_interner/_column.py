@@ -66,14 +66,13 @@ class Column(_native.Column):
         rows = getattr(values, "array", values)
         if isinstance(rows, pandas.Categorical):
             return cls.from_parts(rows.categories.tolist(), rows.codes, hasher=hasher)
-        if isinstance(rows, numpy.ma.MaskedArray):
-            rows = rows.astype(object).filled(None)
-        rows = numpy.asarray(rows, dtype=object)
+        rows = numpy.asanyarray(rows, dtype=object)
         try:
             return cls.from_values(rows, hasher=hasher)
         except TypeError:
             # Only now, because most have no missing value but None.
-            return cls.from_values(numpy.where(pandas.isna(rows), None, rows), hasher=hasher)
+            missing = pandas.isna(numpy.asarray(rows)) | numpy.ma.getmaskarray(rows)
+            return cls.from_values(numpy.where(missing, None, rows), hasher=hasher)
 
     def to_pandas(self) -> Any:
         """Returns a Categorical of pandas, whose categories are the dictionary. Raises ImportError without pandas.

@@ -67,6 +67,35 @@ class Calls:
         for number in (-1, 10**6, 2**32, 2**64 - 1, 2**64, 10**30):
             self.assertIsNone(interner.resolve(number))
 
+    def test_a_default_for_an_unknown_text(self):
+        interner, other = self.make(TEXTS), object()
+        self.assertIs(interner.get("Horse", other), other)
+        self.assertIs(interner.get("Horse", default=other), other)
+        self.assertIs(interner.get("lone \ud800", other), other)
+        self.assertEqual(interner.get("語", other), places(TEXTS, self.backend)[3])
+        for call in (lambda: interner.get(), lambda: interner.get("a", 1, 2), lambda: interner.get("a", missing=1),
+                     lambda: interner.get("a", 1, default=2), lambda: interner.get(default=1), lambda: interner.get(text="a")):
+            self.assertRaises(TypeError, call)
+
+    def test_looks_many_texts_up(self):
+        interner = self.make(TEXTS)
+        wanted = places(TEXTS, self.backend)
+        rows = [*TEXTS, "Horse", "lone \ud800", *TEXTS[::-1]]
+        for given in (rows, tuple(rows), iter(rows)):
+            numbers = interner.get_all(given)
+            self.assertEqual((numbers.tolist(), numbers.typecode), ([*wanted, -1, -1, *wanted[::-1]], "i"))
+        self.assertEqual(interner.get_all([]), array("i"))
+        for missing, typecode in ((7, "i"), (2**31 - 1, "i"), (-(2**31), "i"), (2**31, "q"), (-(2**63), "q")):
+            numbers = interner.get_all(["Horse", "Tiger", "Horse"], missing)
+            self.assertEqual((numbers.tolist(), numbers.typecode), ([missing, wanted[0], missing], typecode))
+            self.assertEqual(interner.get_all(["Horse"], missing=missing).tolist(), [missing])
+        for wrong in (b"a", 1, None):
+            with self.assertRaisesRegex(TypeError, f"^text 1 is of type {type(wrong).__name__}, not str$"):
+                interner.get_all(["a", wrong])
+        self.assertRaises(OverflowError, interner.get_all, ["a"], 2**63)
+        self.assertRaises(TypeError, interner.get_all, ["a"], 1.5)
+        self.assertEqual(list(interner), TEXTS)
+
     def test_encodes_columns(self):
         interner = self.make(["b"])
         column = ["a", "b", "ab", "a", "", "語", "b"]
@@ -172,6 +201,38 @@ class OverBucket(Calls, unittest.TestCase):
 
 class OverBuffer(Calls, unittest.TestCase):
     backend = "buffer"
+
+
+class Objects(unittest.TestCase):
+    """Arrays of objects are read in place."""
+
+    def setUp(self):
+        try:
+            import numpy
+        except ImportError:
+            self.skipTest("no numpy")
+        self.numpy = numpy
+
+    def test_arrays_of_objects(self):
+        rows = self.numpy.array(["b", "a", "b", "ß"] * 700, dtype=object)
+        for given in (rows, rows[::-2], rows[1:1], rows.reshape(4, -1)[1], rows[:3].copy()):
+            interner, other = Interner(), Interner()
+            self.assertEqual(interner.intern_all(given), other.intern_all(given.tolist()))
+            self.assertEqual(interner, other)
+            self.assertEqual(interner.get_all(given), other.get_all(given.tolist()))
+
+    def test_arrays_of_other_kinds(self):
+        texts = self.numpy.array(["b", "a", "b"])
+        self.assertEqual(Interner().intern_all(texts).tolist(), [0, 1, 0])
+        for wrong in (self.numpy.array([1, 2]), self.numpy.array([1.5]), self.numpy.array([["a", "b"]]), self.numpy.array([True]),
+                      self.numpy.array([b"a"]), self.numpy.array(["2020"], "M8"), self.numpy.array([("a",)], "O,"[0])):
+            with self.assertRaises(TypeError):
+                Interner().intern_all(wrong)
+
+    def test_masked_arrays(self):
+        masked = self.numpy.ma.array(["a", "b"], mask=[True, False], dtype=object)
+        with self.assertRaisesRegex(TypeError, "^text 0 is of type NoneType, not str$"):
+            Interner().intern_all(masked)
 
 
 class Others(unittest.TestCase):

@@ -533,7 +533,127 @@ class Calls(unittest.TestCase):
             """), (0, "[1, 2, 1] True\nImportError\nImportError", ""))
 
 
+class Copies(unittest.TestCase):
+    def test_pickles_out_of_band(self):
+        for hasher in ("keyed", "fixed"):
+            column, buffers = Column(["a" * 1000, None, "ß"] * 1000, hasher=hasher), []
+            written = pickle.dumps(column, 5, buffer_callback=buffers.append)
+            self.assertLess(len(written), 300)
+            self.assertEqual([len(it.raw()) for it in buffers], [1002, 16, 12_000])
+            for make in (bytes, bytearray):
+                other = pickle.loads(written, buffers=[make(it.raw()) for it in buffers])
+                self.assertEqual((other, other.hasher, other.codes), (column, hasher, column.codes))
+
+    def test_changed_pickles(self):
+        # Each byte of a small pickle, changed to others: refused when it is read, or a column whose rows are in its dictionary.
+        read = refused = 0
+        for protocol in (2, 5):
+            written = pickle.dumps(Column(["red", None, "green", "red"]), protocol)
+            for place in range(len(written)):
+                for byte in {0, 1, 2, 3, 5, 0x7F, 0xFF, written[place] ^ 1, written[place] ^ 0x80}:
+                    changed = written[:place] + bytes([byte]) + written[place + 1 :]
+                    if b"string_interner" not in changed:
+                        continue
+                    try:
+                        column = pickle.loads(changed)
+                    except Exception:
+                        refused += 1
+                        continue
+                    if type(column) is Column:
+                        try:
+                            self.assertLessEqual({*column}, {*column.dictionary, None})
+                        except ValueError as error:
+                            self.assertEqual(str(error), "the column was not initialized")
+                        read += 1
+        self.assertGreater(min(read, refused), 100)
+
+    def test_changed_parts(self):
+        _, (name, hasher, joined, ends, codes, width) = Column(["red", None, "green", "red"])._parts.__reduce_ex__(2)
+        for changes, said in (
+            ({"joined": b"redgreex"[:-1]}, "an end"), ({"joined": b"\xff" * 8}, "text 0 is not UTF-8"), ({"ends": ends[:-1]}, "the ends have another width"),
+            ({"ends": ends[::-1]}, "an end"), ({"codes": codes[:-1]}, "the codes have another width"), ({"codes": b"\2" * 16}, "row 0 has code 33686018, "),
+            ({"codes": b"\xfe" + b"\xff" * 15}, "row 0 has code -2, "), ({"width": 2}, "the codes have another width"), ({"width": -4}, "the codes have another width"),
+            ({"name": "buffer"}, "the codes have another backend"), ({"name": "tree"}, "no backend 'tree'"), ({"hasher": "none"}, "no hasher 'none'"),
+            ({"joined": b"redredxx", "ends": array("Q", [3, 6]).tobytes()}, "a text repeats an earlier one"),
+        ):
+            if width == 8 and "codes" in changes:
+                continue
+            given = {"name": name, "hasher": hasher, "joined": joined, "ends": ends, "codes": codes, "width": width} | changes
+            with self.assertRaisesRegex(ValueError, f"^{said}"):
+                _native._Parts(*given.values())
+        column = Column(["a"])
+        for wrong in (None, Interner()._parts, column, 1):
+            with self.assertRaises(TypeError):
+                column._parts = wrong
+        with self.assertRaises(TypeError):
+            Interner()._parts = column._parts
+        self.assertEqual(list(column), ["a"])
+
+    def test_what_no_constructor_made(self):
+        column = Column.__new__(Column)
+        for call in (lambda: len(column), lambda: list(column), lambda: column[0], lambda: column[:], lambda: "a" in column,
+                     lambda: column.append("a"), lambda: column.append(None), lambda: column.extend(["a"]), lambda: column.extend(iter("a")),
+                     lambda: column.merge(Column()), lambda: Column().merge(column), lambda: column == Column(), lambda: Column() == column,
+                     lambda: column.codes, lambda: column.dictionary, lambda: column.counts(), lambda: column.take([]), lambda: column.distinct,
+                     lambda: column.__arrow_c_array__(), lambda: column.__arrow_c_schema__(), lambda: pickle.dumps(column), lambda: column.hasher,
+                     lambda: column.index("a"), lambda: column.count(None), lambda: column.code("a"), lambda: column.to_buffers(),
+                     lambda: column.value_counts(), lambda: column.__dask_tokenize__(), lambda: reversed(column), lambda: copy.copy(column)):
+            with self.assertRaisesRegex(ValueError, "^the column was not initialized$"):
+                call()
+        self.assertEqual(repr(column), "<Column that was not initialized>")
+        column.__init__(["a"])
+        self.assertEqual(list(column), ["a"])
+
+    def test_copies_share_the_dictionary_until_one_adds_a_text(self):
+        column = Column(map(str, range(1000)))
+        tracemalloc.start()
+        try:
+            copies = [column[:], copy.copy(column), copy.deepcopy(column), column[:0], column.take([0])]
+            self.assertLess(tracemalloc.get_traced_memory()[1], 5000)
+        finally:
+            tracemalloc.stop()
+        for number, it in enumerate(copies):
+            it.extend(["7", None])
+            it.append(f"own {number}")
+        self.assertEqual([it.distinct for it in (column, *copies)], [1000, *[1001] * 5])
+        self.assertEqual([it.dictionary[1000:] for it in copies], [[f"own {number}"] for number in range(5)])
+
+
 class Buffers(unittest.TestCase):
+    def test_from_buffers(self):
+        for ends in ([3, 8], array("i", [3, 8]), array("Q", [3, 8]), iter([3, 8])):
+            column = Column.from_buffers(bytearray(b"redgreen"), ends, [1, -1, 0], hasher="fixed")
+            self.assertEqual((list(column), column.dictionary, column.hasher), (["green", None, "red"], ["red", "green"], "fixed"))
+        for joined, ends, codes, said in (
+            (b"redred", [3, 6], [0], "a text repeats an earlier one"), (b"ab", [1, 3], [0], "an end"), (b"ab", [2, 1], [0], "an end"),
+            (b"ab", [-1], [0], "an end"), (b"a\xff", [1, 2], [0], "text 1 is not UTF-8"), (b"ab", [1, 2], [0, 2], "row 1 has code 2, and the dictionary has 2 texts"),
+            (b"ab", [1, 2], array("Q", [0, 2**64 - 1]), f"row 1 has code {2**64 - 1}, "),
+        ):
+            with self.assertRaisesRegex(ValueError, f"^{said}"):
+                Column.from_buffers(joined, ends, codes)
+        joined, ends, codes = Column(["a", None, "ß"]).to_buffers()
+        self.assertEqual((joined, ends.tolist(), ends.format, codes.tolist()), ("aß".encode(), [1, 3], "Q", [0, -1, 1]))
+
+    def test_take_refuses(self):
+        column = Column(["a", None])
+        for wrong in (2, -3, 2**63, -(2**70)):
+            with self.assertRaises(IndexError):
+                column.take([0, wrong])
+        for wrong in WRONG_NUMBERS:
+            with self.assertRaises(TypeError):
+                column.take([wrong])
+
+    def test_a_column_that_changes_while_its_view_lives(self):
+        column, views = Column(["a", None]), []
+        for number in range(300):
+            views.append((column.codes, column.codes.tolist()))
+            act = (lambda: column.append(f"text {number}"), lambda: column.extend(["a"] * 100), lambda: column.merge(column[:5]),
+                   lambda: column.__init__(["b"] * 10), lambda: column.extend(iter(["c", None])))[number % 5]
+            act()
+        del column
+        for view, codes in views:
+            self.assertEqual(view.tolist(), codes)
+
     def test_the_codes_are_lent(self):
         column = Column(["a", None, "b"])
         view = column.codes
@@ -586,6 +706,44 @@ class Buffers(unittest.TestCase):
         self.assertEqual([it.dictionary[2:] for it in (one, other, third)], [["c", "d"], ["e", "f"], ["c"]])
 
     @unittest.skipUnless(numpy, "no numpy")
+    def test_numpy_reads_the_rows(self):
+        rows = ["b", None, "a", "b"]
+        for given in (rows, [], [None]):
+            column = Column(given)
+            for found in (column.to_numpy(), numpy.asarray(column), numpy.array(column, dtype=object), numpy.array(column)):
+                self.assertEqual((found.dtype, found.tolist()), (object, given))
+        self.assertEqual(numpy.asarray(Column(["b", "a"]), dtype="U1").tolist(), ["b", "a"])
+
+    @unittest.skipUnless(numpy, "no numpy")
+    def test_masked_arrays(self):
+        masked = numpy.ma.array(["a", "b", "c"], mask=[True, False, False], dtype=object)
+        for given in (masked, numpy.ma.array(["a", "b", "c"], mask=[True, False, False])):
+            column = Column(given)
+            self.assertEqual((list(column), column.dictionary), ([None, "b", "c"], ["b", "c"]))
+        self.assertEqual(list(Column(masked[::-1])), ["c", "b", None])
+        self.assertEqual(list(Column(numpy.ma.array(["a", "b"], dtype=object))), ["a", "b"])
+        for kind in ("i1", "u1", "i4", "i8", "u8"):
+            codes = numpy.ma.array([0, 1, 9], mask=[True, False, True], dtype=kind)
+            self.assertEqual(list(Column.from_parts(["a", "b"], codes)), [None, "b", None])
+        with self.assertRaisesRegex(ValueError, f"^row 0 has code {2**64 - 1}, "):
+            Column.from_parts(["a"], numpy.ma.array([2**64 - 1, 0], mask=[False, True], dtype="u8"))
+
+    @unittest.skipUnless(numpy, "no numpy")
+    def test_arrays_of_every_kind(self):
+        for wrong in (numpy.array([1, 2]), numpy.array([1.5]), numpy.array([["a", "b"]]), numpy.array([True]), numpy.array([b"a"]),
+                      numpy.array(["2020"], "M8"), numpy.array([1j]), numpy.array([(1, 2)], "i4,i4"), numpy.array(["a", 1.5], object),
+                      numpy.array([2**70, 1], object)):
+            with self.assertRaises(TypeError):
+                Column(wrong)
+        for wrong in (numpy.array([1.0]), numpy.array([[0]]), numpy.array(["0"]), numpy.array([b"0"]), numpy.array([1j]),
+                      numpy.array(["2020"], "M8"), numpy.array([(0, 0)], "i4,i4"), numpy.array([None], object), numpy.array([numpy.nan])):
+            with self.assertRaises(TypeError):
+                Column.from_parts(["a"], wrong)
+        for row in (numpy.array(["b", "a", None], object), numpy.empty(3, object), numpy.array(["b", "a"])):
+            for given in (row, row[::-1], row[::2]):
+                self.assertEqual(list(Column(given)), given.tolist())
+
+    @unittest.skipUnless(numpy, "no numpy")
     def test_codes_of_numpy(self):
         for kind in ("i1", "u1", "i2", "u4", "i8", "u8", ">i4", ">u8"):
             codes = numpy.array([1, 0, 1], kind)
@@ -619,6 +777,8 @@ class Pandas(unittest.TestCase):
                       pandas.Series(["b", numpy.nan, "a", "b", ""]), pandas.Series(["b", pandas.NA, "a", "b", ""])):
             column = Column.from_pandas(given)
             self.assertEqual((list(column), column.dictionary), (rows, ["b", "a", ""]))
+        masked = numpy.ma.array(["b", numpy.nan, "a", "c"], mask=[True, False, False, False], dtype=object)
+        self.assertEqual(list(Column.from_pandas(masked)), [None, None, "a", "c"])
         kept = pandas.Series(["a", None])
         Column.from_pandas(kept).append("b")
         self.assertEqual(kept.tolist(), ["a", None])
