@@ -10,7 +10,7 @@ from wheel.bdist_wheel import bdist_wheel
 
 ARCHIVE = "libstring_interner.a"
 HERE = Path(__file__).resolve().parent
-FLAGS = ["-O2", "-std=c11", "-Wall", "-Wextra", "-Wno-cast-function-type", "-Wno-missing-field-initializers", "-fvisibility=hidden"]
+FLAGS = ["-O2", "-std=c11", "-Wall", "-Wextra", "-Wno-cast-function-type", "-Wno-missing-field-initializers", "-fvisibility=hidden", "-g0"]
 
 
 class BuildWithLibrary(build_ext):

@@ -108,6 +108,7 @@ static PyObject *fill_masked(PyObject *module, PyObject *values, PyObject *fille
 }
 
 PyObject *without_mask(PyObject *values, PyObject *filler) {
+  if (PyList_CheckExact(values) || PyTuple_CheckExact(values)) return Py_NewRef(values);
   PyObject *name = PyUnicode_FromString("numpy.ma"), *module = name ? PyImport_GetModule(name) : NULL;
   PyObject *type = module ? PyObject_GetAttrString(module, "MaskedArray") : NULL, *filled = NULL;
   int is_masked = type ? PyObject_IsInstance(values, type) : 0;

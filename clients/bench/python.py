@@ -1,0 +1,266 @@
+"""Measures calls of the Python package beside what a dict and pandas take, and compares each figure with the most that it may be.
+
+    python.py [calls] [batches] [memory] [import] [file]    all five if none is named; RUNS=9 takes the median of nine runs
+    python.py instructions                                  of each call, by callgrind (needs gcc and valgrind)
+
+Each figure but those of the import and of callgrind is a ratio of two medians of processor time, whose runs took turns. The last
+line counts the figures that are too great.
+"""
+
+import gc
+import os
+import random
+import re
+import statistics
+import subprocess
+import sys
+import tempfile
+import time
+from pathlib import Path
+
+TOP = Path(__file__).resolve().parent.parent.parent
+sys.path.insert(0, str(TOP / "clients/python"))
+RUNS = int(os.environ.get("RUNS", 5))
+too_great = []
+
+
+def tell(what, figure, most=None, unit=""):
+    """Prints a figure, and notes if it is too great."""
+    said = "" if most is None else f"at most {most}{unit}: {'met' if figure <= most else 'MISSED'}"
+    if most is not None and figure > most:
+        too_great.append(what)
+    print(f"{what:62} {figure:9.2f}{unit:3} {said}", flush=True)
+
+
+def medians(ways):
+    """The median time of each way, which is a function that prepares an argument and one that takes it. The ways take turns."""
+    times = {name: [] for name in ways}
+    for _ in range(RUNS):
+        for name, (prepare, call) in ways.items():
+            given = prepare()
+            gc.collect()
+            gc.disable()
+            start = time.process_time()
+            kept = call(given)
+            times[name].append(time.process_time() - start)
+            gc.enable()
+            del given, kept
+    return {name: statistics.median(it) for name, it in times.items()}
+
+
+def words(count, letter):
+    source = random.Random(1)
+    return [f"{letter}ord{source.randrange(10**9)}x{number}" for number in range(count)]
+
+
+def rows_of(kind, count, letter):
+    """Distinct rows, or few words that are frequent and many that are rare."""
+    if kind == "distinct":
+        return words(count, letter)
+    source, some = random.Random(1), words(50_000, letter)
+    return [some[min(int(source.paretovariate(0.5)) - 1, len(some) - 1)] for _ in range(count)]
+
+
+def looping(call):
+    def run(rows):
+        for text in rows:
+            call(text)
+
+    return run
+
+
+def setdefault(numbers):
+    def run(rows):
+        call = numbers.setdefault
+        for text in rows:
+            call(text, len(numbers))
+
+    return run
+
+
+def by_dict(rows):
+    numbers = {}
+    return [numbers.setdefault(text, len(numbers)) for text in rows]
+
+
+def measure_calls():
+    from string_interner import Interner
+
+    for letter, name in (("w", "ASCII"), ("ŵ", "not ASCII")):
+        rows = words(100_000, letter)
+        random.Random(2).shuffle(rows)
+        joined, numbers, interner = "\n".join(rows), {text: row for row, text in enumerate(rows)}, Interner(rows)
+        unknown = [text + "?" for text in rows]
+        for form, read in (("same objects", lambda: rows), ("fresh objects", lambda: joined.split("\n"))):
+            found = medians({
+                "intern": (read, looping(interner.intern)), "d.setdefault": (read, setdefault(numbers)),
+                "get": (read, looping(interner.get)), "d.get": (read, looping(numbers.get)),
+                "get, unknown": (lambda: unknown, looping(interner.get)), "d.get, unknown": (lambda: unknown, looping(numbers.get)),
+                "new": (read, lambda rows: looping(Interner().intern)(rows)), "d.setdefault, new": (read, lambda rows: setdefault({})(rows)),
+            })
+            where = f"{name}, {form}"
+            tell(f"intern of a known text / d.setdefault, {where}", found["intern"] / found["d.setdefault"], 1.5)
+            tell(f"get of a known text / d.get, {where}", found["get"] / found["d.get"], 2.0)
+            tell(f"get of an unknown text / d.get, {where}", found["get, unknown"] / found["d.get, unknown"], 2.0)
+            tell(f"intern of a new text / d.setdefault, {where}", found["new"] / found["d.setdefault, new"])
+
+
+def measure_batches():
+    import numpy
+    import pandas
+
+    from string_interner import Column, Interner
+
+    for kind in ("repeats", "distinct"):
+        for letter, name in (("w", "ASCII"), ("ŵ", "not ASCII")):
+            rows = rows_of(kind, 1_000_000, letter)
+            joined = "\n".join(rows)
+            for form in ("same objects", "fresh objects"):
+                read = (lambda: rows) if form == "same objects" else (lambda: joined.split("\n"))
+                found = medians({
+                    "factorize": (lambda: numpy.array(read(), dtype=object), pandas.factorize),
+                    "dict": (read, by_dict),
+                    "intern_all": (read, lambda rows: Interner().intern_all(rows)),
+                    "Column(rows)": (read, Column),
+                })
+                # Rows that repeat are the same objects then.
+                most = 0.5 if kind == "repeats" and form == "same objects" else 0.8
+                for call in ("intern_all", "Column(rows)"):
+                    tell(f"{call} / pandas.factorize, {kind}, {name}, {form}", found[call] / found["factorize"], most)
+                    tell(f"{call} / a dict, {kind}, {name}, {form}", found[call] / found["dict"])
+
+
+def measure_memory():
+    filled = """
+import ctypes, gc, random, sys
+sys.path.insert(0, {path!r})
+from string_interner import Interner
+def held():
+    gc.collect(); ctypes.CDLL(None).malloc_trim(0)
+    return int(open("/proc/self/statm").read().split()[1]) * 4096
+def texts():
+    source = random.Random(1)
+    for number in range({count}):
+        yield f"{letter}ord{{source.randrange(10**9)}}x{{number}}"
+def fill(interner):
+    part = []
+    for text in texts():
+        part.append(text)
+        if len(part) == 4096: interner.intern_all(part); part.clear()
+    interner.intern_all(part)
+    return interner
+before = held()
+kept = {made}
+print((held() - before) / {count})
+"""
+    for letter, name in (("w", "ASCII"), ("ŵ", "not ASCII")):
+        def bytes_of(made):
+            lines = filled.format(path=str(TOP / "clients/python"), count=1_000_000, letter=letter, made=made)
+            return float(subprocess.run([sys.executable, "-c", lines], capture_output=True, text=True, check=True).stdout)
+
+        by_a_dict = bytes_of("{text: number for number, text in enumerate(texts())}")
+        tell(f"bytes of a distinct text in a dict, {name}", by_a_dict)
+        for backend in ("string", "bucket", "buffer"):
+            tell(f"memory of a distinct text / a dict, {name}, {backend}", bytes_of(f"fill(Interner(backend={backend!r}))") / by_a_dict,
+                 0.35 if backend == "string" else None)
+
+
+def measure_import():
+    lines = "import time; start = time.process_time(); import string_interner; print(time.process_time() - start)"
+    words_of = [sys.executable, "-c", lines]
+    paths = os.environ | {"PYTHONPATH": str(TOP / "clients/python")}
+    times = [float(subprocess.run(words_of, env=paths, capture_output=True, text=True, check=True).stdout) for _ in range(4 * RUNS)]
+    tell("import", 1000 * statistics.median(times), 5, " ms")
+
+
+def measure_file():
+    from string_interner import Column
+
+    def by_dict_of(path):
+        numbers, codes = {}, []
+        with open(path, encoding="utf-8", newline="\n") as file:
+            for line in file:
+                codes.append(numbers.setdefault(line.removesuffix("\n"), len(numbers)))
+        return codes
+
+    with tempfile.TemporaryDirectory() as folder:
+        for kind in ("repeats", "distinct"):
+            for letter, name in (("w", "ASCII"), ("ŵ", "not ASCII")):
+                path = f"{folder}/lines"
+                Path(path).write_text("".join(f"{row}\n" for row in rows_of(kind, 1_000_000, letter)))
+                assert by_dict_of(path) == Column.from_file(path).codes.tolist()
+                found = medians({"dict": (lambda: path, by_dict_of), "file": (lambda: path, Column.from_file)})
+                tell(f"Column.from_file / a dict loop, {kind}, {name}", found["file"] / found["dict"], 0.5)
+
+
+COUNTER = """
+#include <valgrind/callgrind.h>
+void begin_count(void) { CALLGRIND_ZERO_STATS; }
+void end_count(const char *name) { CALLGRIND_DUMP_STATS_AT(name); }
+"""
+COUNTED = r'''
+import ctypes, random, sys
+sys.path.insert(0, sys.argv[2])
+from string_interner import Column, Interner
+counter, source, N = ctypes.CDLL(sys.argv[1]), random.Random(1), 4000
+rows = [f"word{source.randrange(10**9)}" for _ in range(1000)]
+same = [rows[row * 7 % 1000] for row in range(N)]
+numbers, d = [row * 7 % 1000 for row in range(N)], {text: row for row, text in enumerate(rows)}
+def fresh(): return "\n".join(same).split("\n")
+def new(): return "\n".join(f"{text}{row}" for row, text in enumerate(same)).split("\n")
+def count(name, call, rows):
+    call(rows[:300])
+    counter.begin_count(); call(rows); counter.end_count(f"{name}|{N}".encode())
+def looping(call):
+    def run(rows):
+        for text in rows: call(text)
+    return run
+def setdefault(d):
+    def run(rows):
+        call = d.setdefault
+        for text in rows: call(text, len(d))
+    return run
+i, fixed, c = Interner(rows), Interner(rows, hasher="fixed"), Column(rows)
+count("dict, d.setdefault(text, len(d))", setdefault(d), same)
+count("dict, d.setdefault(text, len(d)), new", setdefault({}), new())
+count("dict, d.get(text)", looping(d.get), same)
+count("intern, known", looping(i.intern), same)
+count("intern, known, hasher fixed", looping(fixed.intern), same)
+count("intern, new", looping(Interner().intern), new())
+count("get, known", looping(i.get), same)
+count("get, unknown", looping(i.get), [text + "?" for text in same])
+count("resolve", looping(i.resolve), numbers)
+count("a row of intern_all, same objects", i.intern_all, same)
+count("a row of intern_all, fresh objects", i.intern_all, fresh())
+count("a row of intern_all, new", Interner().intern_all, new())
+count("a row of get_all, fresh objects", i.get_all, fresh())
+count("a row of resolve_all", i.resolve_all, numbers)
+count("a row of Column.extend, same objects", c.extend, same)
+count("a row of Column.extend, fresh objects", c.extend, fresh())
+count("a row of list(column)", lambda rows: list(c[:len(rows)]), same)
+'''
+
+
+def measure_instructions():
+    with tempfile.TemporaryDirectory() as folder:
+        Path(f"{folder}/counter.c").write_text(COUNTER)
+        subprocess.run(["gcc", "-O1", "-shared", "-fPIC", f"{folder}/counter.c", "-o", f"{folder}/counter.so"], check=True)
+        words_of = ["valgrind", "--tool=callgrind", "-q", f"--callgrind-out-file={folder}/out", sys.executable, "-S", "-c", COUNTED,
+                    f"{folder}/counter.so", str(TOP / "clients/python")]
+        subprocess.run(words_of, check=True, env=os.environ | {"PYTHONHASHSEED": "1"})
+        for path in sorted(Path(folder).glob("out.*"), key=lambda path: int(path.suffix[1:])):
+            text = path.read_text()
+            if trigger := re.search(r"^desc: Trigger: Client Request: (.*)\|(\d+)$", text, re.M):
+                instructions = int(re.search(r"^(?:summary|totals): (\d+)", text, re.M)[1])
+                print(f"{trigger[1]:62} {instructions / int(trigger[2]):9.0f} instructions", flush=True)
+
+
+def main(*parts):
+    for part in parts or ("calls", "batches", "memory", "import", "file"):
+        {"calls": measure_calls, "batches": measure_batches, "memory": measure_memory, "import": measure_import, "file": measure_file,
+         "instructions": measure_instructions}[part]()
+    print(f"{len(too_great)} figures are too great")
+
+
+if __name__ == "__main__":
+    main(*sys.argv[1:])
