@@ -36,6 +36,7 @@ EXAMPLES = {
 SHOWN = {
     "README.md": ("Rattle", "C", "Rust", "Python"),
     "clients/README.md": ("sh",),
+    "clients/python/README.md": ("Python",),
     "crates/string_interner/README.md": ("Rattle",),
     "docs/CONTRACTS.md": ("Rattle",),
     "docs/GUIDE.md": ("Rattle", "Python"),

@@ -58,9 +58,13 @@ static void read_part(const Rows *rows, Py_ssize_t at, Py_ssize_t n, PyObject **
     for (Py_ssize_t row = 0; row < n; row++) part[row] = PyTuple_GetItem(rows->sequence, at + row);
 }
 
-Batch *new_batch(Interner *interner, Column *column, si_interner *h) {
-  Batch *batch = PyMem_Calloc(1, sizeof *batch);
+Batch *new_batch(Interner *interner, Column *column, si_interner *h, Py_ssize_t rows) {
+  enum { LEAST_BITS = 3, MOST_BITS = 12 };
+  int bits = LEAST_BITS;
+  while (bits < MOST_BITS && (Py_ssize_t)1 << bits < rows) bits++;
+  Batch *batch = PyMem_Calloc(1, sizeof *batch + (sizeof *batch->seen << bits));
   if (!batch) return PyErr_NoMemory(), NULL;
+  batch->seen_bits = bits;
   batch->interner = interner, batch->column = column, batch->h = h;
   batch->kept = batch->count = si_len(h);
   return batch;
@@ -98,7 +102,7 @@ static bool still_holds(const Batch *batch) {
 }
 
 bool adopt_changes(Batch *batch) {
-  memset(batch->seen, 0, sizeof batch->seen);
+  memset(batch->seen, 0, sizeof *batch->seen << batch->seen_bits);
   if (!still_holds(batch)) {
     batch->h = NULL;
     if (PyErr_Occurred() || (batch->interner && !is_open(batch->interner))) return false;
@@ -179,12 +183,12 @@ static bool encode_part(Batch *batch, PyObject *const *part, Py_ssize_t at, Py_s
     PyObject *text = part[row];
     int64_t number;
     if (row + AHEAD < n) __builtin_prefetch((const char *)part[row + AHEAD] + 48);
-    size_t place = ((uintptr_t)text >> 4) * 0x9E3779B97F4A7C15u >> 52;
-    if (batch->seen[place] == text) number = batch->seen_number[place];
+    Seen *seen = &batch->seen[((uintptr_t)text >> 4) * 0x9E3779B97F4A7C15u >> (64 - batch->seen_bits)];
+    if (seen->object == text) number = seen->number;
     else if (batch->takes_none && text == Py_None) number = -1;
     else {
       if (!encode_text(batch, at + row, text, &number)) return false;
-      if (number == (uint32_t)number) batch->seen[place] = text, batch->seen_number[place] = (uint32_t)number;
+      if (number == (uint32_t)number) *seen = (Seen){text, (uint32_t)number};
     }
     if (!put_number(batch, at + row, number)) return false;
   }

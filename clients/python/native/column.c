@@ -179,8 +179,8 @@ bool add_codes(Column *self, Block *codes, Py_ssize_t n) {
   return true;
 }
 
-static Batch *batch_of(Column *self) {
-  Batch *batch = is_made(self) ? new_batch(NULL, self, self->dictionary->h) : NULL;
+static Batch *batch_of(Column *self, Py_ssize_t rows) {
+  Batch *batch = is_made(self) ? new_batch(NULL, self, self->dictionary->h, rows) : NULL;
   if (batch) batch->takes_none = true;
   return batch;
 }
@@ -196,7 +196,7 @@ static PyObject *finish_batch(Batch *batch, bool is_done) {
 }
 
 static PyObject *extend_in_place(Column *self, Rows *rows) {
-  Batch *batch = batch_of(self);
+  Batch *batch = batch_of(self, rows->n);
   if (!batch) return NULL;
   bool is_done = reserve_batch(batch, rows->n) && encode_rows(batch, rows);
   batch->first = rows->n;
@@ -235,7 +235,7 @@ static bool extend_by_part(Batch *batch, PyObject *walk, bool *is_done) {
 
 static PyObject *extend_by_parts(Column *self, PyObject *values) {
   PyObject *walk = PyObject_GetIter(values), *done = NULL;
-  Batch *batch = walk ? batch_of(self) : NULL;
+  Batch *batch = walk ? batch_of(self, VALUES_AT_ONCE) : NULL;
   if (batch) {
     bool is_done;
     while (extend_by_part(batch, walk, &is_done)) continue;
@@ -280,52 +280,57 @@ static PyObject *column_append(Column *self, PyObject *value) {
   Py_RETURN_NONE;
 }
 
-/* The code here of each text of another dictionary, with -1 before the first. */
-static int64_t *translate(Column *self, const Dictionary *from) {
+/* The code in a batch's column of each text of another dictionary, with -1 before the first. Adds those that are new. */
+static int64_t *translate(Batch *batch, const Dictionary *from) {
   size_t count = si_len(from->h), number;
   int64_t *table = PyMem_Malloc((count + 1) * sizeof *table);
   if (!table) return PyErr_NoMemory(), NULL;
   *table = -1;
-  for (size_t code = 0; code < count; code++) {
+  begin_batch(batch);
+  bool is_done = true;
+  for (size_t code = 0; is_done && code < count; code++) {
     si_text text;
+    if (code && code % ROWS_OF_A_PART == 0 && !(is_done = resume_batch(batch))) break;
     si_result status = si_resolve(from->h, code, &text);
-    if (status == SI_OK) status = add_text(self, text.bytes, text.len, &number);
-    if (status != SI_OK) {
-      PyMem_Free(table);
-      raise_status(status);
-      return NULL;
-    }
+    if (status == SI_OK) status = add_text(batch->column, text.bytes, text.len, &number);
     table[code + 1] = (int64_t)number;
+    batch->h = batch->column->dictionary->h;
+    if (status != SI_OK) is_done = raise_status(status) != NULL;
   }
-  return table;
+  end_batch(batch);
+  if (is_done) return table;
+  PyMem_Free(table);
+  return NULL;
 }
 
-/* Appends the rows of a column under a table of codes. Without a table they are the same. */
-static bool add_translated(Column *self, const Column *other, const int64_t *table) {
-  Py_ssize_t n = other->n;
-  Block *from = share_block(other->block); /* It may be this column's own. */
-  bool is_done = reserve_codes(&self->block, self->n, n, width_of(si_len(self->dictionary->h)));
-  for (Py_ssize_t row = 0; is_done && row < n; row++) {
-    int64_t code = code_at(from, row);
+/* Appends n codes under a table. Without a table they are the same. */
+static bool add_translated(Column *self, const Block *codes, Py_ssize_t n, const int64_t *table) {
+  if (!reserve_codes(&self->block, self->n, n, width_of(si_len(self->dictionary->h)))) return false;
+  for (Py_ssize_t row = 0; row < n; row++) {
+    int64_t code = code_at(codes, row);
     set_code(self->block, self->n + row, table ? table[code + 1] : code);
   }
-  if (is_done) self->block->used = self->n += n;
-  drop_block(from);
-  return is_done;
+  self->block->used = self->n += n;
+  return true;
 }
 
 static PyObject *column_merge(Column *self, PyObject *values) {
   if (!PyObject_TypeCheck(values, self->state->column)) return raise_type("a column is merged with a column, not ", values, "");
   Column *other = (Column *)values;
   if (!is_made(self) || !is_made(other)) return NULL;
+  /* Shared, because both columns may be one, and a handler of a signal may change them. */
   Dictionary *from = share_dictionary(other->dictionary);
-  size_t before = si_len(self->dictionary->h);
+  Block *codes = share_block(other->block);
+  Py_ssize_t n = other->n;
+  Batch *batch = new_batch(NULL, self, self->dictionary->h, 0);
   bool is_same = from == self->dictionary;
-  int64_t *table = is_same ? NULL : translate(self, from);
-  bool is_done = (is_same || table) && add_translated(self, other, table);
-  if (!is_done && self->dictionary->references == 1) si_truncate(self->dictionary->h, before);
-  self->dictionary->uses++;
+  int64_t *table = batch && !is_same ? translate(batch, from) : NULL;
+  bool is_done = batch && (is_same || table) && add_translated(self, codes, n, table);
+  if (is_done) self->dictionary->uses++;
+  else if (batch) undo_batch(batch);
   PyMem_Free(table);
+  free_batch(batch);
+  drop_block(codes);
   drop_dictionary(from);
   return is_done ? Py_NewRef(Py_None) : NULL;
 }
@@ -615,7 +620,7 @@ PyType_Spec rows_walk_spec = {"string_interner._native._RowsWalk", sizeof(RowsWa
 static bool add_distinct(si_interner *h, PyObject *texts) {
   Rows rows;
   if (!open_rows(texts, &rows)) return false;
-  Batch *batch = new_batch(NULL, NULL, h);
+  Batch *batch = new_batch(NULL, NULL, h, rows.n);
   uint32_t *numbers = PyMem_Malloc(rows.n * sizeof *numbers + 1);
   if (batch && !numbers) PyErr_NoMemory();
   bool is_done = false;

@@ -331,7 +331,7 @@ static PyObject *intern_objects(Interner *self, PyObject *texts, const char *typ
   if (!open_rows(texts, &rows)) return NULL;
   PyObject *array = new_array(self->state, typecode, rows.n, &view);
   if (array) {
-    Batch *batch = is_open(self) ? new_batch(self, NULL, self->h) : NULL;
+    Batch *batch = is_open(self) ? new_batch(self, NULL, self->h, rows.n) : NULL;
     bool is_done = false;
     if (batch) {
       batch->out = view.buf, batch->width = *typecode == 'I' ? 4 : 8;
@@ -406,7 +406,7 @@ static PyObject *interner_intern_column(Interner *self, PyObject *args, PyObject
 
 /* Looks up texts, and writes numbers of 8 bytes. */
 static bool look_up_rows(Interner *self, Rows *rows, int64_t missing, int64_t *numbers) {
-  Batch *batch = is_open(self) ? new_batch(self, NULL, self->h) : NULL;
+  Batch *batch = is_open(self) ? new_batch(self, NULL, self->h, rows->n) : NULL;
   if (!batch) return false;
   batch->only_looks = true, batch->missing = missing;
   batch->out = numbers, batch->width = 8;

@@ -60,7 +60,7 @@ PyObject *intern_lines(Interner *self, PyObject *given) {
   Py_ssize_t lines = count_newlines(bytes.at, end) + (bytes.length && end[-1] != '\n');
   PyObject *array = new_array(self->state, "I", lines, &view);
   if (array) {
-    Batch *batch = is_open(self) ? new_batch(self, NULL, self->h) : NULL;
+    Batch *batch = is_open(self) ? new_batch(self, NULL, self->h, 0) : NULL;
     bool is_done = false;
     if (batch) {
       batch->out = view.buf, batch->width = 4;
@@ -157,7 +157,7 @@ static Block *encode_named(Dictionary *dictionary, PyObject *name, Py_ssize_t *r
   bool is_number = PyLong_Check(name);
   int file = is_number ? read_file_number(name) : open_file(name);
   if (PyErr_Occurred()) return NULL;
-  Batch *batch = new_batch(NULL, NULL, dictionary->h);
+  Batch *batch = new_batch(NULL, NULL, dictionary->h, 0);
   Block *block = NULL;
   if (batch && encode_file(batch, file, name)) {
     block = share_block(batch->block);

@@ -228,9 +228,13 @@ bool open_rows(PyObject *given, Rows *rows);
 bool open_rows_in_place(PyObject *given, Rows *rows);
 void close_rows(Rows *rows);
 
-enum { SEEN = 4096 };
+/** An object of which the number is known. */
+typedef struct Seen {
+  PyObject *object;
+  uint32_t number;
+} Seen;
 
-/** What encodes many texts. Zeroed before it is filled. */
+/** What encodes many texts. */
 typedef struct Batch {
   /* Whose handle it is: an interner's, a column's, or one that nobody else has. */
   Interner *interner;
@@ -247,11 +251,12 @@ typedef struct Batch {
   size_t count;       /* texts after the last step */
   size_t cuts, uses, begins;
   bool collects;      /* whether the collection of garbage is to be enabled */
-  PyObject *seen[SEEN]; /* an object of which the number is known, at a place that depends on its address */
-  uint32_t seen_number[SEEN];
+  int seen_bits;
+  Seen seen[];        /* the last object at each place, which depends on its address */
 } Batch;
 
-Batch *new_batch(Interner *interner, Column *column, si_interner *h);
+/** Makes a batch for about so many rows. */
+Batch *new_batch(Interner *interner, Column *column, si_interner *h, Py_ssize_t rows);
 void free_batch(Batch *batch);
 
 /** Gives the batch codes of its own, with room for more rows behind the first `batch->first`. */

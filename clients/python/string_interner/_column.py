@@ -71,7 +71,7 @@ class Column(_native.Column):
             return cls.from_values(rows, hasher=hasher)
         except TypeError:
             # Only now, because most have no missing value but None.
-            missing = pandas.isna(numpy.asarray(rows)) | numpy.ma.getmaskarray(rows)
+            missing = pandas.isna(numpy.asarray(rows)) | getattr(rows, "mask", False)
             return cls.from_values(numpy.where(missing, None, rows), hasher=hasher)
 
     def to_pandas(self) -> Any:
