@@ -214,10 +214,10 @@ static PyObject *read_values(PyObject *walk) {
   return values;
 }
 
-/* Encodes the next values. The iterator may use the column, too. Returns whether there may be more. */
+/* Encodes the next values. The iterator may use the column, too, and so may what a value runs when it is dropped. Returns whether
+ * there may be more. */
 static bool extend_by_part(Batch *batch, PyObject *walk, bool *is_done) {
   Rows rows;
-  note_changes(batch);
   PyObject *values = read_values(walk);
   *is_done = adopt_changes(batch) && values && open_rows_in_place(values, &rows);
   Py_XDECREF(values);
@@ -227,9 +227,12 @@ static bool extend_by_part(Batch *batch, PyObject *walk, bool *is_done) {
   }
   bool is_last = rows.n == 0;
   if (!is_last) *is_done = reserve_batch(batch, rows.n) && encode_rows(batch, &rows);
-  batch->first += rows.n;
+  if (*is_done && !is_last) {
+    batch->first += rows.n;
+    batch->block->used = batch->first;
+    note_changes(batch);
+  }
   close_rows(&rows);
-  if (*is_done && batch->block) batch->block->used = batch->first;
   return *is_done && !is_last;
 }
 
@@ -238,6 +241,7 @@ static PyObject *extend_by_parts(Column *self, PyObject *values) {
   Batch *batch = walk ? batch_of(self, VALUES_AT_ONCE) : NULL;
   if (batch) {
     bool is_done;
+    note_changes(batch);
     while (extend_by_part(batch, walk, &is_done)) continue;
     done = finish_batch(batch, is_done);
   }

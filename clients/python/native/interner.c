@@ -198,8 +198,11 @@ static int interner_init(Interner *self, PyObject *args, PyObject *keywords) {
 }
 
 static si_result read_json(si_interner **h, const Options *options, bool is_exact, const char *json, size_t length) {
-  if (!options->is_keyed) return (is_exact ? si_from_json_exact : si_from_json)(h, options->kind, json, length);
-  return (is_exact ? si_from_json_exact_keyed : si_from_json_keyed)(h, options->kind, json, length, options->keys[0], options->keys[1]);
+  const uint64_t *keys = options->keys;
+  if (options->is_keyed && is_exact) return si_from_json_exact_keyed(h, options->kind, json, length, keys[0], keys[1]);
+  if (options->is_keyed) return si_from_json_keyed(h, options->kind, json, length, keys[0], keys[1]);
+  if (is_exact) return si_from_json_exact(h, options->kind, json, length);
+  return si_from_json(h, options->kind, json, length);
 }
 
 static PyObject *interner_from_json(PyTypeObject *type, PyObject *args, PyObject *keywords) {

@@ -484,6 +484,25 @@ class Calls(unittest.TestCase):
             column.extend(rows(lambda: column.__init__(["new"])))
         self.assertEqual(list(column), ["new"])
 
+    def test_a_value_that_uses_the_column_when_it_is_dropped(self):
+        rows = 100 + 2 * _native._VALUES_AT_ONCE
+
+        class Late(str):
+            def __del__(self):
+                act()
+
+        for act, kind in ((lambda: column.__init__(["new"]), RuntimeError), (lambda: len(column) < 5 and column.append("late"), None),
+                          (lambda: len(kept) < 5 and kept.append(column[:]), None)):
+            kept, column = [], Column(["x", None])
+            if kind:
+                with self.assertRaises(kind):
+                    column.extend(Late(row % 7) for row in range(rows))
+                self.assertEqual(list(column), ["new"])
+            else:
+                column.extend(Late(row % 7) for row in range(rows))
+                self.assertEqual([row for row in column if row != "late"], ["x", None, *(str(row % 7) for row in range(rows))])
+                self.assertTrue(all(list(part) == ["x", None] for part in kept))
+
     def test_merging_is_associative(self):
         parts = [["a", None, "b"], ["c", "a"], ["d", "c", "b", None]]
         first, last = Column(parts[0]), Column(parts[1])

@@ -1,85 +1,87 @@
-"""Tests of the import: where the library is found, and what is said if there is none that can be used."""
+"""Tests of the import: what it needs, what it shows, and what is said of a library with another interface."""
 
-import _ctypes
+import inspect
 import os
+import pydoc
 import shutil
 import subprocess
 import sys
+import sysconfig
 import tempfile
 import unittest
 from pathlib import Path
 
 import string_interner
-from string_interner import _library
+from string_interner import Column, Interner, _native
 
 PACKAGE = Path(string_interner.__file__).resolve().parent
-LIBRARY = _library.library._name
-LINES = """
-try:
-    import string_interner
-except ImportError as error:
-    print(type(error).__name__, error.name, error)
-else:
-    print(string_interner.Interner(["a"]).resolve(0))
-"""
+SOURCES = PACKAGE.parent / "native"
+HEADERS = Path(sysconfig.get_path("include"))
 
 
 class Imports(unittest.TestCase):
-    def setUp(self):
-        folder = tempfile.TemporaryDirectory()
-        self.addCleanup(folder.cleanup)
-        self.folder = Path(folder.name)
-        self.library = self.folder / "libstring_interner.so"
-
-    def run_lines(self, named=None, package=PACKAGE):
-        """What an import prints in a Python of its own."""
+    def run_lines(self, lines, package=PACKAGE):
+        """What lines print in a Python of its own, which has this package and no library of its environment."""
         kept = {name: value for name, value in os.environ.items() if name != "STRING_INTERNER_LIB"}
-        named = {} if named is None else {"STRING_INTERNER_LIB": str(named)}
-        ended = subprocess.run([sys.executable, "-B", "-c", LINES], env=kept | named | {"PYTHONPATH": str(package.parent)},
-                               cwd=self.folder, capture_output=True, text=True, timeout=60)
+        ended = subprocess.run([sys.executable, "-B", "-c", lines], env=kept | {"PYTHONPATH": str(package.parent)}, cwd="/",
+                               capture_output=True, text=True, timeout=60)
         self.assertEqual(ended.stderr, "")
         return ended.stdout.strip()
 
-    def test_a_folder_that_is_named(self):
-        shutil.copy(LIBRARY, self.library)
-        self.assertEqual(self.run_lines(self.folder), "a")
+    def test_it_needs_no_other_file(self):
+        with tempfile.TemporaryDirectory() as folder:
+            package = Path(folder) / "string_interner"
+            shutil.copytree(PACKAGE, package)
+            self.assertEqual(self.run_lines("import string_interner as s; print(s.Interner(['a']).resolve(0))", package), "a")
 
-    def test_a_library_in_the_package_or_beside_it(self):
-        package = self.folder / "python" / "string_interner"
-        shutil.copytree(PACKAGE, package, ignore=shutil.ignore_patterns("*.so"))
-        said = self.run_lines(package=package)
-        self.assertRegex(said, "^ImportError string_interner no libstring_interner.so in .* or .*: run clients/build, or name ")
-        for place in (package, self.folder / "out"):
-            place.mkdir(exist_ok=True)
-            copied = shutil.copy(LIBRARY, place / "libstring_interner.so")
-            self.assertEqual(self.run_lines(package=package), "a")
-            os.remove(copied)
+    def test_it_imports_no_slow_module(self):
+        slow = "{'ctypes', 'json', 'threading', 'typing', 'copy', 'pickle', 'numpy', 'pandas', 'struct', 'pathlib'}"
+        self.assertEqual(self.run_lines(f"import sys; before = set(sys.modules); import string_interner; print({slow} & set(sys.modules) - before)"),
+                         "set()")
 
-    def test_no_library(self):
-        for folder in (self.folder, self.folder / "no such folder"):
-            self.assertEqual(self.run_lines(folder), f"ImportError string_interner no libstring_interner.so in {folder}: "
-                             "run clients/build, or name its folder in STRING_INTERNER_LIB")
+    def test_types_of_options(self):
+        self.assertEqual(str(string_interner.Backend), "typing.Literal['string', 'bucket', 'buffer']")
+        for name in string_interner.__all__:
+            self.assertIsNotNone(getattr(string_interner, name))
+        with self.assertRaisesRegex(AttributeError, "^module 'string_interner' has no attribute 'Backends'$"):
+            string_interner.Backends
 
-    def test_a_damaged_library(self):
-        whole = Path(LIBRARY).read_bytes()
-        for damaged in (b"", b"no library\n", whole[:40], whole[:1000], whole[:-1], b"\0" + whole[1:]):
-            self.library.write_bytes(damaged)
-            self.assertRegex(self.run_lines(self.folder), "^ImportError string_interner cannot load the library: ")
+    def test_the_version(self):
+        self.assertRegex(string_interner.__version__, r"^\d+\.\d+\.\d+$")
 
-    def test_another_library(self):
-        # A shared library that every Python has.
-        shutil.copy(_ctypes.__file__, self.library)
-        self.assertRegex(self.run_lines(self.folder), "^ImportError string_interner the library has another interface: .*si_")
+    def test_each_call_has_words(self):
+        for kind in (Interner, Column):
+            self.assertTrue(inspect.signature(kind).parameters)
+            for name, call in inspect.getmembers(kind):
+                if name.startswith("_"):
+                    continue
+                self.assertTrue(inspect.getdoc(call), f"{kind.__name__}.{name}")
+                if callable(call):
+                    inspect.signature(call)
+            self.assertIn("intern_all" if kind is Interner else "from_file", pydoc.render_doc(kind, renderer=pydoc.plaintext))
 
+    def test_classes(self):
+        self.assertEqual([it.__module__ for it in (Interner, Column)], ["string_interner", "string_interner._column"])
+        for kind in (_native.Interner, _native.Column, _native._Parts):
+            self.assertEqual(kind.__module__, "string_interner._native")
+        for walk in (iter(Interner()), iter(Column()), Column().codes.obj):
+            with self.assertRaises(TypeError):
+                type(walk)()
+        self.assertRaises(TypeError, object.__new__, Interner)
+        self.assertRaises(TypeError, object.__new__, Column)
 
-    @unittest.skipUnless(shutil.which("cc"), "no C compiler")
-    def test_a_library_of_another_version(self):
-        source = self.folder / "version.c"
-        source.write_text(f"unsigned si_version(void) {{ return {_library.VERSION + 7}; }}\n")
-        subprocess.run(["cc", "-shared", "-fPIC", "-o", self.library, source], check=True)
-        said = f"it has interface {_library.VERSION + 7}, and this module needs {_library.VERSION}"
-        self.assertEqual(self.run_lines(self.folder),
-                         f"ImportError string_interner the library has another interface: {said}")
+    @unittest.skipUnless(shutil.which("cc") and SOURCES.exists() and (HEADERS / "Python.h").exists(), "no C compiler, headers or sources")
+    def test_a_library_of_another_interface(self):
+        header = os.environ.get("STRING_INTERNER_LIB") or SOURCES.parent.parent / "c"
+        with tempfile.TemporaryDirectory() as folder:
+            package = Path(folder) / "string_interner"
+            shutil.copytree(PACKAGE, package, ignore=shutil.ignore_patterns("*.so"))
+            (package / "version.c").write_text("unsigned si_version(void) { return 7; }\n")
+            # Nothing else of the library is called, and so nothing else is found.
+            subprocess.run(["cc", "-shared", "-fPIC", "-O0", f"-I{header}", f"-I{HEADERS}", *SOURCES.glob("*.c"), package / "version.c",
+                            "-Wl,-z,lazy", "-o", package / "_native.abi3.so"], check=True)
+            lines = "try:\n import string_interner\nexcept ImportError as error:\n print(error)"
+            self.assertEqual(self.run_lines(lines, package), "the library has another interface")
 
 
 if __name__ == "__main__":
