@@ -80,7 +80,7 @@ class Imports(unittest.TestCase):
             # Nothing else of the library is called, and so nothing else is found.
             subprocess.run(["cc", "-shared", "-fPIC", "-O0", f"-I{header}", f"-I{HEADERS}", *SOURCES.glob("*.c"), package / "version.c",
                             "-Wl,-z,lazy", "-o", package / "_native.abi3.so"], check=True)
-            lines = "try:\n import string_interner\nexcept ImportError as error:\n print(error)"
+            lines = "import os, sys\nsys.setdlopenflags(os.RTLD_LAZY)\ntry:\n import string_interner\nexcept ImportError as error:\n print(error)"
             self.assertEqual(self.run_lines(lines, package), "the library has another interface")
 
 
