@@ -83,8 +83,6 @@ def in_one_process(read):
             return numpy.array(read(), dtype=object)
 
         there = column.to_pandas()
-        yield "Column.merge, with numpy", lambda _: Column(["first"]).merge(column)
-        yield "Column.counts, with numpy", lambda _: column.counts()
         yield "Column.to_pandas", lambda _: column.to_pandas()
         yield "Column.from_pandas of a Categorical", lambda _: Column.from_pandas(there)
         yield "Column.from_pandas of a Series", Column.from_pandas, lambda: pandas.Series(read_objects())

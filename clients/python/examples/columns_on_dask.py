@@ -20,8 +20,7 @@ Part = TypeVar("Part")
 
 def encode_lines(path: str) -> Column:
     """The lines of a file, as a column."""
-    with open(path, encoding="utf-8", newline="\n") as file:
-        return Column.encode(line.removesuffix("\n") for line in file)
+    return Column.from_file(path)
 
 
 def drop_rows(column: Column) -> Column:

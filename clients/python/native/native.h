@@ -166,7 +166,7 @@ bool reserve_codes(Block **block, Py_ssize_t n, Py_ssize_t more, int width);
 /** A view of the first n codes, which have `width` bytes each if there are none. */
 PyObject *view_codes(State *state, Block *block, Py_ssize_t n, int width);
 
-/* column.c */
+/* dictionary.c */
 
 /** A list of distinct texts. Columns share it; one that adds a text to a shared one copies it first. */
 typedef struct Dictionary {
@@ -179,6 +179,21 @@ typedef struct Dictionary {
   bool is_keyed;
 } Dictionary;
 
+Dictionary *new_dictionary(const Options *options);
+
+/** A dictionary with a handle, which it takes over. */
+Dictionary *wrap_handle(si_interner *h, si_kind kind, bool is_keyed);
+Dictionary *share_dictionary(Dictionary *dictionary);
+void drop_dictionary(Dictionary *dictionary);
+
+/** The texts, in a new list. */
+PyObject *list_strings(Dictionary *dictionary);
+
+/** The value of a row with a code. */
+PyObject *value_of(const Dictionary *dictionary, int64_t code);
+
+/* column.c */
+
 /** A column of Python. */
 typedef struct Column {
   PyObject_HEAD
@@ -190,16 +205,11 @@ typedef struct Column {
   size_t begins;          /* how often it got another dictionary and other rows */
 } Column;
 
-extern PyType_Spec column_spec, rows_walk_spec;
+extern PyType_Spec column_spec;
 bool is_made(const Column *self);
 
 /** The bytes of a code. They may be fewer than its dictionary needs now, if texts were added without rows. */
 int column_width(const Column *self);
-Dictionary *new_dictionary(const Options *options);
-Dictionary *wrap_handle(si_interner *h, si_kind kind, bool is_keyed);
-Dictionary *share_dictionary(Dictionary *dictionary);
-void drop_dictionary(Dictionary *dictionary);
-
 /** Finds the number of a text, or adds the text to a dictionary that is the column's own. */
 si_result add_text(Column *self, const char *bytes, size_t length, size_t *number);
 
@@ -214,6 +224,13 @@ Column *make_column(State *state, PyTypeObject *type);
 
 /** Makes a column of the class that slices have. */
 Column *make_plain(Column *like);
+
+/* rows.c */
+
+extern PyType_Spec rows_walk_spec;
+
+PyObject *column_iter(Column *self);
+PyObject *column_reversed(Column *self, PyObject *unused);
 
 /* batch.c */
 
