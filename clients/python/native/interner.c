@@ -141,10 +141,11 @@ static PyObject *interner_entries(Interner *self, PyObject *unused) {
 
 static PyObject *interner_reversed(Interner *self, PyObject *unused) {
   (void)unused;
-  PyObject *texts = PySequence_List((PyObject *)self), *walk = NULL;
-  if (texts && !PyList_Reverse(texts)) walk = PyObject_GetIter(texts);
+  PyObject *walk = make_walk(self, false), *texts = walk ? PySequence_List(walk) : NULL, *backwards = NULL;
+  if (texts && !PyList_Reverse(texts)) backwards = PyObject_GetIter(texts);
+  Py_XDECREF(walk);
   Py_XDECREF(texts);
-  return walk;
+  return backwards;
 }
 
 /* Making and closing */

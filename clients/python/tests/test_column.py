@@ -563,6 +563,17 @@ class Copies(unittest.TestCase):
                 other = pickle.loads(written, buffers=[make(it.raw()) for it in buffers])
                 self.assertEqual((other, other.hasher, other.codes), (column, hasher, column.codes))
 
+    def test_dask_names_equal_columns_alike(self):
+        try:
+            from dask.base import tokenize
+        except ImportError:
+            self.skipTest("no dask")
+        rows = ["b", None, "a", "b"]
+        other = Column(["x", "a"])[:0]
+        other.extend(rows)
+        self.assertEqual(tokenize(other), tokenize(Column(rows, hasher="fixed")))
+        self.assertEqual(len({*map(tokenize, (other, other[1:], Column(["ba"]), Column(["b", "a"]), Column([None]), Column()))}), 6)
+
     def test_changed_pickles(self):
         # Each byte of a small pickle, changed to others: refused when it is read, or a column whose rows are in its dictionary. A
         # changed pickle may also ask for much memory, of pickle itself.
