@@ -373,8 +373,11 @@ class CallsBetweenSteps(unittest.TestCase):
             interner.intern_all(states[turn % 3])
 
         change()
+        kept = []
         with collecting(change):
-            for _ in range(300):
+            for _ in range(400):
+                # From 3.12 on a collection comes only once more objects were made than dropped.
+                kept.append([])
                 self.assertIn(list(interner.items()), wanted)
                 self.assertIn(list(interner), states)
         self.assertGreater(turn, 300)
