@@ -18,6 +18,10 @@ assert_type(names.backend, Backend)
 assert_type(names.hasher, Literal["keyed", "fixed"])
 assert_type(names.intern("a"), int)
 assert_type(names.get("a"), int | None)
+assert_type(names.get("a", -1), int)
+assert_type(names.get("a", default="none"), int | str)
+assert_type(names.get_all(["a"], missing=2**40), "array[int]")
+assert_type(names.intern_lines(b"a\nb"), "array[int]")
 assert_type(names.resolve(0), str | None)
 assert_type(names[0], str)
 assert_type(names.resolve_all(names.intern_all(["a"], typecode="I")), list[str])
@@ -42,6 +46,10 @@ assert_type(Colors.from_parts(names, array("b", [0, -1])), Colors)
 assert_type(colors[0], str | None)
 assert_type(colors[1:], Column)
 assert_type(list(colors), list[str | None])
+assert_type(Colors.from_file("lines", hasher="fixed"), Colors)
+assert_type(Colors.from_buffers(*colors.to_buffers()), Colors)
+assert_type(colors.take([0, -1]), Column)
+assert_type(colors.value_counts(), dict[str, int])
 assert_type(colors.dictionary, list[str])
 assert_type(colors.codes.tolist(), list[int])
 assert_type(colors.counts(), "array[int]")
@@ -57,6 +65,9 @@ names.intern_all([1])  # type: ignore[list-item]
 names.intern_all(["a"], typecode="d")  # type: ignore[arg-type]
 names.intern_column("a", [1])  # type: ignore[arg-type]
 names.resolve(1.5)  # type: ignore[arg-type]
+names.get_all([1])  # type: ignore[list-item]
+names.intern_lines("a")  # type: ignore[arg-type]
+Column.from_file(1.5)  # type: ignore[arg-type]
 names["a"]  # type: ignore[index]
 Interner(backend="tree")  # type: ignore[arg-type]
 Interner(hasher="sip")  # type: ignore[arg-type]
