@@ -29,7 +29,7 @@ HOME = "docs/site"
 NEEDS = "python sphinx myst_parser furo"
 # The lists of pages beside each page; what is in none of them comes last.
 LISTS = {
-    "Use": ["docs/GUIDE", "docs/PORTING", "docs/PERFORMANCE", "clients/README", *(f"crates/{it}/README" for it in api.CRATES)],
+    "Use": ["docs/GUIDE", "docs/PORTING", "docs/PERFORMANCE", "clients/README", "clients/python/README", *(f"crates/{it}/README" for it in api.CRATES)],
     "Contracts": ["docs/CONTRACTS", "crates/string_interner/CALLERS", *(f"api/{it}" for it in api.CRATES), "api/definitions", "docs/promises", "genindex"],
     "Work on it": ["CONTRIBUTING", "docs/DESIGN", "docs/DECISIONS"],
 }
