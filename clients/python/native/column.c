@@ -42,8 +42,6 @@ Column *make_plain(Column *like) {
   return (Column *)column_new(type, NULL, NULL);
 }
 
-static PyObject *column_extend(Column *self, PyObject *values);
-
 static int column_init(Column *self, PyObject *args, PyObject *keywords) {
   static char *words[] = {"values", "hasher", NULL};
   PyObject *values = NULL, *hasher = NULL;
@@ -73,184 +71,6 @@ static int column_traverse(PyObject *self, visitproc visit, void *arg) {
   return 0;
 }
 
-/* Adding rows */
-
-bool add_codes(Column *self, Block *codes, Py_ssize_t n) {
-  int width = width_of(si_len(self->dictionary->h));
-  if (!self->n && codes && codes->width == width) {
-    codes->used = n;
-    share_block(codes);
-    drop_block(self->block);
-    self->block = codes;
-  } else {
-    if (!reserve_codes(&self->block, self->n, n, width)) return false;
-    for (Py_ssize_t row = 0; row < n; row++) set_code(self->block, self->n + row, code_at(codes, row));
-    self->block->used = self->n + n;
-  }
-  self->n += n;
-  return true;
-}
-
-static Batch *batch_of(Column *self, Py_ssize_t rows) {
-  Batch *batch = is_made(self) ? new_batch(NULL, self, self->dictionary->h, rows) : NULL;
-  if (batch) batch->takes_none = true;
-  return batch;
-}
-
-/* Adds the codes of a batch to its column, and ends it. */
-static PyObject *finish_batch(Batch *batch, bool is_done) {
-  if (is_done && !add_codes(batch->column, batch->block, batch->first)) {
-    undo_batch(batch);
-    is_done = false;
-  }
-  free_batch(batch);
-  return is_done ? Py_NewRef(Py_None) : NULL;
-}
-
-static PyObject *extend_in_place(Column *self, Rows *rows) {
-  Batch *batch = batch_of(self, rows->n);
-  if (!batch) return NULL;
-  bool is_done = reserve_batch(batch, rows->n) && encode_rows(batch, rows);
-  batch->first = rows->n;
-  return finish_batch(batch, is_done);
-}
-
-/* The next values, in a list. A short one is the last. */
-static PyObject *read_values(PyObject *walk) {
-  PyObject *values = PyList_New(0), *value;
-  while (values && PyList_Size(values) < VALUES_AT_ONCE && (value = PyIter_Next(walk))) {
-    if (PyList_Append(values, value)) Py_CLEAR(values);
-    Py_DECREF(value);
-  }
-  if (values && PyErr_Occurred()) Py_CLEAR(values);
-  return values;
-}
-
-/* Encodes the next values. The iterator may use the column, too, and so may what a value runs when it is dropped. Returns whether
- * there may be more. */
-static bool extend_by_part(Batch *batch, PyObject *walk, bool *is_done) {
-  Rows rows;
-  PyObject *values = read_values(walk);
-  *is_done = adopt_changes(batch) && values && open_rows_in_place(values, &rows);
-  Py_XDECREF(values);
-  if (!*is_done) {
-    undo_batch(batch);
-    return false;
-  }
-  bool is_last = rows.n == 0;
-  if (!is_last) *is_done = reserve_batch(batch, rows.n) && encode_rows(batch, &rows);
-  if (*is_done && !is_last) {
-    batch->first += rows.n;
-    batch->block->used = batch->first;
-    note_changes(batch);
-  }
-  close_rows(&rows);
-  return *is_done && !is_last;
-}
-
-static PyObject *extend_by_parts(Column *self, PyObject *values) {
-  PyObject *walk = PyObject_GetIter(values), *done = NULL;
-  Batch *batch = walk ? batch_of(self, VALUES_AT_ONCE) : NULL;
-  if (batch) {
-    bool is_done;
-    note_changes(batch);
-    while (extend_by_part(batch, walk, &is_done)) continue;
-    done = finish_batch(batch, is_done);
-  }
-  Py_XDECREF(walk);
-  return done;
-}
-
-static PyObject *column_merge(Column *self, PyObject *values);
-
-static PyObject *column_extend(Column *self, PyObject *given) {
-  Rows rows;
-  PyObject *done = NULL;
-  if (PyObject_TypeCheck(given, self->state->column)) return column_merge(self, given);
-  PyObject *values = without_mask(given, Py_None);
-  if (!values) return NULL;
-  if (open_rows_in_place(values, &rows)) {
-    done = extend_in_place(self, &rows);
-    close_rows(&rows);
-  } else done = extend_by_parts(self, values);
-  Py_DECREF(values);
-  return done;
-}
-
-static PyObject *column_append(Column *self, PyObject *value) {
-  Py_ssize_t length = 0;
-  size_t number = 0;
-  const char *bytes = value == Py_None ? "" : utf8_of(value, &length);
-  if (!bytes || !is_made(self)) return NULL;
-  size_t before = si_len(self->dictionary->h);
-  si_result status = value == Py_None ? SI_OK : add_text(self, bytes, length, &number);
-  if (status != SI_OK) return raise_status(status);
-  Dictionary *dictionary = self->dictionary;
-  dictionary->uses++;
-  if (!reserve_codes(&self->block, self->n, 1, width_of(si_len(dictionary->h)))) {
-    if (dictionary->references == 1) si_truncate(dictionary->h, before);
-    return NULL;
-  }
-  set_code(self->block, self->n, value == Py_None ? -1 : (int64_t)number);
-  self->block->used = ++self->n;
-  Py_RETURN_NONE;
-}
-
-/* The code in a batch's column of each text of another dictionary, with -1 before the first. Adds those that are new. */
-static int64_t *translate(Batch *batch, const Dictionary *from) {
-  size_t count = si_len(from->h), number;
-  int64_t *table = PyMem_Malloc((count + 1) * sizeof *table);
-  if (!table) return PyErr_NoMemory(), NULL;
-  *table = -1;
-  begin_batch(batch);
-  bool is_done = true;
-  for (size_t code = 0; is_done && code < count; code++) {
-    si_text text;
-    if (code && code % ROWS_OF_A_PART == 0 && !(is_done = resume_batch(batch))) break;
-    si_result status = si_resolve(from->h, code, &text);
-    if (status == SI_OK) status = add_text(batch->column, text.bytes, text.len, &number);
-    table[code + 1] = (int64_t)number;
-    batch->h = batch->column->dictionary->h;
-    if (status != SI_OK) is_done = raise_status(status) != NULL;
-  }
-  end_batch(batch);
-  if (is_done) return table;
-  PyMem_Free(table);
-  return NULL;
-}
-
-/* Appends n codes under a table. Without a table they are the same. */
-static bool add_translated(Column *self, const Block *codes, Py_ssize_t n, const int64_t *table) {
-  if (!reserve_codes(&self->block, self->n, n, width_of(si_len(self->dictionary->h)))) return false;
-  for (Py_ssize_t row = 0; row < n; row++) {
-    int64_t code = code_at(codes, row);
-    set_code(self->block, self->n + row, table ? table[code + 1] : code);
-  }
-  self->block->used = self->n += n;
-  return true;
-}
-
-static PyObject *column_merge(Column *self, PyObject *values) {
-  if (!PyObject_TypeCheck(values, self->state->column)) return raise_type("a column is merged with a column, not ", values, "");
-  Column *other = (Column *)values;
-  if (!is_made(self) || !is_made(other)) return NULL;
-  /* Shared, because both columns may be one, and a handler of a signal may change them. */
-  Dictionary *from = share_dictionary(other->dictionary);
-  Block *codes = share_block(other->block);
-  Py_ssize_t n = other->n;
-  Batch *batch = new_batch(NULL, self, self->dictionary->h, 0);
-  bool is_same = from == self->dictionary;
-  int64_t *table = batch && !is_same ? translate(batch, from) : NULL;
-  bool is_done = batch && (is_same || table) && add_translated(self, codes, n, table);
-  if (is_done) self->dictionary->uses++;
-  else if (batch) undo_batch(batch);
-  PyMem_Free(table);
-  free_batch(batch);
-  drop_block(codes);
-  drop_dictionary(from);
-  return is_done ? Py_NewRef(Py_None) : NULL;
-}
-
 /* Reading */
 
 static PyObject *column_dictionary(Column *self, void *unused) {
@@ -258,7 +78,7 @@ static PyObject *column_dictionary(Column *self, void *unused) {
   return is_made(self) ? list_strings(self->dictionary) : NULL;
 }
 
-static PyObject *column_codes(Column *self, void *unused) {
+PyObject *column_codes(Column *self, void *unused) {
   (void)unused;
   return is_made(self) ? view_codes(self->state, self->block, self->n, column_width(self)) : NULL;
 }
@@ -393,10 +213,14 @@ static PyObject *column_subscript(Column *self, PyObject *key) {
 static Block *take_codes(const Column *self, const Numbers *rows) {
   Block *block = new_block(rows->n, width_of(si_len(self->dictionary->h)));
   for (Py_ssize_t at = 0; block && at < rows->n; at++) {
-    int64_t row = rows->at[at] < 0 ? rows->at[at] + self->n : rows->at[at];
+    int64_t row = rows->at[at];
+    /* A number of a buffer without signs is great, not negative. */
+    if (row < 0 && !rows->is_unsigned) row += self->n;
     if (row >= 0 && row < self->n) set_code(block, at, code_at(self->block, row));
     else {
-      PyErr_Format(PyExc_IndexError, "there is no row %lld", (long long)rows->at[at]);
+      PyObject *exact = exact_number(rows, at);
+      if (exact) PyErr_Format(PyExc_IndexError, "there is no row %S", exact);
+      Py_XDECREF(exact);
       drop_block(block);
       return NULL;
     }
@@ -460,155 +284,6 @@ static PyObject *column_repr(Column *self) {
   else if (name) repr = PyUnicode_FromFormat("<%U that was not initialized>", name);
   Py_XDECREF(name);
   return repr;
-}
-
-/* Parts */
-
-/* Adds distinct texts to a handle that nobody else has. Raises ValueError if one repeats. */
-static bool add_distinct(si_interner *h, PyObject *texts) {
-  Rows rows;
-  if (!open_rows(texts, &rows)) return false;
-  Batch *batch = new_batch(NULL, NULL, h, rows.n);
-  uint32_t *numbers = PyMem_Malloc(rows.n * sizeof *numbers + 1);
-  if (batch && !numbers) PyErr_NoMemory();
-  bool is_done = false;
-  if (batch && numbers) {
-    batch->out = numbers, batch->width = 4;
-    is_done = encode_rows(batch, &rows);
-  }
-  if (is_done && si_len(h) < (size_t)rows.n) {
-    Py_ssize_t row = 0;
-    while (numbers[row] == row) row++;
-    PyErr_Format(PyExc_ValueError, "entry %zd of the dictionary repeats entry %zu", row, (size_t)numbers[row]);
-    is_done = false;
-  }
-  PyMem_Free(numbers);
-  free_batch(batch);
-  close_rows(&rows);
-  return is_done;
-}
-
-/* A column of a class with a dictionary, which it takes over, and codes. */
-static PyObject *make_of_parts(State *state, PyTypeObject *type, Dictionary *dictionary, PyObject *given) {
-  Numbers numbers;
-  Column *column = NULL;
-  PyObject *minus_one = PyLong_FromLong(-1), *codes = minus_one ? without_mask(given, minus_one) : NULL;
-  Py_XDECREF(minus_one);
-  if (codes && read_numbers(codes, &numbers)) {
-    Block *block = check_codes(&numbers, si_len(dictionary->h));
-    if (block && (column = make_column(state, type))) begin_column(column, dictionary, block, numbers.n);
-    else drop_block(block);
-    drop_numbers(&numbers);
-  }
-  Py_XDECREF(codes);
-  if (!column) drop_dictionary(dictionary);
-  return (PyObject *)column;
-}
-
-static PyObject *column_from_parts(PyTypeObject *type, PyObject *args, PyObject *keywords) {
-  static char *words[] = {"dictionary", "codes", "hasher", NULL};
-  PyObject *texts, *codes, *hasher = NULL;
-  Options options = {.kind = SI_STRING};
-  State *state = state_of_type(type);
-  if (!state || !PyArg_ParseTupleAndKeywords(args, keywords, "OO|$O:from_parts", words, &texts, &codes, &hasher)) return NULL;
-  Dictionary *dictionary = read_hasher(state, hasher, &options) ? new_dictionary(&options) : NULL;
-  if (!dictionary) return NULL;
-  if (add_distinct(dictionary->h, texts)) return make_of_parts(state, type, dictionary, codes);
-  drop_dictionary(dictionary);
-  return NULL;
-}
-
-/* Adds distinct texts, which are end to end in a buffer, to a handle that nobody else has. */
-static bool add_joined(si_interner *h, PyObject *given, PyObject *given_ends) {
-  Bytes joined;
-  Numbers ends;
-  bool is_done = false;
-  if (!read_bytes(given, &joined)) return false;
-  if (read_numbers(given_ends, &ends)) {
-    is_done = split_texts(h, &joined, (const size_t *)ends.at, ends.n);
-    drop_numbers(&ends);
-  }
-  drop_bytes(&joined);
-  return is_done;
-}
-
-static PyObject *column_from_buffers(PyTypeObject *type, PyObject *args, PyObject *keywords) {
-  static char *words[] = {"joined", "ends", "codes", "hasher", NULL};
-  PyObject *joined, *ends, *codes, *hasher = NULL;
-  Options options = {.kind = SI_STRING};
-  State *state = state_of_type(type);
-  if (!state || !PyArg_ParseTupleAndKeywords(args, keywords, "OOO|$O:from_buffers", words, &joined, &ends, &codes, &hasher)) return NULL;
-  Dictionary *dictionary = read_hasher(state, hasher, &options) ? new_dictionary(&options) : NULL;
-  if (!dictionary) return NULL;
-  if (add_joined(dictionary->h, joined, ends)) return make_of_parts(state, type, dictionary, codes);
-  drop_dictionary(dictionary);
-  return NULL;
-}
-
-static PyObject *column_buffers(Column *self, PyObject *unused) {
-  (void)unused;
-  PyObject *joined = NULL, *ends = NULL, *all = NULL;
-  if (!is_made(self)) return NULL;
-  PyObject *codes = column_codes(self, NULL);
-  Dictionary *dictionary = codes ? share_dictionary(self->dictionary) : NULL;
-  if (dictionary && join_texts(dictionary, &joined, &ends)) all = PyTuple_Pack(3, joined, ends, codes);
-  drop_dictionary(dictionary);
-  Py_XDECREF(joined);
-  Py_XDECREF(ends);
-  Py_XDECREF(codes);
-  return all;
-}
-
-static PyObject *column_parts(Column *self, void *unused) {
-  (void)unused;
-  Parts *parts = (Parts *)new_parts(self->state, NULL, NULL, 0);
-  if (parts && is_made(self)) {
-    parts->dictionary = share_dictionary(self->dictionary);
-    parts->block = share_block(self->block), parts->n = self->n;
-  } else Py_CLEAR(parts);
-  return (PyObject *)parts;
-}
-
-static int column_set_parts(Column *self, PyObject *value, void *unused) {
-  (void)unused;
-  Parts *parts = (Parts *)value;
-  if (!value || !PyObject_TypeCheck(value, self->state->parts) || parts->n < 0)
-    return PyErr_SetString(PyExc_TypeError, "no parts of a column"), -1;
-  begin_column(self, share_dictionary(parts->dictionary), share_block(parts->block), parts->n);
-  return 0;
-}
-
-/* Encodes the rows under the dictionary of a column that has none yet. */
-static bool add_in_order(const Column *self, Column *compact, Block *block) {
-  size_t distinct = si_len(self->dictionary->h), number;
-  int64_t *table = PyMem_Malloc(distinct * sizeof *table + 1);
-  si_result status = table ? SI_OK : SI_NO_MEMORY;
-  for (size_t code = 0; table && code < distinct; code++) table[code] = -1;
-  for (Py_ssize_t row = 0; status == SI_OK && row < self->n; row++) {
-    int64_t code = code_at(self->block, row);
-    if (code >= 0 && table[code] < 0) {
-      si_text text;
-      si_resolve(self->dictionary->h, code, &text);
-      status = add_text(compact, text.bytes, text.len, &number);
-      table[code] = (int64_t)number;
-    }
-    if (status == SI_OK) set_code(block, row, code < 0 ? -1 : table[code]);
-  }
-  PyMem_Free(table);
-  if (status != SI_OK) raise_status(status);
-  return status == SI_OK;
-}
-
-static PyObject *column_compact(Column *self, PyObject *unused) {
-  (void)unused;
-  Options options = {.kind = SI_STRING};
-  Column *compact = make_plain(self);
-  Dictionary *dictionary = compact && is_made(self) && read_hasher(self->state, NULL, &options) ? new_dictionary(&options) : NULL;
-  Block *block = dictionary ? new_block(self->n, width_of(si_len(self->dictionary->h))) : NULL;
-  if (dictionary) begin_column(compact, dictionary, NULL, 0);
-  if (!block || !add_in_order(self, compact, block) || !add_codes(compact, block, self->n)) Py_CLEAR(compact);
-  drop_block(block);
-  return (PyObject *)compact;
 }
 
 static PyMethodDef column_methods[] = {

@@ -103,10 +103,12 @@ static Py_ssize_t read_more(Reader *reader, PyObject *name) {
   }
 }
 
-/* Encodes the lines that are read to their ends, or at the end of the file all. */
-static bool encode_read(Batch *batch, Reader *reader, bool is_end) {
-  size_t whole = reader->used;
-  while (!is_end && whole && reader->bytes[whole - 1] != '\n') whole--;
+/* Encodes the lines that are read to their ends, or at the end of the file all. Only the last `count` bytes may have newlines. */
+static bool encode_read(Batch *batch, Reader *reader, size_t count) {
+  size_t whole = reader->used, searched = reader->used - count;
+  while (whole > searched && reader->bytes[whole - 1] != '\n') whole--;
+  if (!count) whole = reader->used;
+  else if (whole == searched) return true;
   const char *end = reader->bytes + whole;
   if (!reserve_batch(batch, count_newlines(reader->bytes, end) + 1) || !encode_lines(batch, reader->bytes, end)) return false;
   batch->block->used = batch->first;
@@ -122,7 +124,7 @@ static bool encode_file(Batch *batch, int file, PyObject *name) {
   do {
     count = read_more(&reader, name);
     reader.used += count > 0 ? count : 0;
-    is_done = count >= 0 && encode_read(batch, &reader, count == 0);
+    is_done = count >= 0 && encode_read(batch, &reader, count);
   } while (is_done && count);
   PyMem_Free(reader.bytes);
   return is_done;

@@ -1,17 +1,6 @@
 /* The module: its types, and what each interpreter has of it. */
 #include "native.h"
 
-/* The state of the module whose type is the nearest base. PyType_GetModuleByDef is in the limited API only from 3.13 on. */
-State *state_of_type(PyTypeObject *type) {
-  for (; type; type = PyType_GetSlot(type, Py_tp_base)) {
-    PyObject *module = PyType_GetModule(type);
-    if (module) return PyModule_GetState(module);
-    PyErr_Clear();
-  }
-  PyErr_SetString(PyExc_TypeError, "no class of string_interner");
-  return NULL;
-}
-
 static bool add_type(PyObject *module, PyTypeObject **type, PyType_Spec *spec) {
   *type = (PyTypeObject *)PyType_FromModuleAndSpec(module, spec, NULL);
   return *type && !PyModule_AddType(module, *type);
@@ -78,4 +67,19 @@ static PyModuleDef_Slot slots_since_3_12[] = {{Py_mod_exec, fill_module}, {MULTI
 
 static struct PyModuleDef definition = DEFINITION(slots), definition_since_3_12 = DEFINITION(slots_since_3_12);
 
-PyMODINIT_FUNC PyInit__native(void) { return PyModuleDef_Init(Py_Version >= 0x030C0000 ? &definition_since_3_12 : &definition); }
+/* Which of them counts. */
+static PyModuleDef *own_definition(void) { return Py_Version >= 0x030C0000 ? &definition_since_3_12 : &definition; }
+
+/* The nearest base that this module made. A base may come from another module in C. PyType_GetModuleByDef is in the limited API
+ * only from 3.13 on. */
+State *state_of_type(PyTypeObject *type) {
+  for (; type; type = PyType_GetSlot(type, Py_tp_base)) {
+    PyObject *module = PyType_GetModule(type);
+    if (module && PyModule_GetDef(module) == own_definition()) return PyModule_GetState(module);
+    PyErr_Clear();
+  }
+  PyErr_SetString(PyExc_TypeError, "no class of string_interner");
+  return NULL;
+}
+
+PyMODINIT_FUNC PyInit__native(void) { return PyModuleDef_Init(own_definition()); }

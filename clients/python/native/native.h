@@ -57,6 +57,11 @@ typedef struct Options {
   uint64_t keys[2];
 } Options;
 
+/* module.c */
+
+/** The state of the module that a class of it, or one below, comes from. */
+State *state_of_type(PyTypeObject *type);
+
 /* interner.c */
 
 typedef struct Walk Walk;
@@ -74,16 +79,33 @@ typedef struct Interner {
   bool is_keyed;
 } Interner;
 
-extern PyType_Spec interner_spec, walk_spec;
+extern PyType_Spec interner_spec;
 
 bool is_open(const Interner *self);
-State *state_of_type(PyTypeObject *type);
+
+/* texts.c */
+
+extern PyType_Spec walk_spec;
+
+PyObject *interner_iter(Interner *self);
+PyObject *interner_entries(Interner *self, PyObject *unused);
+PyObject *interner_reversed(Interner *self, PyObject *unused);
 
 /** Whether an iterator shows more texts than the first few. */
 bool shows_more(const Interner *self, size_t count);
 
 /** Reads the rest of each live iterator, so that what it shows stays, and lets go of it. Nothing changes if this fails. */
 bool read_walks(Interner *self);
+
+/* many.c */
+
+/** The number of each text, in an array with a typecode. */
+PyObject *intern_objects(Interner *self, PyObject *texts, const char *typecode);
+
+PyObject *interner_intern_all(Interner *self, PyObject *args, PyObject *keywords);
+PyObject *interner_intern_column(Interner *self, PyObject *args, PyObject *keywords);
+PyObject *interner_get_all(Interner *self, PyObject *args, PyObject *keywords);
+PyObject *interner_resolve_all(Interner *self, PyObject *given);
 
 /* options.c */
 
@@ -210,11 +232,6 @@ bool is_made(const Column *self);
 
 /** The bytes of a code. They may be fewer than its dictionary needs now, if texts were added without rows. */
 int column_width(const Column *self);
-/** Finds the number of a text, or adds the text to a dictionary that is the column's own. */
-si_result add_text(Column *self, const char *bytes, size_t length, size_t *number);
-
-/** Appends codes. If there is no row yet, takes the block as it is. */
-bool add_codes(Column *self, Block *codes, Py_ssize_t n);
 
 /** Has a column begin again, with a dictionary and rows, whose references it takes over. */
 void begin_column(Column *self, Dictionary *dictionary, Block *block, Py_ssize_t n);
@@ -224,6 +241,29 @@ Column *make_column(State *state, PyTypeObject *type);
 
 /** Makes a column of the class that slices have. */
 Column *make_plain(Column *like);
+
+/** Finds the number of a text, or adds the text to a dictionary that is the column's own. */
+si_result add_text(Column *self, const char *bytes, size_t length, size_t *number);
+
+PyObject *column_codes(Column *self, void *unused);
+
+/* extend.c */
+
+/** Appends codes. If there is no row yet, takes the block as it is. */
+bool add_codes(Column *self, Block *codes, Py_ssize_t n);
+
+PyObject *column_append(Column *self, PyObject *value);
+PyObject *column_extend(Column *self, PyObject *given);
+PyObject *column_merge(Column *self, PyObject *values);
+
+/* exchange.c */
+
+PyObject *column_from_parts(PyTypeObject *type, PyObject *args, PyObject *keywords);
+PyObject *column_from_buffers(PyTypeObject *type, PyObject *args, PyObject *keywords);
+PyObject *column_buffers(Column *self, PyObject *unused);
+PyObject *column_parts(Column *self, void *unused);
+int column_set_parts(Column *self, PyObject *value, void *unused);
+PyObject *column_compact(Column *self, PyObject *unused);
 
 /* rows.c */
 

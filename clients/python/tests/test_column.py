@@ -674,8 +674,12 @@ class Buffers(unittest.TestCase):
     def test_take_refuses(self):
         column = Column(["a", None])
         for wrong in (2, -3, 2**63, -(2**70)):
-            with self.assertRaises(IndexError):
+            with self.assertRaisesRegex(IndexError, f"^there is no row {wrong}$"):
                 column.take([0, wrong])
+        # Numbers without signs, which are great, and no rows from the end.
+        for great in (2**64 - 1, 2**64 - 2):
+            with self.assertRaisesRegex(IndexError, f"^there is no row {great}$"):
+                column.take(array("Q", [great]))
         for wrong in WRONG_NUMBERS:
             with self.assertRaises(TypeError):
                 column.take([wrong])

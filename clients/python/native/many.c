@@ -1,0 +1,201 @@
+/* Many texts or numbers of an interner at once. */
+#include "native.h"
+
+PyObject *intern_objects(Interner *self, PyObject *texts, const char *typecode) {
+  Rows rows;
+  Py_buffer view;
+  if (!open_rows(texts, &rows)) return NULL;
+  PyObject *array = new_array(self->state, typecode, rows.n, &view);
+  if (array) {
+    Batch *batch = is_open(self) ? new_batch(self, NULL, self->h, rows.n) : NULL;
+    bool is_done = false;
+    if (batch) {
+      batch->out = view.buf, batch->width = *typecode == 'I' ? 4 : 8;
+      is_done = encode_rows(batch, &rows);
+    }
+    free_batch(batch);
+    PyBuffer_Release(&view);
+    if (!is_done) Py_CLEAR(array);
+  }
+  close_rows(&rows);
+  return array;
+}
+
+static const char *read_typecode(PyObject *given) {
+  if (!given || (PyUnicode_Check(given) && !PyUnicode_CompareWithASCIIString(given, "I"))) return "I";
+  if (PyUnicode_Check(given) && !PyUnicode_CompareWithASCIIString(given, "Q")) return "Q";
+  PyErr_SetString(PyExc_ValueError, "a typecode is 'I' or 'Q'");
+  return NULL;
+}
+
+PyObject *interner_intern_all(Interner *self, PyObject *args, PyObject *keywords) {
+  static char *words[] = {"texts", "typecode", NULL};
+  PyObject *texts, *given = NULL;
+  if (!PyArg_ParseTupleAndKeywords(args, keywords, "O|$O:intern_all", words, &texts, &given)) return NULL;
+  const char *typecode = read_typecode(given);
+  return typecode && is_open(self) ? intern_objects(self, texts, typecode) : NULL;
+}
+
+/* Interns the parts of bytes, and writes their numbers of 8 bytes. The texts before a failure stay. */
+static bool intern_parts(Interner *self, const Bytes *joined, const size_t *ends, Py_ssize_t n, size_t *numbers) {
+  size_t done;
+  if (!is_open(self)) return false;
+  self->uses++;
+  si_result status = si_intern_all(self->h, joined->at, joined->length, ends, n, numbers, n, &done);
+  if (status == SI_BAD_TEXT) PyErr_Format(PyExc_ValueError, "text %zu is not UTF-8", done);
+  else if (status != SI_OK) raise_status(status);
+  return status == SI_OK;
+}
+
+/* The numbers in an array. */
+static PyObject *pack_numbers(const State *state, const char *typecode, const size_t *numbers, Py_ssize_t n) {
+  Py_buffer view;
+  PyObject *array = new_array(state, typecode, n, &view);
+  if (!array) return NULL;
+  for (Py_ssize_t row = 0; row < n; row++)
+    if (*typecode == 'I') ((uint32_t *)view.buf)[row] = (uint32_t)numbers[row];
+    else ((uint64_t *)view.buf)[row] = numbers[row];
+  PyBuffer_Release(&view);
+  return array;
+}
+
+PyObject *interner_intern_column(Interner *self, PyObject *args, PyObject *keywords) {
+  static char *words[] = {"joined", "ends", "typecode", NULL};
+  PyObject *given, *given_ends, *given_typecode = NULL, *array = NULL;
+  Bytes joined;
+  Numbers ends;
+  if (!PyArg_ParseTupleAndKeywords(args, keywords, "OO|$O:intern_column", words, &given, &given_ends, &given_typecode)) return NULL;
+  const char *typecode = read_typecode(given_typecode);
+  if (!typecode || !read_bytes(given, &joined)) return NULL;
+  if (read_numbers(given_ends, &ends)) {
+    /* A negative end passes the bytes as a great one does. So the library rejects it in its turn. */
+    size_t *numbers = PyMem_Malloc(ends.n * sizeof *numbers + 1);
+    if (!numbers) PyErr_NoMemory();
+    else if (intern_parts(self, &joined, (const size_t *)ends.at, ends.n, numbers))
+      array = pack_numbers(self->state, typecode, numbers, ends.n);
+    PyMem_Free(numbers);
+    drop_numbers(&ends);
+  }
+  drop_bytes(&joined);
+  return array;
+}
+
+/* Looks up texts, and writes numbers of 8 bytes. */
+static bool look_up_rows(Interner *self, Rows *rows, int64_t missing, int64_t *numbers) {
+  Batch *batch = is_open(self) ? new_batch(self, NULL, self->h, rows->n) : NULL;
+  if (!batch) return false;
+  batch->only_looks = true, batch->missing = missing;
+  batch->out = numbers, batch->width = 8;
+  bool is_done = encode_rows(batch, rows);
+  free_batch(batch);
+  return is_done;
+}
+
+static PyObject *pack_signed(const State *state, const int64_t *numbers, Py_ssize_t n) {
+  Py_buffer view;
+  bool is_narrow = true;
+  for (Py_ssize_t row = 0; row < n; row++) is_narrow &= numbers[row] == (int32_t)numbers[row];
+  PyObject *array = new_array(state, is_narrow ? "i" : "q", n, &view);
+  if (!array) return NULL;
+  if (!is_narrow) memcpy(view.buf, numbers, n * sizeof *numbers);
+  else
+    for (Py_ssize_t row = 0; row < n; row++) ((int32_t *)view.buf)[row] = (int32_t)numbers[row];
+  PyBuffer_Release(&view);
+  return array;
+}
+
+PyObject *interner_get_all(Interner *self, PyObject *args, PyObject *keywords) {
+  static char *words[] = {"texts", "missing", NULL};
+  PyObject *texts, *array = NULL;
+  long long missing = -1;
+  Rows rows;
+  if (!PyArg_ParseTupleAndKeywords(args, keywords, "O|L:get_all", words, &texts, &missing)) return NULL;
+  if (!open_rows(texts, &rows)) return NULL;
+  int64_t *numbers = PyMem_Malloc(rows.n * sizeof *numbers + 1);
+  if (!numbers) PyErr_NoMemory();
+  else if (look_up_rows(self, &rows, missing, numbers)) array = pack_signed(self->state, numbers, rows.n);
+  PyMem_Free(numbers);
+  close_rows(&rows);
+  return array;
+}
+
+/* Texts by their numbers, so that equal numbers give one str. */
+typedef struct Found {
+  int64_t number;
+  PyObject *text;
+} Found;
+
+/* A table of more than twice as many places as different numbers. */
+typedef struct Table {
+  Found *found;
+  size_t mask;
+  int64_t limit; /* all numbers are below this */
+} Table;
+
+static bool make_table(const Interner *self, Py_ssize_t numbers, Table *table) {
+  size_t most = (size_t)numbers < si_len(self->h) || self->kind == SI_BUFFER ? (size_t)numbers : si_len(self->h);
+  table->limit = self->kind == SI_BUFFER ? INT64_MAX : (int64_t)si_len(self->h);
+  table->mask = 1;
+  while (table->mask < 2 * most) table->mask = 2 * table->mask + 1;
+  table->found = PyMem_Calloc(table->mask + 1, sizeof *table->found);
+  if (!table->found) PyErr_NoMemory();
+  return table->found != NULL;
+}
+
+static void drop_table(Table *table) {
+  for (size_t place = 0; table->found && place <= table->mask; place++) Py_XDECREF(table->found[place].text);
+  PyMem_Free(table->found);
+}
+
+/* The text of a number, borrowed from the table. */
+static PyObject *find_once(const Interner *self, Table *table, int64_t number) {
+  size_t place = (uint64_t)number * 0x9E3779B97F4A7C15u >> 20 & table->mask;
+  si_text text;
+  if (number < 0 || number >= table->limit) return NULL;
+  while (table->found[place].text && table->found[place].number != number) place = (place + 1) & table->mask;
+  Found *found = &table->found[place];
+  if (!found->text && si_resolve(self->h, number, &text) == SI_OK)
+    found->number = number, found->text = PyUnicode_DecodeUTF8(text.bytes, text.len, NULL);
+  return found->text;
+}
+
+/* The text of each number, borrowed from the table. Returns the first row without one. */
+static Py_ssize_t find_texts(Interner *self, const Numbers *numbers, Table *table, PyObject **texts) {
+  size_t cuts = self->cuts;
+  for (Py_ssize_t row = 0; row < numbers->n; row++) {
+    if (row && row % ROWS_OF_A_PART == 0) {
+      if (PyErr_CheckSignals() || !is_open(self)) return row;
+      if (self->cuts != cuts) return PyErr_SetString(PyExc_RuntimeError, "the interner changed during the call"), row;
+    }
+    if (!(texts[row] = find_once(self, table, numbers->at[row]))) return row;
+  }
+  return numbers->n;
+}
+
+static PyObject *list_texts(PyObject *const *texts, Py_ssize_t n) {
+  PyObject *list = PyList_New(n);
+  for (Py_ssize_t row = 0; list && row < n; row++) PyList_SetItem(list, row, Py_NewRef(texts[row]));
+  return list;
+}
+
+PyObject *interner_resolve_all(Interner *self, PyObject *given) {
+  Numbers numbers;
+  Table table = {0};
+  PyObject *list = NULL;
+  if (!read_numbers(given, &numbers)) return NULL;
+  PyObject **texts = PyMem_Malloc(numbers.n * sizeof *texts + 1);
+  if (!texts) PyErr_NoMemory();
+  else if (is_open(self) && make_table(self, numbers.n, &table)) {
+    Py_ssize_t row = find_texts(self, &numbers, &table, texts);
+    if (row == numbers.n) list = list_texts(texts, row);
+    else if (!PyErr_Occurred()) {
+      PyObject *number = exact_number(&numbers, row);
+      if (number) PyErr_SetObject(PyExc_KeyError, number);
+      Py_XDECREF(number);
+    }
+  }
+  drop_table(&table);
+  PyMem_Free(texts);
+  drop_numbers(&numbers);
+  return list;
+}
