@@ -1,6 +1,7 @@
 """Measures calls of the Python package beside what a dict and pandas take, and compares each figure with the most that it may be.
 
     python.py [calls] [batches] [memory] [import] [file]    all five if none is named; RUNS=9 takes the median of nine runs
+    python.py --docs                                        all five, and writes them and a picture to docs/pictures (needs matplotlib)
     python.py instructions                                  of each call, by callgrind (needs gcc and valgrind)
 
 Each figure but those of the import and of callgrind is a ratio of two medians of processor time, whose runs took turns. The last
@@ -21,15 +22,17 @@ from pathlib import Path
 TOP = Path(__file__).resolve().parent.parent.parent
 sys.path.insert(0, str(TOP / "clients/python"))
 RUNS = int(os.environ.get("RUNS", 5))
-too_great = []
+PICTURES = TOP / "docs/pictures"
+figures, too_great = {}, []
 
 
-def tell(what, figure, most=None, unit=""):
-    """Prints a figure, and notes if it is too great."""
+def tell(what, where, figure, most=None, unit=""):
+    """Prints a figure of some texts or of some way, and notes if it is too great."""
     said = "" if most is None else f"at most {most}{unit}: {'met' if figure <= most else 'MISSED'}"
+    figures[what, where] = figure
     if most is not None and figure > most:
-        too_great.append(what)
-    print(f"{what:62} {figure:9.2f}{unit:3} {said}", flush=True)
+        too_great.append((what, where))
+    print(f"{what + ', ' * bool(where) + where:62} {figure:9.2f}{unit:3} {said}", flush=True)
 
 
 def medians(ways):
@@ -99,10 +102,10 @@ def measure_calls():
                 "new": (read, lambda rows: looping(Interner().intern)(rows)), "d.setdefault, new": (read, lambda rows: setdefault({})(rows)),
             })
             where = f"{name}, {form}"
-            tell(f"intern of a known text / d.setdefault, {where}", found["intern"] / found["d.setdefault"], 1.5)
-            tell(f"get of a known text / d.get, {where}", found["get"] / found["d.get"], 2.0)
-            tell(f"get of an unknown text / d.get, {where}", found["get, unknown"] / found["d.get, unknown"], 2.0)
-            tell(f"intern of a new text / d.setdefault, {where}", found["new"] / found["d.setdefault, new"])
+            tell("intern of a known text / d.setdefault", where, found["intern"] / found["d.setdefault"], 1.5)
+            tell("get of a known text / d.get", where, found["get"] / found["d.get"], 2.0)
+            tell("get of an unknown text / d.get", where, found["get, unknown"] / found["d.get, unknown"], 2.0)
+            tell("intern of a new text / d.setdefault", where, found["new"] / found["d.setdefault, new"])
 
 
 def measure_batches():
@@ -125,9 +128,11 @@ def measure_batches():
                 })
                 # Rows that repeat are the same objects then.
                 most = 0.5 if kind == "repeats" and form == "same objects" else 0.8
+                where = f"{kind}, {name}, {form}"
                 for call in ("intern_all", "Column(rows)"):
-                    tell(f"{call} / pandas.factorize, {kind}, {name}, {form}", found[call] / found["factorize"], most)
-                    tell(f"{call} / a dict, {kind}, {name}, {form}", found[call] / found["dict"])
+                    tell(f"{call} / pandas.factorize", where, found[call] / found["factorize"], most)
+                    tell(f"{call} / a dict", where, found[call] / found["dict"])
+                tell("a dict / pandas.factorize", where, found["dict"] / found["factorize"])
 
 
 def measure_memory():
@@ -159,9 +164,9 @@ print((held() - before) / {count})
             return float(subprocess.run([sys.executable, "-c", lines], capture_output=True, text=True, check=True).stdout)
 
         by_a_dict = bytes_of("{text: number for number, text in enumerate(texts())}")
-        tell(f"bytes of a distinct text in a dict, {name}", by_a_dict)
+        tell("bytes of a distinct text in a dict", name, by_a_dict)
         for backend in ("string", "bucket", "buffer"):
-            tell(f"memory of a distinct text / a dict, {name}, {backend}", bytes_of(f"fill(Interner(backend={backend!r}))") / by_a_dict,
+            tell("memory of a distinct text / a dict", f"{name}, {backend}", bytes_of(f"fill(Interner(backend={backend!r}))") / by_a_dict,
                  0.35 if backend == "string" else None)
 
 
@@ -170,7 +175,7 @@ def measure_import():
     words_of = [sys.executable, "-c", lines]
     paths = os.environ | {"PYTHONPATH": str(TOP / "clients/python")}
     times = [float(subprocess.run(words_of, env=paths, capture_output=True, text=True, check=True).stdout) for _ in range(4 * RUNS)]
-    tell("import", 1000 * statistics.median(times), 5, " ms")
+    tell("import", "", 1000 * statistics.median(times), 5, " ms")
 
 
 def measure_file():
@@ -190,7 +195,7 @@ def measure_file():
                 Path(path).write_text("".join(f"{row}\n" for row in rows_of(kind, 1_000_000, letter)))
                 assert by_dict_of(path) == Column.from_file(path).codes.tolist()
                 found = medians({"dict": (lambda: path, by_dict_of), "file": (lambda: path, Column.from_file)})
-                tell(f"Column.from_file / a dict loop, {kind}, {name}", found["file"] / found["dict"], 0.5)
+                tell("Column.from_file / a dict loop", f"{kind}, {name}", found["file"] / found["dict"], 0.5)
 
 
 COUNTER = """
@@ -255,11 +260,60 @@ def measure_instructions():
                 print(f"{trigger[1]:62} {instructions / int(trigger[2]):9.0f} instructions", flush=True)
 
 
-def main(*parts):
-    for part in parts or ("calls", "batches", "memory", "import", "file"):
+def draw_ratios(axes, title, ways, most):
+    """A row for each input, with a mark for each way that was measured over it."""
+    marks = ({"marker": "o", "color": "black"}, {"marker": "s", "color": "black", "markerfacecolor": "white"},
+             {"marker": "^", "color": "0.5"}, {"marker": "x", "color": "0.5"})
+    inputs = [where for what, where in figures if what == next(iter(ways))]
+    for mark, (what, name) in zip(marks, ways.items()):
+        axes.plot([figures[what, where] for where in inputs], range(len(inputs)), linestyle="", markersize=5, label=name, **mark)
+    axes.axvline(1, color="black", linewidth=0.8)
+    axes.axvline(most, color="0.5", linestyle="--", linewidth=0.8)
+    axes.set_yticks(range(len(inputs)), inputs)
+    axes.invert_yaxis()
+    axes.set_xlim(left=0)
+    axes.grid(axis="x", color="0.9", linewidth=0.5)
+    axes.set_title(title, fontsize=8, loc="left")
+    axes.legend(fontsize=7, loc="upper center", bbox_to_anchor=(0.5, -0.1), ncols=4, frameon=False)
+
+
+def draw(commit):
+    """Draws the calls and the batches, readable in black and white."""
+    import matplotlib
+
+    matplotlib.use("svg")
+    import matplotlib.pyplot as plot
+
+    plot.rcParams.update({"font.size": 8, "savefig.facecolor": "white", "svg.fonttype": "none", "svg.hashsalt": "string_interner"})
+    plot.rcParams.update({"axes.spines.top": False, "axes.spines.right": False})
+    figure, (left, right) = plot.subplots(1, 2, figsize=(10, 3.2))
+    figure.subplots_adjust(left=0.2, right=0.985, top=0.9, bottom=0.2, wspace=0.55)
+    draw_ratios(left, "A million rows at once: time divided by that of pandas.factorize", {
+        "intern_all / pandas.factorize": "intern_all", "Column(rows) / pandas.factorize": "Column(rows)",
+        "a dict / pandas.factorize": "a loop over a dict"}, 0.8)
+    draw_ratios(right, "Call by call: time divided by that of a dict's method", {
+        "intern of a known text / d.setdefault": "intern, known", "intern of a new text / d.setdefault": "intern, new",
+        "get of a known text / d.get": "get, known", "get of an unknown text / d.get": "get, unknown"}, 1.5)
+    figure.text(0.01, 0.01, f"Commit {commit}, medians of {RUNS} runs that took turns.", fontsize=6, color="0.3")
+    figure.savefig(PICTURES / "python.svg", metadata={"Date": None})
+
+
+def record():
+    """Writes all figures and a picture of them."""
+    commit = subprocess.run(["git", "rev-parse", "--short=12", "HEAD"], cwd=TOP, capture_output=True, text=True, check=True).stdout.strip()
+    lines = [f"# commit: {commit}", *(f"{what}\t{where}\t{figure:.3f}" for (what, where), figure in figures.items())]
+    (PICTURES / "python.tsv").write_text("\n".join(lines) + "\n")
+    draw(commit)
+
+
+def main(*words):
+    is_recorded = words == ("--docs",)
+    for part in ((not is_recorded and words) or ("calls", "batches", "memory", "import", "file")):
         {"calls": measure_calls, "batches": measure_batches, "memory": measure_memory, "import": measure_import, "file": measure_file,
          "instructions": measure_instructions}[part]()
     print(f"{len(too_great)} figures are too great")
+    if is_recorded:
+        record()
 
 
 if __name__ == "__main__":

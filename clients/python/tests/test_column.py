@@ -314,7 +314,8 @@ class Refusals(unittest.TestCase):
             from string_interner import Column
             column, part, texts = Column(["a", None]), Column(["b"]), [str(number) * 100 for number in range(100_000)]
             other, wide = Column(texts), Column(["a"] * 10**7)
-            used = int(open("/proc/self/statm").read().split()[0]) * resource.getpagesize()
+            with open("/proc/self/statm") as pages:
+                used = int(pages.read().split()[0]) * resource.getpagesize()
             resource.setrlimit(resource.RLIMIT_AS, (used + 10_000_000,) * 2)
             for call in (lambda: column.extend(texts), lambda: column.extend(iter(texts)), lambda: column.merge(other),
                          lambda: part.merge(wide), lambda: wide.append("z"), lambda: wide[1:], lambda: wide.take(range(10**7)),
@@ -580,7 +581,8 @@ class Copies(unittest.TestCase):
         self.assertEqual(run_apart("""
             import pickle, resource
             from string_interner import Column
-            used = int(open("/proc/self/statm").read().split()[0]) * resource.getpagesize()
+            with open("/proc/self/statm") as pages:
+                used = int(pages.read().split()[0]) * resource.getpagesize()
             resource.setrlimit(resource.RLIMIT_AS, (used + 100_000_000,) * 2)
             read = refused = 0
             for protocol in (2, 5):

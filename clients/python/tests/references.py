@@ -1,0 +1,160 @@
+"""Tests that calls, also those that fail, leave as many references as there were. Only a debug build of CPython counts them all, those
+of a module in C if it was built by it. clients/check does that."""
+
+import copy
+import gc
+import pickle
+import sys
+import tempfile
+import unittest
+from array import array
+
+from string_interner import Column, Interner
+
+# Fewer than one each round. The interpreter itself makes a few, such as those of its caches.
+MOST_NEW, ROUNDS = 20, 50
+
+
+class Wrong:
+    def __index__(self):
+        raise ZeroDivisionError
+
+
+def failing(of):
+    """Yields texts, and then fails."""
+    yield from of
+    raise ZeroDivisionError
+
+
+def calls_of_interners():
+    texts = [f"text {number}" for number in range(20)] + ["ß", "語" * 30]
+    for backend in ("string", "bucket", "buffer"):
+        interner = Interner(texts, backend=backend)
+        numbers = interner.intern_all(texts)
+        yield from (
+            lambda: Interner(texts, backend=backend, capacity=9, hasher=(1, 2)), lambda: Interner(texts, backend="none"),
+            lambda: Interner([1]), lambda: Interner(failing(texts)), lambda: Interner(hasher=(1, Wrong())), lambda: Interner(capacity=Wrong()),
+            lambda: interner.intern("ß"), lambda: interner.intern("\ud800"), lambda: interner.intern(1), lambda: Interner().intern("ß"),
+            lambda: interner.get("ß"), lambda: interner.get("no", []), lambda: interner.get("no", default=[]), lambda: interner.get(1),
+            lambda: interner.get(), lambda: interner.get("\ud800"), lambda: "ß" in interner, lambda: 1 in interner, lambda: interner[0],
+            lambda: interner[10**30], lambda: interner[Wrong()], lambda: interner.resolve(0), lambda: interner.resolve(-1),
+            lambda: interner.intern_all(texts, typecode="Q"), lambda: interner.intern_all(texts, typecode="x"),
+            lambda: interner.intern_all(iter(texts)), lambda: interner.intern_all([*texts, "new", 1]), lambda: interner.intern_all(failing(texts)),
+            lambda: interner.get_all([*texts, "no"]), lambda: interner.get_all(["no"], 2**40), lambda: interner.get_all([1]),
+            lambda: interner.resolve_all(numbers), lambda: interner.resolve_all(list(numbers)), lambda: interner.resolve_all([0, 2**70]),
+            lambda: interner.resolve_all([0, Wrong()]), lambda: interner.resolve_all(array("Q", [2**64 - 1])),
+            lambda: interner.intern_column(b"text 1", [6]), lambda: interner.intern_column(bytearray(b"text 1"), array("Q", [6])),
+            lambda: interner.intern_column(b"\xff", [1]), lambda: interner.intern_column(b"a", [2]), lambda: interner.intern_column("a", [1]),
+            lambda: interner.intern_lines(b"text 1\ntext 2"), lambda: interner.intern_lines(b"new\n\xff"), lambda: interner.intern_lines("a"),
+            lambda: list(interner), lambda: list(interner.items()), lambda: list(reversed(interner)), lambda: next(iter(interner)),
+            lambda: truncate_under_walk(texts, backend), lambda: interner.truncate(-1), lambda: interner.shrink(), lambda: repr(interner),
+            lambda: Interner.from_json(interner.to_json()), lambda: Interner.from_json("["), lambda: Interner.from_json("{}"),
+            lambda: Interner.from_json('["a", "a"]', exact=True), lambda: interner == interner.copy(), lambda: interner == 1,
+            lambda: copy.deepcopy(interner), lambda: pickle.loads(pickle.dumps(interner, 2)), lambda: pickle.loads(pickle.dumps(interner, 5)),
+            lambda: setattr(interner, "_parts", 1), lambda: twice(interner), lambda: interner.backend + interner.hasher, lambda: close(texts),
+        )
+
+
+def truncate_under_walk(texts, backend):
+    interner = Interner(texts, backend=backend)
+    walks = iter(interner), interner.items()
+    interner.truncate(1)
+    next(walks[0])
+    return [list(walk) for walk in walks]
+
+
+def twice(interner):
+    parts = interner._parts
+    other = Interner()
+    other._parts = parts
+    other._parts = parts
+
+
+def close(texts):
+    with Interner(texts) as interner:
+        walk = iter(interner)
+    interner.close()
+    list(walk)
+    interner.intern("a")
+
+
+def calls_of_columns():
+    values = ["a", None, "ß", "語" * 30] * 5
+    column, other = Column(values), Column(["b", "a", None])
+    file = tempfile.NamedTemporaryFile()
+    file.write("a\nß\n".encode())
+    file.flush()
+    joined, ends, codes = column.to_buffers()
+    yield from (
+        lambda: Column(values), lambda: Column(iter(values)), lambda: Column([*values, 1]), lambda: Column(failing(values)), lambda: Column(1),
+        lambda: Column(column), lambda: grow(values), lambda: column[:3].append("new"), lambda: column[:3].append(1), lambda: column[:3].merge(other),
+        lambda: column.merge(1), lambda: column[1:9:2], lambda: column[::-1], lambda: column[0], lambda: column[99], lambda: column[Wrong()],
+        lambda: column.take([0, -1]), lambda: column.take([99]), lambda: column.take([Wrong()]), lambda: column.take(array("Q", [2**64 - 1])),
+        lambda: list(column), lambda: list(reversed(column)), lambda: column.dictionary, lambda: column.codes, lambda: memoryview(column.codes),
+        lambda: column.counts(), lambda: column.value_counts(), lambda: column.code("a"), lambda: column.code("no"), lambda: column.code(1),
+        lambda: "a" in column, lambda: 1 in column, lambda: column.count("a"), lambda: column.index("ß"), lambda: column.index("no"),
+        lambda: column.index("a", Wrong()), lambda: column == other, lambda: column == column[:], lambda: column == 1, lambda: repr(column),
+        lambda: Column.from_parts(["a", "b"], [0, -1]), lambda: Column.from_parts(["a", "a"], [0]), lambda: Column.from_parts(["a"], [5]),
+        lambda: Column.from_parts(["a"], [2**70]), lambda: Column.from_parts(["a"], [Wrong()]), lambda: Column.from_parts([1], []),
+        lambda: Column.from_buffers(joined, ends, codes), lambda: Column.from_buffers(b"\xff", [1], []), lambda: Column.from_buffers(b"aa", [1, 2], []),
+        lambda: Column.from_buffers(joined, ends, [99]), lambda: Column.from_file(file.name), lambda: Column.from_file("/no such file"),
+        lambda: Column.from_file(-1), lambda: Column.from_file([]), lambda: column.__arrow_c_array__(), lambda: column.__arrow_c_schema__(),
+        lambda: column.__dask_tokenize__(), lambda: copy.copy(column), lambda: copy.deepcopy(column), lambda: column.__sizeof__(),
+        lambda: pickle.loads(pickle.dumps(column, 2)), lambda: out_of_band(column), lambda: setattr(column, "_parts", 1),
+        lambda: Column.__new__(Column).append("a"), lambda: Column.__init__(Column(["b"]), values, hasher="none"),
+    )
+    file.close()
+
+
+def grow(values):
+    column, views = Column(), []
+    for value in values:
+        column.append(value)
+        views.append((column.codes, column[:2], iter(column)))
+    column.extend(values)
+    column.merge(column)
+    return views
+
+
+def out_of_band(column):
+    buffers = []
+    data = pickle.dumps(column, 5, buffer_callback=buffers.append)
+    return pickle.loads(data, buffers=buffers)
+
+
+class References(unittest.TestCase):
+    def new_references(self, call):
+        """How many references more there are after some rounds of a call."""
+        def run():
+            try:
+                call()
+            except (TypeError, ValueError, KeyError, IndexError, OSError, OverflowError, ZeroDivisionError, AttributeError):
+                pass
+
+        for _ in range(5):
+            run()
+        gc.collect()
+        before = sys.gettotalrefcount()
+        for _ in range(ROUNDS):
+            run()
+        gc.collect()
+        return sys.gettotalrefcount() - before
+
+    def test_a_leak_is_found(self):
+        kept = []
+        self.assertGreaterEqual(self.new_references(lambda: kept.append(object())), ROUNDS)
+
+    def check(self, calls):
+        for number, call in enumerate(calls):
+            with self.subTest(line=call.__code__.co_firstlineno, number=number):
+                self.assertLess(self.new_references(call), MOST_NEW)
+
+    def test_interners(self):
+        self.check(calls_of_interners())
+
+    def test_columns(self):
+        self.check(calls_of_columns())
+
+
+if __name__ == "__main__":
+    unittest.main()
