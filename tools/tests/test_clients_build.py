@@ -1,4 +1,4 @@
-"""How clients/build makes the library: once, again after an edit, and of an archive without rt."""
+"""How clients/build makes the library and the module for Python: once, again after an edit, and of an archive without rt."""
 
 import os
 import shutil
@@ -20,6 +20,13 @@ echo 'void *rattle_alloc(void); unsigned si_version(void) {{ return rattle_alloc
 cc -fPIC -c out/lib.c -o out/lib.o && ar rcs out/libstring_interner_c.a out/lib.o
 """
 
+# Stands for the build of the module.
+SETUP = """from pathlib import Path
+Path("string_interner/_native.abi3.so").touch()
+with open("{top}/calls", "a") as calls:
+    calls.write("module\\n")
+"""
+
 
 class ClientsBuild(unittest.TestCase):
     def setUp(self):
@@ -28,8 +35,9 @@ class ClientsBuild(unittest.TestCase):
         self.top = Path(folder.name, "copy")
         shutil.copytree(TOP / "bin", self.top / "bin")
         (self.top / "clients/c").mkdir(parents=True)
-        (self.top / "tools").mkdir()
-        for name in ("clients/build", "clients/c/string_interner.h", "VERSION", "tools/records.py"):
+        for name in ("tools", ".ci", "clients/python/native", "clients/python/string_interner"):
+            (self.top / name).mkdir(parents=True)
+        for name in ("clients/build", "clients/c/string_interner.h", "VERSION", "tools/records.py", "tools/needs.py", ".ci/packages"):
             shutil.copy(TOP / name, self.top / name)
         self.out = self.top / "clients/out"
         self.made = self.top / "crates/string_interner_c/out/libstring_interner_c.a"
@@ -37,6 +45,7 @@ class ClientsBuild(unittest.TestCase):
         self.source.parent.mkdir(parents=True)
         self.source.write_text("good")
         (self.top / "crates.txt").write_text("string_interner_c staticlib: handles\n")
+        (self.top / "clients/python/setup.py").write_text(SETUP.format(top=self.top))
         (self.top / "rt/c").mkdir(parents=True)
         rt = self.top / "rt/rt"
         rt.write_text(RT.format(top=self.top))
@@ -57,6 +66,10 @@ class ClientsBuild(unittest.TestCase):
     def proofs(self):
         return (self.top / "calls").read_text().split().count("lib")
 
+    @property
+    def modules(self):
+        return (self.top / "calls").read_text().split().count("module")
+
     def edit(self, path, text=None):
         path.write_text(path.read_text() if text is None else text)
         future = os.stat(self.out / "build.stamp").st_mtime + 10
@@ -67,7 +80,7 @@ class ClientsBuild(unittest.TestCase):
             ran = self.build()
             self.assertEqual(ran.stdout, f"build: {self.out}\n")
             self.assertNotIn("something", ran.stderr)
-        self.assertEqual((self.proofs, ran.stderr), (1, ""))
+        self.assertEqual((self.proofs, self.modules, ran.stderr), (1, 1, ""))
         self.build("--install", "there", has_rt=False)
         self.assertTrue((self.top / "there/lib/libstring_interner.so").exists())
 
@@ -81,6 +94,12 @@ class ClientsBuild(unittest.TestCase):
         (self.out / "string_interner.pc").unlink()
         self.build()
         self.assertTrue((self.out / "string_interner.pc").exists())
+
+    def test_makes_the_module_again_after_an_edit(self):
+        self.build()
+        self.edit(self.top / "clients/python/setup.py")
+        self.build()
+        self.assertEqual((self.proofs, self.modules), (1, 2))
 
     def test_shows_the_log_of_a_failed_proof(self):
         self.build()
