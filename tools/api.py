@@ -9,14 +9,13 @@ import re
 
 from edits import TOP
 from files import read
-from source import BLOCK, HEAD_END, end_of_generics, functions
+from source import BLOCK, GHOST_USE, HEAD_END, end_of_generics, functions
 
 CRATES = ("string_interner", "string_column")
 ITEM = re.compile(r"^pub (?:(?:unsafe|final) )*(?P<kind>const|enum|fn|struct|trait|type) (?P<name>\w+)", re.M)
 BLOCK_START = re.compile(rf"{ITEM.pattern}|^impl\b", re.M)
 DOC = re.compile(r"(?:^ *(?:///|#\[).*\n)*\Z", re.M)
 IMPORT = re.compile(r"^ *ghost use Rattle\.(\w+)\.specs\.(\w+)\b[^;]*;\n+", re.M)
-GHOST_USE = re.compile(r"^ *ghost use [^;]*;\n+", re.M)
 # Ghost members whose values are proofs, or which callers do not see.
 ONLY_FOR_PROOFS = re.compile(r"^    ghost (?:\w*laws?|invariant|inverse)\b.*\n(?:     .*\n|    [)}].*\n|\n)*", re.M)
 PRIVATE_FIELD = re.compile(r"(?:^    (?:///|#\[).*\n)*^    (?!pub |///|#\[)\w+:.*\n", re.M)
