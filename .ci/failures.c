@@ -5,20 +5,24 @@
    REFUSE_ON=1      refuses each request after that, too
    TELL_ASKS=1      says `asks BYTES` on standard error for each request, before whatever the program prints next
    TELL_HELD=1      says `holds BLOCKS` there at the end: how many blocks were granted and not given back
+   TELL_BYTES=1     says `bytes BYTES PEAK` there at the end: how many bytes are held, and the most that were at once, as the C
+                    library rounds them, both since `reset_bytes` where that is called
    READ_BYTES=N     has reading standard input fail once N bytes were read, as if a peer is gone
    WRITE_BYTES=N    has each write to standard output take at most N bytes
    BROKEN_WRITE=N   breaks the Nth write there, counted from 1, and each after it: they fail with the error number ERROR, or
                     take nothing if that is 0
    NO_RANDOM=1      has each request for random bytes fail
 
-   The built programs call malloc, realloc and free, and no other call for memory. This includes nothing: the kit's compiler
-   runs where no headers of the C library are installed. */
+   The built programs call malloc, realloc and free, and no other call for memory; those of bench/ calloc, too. This
+   includes nothing: the kit's compiler runs where no headers of the C library are installed. For one thread. */
 typedef unsigned long size_type;
 
 extern char *getenv(const char *name);
 extern unsigned long strtoul(const char *text, char **end, int base);
 extern int *__errno_location(void);
 extern void *dlsym(void *library, const char *name);
+extern int snprintf(char *line, size_type room, const char *format, ...);
+extern size_type malloc_usable_size(void *block);
 
 #define STANDARD_INPUT 0
 #define STANDARD_OUTPUT 1
@@ -96,21 +100,19 @@ int getentropy(void *bytes, size_type count) {
     return setting("NO_RANDOM", 0) ? (int)failed(NO_SUCH_CALL) : next(bytes, count);
 }
 
-/* Says a short word and a number. printf would ask for memory itself. */
-static void tell(const char *word, int length, size_type number) {
-    char line[32];
-    int at = sizeof line;
-    line[--at] = '\n';
-    do {
-        line[--at] = (char)('0' + number % 10);
-    } while (number /= 10);
-    while (length) {
-        line[--at] = word[--length];
-    }
-    write(STANDARD_ERROR, line + at, sizeof line - at);
+/* printf would ask for memory itself. */
+static void tell(const char *format, size_type one, size_type other) {
+    char line[64];
+    write(STANDARD_ERROR, line, snprintf(line, sizeof line, format, one, other));
 }
 
-static size_type held;
+/* Blocks that are granted and not given back, and their bytes as the C library rounds them: now, at most, and at the reset. */
+static size_type held, live, peak, base;
+
+/* Counts bytes from here on. */
+void reset_bytes(void) {
+    base = peak = live;
+}
 
 static int is_refused(size_type bytes) {
     static const char told[] = "request refused\n";
@@ -118,7 +120,7 @@ static int is_refused(size_type bytes) {
     size_type refused = setting("REFUSE", 0);
     requests++;
     if (getenv("TELL_ASKS")) {
-        tell("asks ", 5, bytes);
+        tell("asks %lu\n", bytes, 0);
     }
     if (refused == 0 || (getenv("REFUSE_ON") ? requests < refused : requests != refused)) {
         return 0;
@@ -131,12 +133,17 @@ static int is_refused(size_type bytes) {
    memory, as a scenario shows that takes none. */
 __attribute__((destructor)) static void tell_held(void) {
     if (getenv("TELL_HELD")) {
-        tell("holds ", 6, held);
+        tell("holds %lu\n", held, 0);
+    }
+    if (getenv("TELL_BYTES")) {
+        tell("bytes %lu %lu\n", live - base, peak - base);
     }
 }
 
 static void *counted(void *block) {
     held += block != 0;
+    live += malloc_usable_size(block);
+    peak = live > peak ? live : peak;
     return block;
 }
 
@@ -155,14 +162,19 @@ void *realloc(void *block, size_type bytes) {
     if (is_refused(bytes)) {
         return 0;
     }
+    size_type before = malloc_usable_size(block);
     void *moved = next(block, bytes);
-    /* The old block is given back where there is a new one, and where no bytes are wanted. */
-    held += (moved != 0) - (block != 0 && (moved != 0 || bytes == 0));
-    return moved;
+    /* The old block is given back where there is a new one, and where no bytes are wanted. A larger one counts as the difference. */
+    if (moved != 0 || bytes == 0) {
+        held -= block != 0;
+        live -= before;
+    }
+    return counted(moved);
 }
 
 void free(void *block) {
     FIND_NEXT(free)
     held -= block != 0;
+    live -= malloc_usable_size(block);
     next(block);
 }

@@ -25,7 +25,7 @@ from textwrap import dedent
 
 from edits import TOP
 from files import read, write
-from source import block_around, functions
+from source import CLAUSE, block_around, functions
 
 PAGE = "docs/CONTRACTS.md"
 LIBRARY = "crates/string_interner/src"
@@ -35,10 +35,6 @@ MOST_COLUMNS = 100
 LENGTH_THAT_COUNTS = 40
 MOST_REPEATED = 6
 QUOTE = re.compile(r"^<!-- contract: (?P<call>\S+) -->$(?:\n```rattle\n(?P<text>.*?)^```$)?", re.M | re.S)
-# What a clause begins with, up to its first brace, and what leads from one brace of a ghost member to the next.
-CLAUSE = re.compile(r"^ *(?:pub )?(?:requires|ensures|ghost (?!use\b)\w+)\b[^{;]*\{", re.M)
-MORE = re.compile(r"\s*(?:=|by)\s*\{")
-BRACE = re.compile(r"[{}]")
 
 
 def sources(folder="crates/*/src"):
@@ -93,30 +89,17 @@ def stale_quotes(page):
             yield f"the quote of {call} is stale: it has `{old or ''}` for `{new or ''}`"
 
 
-def closing_brace(text, opening):
-    """The offset behind the brace that closes the one at an offset."""
-    depth = 0
-    for brace in BRACE.finditer(text, opening):
-        depth += 1 if brace[0] == "{" else -1
-        if not depth:
-            return brace.end()
-    return len(text)
-
-
 def clauses(text):
     """The clauses of a source, in order: the number of the first line, the lines, and the text."""
-    for head in CLAUSE.finditer(text):
-        end = closing_brace(text, head.end() - 1)
-        while more := MORE.match(text, end):
-            end = closing_brace(text, more.end() - 1)
-        lines = text[head.start() : max(text.find("\n", end), end)].splitlines()
-        yield text.count("\n", 0, head.start()) + 1, lines, " ".join(text[head.end() : end - 1].split())
+    for it in CLAUSE.finditer(text):
+        said = " ".join(it[0].partition("{")[2].split()).removesuffix(";").removesuffix("}").rstrip()
+        yield text.count("\n", 0, it.start()) + 1, it[0].splitlines(), said
 
 
 def long_lines(file):
     """Where lines of clauses are too long."""
     long = ((number, len(line)) for first, lines, _ in clauses(read(file)) for number, line in enumerate(lines, first)
-            if len(line) > MOST_COLUMNS)
+            if len(line) > MOST_COLUMNS and not line.lstrip().startswith("//"))
     return [f"{file.relative_to(TOP)}:{number}: {columns} columns in a clause" for number, columns in long]
 
 

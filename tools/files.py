@@ -5,6 +5,7 @@ import shutil
 from pathlib import Path
 
 from edits import CAUGHT, REFUSED, below, crates, listed
+from machine import toolchain
 
 
 def read(path):
@@ -40,3 +41,21 @@ def copy_with_kept_work(tree, into):
     for kept in tree.glob("crates/*/out"):
         # rt writes none of these files in its place, so a link serves as a copy.
         shutil.copytree(kept, into / kept.relative_to(tree), copy_function=os.link)
+
+
+def stamp_libraries(tree):
+    """Writes beside each library of a copy in which `rt ci` has passed the stamp by which `rt` knows of what text it is, as the
+    toolchain itself reckons it: `rt ci` leaves none, and without it all would be proved again."""
+    for it in toolchain().crates_below(str(tree)):
+        stamp = Path(it.folder, "out/rlib/stamp")
+        if Path(it.rlib).is_dir() and not stamp.exists():
+            write(stamp, it.stamp())
+
+
+def take_libraries(tree, top):
+    """Puts the stamped libraries of a copy into the checkout."""
+    for it in toolchain().crates_below(str(tree)):
+        kept = f"{top}/crates/{it.name}/out/rlib"
+        if os.path.exists(f"{it.folder}/out/rlib/stamp"):
+            shutil.rmtree(kept, ignore_errors=True)
+            shutil.copytree(f"{it.folder}/out/rlib", kept)

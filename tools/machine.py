@@ -3,6 +3,7 @@
 import os
 import re
 import subprocess
+import sys
 from functools import cache
 from pathlib import Path
 
@@ -29,6 +30,20 @@ def tell_count(passed, failed):
 
 
 @cache
+def ask_rt(verb):
+    """The first line that the toolchain answers: to `doc` the path of its guide, and to `version` what it is."""
+    return subprocess.run(["rt", verb], stdout=subprocess.PIPE, encoding="utf-8", check=True).stdout.partition("\n")[0]
+
+
 def toolchain_folder() -> Path:
     """The folder of the Rattle toolchain."""
-    return Path(run_in("/", "rt", "doc")[1].split()[-1]).parent
+    return Path(ask_rt("doc")).parent
+
+
+@cache
+def toolchain():
+    """The toolchain's own module, which knows how `rt` calls the prover and of what text a library is."""
+    sys.path.append(str(toolchain_folder() / "bin"))
+    import rtlib
+
+    return rtlib

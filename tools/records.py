@@ -19,8 +19,9 @@ import subprocess
 import sys
 import tempfile
 from contextlib import contextmanager
-from functools import cache
 from pathlib import Path
+
+from machine import ask_rt, tell_count, toolchain
 
 TOP = Path(__file__).resolve().parent.parent
 # What users run. The libraries below these have records, too.
@@ -32,20 +33,6 @@ TRUSTS = {"cache", "libraries-built", "logic-built", "statements", "crate-checke
 
 class Refused(Exception):
     """A tool of the toolchain refuses what it is given."""
-
-
-@cache
-def ask_rt(verb):
-    return subprocess.run(["rt", verb], stdout=subprocess.PIPE, encoding="utf-8", check=True).stdout.splitlines()[0]
-
-
-@cache
-def toolchain():
-    """The toolchain's own module, which knows how `rt` calls the prover."""
-    sys.path.append(f"{os.path.dirname(ask_rt('doc'))}/bin")
-    import rtlib
-
-    return rtlib
 
 
 def folder_of_records(top=TOP):
@@ -218,7 +205,7 @@ def compare(tree, log):
                 print(f"{record.relative_to(TOP)}: {fault}\n" if fault else "", end="")
             if why or fault and crate.makes_rlib():
                 left_out.add(crate.name)
-    print(f"{counts[True]} passed, {counts[False]} failed")
+    tell_count(counts[True], counts[False])
     return 1 if counts[False] else 0
 
 

@@ -1,16 +1,12 @@
 #!/usr/bin/env python3
-"""usage: touched.py    prints which planted bugs the changes since the last full run can touch, a line each: CRATE NAME
+"""Prints which planted bugs the changes since the last full run can touch, a line each: CRATE NAME
 
 The file tools/tried-in-full names the last commit on which all planted bugs of must-fail/ were tried and refused, and the
-toolchain. A planted bug is touched if one of these files is new, gone or changed since then:
-
-  - its own, a source file that it changes, or a proof file of its function,
-  - a file of specs/ that such a source cites, by itself or through other files of specs/,
-  - a source file in which a function has another contract, or something outside functions has changed, if such a source names
-    that function, or a type of that file.
-
-So more are touched than need be. With no such commit, or under another logic, all are. Lemmas are not considered, nor what tries
-the bugs: the gate proves the ones, and tests judge the other.
+toolchain's logic. A planted bug is touched if one of these files is new, gone or changed since then: its own, a source file that
+it changes, a proof file of its function, a file of specs/ of its crate or of one below, or a source file there in which a
+function has another contract, or something outside functions has changed, if a source that the bug changes names that function,
+or a type of that file. So more are touched than need be. With no such commit, or under another logic, all are. Lemmas are not
+considered, nor what tries the bugs: the gate proves the ones, and tests judge the other.
 """
 
 import re
@@ -18,10 +14,10 @@ import subprocess
 
 from edits import TOP, below, crates, edits_of
 from files import read, write
+from machine import ask_rt
 from source import functions, outside_functions
 
 TRIED = TOP / "tools/tried-in-full"
-SPECS = re.compile(r"\bRattle\.(\w+)\.specs\.(\w+)")
 TYPE = re.compile(r"^(?:pub )?(?:struct|enum|trait|type) (\w+)", re.M)
 
 
@@ -33,16 +29,6 @@ def git(*words):
 
 def text_of(name):
     return read(TOP / name) if (TOP / name).exists() else ""
-
-
-def cited_specs(name):
-    """The files of specs/ that a file cites, by itself or through these."""
-    found, todo = set(), [name]
-    while todo:
-        cited = {f"crates/{crate}/specs/{file}.antt" for crate, file in SPECS.findall(text_of(todo.pop()))} - found
-        found |= cited
-        todo += cited
-    return found
 
 
 def renewed_names(old, new):
@@ -63,20 +49,18 @@ class Changes:
 
     def touch(self, edit):
         """Reports whether a planted bug is touched."""
-        folder = f"crates/{edit.crate}"
-        own = (f"{folder}/must-fail/{edit.name}.edit", f"{folder}/proofs/{edit.function.replace('::', '/')}/")
-        sources = {f"{folder}/{it}" for it in edit.files}
-        reached = tuple(f"crates/{it}/" for it in [edit.crate, *below(edit.crate)])
-        renewed = set().union(*(names for file, names in self.names.items() if file.startswith(reached)))
-        return (any(it.startswith(own) for it in self.files)
-                or not self.files.isdisjoint(sources.union(*map(cited_specs, sources)))
-                or any(not renewed.isdisjoint(re.findall(r"\w+", text_of(it))) for it in sources))
+        folder, reached = f"crates/{edit.crate}", [f"crates/{it}/" for it in [edit.crate, *below(edit.crate)]]
+        sources = [f"{folder}/{it}" for it in edit.files]
+        own = (f"{folder}/must-fail/{edit.name}.edit", f"{folder}/proofs/{edit.function.replace('::', '/')}/", *sources,
+               *(f"{it}specs/" for it in reached))
+        renewed = set().union(*(names for file, names in self.names.items() if file.startswith(tuple(reached))))
+        words = {word for it in sources for word in re.findall(r"\w+", text_of(it))}
+        return any(it.startswith(own) for it in self.files) or not renewed.isdisjoint(words)
 
 
 def logic():
     """The hash of the toolchain's logic, by which proofs are judged."""
-    said = subprocess.run(["rt", "version"], capture_output=True, encoding="utf-8", check=False).stdout
-    return said.rpartition("logic")[2].strip()
+    return ask_rt("version").rpartition("logic")[2].strip()
 
 
 def last_full_run():

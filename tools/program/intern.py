@@ -89,10 +89,6 @@ def try_case(program, path):
         yield f"{refused}: asked again", asked_again(program, case, number, purpose, after), []
 
 
-def try_answer(program, name, words, data):
-    yield f"{name} over {words}", program.run(words, data), answer(words, data)
-
-
 def try_bad_line(program, row):
     for word in BACKENDS:
         for data, number in ((row + b"\n", 1), (row, 1), (b"i a\n" + row + b"\nx\n", 2)):
@@ -117,71 +113,34 @@ def try_no_text(program, row):
 
 TABLES = {"bad_lines": try_bad_line, "unknown_words": try_unknown_word, "bytes_that_are_not_utf8": try_no_text}
 
-SEED = 20250817
 TEXTS = [b"", b"a", b"b", b" ", b"a ", b"\r", b"\0", b"len", "é".encode(), "\U0001f418".encode(), b"Tiger", b"Horse"]
 PIECES = [b"i ", b"g ", b"r ", b"n ", b"i a", b"g a", b"len", b"shrink", b"\n", b"\n", b"\n", b"a", b"0", b"1", b" ", b"\r",
-          b"+", "é".encode()]
-
-
-def random_text(source):
-    if source.random() < 0.3:
-        return source.choice(TEXTS)
-    letter = source.choice([b"x", b"\x01", b"\x02", b"\x7f", "é".encode()])
-    return b"%d" % source.randrange(400) + letter * source.choice([0, 0, 0, 1, 2, 3, 130])
+          b"+", "é".encode(), b"\xff"]
 
 
 def random_command(source, line):
-    match source.choice("iiiiiigggrrrnnls"):
-        case "i" | "g" as word:
-            return word.encode() + b" " + random_text(source)
-        case "r":
-            return b"r %d" % source.randrange(line + 2)
-        case "n":
-            return b"n %d" % source.choice([source.randrange(500), source.randrange(8000), 2**32 - 2, 2**64 - 1])
-        case "l":
-            return b"len"
-    return b"shrink"
+    """A command of a line of this number, whose text may be long."""
+    text = source.choice([*TEXTS, b"%d" % source.randrange(400) + source.choice([b"", b"x", b"\x7f" * 130, "é".encode() * 3])])
+    number = source.choice([source.randrange(line + 2), source.randrange(8000), 2**32 - 2, 2**64 - 1])
+    return source.choice([b"i " + text, b"i " + text, b"g " + text, b"r %d" % source.randrange(line + 2), b"n %d" % number, b"len",
+                          b"shrink"])
 
 
-def try_random_commands(program, number, word):
-    """Commands on a backend, once with all memory and once with a request refused."""
-    source = random.Random(SEED + number)
+def try_random(program, seed, word):
+    """Commands, short inputs of pieces of lines, and bytes of any value; and the commands again with the memory of one of their
+    lines refused."""
+    source = random.Random(seed)
     lines = [random_command(source, line) for line in range(2000)]
+    pieces = [b"".join(source.choices(PIECES, k=source.randrange(9))) for _ in range(50)]
+    for data in (b"\n".join(lines), *pieces, source.randbytes(source.randrange(5000))):
+        yield f"random input {seed} over {word}, {data[:60]!r}", program.run([word], data), answer([word], data)
     data = b"\n".join(lines)
-    wanted, name = answer([word], data), f"random commands {number} over {word}"
-    ended, asks = program.run_with_asks([word], data)
-    yield name, ended, wanted
-    refused = source.randrange(1, len(asks) + 1)
+    asks = program.run_with_asks([word], data)[1]
+    refused = source.randrange(asks.index(REPLY * len(lines)) + 2, len(asks) + 1)
     ended, _ = program.run_with_asks([word], data, refused)
     replies = ended.output.split(b"\n")
-    if b"no memory" in replies:
-        wanted = answer([word], data, refused=replies.index(b"no memory") + 1)
-    elif refused <= asks.index(OUTPUT_BUFFER):
-        wanted = USAGE if ended.status != 0 else wanted
-    elif asks.index(OUTPUT_BUFFER) + 1 < refused <= asks.index(REPLY * len(lines)) + 1:
-        wanted = OUT_OF_MEMORY
-    yield f"{name}, request {refused} refused", ended, wanted
-
-
-def try_short_inputs(program, number):
-    """Up to eight pieces of lines, among them bytes of any value. Each status is met often."""
-    source, met = random.Random(SEED - number), [0, 0, 0]
-    for _ in range(500):
-        pieces = [source.choice(PIECES) if source.randrange(19) else bytes([source.randrange(256)])
-                  for _ in range(source.randrange(9))]
-        words, data = [source.choice(BACKENDS)], b"".join(pieces)
-        wanted = answer(words, data)
-        met[wanted[0]] += 1
-        yield f"the input {data!r} over {words}", program.run(words, data), wanted
-    yield f"short inputs {number}: the statuses that are met less than 25 times of {met}", [it for it in met if it < 25], []
-
-
-def try_hostile_bytes(program, number):
-    """Bytes of any value, or of small ones, or of ASCII."""
-    source = random.Random(number)
-    greatest = source.choice([2, 128, 256])
-    data = bytes(source.randrange(greatest) for _ in range(source.randrange(5000)))
-    yield from try_answer(program, f"hostile bytes {number}", [source.choice(BACKENDS)], data)
+    line = replies.index(b"no memory") + 1 if b"no memory" in replies else None
+    yield f"random input {seed} over {word}, request {refused} refused", ended, answer([word], data, refused=line)
 
 
 def large_inputs():
@@ -252,11 +211,7 @@ def parts():
         "cases": cases(CASES, try_case),
         "tables": rows(CASES, TABLES),
         "streams": STREAMS.trials(),
-        "random": [
-            *((try_random_commands, number, word) for number in range(100) for word in BACKENDS),
-            *((try_short_inputs, number) for number in range(20)),
-            *((try_hostile_bytes, number) for number in range(300)),
-        ],
+        "random": ((try_random, seed, word) for seed in range(60) for word in BACKENDS),
         "scale": ((try_large, *given, word) for given in large_inputs() for word in BACKENDS),
     }
 

@@ -51,7 +51,7 @@ class PartTest(unittest.TestCase):
         with contextlib.redirect_stdout(io.StringIO()) as printed:
             self.assertEqual(self.gate.tell(), 1)
         lines = printed.getvalue().splitlines()
-        self.assertRegex(lines[1], r"^it: \d+ seconds, \d+ processor seconds, \d+ MiB$")
+        self.assertRegex(lines[1], r"^it: \d+ seconds, \d+ processor seconds$")
         self.assertEqual(lines[-2:], ["left out: a thing", "3 passed, 2 failed"])
 
 
@@ -110,18 +110,6 @@ class CheckTest(unittest.TestCase):
     def test_nothing_runs_that_is_not_proved(self):
         names, _, kept, _ = self.parts_of_check(False)
         self.assertEqual((names, kept), (["the site of the documents", "proofs", "what was measured"], 0))
-
-
-class SizesTest(unittest.TestCase):
-    def test_a_process_and_those_below_it(self):
-        hold = "import sys; it = b'x' * (64 << 20); print(flush=True); sys.stdin.read()"
-        words = [sys.executable, "-c", f"import subprocess; subprocess.run({[sys.executable, '-c', hold]!r})"]
-        with subprocess.Popen(words, stdin=subprocess.PIPE, stdout=subprocess.PIPE) as process:
-            process.stdout.readline()
-            sizes = CHECK["sizes_by_part"]([process.pid, os.getppid()])
-            process.stdin.close()
-        self.assertGreater(sizes[process.pid], 64 << 20)
-        self.assertEqual(set(sizes), {process.pid, os.getppid()})
 
 
 if __name__ == "__main__":

@@ -178,13 +178,10 @@ class ContractsTest(SmallRepository):
 
     def test_long_lines_of_each_kind(self):
         wide = "x" * 99
-        kinds = (f"    requires {{ {wide} }}", f"    pub ghost view = {{ {wide} }};", f"    ghost a: {{ A }} by {{\n{wide}xx }};")
+        kinds = (f"    requires {{ {wide} }}", f"    pub ghost view = {{ {wide} }};", f"    ghost a: {{ A }} by {{\n        {wide}xx }};")
         for kind in kinds:
             self.write("crates/high/src/halls.rt", f"fn hall()\n{kind}\n{{\n}}\n")
             self.assertEqual([fault.split(":")[0] for fault in contracts.faults()], ["crates/high/src/halls.rt"], kind)
-
-    def test_clause_without_an_end(self):
-        self.assertEqual(list(contracts.clauses("fn hall()\n    ensures { IsHall {")), [(2, ["    ensures { IsHall {"], "IsHall")])
 
     def test_most_repeated_text_comes_first(self):
         texts = [LONG, LONG + " and", LONG + " and", LONG, LONG]

@@ -1,4 +1,4 @@
-"""How the site is laid out, and which of its links lead nowhere, as tools/make_site.py tells it."""
+"""How tools/make_site.py lays the site out."""
 
 import contextlib
 import io
@@ -79,40 +79,9 @@ class LayOutTest(SmallRepository):
         self.assertIn(":caption: Work on it\n\ndocs/WORDS\n```", page)
 
 
-class LinksTest(SmallRepository):
-    def broken(self, text, other=""):
-        self.write("site/index.html", text)
-        self.write("site/sub/other file.html", other)
-        self.write("site/style.css", "")
-        return list(make_site.broken_links(self.top / "site"))
-
-    def test_links_that_lead_somewhere(self):
-        links = ["#here", "#", "style.css?v=3#any", "https://there/lost.html", "//there/lost", "mailto:a@there"]
-        links += [f"sub/other%20file.html{place}" for place in ("", "#top", "#old")]
-        text = "".join(f'<a href="{link}">to</a>' for link in links)
-        back = '<a href="../index.html#here">back</a><p id="top"/><a name="old"/>'
-        self.assertEqual(self.broken(f'<p id="here">{text}</p><img src="style.css"/>', back), [])
-
-    def test_links_that_lead_nowhere(self):
-        cases = {
-            '<a href="lost.html">to</a>': "the link lost.html leads to no file",
-            '<a href="sub">to</a>': "the link sub leads to no file",
-            '<img src="lost.svg">': "the link lost.svg leads to no file",
-            '<a href="#lost">to</a>': "the link #lost leads to no place of its page",
-            '<a href="sub/other%20file.html#lost">to</a>': "the link sub/other%20file.html#lost leads to no place of its page",
-        }
-        cases |= {'<a href="/bin/sh">to</a>': "the link /bin/sh leads to no file"}
-        for text, fault in cases.items():
-            self.assertEqual(self.broken(text), [f"index.html: {fault}"])
-        self.write("site/sub/more.css", "@import url(/style.css); a { b: url('../style.css'); c: url(lost.png); d: url(data:9) }")
-        faults = [f"sub/more.css: the link {link} leads to no file" for link in ("/style.css", "lost.png")]
-        self.assertEqual(self.broken(""), faults)
-        (self.top / "site/sub/more.css").unlink()
-        faults = ["sub/other file.html: the link index.html leads to no file"]
-        self.assertEqual(self.broken("", '<a href="index.html">to</a>'), faults)
-
+class MakeTest(SmallRepository):
     def make(self, status, page):
-        """What making counts if sphinx ends so, and writes this page."""
+        """What making returns if sphinx ends so, and writes this page."""
         sphinx = self.top / "sphinx"
         sphinx.write_text(SCRIPT.format(page=page, status=status))
         sphinx.chmod(0o755)
@@ -125,9 +94,5 @@ class LinksTest(SmallRepository):
         return counts, printed.getvalue()
 
     def test_making(self):
-        self.assertEqual(self.make(0, "a page"), ((3, 0), ""))
-        self.assertEqual(self.make(1, "a page"), ((2, 1), ""))
-        self.assertEqual(self.make(0, '<a href="lost">to</a>'), ((2, 1), "README.html: the link lost leads to no file\n"))
-        with mock.patch.object(make_site.api, "faults", lambda pages: ["one is left out"]):
-            self.assertEqual(self.make(0, "a page"), ((2, 1), "one is left out\n"))
-
+        self.assertEqual(self.make(0, "a page"), (True, ""))
+        self.assertEqual(self.make(1, "a page"), (False, ""))

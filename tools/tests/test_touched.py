@@ -59,14 +59,11 @@ class TouchedTest(SmallRepository):
         self.write("crates/low/src/size.rt", "fn fourfold(number: u64) -> u64\n    ensures { result ≡ 0 }\n{\n    0\n}\n")
         self.assertEqual(self.touched(), LOW)
 
-    def test_a_file_of_specs_touches_what_cites_it_through_others(self):
-        self.write("crates/low/specs/Shapes.antt", "use Rattle.low.specs.Words.{IsTwice}\n")
-        self.write(ABOVE, "ghost use Rattle.low.specs.Shapes.{IsSquare};\n" + (self.top / ABOVE).read_text())
+    def test_a_file_of_specs_touches_its_crate_and_those_above(self):
+        self.assertEqual(self.touched_by(WORDS, "b ≡ a + a", "b ≡ 2 * a"), {*EDITS})
+        self.write("crates/high/specs/Words.antt", "abbrev pub Nothing : Type 0")
         self.commit = self.commit_all()
-        self.assertEqual(self.touched_by(WORDS, "b ≡ a + a", "b ≡ 2 * a"), {"doubles_instead"})
-
-    def test_a_file_of_specs_that_nothing_cites(self):
-        self.assertEqual(self.touched_by(WORDS, "b ≡ a + a", "b ≡ 2 * a"), set())
+        self.assertEqual(self.touched_by("crates/high/specs/Words.antt", "Nothing", "Other"), {"doubles_instead"})
 
     def test_a_proof_file_touches_its_function(self):
         self.assertEqual(self.touched_by("crates/low/proofs/double/Answers.antt", "c = lemma", "c = refl"), {"doubles_once"})
