@@ -29,7 +29,7 @@ class ClientsBuild(unittest.TestCase):
         shutil.copytree(TOP / "bin", self.top / "bin")
         (self.top / "clients/c").mkdir(parents=True)
         (self.top / "tools").mkdir()
-        for name in ("clients/build", "clients/c/string_interner.h", "VERSION", "tools/records.py"):
+        for name in ("clients/build", "clients/c/string_interner.h", "VERSION", "tools/records.py", "tools/machine.py"):
             shutil.copy(TOP / name, self.top / name)
         self.out = self.top / "clients/out"
         self.made = self.top / "crates/string_interner_c/out/libstring_interner_c.a"
