@@ -2,15 +2,11 @@
 """Prints what is wrong with the contracts and their quotes in docs/CONTRACTS.md, and fails if anything is:
 
 - a call that a user makes first and that the page does not quote;
-- a quote that is not the signature and the clauses of its call as they stand in the library. It is the fenced block
-  behind a line like <!-- contract: interner::StringInterner::get -->;
+- a quote, which is the fenced block behind a line like <!-- contract: interner::StringInterner::get -->, that is not the
+  signature and the clauses of its call as they stand in the library;
 - a line of a clause with more than 100 columns;
-- more than 6 % of clause text that is repeated.
-
-A clause is a `requires`, an `ensures`, or a ghost member of a trait or an impl, among them laws, views and invariants. Its
-text is what its braces hold, with white space made one blank. Of the text of all clauses in crates/*/src, what is
-repeated is the text of each clause of more than 40 characters that an earlier clause has, too: a shorter one is a word
-with its arguments, which has to stand at each call that it speaks of.
+- more than 6 % of clause text that is repeated by a clause of more than 40 characters. A shorter one is a word with its
+  arguments, which has to stand at each call that it speaks of.
 
     tools/contracts.py           also prints how much text is repeated, and what is repeated most
     tools/contracts.py --write   first writes the quotes anew
@@ -38,7 +34,6 @@ QUOTE = re.compile(r"^<!-- contract: (?P<call>\S+) -->$(?:\n```rattle\n(?P<text>
 
 
 def sources(folder="crates/*/src"):
-    """The sources in a folder, or in all crates, in order."""
     return sorted(TOP.glob(f"{folder}/**/*.rt"))
 
 
@@ -62,7 +57,6 @@ def contract_of(call):
 
 
 def written_anew(page):
-    """The page with each quote as its call has it now."""
 
     def quoted(quote):
         contract = contract_of(quote["call"])
@@ -97,7 +91,6 @@ def clauses(text):
 
 
 def long_lines(file):
-    """Where lines of clauses are too long."""
     long = ((number, len(line)) for first, lines, _ in clauses(read(file)) for number, line in enumerate(lines, first)
             if len(line) > MOST_COLUMNS and not line.lstrip().startswith("//"))
     return [f"{file.relative_to(TOP)}:{number}: {columns} columns in a clause" for number, columns in long]
@@ -114,7 +107,6 @@ def repeated():
 
 
 def faults():
-    """What is wrong with the contracts and their quotes."""
     yield from (f"{PAGE}: {it}" for it in stale_quotes(read(TOP / PAGE)))
     yield from (it for file in sources() for it in long_lines(file))
     share = repeated()[1]

@@ -34,12 +34,10 @@ MEMORY = failed(1, b"out of memory")
 
 
 def misused(message):
-    """How a run ends whose arguments are wrong."""
     return 2, b"", b"dictcol: %s\n%s" % (message, USAGE)
 
 
 def told(error):
-    """How an error of the system is told."""
     return b"%s (os error %d)" % (os.strerror(error).encode(), error)
 
 
@@ -186,7 +184,6 @@ def try_operands(program):
 
 
 def write_files(folder, files):
-    """Writes files of these bytes, and returns their names."""
     names = [b"%d.json" % number for number in range(len(files))]
     for name, file in zip(names, files):
         Path(folder, os.fsdecode(name)).write_bytes(file)
@@ -236,25 +233,6 @@ def try_refused_merge(program, folder, names):
         yield f"files, request {number} of {size} bytes refused: it was only made ahead", ended == wanted, bool(after[number:])
 
 
-def try_random_merges(program, seed):
-    """Random lines, cut anywhere, encoded part by part and merged, also in two groupings."""
-    chance = random.Random(seed)
-    words = ["".join(chance.choices(["", "a", "b", "é", '"', "\\", "\t"], k=chance.randrange(3))) for _ in range(6)]
-    parts = ["".join(chance.choice(words) + chance.choice(["\n", "\n", ""]) for _ in range(chance.randrange(8)))
-             for _ in range(chance.randrange(1, 6))]
-    wanted = answer([b"encode"], "".join(parts).encode())
-    files = [answer([b"encode"], part.encode())[1] for part in parts]
-    with tempfile.TemporaryDirectory() as folder:
-        names = write_files(folder, files)
-        for backend in BACKENDS:
-            yield f"merge {seed}, {backend}", program.run([b"merge", b"--backend", backend, *names], folder=folder), wanted
-        middle = chance.randrange(1, len(names) + 1)
-        front = program.run([b"merge", *names[:middle]], folder=folder).output
-        yield f"merge {seed}, the front first", program.run([b"merge", b"-", *names[middle:]], front, folder=folder), wanted
-        back = program.run([b"merge", *names[middle - 1:]], folder=folder).output
-        yield f"merge {seed}, the back first", program.run([b"merge", *names[:middle - 1], b"-"], back, folder=folder), wanted
-
-
 def try_help(program):
     """What is asked for is told whatever the input is."""
     ended, folder = program.run([b"--help"], b"\xff"), os.open("/", os.O_RDONLY)
@@ -268,7 +246,6 @@ def try_help(program):
 
 
 def try_both_ways(program, name, data):
-    """Some lines are encoded, decoded and counted over each backend."""
     for backend, words in product(BACKENDS, ([b"encode"], [b"count"], [b"count", b"--sorted"])):
         words = [*words, b"--backend", backend]
         yield f"{name}, {words}", program.run(words, data), answer(words, data)
@@ -342,7 +319,6 @@ def try_many_rows(program):
 
 
 def newlines():
-    """10 MB of newlines, piece by piece."""
     for _ in range(10):
         yield b"\n" * 10**6
 
@@ -453,7 +429,7 @@ def parts():
         "cases": cases(CASES, try_case),
         "tables": rows(CASES, TABLES),
         "streams": [*STREAMS.trials(), (try_telling_to_a_full_disk,), (try_operands,), (try_merges,), (try_help,)],
-        "random": ((trial, seed) for seed in range(200) for trial in (try_random_lines, try_random_merges)),
+        "random": ((try_random_lines, seed) for seed in range(200)),
         "scale": [
             *((try_both_ways, *given) for given in large_inputs()),
             *((try_distant_fault, *given) for given in distant_faults()),
@@ -467,7 +443,6 @@ def parts():
 
 
 def further_parts():
-    """Those that run only if they are named."""
     return {
         "large": [(try_large, name) for name in LARGE],
     }

@@ -206,7 +206,6 @@ STREAMS = Streams(
 
 
 def parts():
-    """The trials, by the name of their part."""
     return {
         "cases": cases(CASES, try_case),
         "tables": rows(CASES, TABLES),
@@ -217,5 +216,4 @@ def parts():
 
 
 def further_parts():
-    """Those that run only if they are named: none."""
     return {}
