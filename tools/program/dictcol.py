@@ -303,19 +303,20 @@ def try_distant_fault(program, word, data, message):
     yield f"{word}, {message!r}", program.run([word], data), failed(2, message)
 
 
-def try_small_file_of_much(program):
-    """A file of 140 KB says two gigabytes. They are written as they come, in little memory."""
-    file = file_of([b'"%s"' % (b"a" * 100000)], [b"0"] * 20000)
-    ended = program.run([b"decode"], file, subprocess.DEVNULL,
-                        before=lambda: resource.setrlimit(resource.RLIMIT_AS, (1 << 26, 1 << 26)))
-    yield "a small file of much", ended, (0, b"", b"")
+def inputs_in_little_memory():
+    """Inputs that take more memory if what is written is kept, if a code takes eight bytes, or if a file becomes a tree of its
+    values: the command, the input, what is written if that is looked at, and so many bytes of memory."""
+    # 140 KB that say two gigabytes.
+    yield b"decode", file_of([b'"%s"' % (b"a" * 100000)], [b"0"] * 20000), None, 1 << 26
+    # Their ten megabytes, and a code of four bytes for each, in lists that grow.
+    yield b"count", b"\n" * 10000000, b"10000000 \n", 104 << 20
+    yield b"decode", file_of([b'""'], [b"0"] * 1000000), b"\n" * 1000000, 1 << 25
 
 
-def try_many_rows(program):
-    """Ten million empty lines are counted in 104 MiB: their ten megabytes, and a code of four bytes for each, in lists that
-    grow. Codes of eight bytes need more."""
-    ended = program.run([b"count"], b"\n" * 10000000, before=lambda: resource.setrlimit(resource.RLIMIT_AS, (104 << 20,) * 2))
-    yield "ten million empty lines", ended, (0, b"10000000 \n", b"")
+def try_in_little_memory(program, word, data, written, most):
+    output = subprocess.DEVNULL if written is None else subprocess.PIPE
+    ended = program.run([word], data, output, before=lambda: resource.setrlimit(resource.RLIMIT_AS, (most, most)))
+    yield f"{word} of {len(data)} bytes in {most} bytes of memory", ended, (0, written or b"", b"")
 
 
 def newlines():
@@ -355,13 +356,6 @@ def try_large(program, name):
         with open(paths["count"], "rb") as counts:
             wanted = [b"10000000 \n"] if pieces is newlines else (b"1 " + line for line in pieces())
             yield f"{name}, counted", all(map(operator.eq, counts, wanted)) and counts.read() == b"", True
-
-
-def try_many_lines_in_little_memory(program):
-    """A million lines of a file are decoded with four bytes each beside the file, and without a tree of its values."""
-    file = file_of([b'""'], [b"0"] * 1000000)
-    ended = program.run([b"decode"], file, before=lambda: resource.setrlimit(resource.RLIMIT_AS, (1 << 25, 1 << 25)))
-    yield "many lines in little memory", ended, (0, b"\n" * 1000000, b"")
 
 
 def mixed(one, other):
@@ -433,16 +427,9 @@ def parts():
         "scale": [
             *((try_both_ways, *given) for given in large_inputs()),
             *((try_distant_fault, *given) for given in distant_faults()),
-            (try_small_file_of_much,),
-            (try_many_rows,),
-            (try_many_lines_in_little_memory,),
+            *((try_in_little_memory, *given) for given in inputs_in_little_memory()),
         ],
         # Alone, since it compares times.
         "chosen": [(try_chosen_lines,)],
-    }
-
-
-def further_parts():
-    return {
         "large": [(try_large, name) for name in LARGE],
     }

@@ -213,7 +213,3 @@ def parts():
         "random": ((try_random, seed, word) for seed in range(60) for word in BACKENDS),
         "scale": ((try_large, *given, word) for given in large_inputs() for word in BACKENDS),
     }
-
-
-def further_parts():
-    return {}
