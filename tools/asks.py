@@ -65,7 +65,6 @@ class Calls:
             self.memory.asks *= 2
 
     def run(self, lines: list[bytes], replies: list[bytes]) -> None:
-        """Runs a block of commands that has these replies."""
         commands = [line.partition(b" ") for line in lines]
         self.join_numbers(max((int(text) for name, _, text in commands if name == b"InternNumbers"), default=0))
         self.memory.ask(TEXT * sum(text.count(b",") + len(space) for name, space, text in commands if name == b"Extend"))

@@ -21,7 +21,6 @@ End = namedtuple("End", "status output error")
 
 
 def holding(data):
-    """A file of these bytes."""
     file = tempfile.TemporaryFile()
     file.write(data)
     file.seek(0)

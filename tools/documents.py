@@ -1,16 +1,9 @@
 #!/usr/bin/env python3
-"""Prints what is wrong with the documents, and fails if anything is:
+"""Prints what is wrong with the documents, and fails if anything is. CONTRIBUTING.md says under "Documents" what is looked for.
 
-- a link that leads to no file, or to no heading of its page;
-- a file in a code span or a command that is not there;
-- an identifier in a code span that no file of the repository has, if it has a capital or two words, except what
-  docs/PORTING.md names of the original;
-- a worked row or a law in a code span that no proof defines;
-- a block of Rattle that stands in no crate to the word, at the margin or indented as a body, so that nothing proves it; so in
-  the front page of the library, too, but not in the section of the guide that tools/try_guide.py follows;
-- a block in C, Rust, Python or for a shell that stands in no example of clients/ in the same way, so that nothing runs it;
-- a README of more than 120 lines, or more than 14,000 words on all pages for readers, besides tables;
-- a place that names another version than the file VERSION.
+A name in a code span is looked for if it has a capital or two words, except what docs/PORTING.md names of the original. A block
+of a language has to stand to the word in a crate or in an example, at the margin or indented as a body, so that it is proved or
+run; but not in the section of the guide that tools/try_guide.py follows.
 """
 
 import re
@@ -26,20 +19,11 @@ from files import read
 
 # Where the blocks of each language stand as files that the gate proves or runs.
 EXAMPLES = {
-    "Rattle": "crates/*/src/**/*.rt",
-    "C": "clients/c/examples/*.c",
-    "Rust": "clients/rust/examples/*.rs",
-    "Python": "clients/python/examples/*.py",
+    "rattle": "crates/*/src/**/*.rt",
+    "c": "clients/c/examples/*.c",
+    "rust": "clients/rust/examples/*.rs",
+    "python": "clients/python/examples/*.py",
     "sh": "clients/c/examples/*.sh",
-}
-# The languages of which these pages show examples.
-SHOWN = {
-    "README.md": ("Rattle", "C", "Rust", "Python"),
-    "clients/README.md": ("sh",),
-    "clients/python/README.md": ("Python",),
-    "crates/string_interner/README.md": ("Rattle",),
-    "docs/CONTRACTS.md": ("Rattle",),
-    "docs/GUIDE.md": ("Rattle", "Python"),
 }
 FRONT_PAGE = "crates/string_interner/src/lib.rt"
 NAMES_THE_ORIGINAL = "docs/PORTING.md"
@@ -87,13 +71,11 @@ class Repository:
 
     @cached_property
     def texts(self):
-        """The texts of all files but the pages."""
         named = (name for name in self.files if not name.endswith((".md", ".svg")))
         return {name: (TOP / name).read_text(encoding="utf-8", errors="replace") for name in named}
 
     @cached_property
     def words(self):
-        """The words of all files but the pages, and of their names."""
         return {word for text in ("\n".join(self.files), *self.texts.values()) for word in re.findall(r"\w+", text)}
 
     @cached_property
@@ -120,7 +102,6 @@ class Repository:
 
     @cached_property
     def examples(self):
-        """The files in which the blocks of each language stand."""
         return {language: [read(path) for path in TOP.glob(files)] for language, files in EXAMPLES.items()}
 
 
@@ -156,28 +137,20 @@ def comment_of(source):
     return "".join(re.findall(r"^//! ?(.*\n)", source, re.M))
 
 
-def untried_blocks(language, blocks, repository):
-    if not blocks:
-        yield f"no block of {language}"
-    for block in blocks:
+def untried_blocks(blocks, repository):
+    for language, block in blocks:
         written = [f"\n{indent(block, ' ' * width)}" for width in (0, 2, 4)]
-        if not any(it in f"\n{example}" for example in repository.examples[language] for it in written):
-            yield f"in no {'crate' if language == 'Rattle' else 'example'}: {block.splitlines()[0]}"
-
-
-def untried_examples(page, text, repository):
-    blocks = BLOCK.findall(try_guide.SECTION.sub("", text) if page == try_guide.PAGE else text)
-    for language in SHOWN.get(page, ()):
-        yield from untried_blocks(language, [block for name, block in blocks if name == language.lower()], repository)
+        if language not in (*EXAMPLES, "text"):
+            yield f"a block in no known language: {block.splitlines()[0]}"
+        elif language in EXAMPLES and not any(it in f"\n{example}" for example in repository.examples[language] for it in written):
+            yield f"in no {'crate' if language == 'rattle' else 'example'}: {block.splitlines()[0]}"
 
 
 def count_words(text):
-    """How many words a page has besides its tables."""
     return sum(len(line.split()) for line in text.splitlines() if not line.startswith("|"))
 
 
 def long_pages(texts):
-    """What is too long of the pages for readers: those at the top, and those in docs/."""
     if (lines := len(texts.get("README.md", "").splitlines())) > MOST_LINES:
         yield f"README.md: {lines} lines, and {MOST_LINES} may be"
     pages = [page for page in texts if PurePosixPath(page).parent in map(PurePosixPath, (".", "docs"))]
@@ -186,7 +159,6 @@ def long_pages(texts):
 
 
 def other_versions():
-    """The places that name another version than VERSION, or none."""
     version = read(TOP / "VERSION").strip()
     for name, pattern in VERSIONS.items():
         found = re.search(pattern, read(TOP / name), re.M)
@@ -202,11 +174,12 @@ def faults():
     texts = {page: read(TOP / page) for page in repository.files if page.endswith(".md")}
     yield from long_pages(texts)
     if FRONT_PAGE in repository.files:
-        blocks = [block for name, block in BLOCK.findall(comment_of(read(TOP / FRONT_PAGE))) if not name]
-        found = untried_blocks("Rattle", blocks, repository)
+        blocks = BLOCK.findall(comment_of(read(TOP / FRONT_PAGE)))
+        found = untried_blocks([(name or "rattle", block) for name, block in blocks], repository)
         yield from (f"{FRONT_PAGE}: {it}" for it in found)
     for page, text in texts.items():
-        found = [*broken_links(page, text), *missing_names(page, text, repository), *untried_examples(page, text, repository)]
+        blocks = BLOCK.findall(try_guide.SECTION.sub("", text) if page == try_guide.PAGE else text)
+        found = [*broken_links(page, text), *missing_names(page, text, repository), *untried_blocks(blocks, repository)]
         yield from (f"{page}: {it}" for it in dict.fromkeys(found))
 
 

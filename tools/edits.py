@@ -86,7 +86,6 @@ def read_edit(path):
 
 
 def edits_of(crate, folder=REFUSED):
-    """The planted bugs of a crate that this folder holds, by name."""
     return [read_edit(path) for path in sorted((TOP / "crates" / crate / folder).glob("*.edit"))]
 
 

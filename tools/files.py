@@ -36,7 +36,6 @@ def take_kept_work(kept, tree, crate):
 
 
 def copy_with_kept_work(tree, into):
-    """Copies a tree with all that checks have kept there."""
     shutil.copytree(tree, into, ignore=shutil.ignore_patterns("out"), dirs_exist_ok=True)
     for kept in tree.glob("crates/*/out"):
         # rt writes none of these files in its place, so a link serves as a copy.
@@ -53,7 +52,6 @@ def stamp_libraries(tree):
 
 
 def take_libraries(tree, top):
-    """Puts the stamped libraries of a copy into the checkout."""
     for it in toolchain().crates_below(str(tree)):
         kept = f"{top}/crates/{it.name}/out/rlib"
         if os.path.exists(f"{it.folder}/out/rlib/stamp"):

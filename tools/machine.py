@@ -11,7 +11,6 @@ PROCESSORS = len(os.sched_getaffinity(0))
 
 
 def available_bytes():
-    """How many bytes of memory the machine could still give."""
     with open("/proc/meminfo", encoding="utf-8") as file:
         return int(re.search(r"MemAvailable: +(\d+)", file.read())[1]) << 10
 
@@ -36,7 +35,6 @@ def ask_rt(verb):
 
 
 def toolchain_folder() -> Path:
-    """The folder of the Rattle toolchain."""
     return Path(ask_rt("doc")).parent
 
 

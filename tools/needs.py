@@ -15,20 +15,20 @@ from functools import cache
 from pathlib import Path
 
 PACKAGES = Path(__file__).resolve().parent.parent / ".ci/packages"
+# What bench/run uses besides.
+ONLY_TO_MEASURE = {"hyperfine": ["hyperfine"], "python matplotlib": ["python3-matplotlib"]}
 HAS = "import importlib.util, sys; sys.exit(not all(map(importlib.util.find_spec, sys.argv[1:])))"
 # What is said of something that is missing.
 MISSING = re.compile(r"^no .* on this machine: .*$", re.M)
 
 
 def packages():
-    """The packages of each need."""
     lines = (line.partition(": ") for line in PACKAGES.read_text(encoding="utf-8").splitlines() if not line.startswith("#"))
-    return {need: names.split() for need, _, names in lines}
+    return {need: names.split() for need, _, names in lines} | ONLY_TO_MEASURE
 
 
 @cache
 def python_with(*modules):
-    """The first Python that has these modules, or None."""
     for python in filter(None, map(shutil.which, ("python3", "/usr/bin/python3"))):
         if subprocess.run([python, "-c", HAS, *modules], capture_output=True, check=False).returncode == 0:
             return python
@@ -36,13 +36,11 @@ def python_with(*modules):
 
 
 def is_there(need):
-    """Reports whether a command is there, or some Python with modules."""
     command, *modules = need.split()
     return bool(python_with(*modules) if modules else shutil.which(command))
 
 
 def missing(needs):
-    """What is said of each of these that is missing."""
     lacking = (it for it in needs if not is_there(it))
     return [f"no {it} on this machine: what needs it is left out. Debian's packages: {' '.join(packages()[it])}" for it in lacking]
 
@@ -50,7 +48,7 @@ def missing(needs):
 def main(*words):
     match words:
         case ():
-            print(*(name for need, names in packages().items() if not is_there(need) for name in names))
+            print(*(name for need, names in packages().items() if need not in ONLY_TO_MEASURE and not is_there(need) for name in names))
             return 0
         case ("--python", *modules):
             found = python_with(*modules)

@@ -21,7 +21,6 @@ TACTICS_FROM = "use Rattle.std.proofs.Common as common\nuse Rattle.std.proofs.le
 
 
 def answered_goals(answers):
-    """The goals that a proof file answers."""
     return [it[1] for it in ANSWER.finditer(answers)]
 
 
@@ -71,5 +70,4 @@ def without_any_answer(answers):
 
 
 def with_tactics(answers, tries):
-    """Adds answers by tactics."""
     return "\n".join([TACTICS_FROM + answers, *tries]) if tries else answers

@@ -6,9 +6,8 @@
     tools/records.py compare TREE LOG    builds all of them in a copy in which `rt ci` passed, and compares code and verdicts with what
                                          `rt ci` built there and said in its log. A record of other sources is named and passed over
 
-A record is what the prover wrote of a crate that it proved: the hashes of the crate's files, of the libraries below it and of
-its code, and the verdict. It is of one build of the toolchain, so it lies in proved/KIT/CRATE. `rattle build --crate-checked`
-compares all of it with what it reads, and stops where anything differs. tools/record-proofs writes the records.
+proved/README.md says what a record is. `rattle build --crate-checked` compares it with what it reads, and stops where anything
+differs. tools/record-proofs writes the records.
 """
 
 import hashlib

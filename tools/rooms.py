@@ -223,7 +223,6 @@ class Slots:
         return Slots(self.memory, self.symbol, self.kind, count)
 
     def reserved(self, texts: int) -> "Slots":
-        """These slots, or new ones where they do not hold so many texts."""
         return self if self.holds(texts, self.count) else self.with_capacity(texts)
 
 
@@ -255,5 +254,4 @@ class Interner:
         self.room.keep(self.texts)
 
     def copy(self, slots: Slots) -> "Interner":
-        """A copy over new slots."""
         return Interner(slots, self.room.copy(self.slots.memory), self.texts)

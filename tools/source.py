@@ -34,7 +34,6 @@ class Function:
 
 
 def functions(text):
-    """The functions of a source text, in order."""
     found = []
     for start in FUNCTION.finditer(text):
         head = HEAD_END.search(text, start.end())

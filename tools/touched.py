@@ -48,7 +48,6 @@ class Changes:
         self.names = {it: renewed_names(git("show", f"{commit}:{it}") or "", text_of(it)) for it in sources}
 
     def touch(self, edit):
-        """Reports whether a planted bug is touched."""
         folder, reached = f"crates/{edit.crate}", [f"crates/{it}/" for it in [edit.crate, *below(edit.crate)]]
         sources = [f"{folder}/{it}" for it in edit.files]
         own = (f"{folder}/must-fail/{edit.name}.edit", f"{folder}/proofs/{edit.function.replace('::', '/')}/", *sources,
@@ -77,7 +76,6 @@ def commit_as_it_stands():
 
 
 def note_full_run(commit):
-    """Writes that all planted bugs were tried on this commit."""
     write(TRIED, f"{commit}\nlogic {logic()}\n")
 
 

@@ -69,7 +69,6 @@ class Trial:
         return [found[0], *(it for it in found if it.start <= changed)][-1]
 
     def by_tactics(self):
-        """The tactics as an answer to the goal."""
         given = proof_file.variables(self.answers)
         if given is None:
             text = read(self.folder / self.changes[0][0])
@@ -98,7 +97,6 @@ class Trial:
 
 
 def apply(changes, folder):
-    """Makes these changes in a copy of a crate."""
     for file, start, end, new in sorted(changes, reverse=True):
         text = text_of(folder / file)
         write(folder / file, text[:start] + new + text[end:])

@@ -66,5 +66,4 @@ class Tally:
         self.failed += len(faults)
 
     def end(self):
-        """Prints the count, and returns the status."""
         return tell_count(self.passed, self.failed)

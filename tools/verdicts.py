@@ -14,7 +14,6 @@ ERROR = re.compile(r"^\./proofs/(\S+)/\w+\.antt:\d+:\d+: error: (?:`([^`]+)`: )?
 
 
 def is_complete(output, status):
-    """Reports whether a check came to its end."""
     return status in (0, 1) and bool(re.search(r"^only=", output, re.M))
 
 
@@ -56,7 +55,6 @@ class Verdicts:
         return REFUSED if tried <= failed else LET_THROUGH
 
     def opened(self, trial):
-        """The goals of the function that are not proved."""
         failed = (name for name, _ in self.errors.get(trial.function, []))
         return list(dict.fromkeys([*self.open[trial.function], *failed]))
 

@@ -65,7 +65,6 @@ def try_folder(_: Any, folder: str) -> Iterator[tuple[str, Any, Any]]:
 
 
 def cases(folder: str, try_case: Callable[..., Any]) -> Iterator[tuple[Any, ...]]:
-    """The trials of a folder's cases."""
     yield try_folder, folder
     yield from ((try_case, path) for path in sorted((TOP / folder).glob("*.t")))
 

@@ -34,12 +34,10 @@ MEMORY = failed(1, b"out of memory")
 
 
 def misused(message):
-    """How a run ends whose arguments are wrong."""
     return 2, b"", b"dictcol: %s\n%s" % (message, USAGE)
 
 
 def told(error):
-    """How an error of the system is told."""
     return b"%s (os error %d)" % (os.strerror(error).encode(), error)
 
 
@@ -186,7 +184,6 @@ def try_operands(program):
 
 
 def write_files(folder, files):
-    """Writes files of these bytes, and returns their names."""
     names = [b"%d.json" % number for number in range(len(files))]
     for name, file in zip(names, files):
         Path(folder, os.fsdecode(name)).write_bytes(file)
@@ -236,25 +233,6 @@ def try_refused_merge(program, folder, names):
         yield f"files, request {number} of {size} bytes refused: it was only made ahead", ended == wanted, bool(after[number:])
 
 
-def try_random_merges(program, seed):
-    """Random lines, cut anywhere, encoded part by part and merged, also in two groupings."""
-    chance = random.Random(seed)
-    words = ["".join(chance.choices(["", "a", "b", "é", '"', "\\", "\t"], k=chance.randrange(3))) for _ in range(6)]
-    parts = ["".join(chance.choice(words) + chance.choice(["\n", "\n", ""]) for _ in range(chance.randrange(8)))
-             for _ in range(chance.randrange(1, 6))]
-    wanted = answer([b"encode"], "".join(parts).encode())
-    files = [answer([b"encode"], part.encode())[1] for part in parts]
-    with tempfile.TemporaryDirectory() as folder:
-        names = write_files(folder, files)
-        for backend in BACKENDS:
-            yield f"merge {seed}, {backend}", program.run([b"merge", b"--backend", backend, *names], folder=folder), wanted
-        middle = chance.randrange(1, len(names) + 1)
-        front = program.run([b"merge", *names[:middle]], folder=folder).output
-        yield f"merge {seed}, the front first", program.run([b"merge", b"-", *names[middle:]], front, folder=folder), wanted
-        back = program.run([b"merge", *names[middle - 1:]], folder=folder).output
-        yield f"merge {seed}, the back first", program.run([b"merge", *names[:middle - 1], b"-"], back, folder=folder), wanted
-
-
 def try_help(program):
     """What is asked for is told whatever the input is."""
     ended, folder = program.run([b"--help"], b"\xff"), os.open("/", os.O_RDONLY)
@@ -268,7 +246,6 @@ def try_help(program):
 
 
 def try_both_ways(program, name, data):
-    """Some lines are encoded, decoded and counted over each backend."""
     for backend, words in product(BACKENDS, ([b"encode"], [b"count"], [b"count", b"--sorted"])):
         words = [*words, b"--backend", backend]
         yield f"{name}, {words}", program.run(words, data), answer(words, data)
@@ -326,23 +303,23 @@ def try_distant_fault(program, word, data, message):
     yield f"{word}, {message!r}", program.run([word], data), failed(2, message)
 
 
-def try_small_file_of_much(program):
-    """A file of 140 KB says two gigabytes. They are written as they come, in little memory."""
-    file = file_of([b'"%s"' % (b"a" * 100000)], [b"0"] * 20000)
-    ended = program.run([b"decode"], file, subprocess.DEVNULL,
-                        before=lambda: resource.setrlimit(resource.RLIMIT_AS, (1 << 26, 1 << 26)))
-    yield "a small file of much", ended, (0, b"", b"")
+def inputs_in_little_memory():
+    """Inputs that take more memory if what is written is kept, if a code takes eight bytes, or if a file becomes a tree of its
+    values: the command, the input, what is written if that is looked at, and so many bytes of memory."""
+    # 140 KB that say two gigabytes.
+    yield b"decode", file_of([b'"%s"' % (b"a" * 100000)], [b"0"] * 20000), None, 1 << 26
+    # Their ten megabytes, and a code of four bytes for each, in lists that grow.
+    yield b"count", b"\n" * 10000000, b"10000000 \n", 104 << 20
+    yield b"decode", file_of([b'""'], [b"0"] * 1000000), b"\n" * 1000000, 1 << 25
 
 
-def try_many_rows(program):
-    """Ten million empty lines are counted in 104 MiB: their ten megabytes, and a code of four bytes for each, in lists that
-    grow. Codes of eight bytes need more."""
-    ended = program.run([b"count"], b"\n" * 10000000, before=lambda: resource.setrlimit(resource.RLIMIT_AS, (104 << 20,) * 2))
-    yield "ten million empty lines", ended, (0, b"10000000 \n", b"")
+def try_in_little_memory(program, word, data, written, most):
+    output = subprocess.DEVNULL if written is None else subprocess.PIPE
+    ended = program.run([word], data, output, before=lambda: resource.setrlimit(resource.RLIMIT_AS, (most, most)))
+    yield f"{word} of {len(data)} bytes in {most} bytes of memory", ended, (0, written or b"", b"")
 
 
 def newlines():
-    """10 MB of newlines, piece by piece."""
     for _ in range(10):
         yield b"\n" * 10**6
 
@@ -379,13 +356,6 @@ def try_large(program, name):
         with open(paths["count"], "rb") as counts:
             wanted = [b"10000000 \n"] if pieces is newlines else (b"1 " + line for line in pieces())
             yield f"{name}, counted", all(map(operator.eq, counts, wanted)) and counts.read() == b"", True
-
-
-def try_many_lines_in_little_memory(program):
-    """A million lines of a file are decoded with four bytes each beside the file, and without a tree of its values."""
-    file = file_of([b'""'], [b"0"] * 1000000)
-    ended = program.run([b"decode"], file, before=lambda: resource.setrlimit(resource.RLIMIT_AS, (1 << 25, 1 << 25)))
-    yield "many lines in little memory", ended, (0, b"\n" * 1000000, b"")
 
 
 def mixed(one, other):
@@ -453,21 +423,13 @@ def parts():
         "cases": cases(CASES, try_case),
         "tables": rows(CASES, TABLES),
         "streams": [*STREAMS.trials(), (try_telling_to_a_full_disk,), (try_operands,), (try_merges,), (try_help,)],
-        "random": ((trial, seed) for seed in range(200) for trial in (try_random_lines, try_random_merges)),
+        "random": ((try_random_lines, seed) for seed in range(200)),
         "scale": [
             *((try_both_ways, *given) for given in large_inputs()),
             *((try_distant_fault, *given) for given in distant_faults()),
-            (try_small_file_of_much,),
-            (try_many_rows,),
-            (try_many_lines_in_little_memory,),
+            *((try_in_little_memory, *given) for given in inputs_in_little_memory()),
         ],
         # Alone, since it compares times.
         "chosen": [(try_chosen_lines,)],
-    }
-
-
-def further_parts():
-    """Those that run only if they are named."""
-    return {
         "large": [(try_large, name) for name in LARGE],
     }

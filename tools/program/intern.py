@@ -206,7 +206,6 @@ STREAMS = Streams(
 
 
 def parts():
-    """The trials, by the name of their part."""
     return {
         "cases": cases(CASES, try_case),
         "tables": rows(CASES, TABLES),
@@ -214,8 +213,3 @@ def parts():
         "random": ((try_random, seed, word) for seed in range(60) for word in BACKENDS),
         "scale": ((try_large, *given, word) for given in large_inputs() for word in BACKENDS),
     }
-
-
-def further_parts():
-    """Those that run only if they are named: none."""
-    return {}

@@ -47,7 +47,6 @@ class Streams:
     buffer: int | None = None
 
     def trials(self):
-        """What is tried."""
         return [(trial, self) for trial in (
             failing_input, failing_output, output_of_any_length, output_that_breaks_off, reader_that_leaves, input_in_pieces,
             output_in_pieces, output_in_few_writes, closed_error)]

@@ -37,7 +37,8 @@ class ClientsBuild(unittest.TestCase):
         (self.top / "clients/c").mkdir(parents=True)
         for name in ("tools", ".ci", "clients/python/native", "clients/python/string_interner"):
             (self.top / name).mkdir(parents=True)
-        for name in ("clients/build", "clients/c/string_interner.h", "VERSION", "tools/records.py", "tools/needs.py", ".ci/packages"):
+        tools = ("tools/records.py", "tools/machine.py", "tools/needs.py")
+        for name in ("clients/build", "clients/c/string_interner.h", "VERSION", *tools, ".ci/packages"):
             shutil.copy(TOP / name, self.top / name)
         self.out = self.top / "clients/out"
         self.made = self.top / "crates/string_interner_c/out/libstring_interner_c.a"

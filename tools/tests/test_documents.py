@@ -89,14 +89,14 @@ class DocumentsTest(SmallRepository):
 
     def test_blocks(self):
         self.assertEqual(self.faults_after("fn half(", "fn third("), ["README.md: in no crate: fn third(number: u32) -> u32"])
-        self.assertEqual(self.faults_after("```rattle", "```"), ["README.md: no block of Rattle"])
+        self.assertEqual(self.faults_after("```rattle", "```"), ["README.md: a block in no known language: fn half(number: u32) -> u32"])
 
     def test_blocks_of_other_languages(self):
         self.assertEqual(self.faults_after("number /= 2", "number /= 3"), ["README.md: in no example: if (number == 0) return 1;"])
         self.assertEqual(self.faults_after("let number", " let number"), ["README.md: in no example:  let number = half(4);"])
         self.assertEqual(self.faults_after("let number = half(4)", "let number = half(5)"), ["README.md: in no example: let number = half(5);"])
-        self.assertEqual(self.faults_after("```python", "```rust"), ["README.md: in no example: number = half(4)", "README.md: no block of Python"])
-        self.assertEqual(self.faults_after("```c\n", "```\n"), ["README.md: no block of C"])
+        self.assertEqual(self.faults_after("```python", "```rust"), ["README.md: in no example: number = half(4)"])
+        self.assertEqual(self.faults_after("```python", "```text"), [])
 
     def test_commands(self):
         self.write("clients/README.md", "# Clients\n\n```sh\ncc half.c\n```\n")
@@ -130,8 +130,6 @@ class DocumentsTest(SmallRepository):
         self.assertEqual(list(documents.faults()), [])
         self.write(page, "//! Halves.\n//!\n//! ```\n//! number / 3\n//! ```\n")
         self.assertEqual(list(documents.faults()), [f"{page}: in no crate: number / 3"])
-        self.write(page, "//! Halves.\n")
-        self.assertEqual(list(documents.faults()), [f"{page}: no block of Rattle"])
 
     def test_versions(self):
         places = {

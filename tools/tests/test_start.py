@@ -33,7 +33,8 @@ class Start(unittest.TestCase):
         self.top = Path(self.folder.name, "a copy")
         shutil.copytree(TOP / "bin", self.top / "bin")
         (self.top / "tools").mkdir()
-        shutil.copy(TOP / "tools/records.py", self.top / "tools")
+        for name in ("records.py", "machine.py"):
+            shutil.copy(TOP / "tools" / name, self.top / "tools")
         for name in ("intern", "string_interner", "dictcol"):
             (self.top / "crates" / name / "src").mkdir(parents=True)
         (self.top / "crates.txt").write_text("string_interner: serde_json\nintern: string_interner thiserror\ndictcol: string_interner\n")
