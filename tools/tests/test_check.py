@@ -68,6 +68,20 @@ class EndedTest(unittest.TestCase):
         self.assertIn("ended by SIGTERM. Cut: two. What comes after was not begun", lines)
 
 
+class SiteTest(unittest.TestCase):
+    def begin_site(self, lacking):
+        """What is left out, and which parts run, if this is lacking."""
+        gate = CHECK["Gate"](None)
+        named = mock.patch.dict(CHECK["begin_site"].__globals__, {"missing": lambda needs: lacking})
+        with named, mock.patch.object(gate, "begin") as begin:
+            CHECK["begin_site"](gate, "folder")
+        return gate.left_out, [call.args[0] for call in begin.call_args_list]
+
+    def test_what_is_left_out(self):
+        self.assertEqual(self.begin_site(["no sphinx"]), (["no sphinx"], []))
+        self.assertEqual(self.begin_site([]), ([], ["the site of the documents"]))
+
+
 class CheckTest(unittest.TestCase):
     def parts_of_check(self, is_proved):
         """The parts that ./check runs in order, and whether the libraries that it proved are kept."""
@@ -87,7 +101,7 @@ class CheckTest(unittest.TestCase):
 
     def test_the_parts(self):
         names, words, kept, left_out = self.parts_of_check(True)
-        self.assertEqual(names, ["proofs", "the library for C and its clients", "scenarios",
+        self.assertEqual(names, ["the site of the documents", "proofs", "the library for C and its clients", "scenarios",
                                  "the program", "the program dictcol", "records of proofs", "the guide's first program",
                                  "what was measured"])
         self.assertEqual((words, kept), (["rt", "ci"], 2))
@@ -95,7 +109,7 @@ class CheckTest(unittest.TestCase):
 
     def test_nothing_runs_that_is_not_proved(self):
         names, _, kept, _ = self.parts_of_check(False)
-        self.assertEqual((names, kept), (["proofs", "what was measured"], 0))
+        self.assertEqual((names, kept), (["the site of the documents", "proofs", "what was measured"], 0))
 
 
 if __name__ == "__main__":
