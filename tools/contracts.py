@@ -4,14 +4,18 @@
 - a call that a user makes first and that the page does not quote;
 - a quote, which is the fenced block behind a line like <!-- contract: interner::StringInterner::get -->, that is not the
   signature and the clauses of its call as they stand in the library;
-- a line of a clause with more than 100 columns.
+- a line of a clause with more than 100 columns;
+- more than 6 % of clause text that is repeated by a clause of more than 40 characters. A shorter one is a word with its
+  arguments, which has to stand at each call that it speaks of.
 
-With --write it first writes the quotes anew.
+    tools/contracts.py           also prints how much text is repeated, and what is repeated most
+    tools/contracts.py --write   first writes the quotes anew
 """
 
 import argparse
 import re
 import sys
+from collections import Counter
 from itertools import zip_longest
 from textwrap import dedent
 
@@ -24,6 +28,8 @@ LIBRARY = "crates/string_interner/src"
 METHODS = "new with_capacity len get get_or_intern resolve iter truncate extend intern_all"
 CALLS = [*(f"interner::StringInterner::{name}" for name in METHODS.split()), "run::run"]
 MOST_COLUMNS = 100
+LENGTH_THAT_COUNTS = 40
+MOST_REPEATED = 6
 QUOTE = re.compile(r"^<!-- contract: (?P<call>\S+) -->$(?:\n```rattle\n(?P<text>.*?)^```$)?", re.M | re.S)
 
 
@@ -77,17 +83,35 @@ def stale_quotes(page):
             yield f"the quote of {call} is stale: it has `{old or ''}` for `{new or ''}`"
 
 
+def clauses(text):
+    """The clauses of a source, in order: the number of the first line, the lines, and the text."""
+    for it in CLAUSE.finditer(text):
+        said = " ".join(it[0].partition("{")[2].split()).removesuffix(";").removesuffix("}").rstrip()
+        yield text.count("\n", 0, it.start()) + 1, it[0].splitlines(), said
+
+
 def long_lines(file):
-    text = read(file)
-    for clause in CLAUSE.finditer(text):
-        for number, line in enumerate(clause[0].splitlines(), 1 + text.count("\n", 0, clause.start())):
-            if len(line) > MOST_COLUMNS and not line.lstrip().startswith("//"):
-                yield f"{file.relative_to(TOP)}:{number}: {len(line)} columns in a clause"
+    long = ((number, len(line)) for first, lines, _ in clauses(read(file)) for number, line in enumerate(lines, first)
+            if len(line) > MOST_COLUMNS and not line.lstrip().startswith("//"))
+    return [f"{file.relative_to(TOP)}:{number}: {columns} columns in a clause" for number, columns in long]
+
+
+def repeated():
+    """The texts that clauses of the crates repeat, each with its count, most characters first; and their share of all text, in
+    percent."""
+    counts = Counter(text for file in sources() for _, _, text in clauses(read(file)))
+    again = [(text, count) for text, count in counts.items() if count > 1 and len(text) > LENGTH_THAT_COUNTS]
+    again.sort(key=lambda it: -len(it[0]) * (it[1] - 1))
+    characters = sum(len(text) * (count - 1) for text, count in again)
+    return again, 100 * characters / max(1, sum(len(text) * count for text, count in counts.items()))
 
 
 def faults():
     yield from (f"{PAGE}: {it}" for it in stale_quotes(read(TOP / PAGE)))
     yield from (it for file in sources() for it in long_lines(file))
+    share = repeated()[1]
+    if share > MOST_REPEATED:
+        yield f"{share:.1f} % of the clauses' text is repeated, and {MOST_REPEATED} % may be: tools/contracts.py lists it"
 
 
 def main():
@@ -95,8 +119,9 @@ def main():
     parser.add_argument("--write", action="store_true", help="write the quotes anew first")
     if parser.parse_args().write:
         write(TOP / PAGE, written_anew(read(TOP / PAGE)))
+    again, share = repeated()
     found = list(faults())
-    print(*found, sep="\n", end="\n" if found else "")
+    print(f"repeated clause text: {share:.1f} %", *(f"{count} times: {text}" for text, count in again[:10]), *found, sep="\n")
     return 1 if found else 0
 
 

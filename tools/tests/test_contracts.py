@@ -162,12 +162,31 @@ class ContractsTest(SmallRepository):
         self.write(f"{LIBRARY}/halls.rt", HALF.replace("IsHalf number result", "x" * (100 - len("    ensures {  }"))))
         self.assertEqual(list(contracts.faults()), [])
 
+    def test_repeated_text(self):
+        spread = LONG.replace(" ", "\n        ")
+        self.write(f"{LIBRARY}/halls.rt", f"fn a()\n    ensures {{ {LONG} }}\n{{\n}}\n\nfn b()\n    ensures b {{ {spread} }}\n{{\n}}\n")
+        again, share = contracts.repeated()
+        self.assertEqual(again, [(LONG, 2)])
+        every = [text for file in contracts.sources() for _, _, text in contracts.clauses(file.read_text())]
+        self.assertAlmostEqual(share, 100 * len(LONG) / sum(map(len, every)))
+        self.assertRegex(list(contracts.faults())[-1], r"^\d+\.\d % of the clauses' text is repeated")
+
+    def test_short_text_may_be_repeated(self):
+        text = LONG[:40]
+        self.write(f"{LIBRARY}/halls.rt", f"fn a()\n    ensures {{ {text} }}\n{{\n}}\n\nfn b()\n    ensures {{ {text} }}\n{{\n}}\n")
+        self.assertEqual(contracts.repeated(), ([], 0))
+
     def test_long_lines_of_each_kind(self):
         wide = "x" * 99
         kinds = (f"    requires {{ {wide} }}", f"    pub ghost view = {{ {wide} }};", f"    ghost a: {{ A }} by {{\n        {wide}xx }};")
         for kind in kinds:
             self.write("crates/high/src/halls.rt", f"fn hall()\n{kind}\n{{\n}}\n")
             self.assertEqual([fault.split(":")[0] for fault in contracts.faults()], ["crates/high/src/halls.rt"], kind)
+
+    def test_most_repeated_text_comes_first(self):
+        texts = [LONG, LONG + " and", LONG + " and", LONG, LONG]
+        self.write(f"{LIBRARY}/halls.rt", "".join(f"fn a()\n    ensures {{ {text} }}\n{{\n}}\n" for text in texts))
+        self.assertEqual(contracts.repeated()[0], [(LONG, 3), (LONG + " and", 2)])
 
     def test_quote_with_a_line_more(self):
         faults = ["docs/CONTRACTS.md: the quote of rooms::half is stale: it has `` for ``"]
