@@ -1,9 +1,9 @@
 #!/usr/bin/env python3
-"""What a machine has of the commands and Python modules that .ci/packages lists with their packages.
+"""What a machine has of the commands, Python modules and crates that .ci/packages lists with their packages.
 
     tools/needs.py                     prints the packages of all that is missing
     tools/needs.py NEED..              names each of these that is missing, with its packages, and then fails. A NEED is what is
-                                       before the colon of a line: a command, or `python MODULE ..`
+                                       before the colon of a line: a command, `python MODULE ..`, or `crates NAME ..`
     tools/needs.py --python MODULE..   prints the first Python that has these modules, this shell's or Debian's, or fails
 """
 
@@ -14,6 +14,7 @@ import sys
 from functools import cache
 from pathlib import Path
 
+CRATES = Path("/usr/share/cargo/registry")
 PACKAGES = Path(__file__).resolve().parent.parent / ".ci/packages"
 # What bench/run uses besides.
 ONLY_TO_MEASURE = {"hyperfine": ["hyperfine"], "python matplotlib": ["python3-matplotlib"]}
@@ -36,8 +37,11 @@ def python_with(*modules):
 
 
 def is_there(need):
-    command, *modules = need.split()
-    return bool(python_with(*modules) if modules else shutil.which(command))
+    """Reports whether a command is there, or some Python with modules, or the sources of crates."""
+    command, *names = need.split()
+    if command == "crates":
+        return all(any(CRATES.glob(f"{name}-[0-9]*")) for name in names)
+    return bool(python_with(*names) if names else shutil.which(command))
 
 
 def missing(needs):

@@ -40,9 +40,22 @@ fn find_folder() -> Result<PathBuf, String> {
     Ok(folder)
 }
 
+/// Returns why the crate can't be built with these features, if it can't.
+fn missing_feature() -> Option<&'static str> {
+    let may_use_serde = include_str!("Cargo.toml").contains("\nserde = [\"dep:serde\"]");
+    let is_asked = env::var_os("CARGO_FEATURE_SERDE").is_some();
+    (is_asked && !may_use_serde).then_some(
+        "the feature `serde` is in the crate that a release has: name the folder that clients/rust/pack makes",
+    )
+}
+
 fn main() {
     println!("cargo:rerun-if-env-changed=STRING_INTERNER_LIB");
-    match find_folder() {
+    let folder = match missing_feature() {
+        Some(message) => Err(message.to_owned()),
+        None => find_folder(),
+    };
+    match folder {
         Ok(folder) => {
             let archive = folder.join(ARCHIVE);
             println!("cargo:rerun-if-changed={}", archive.display());

@@ -6,7 +6,7 @@
 //! | [`BucketBackend`] | in blocks that never move; static texts are not copied | texts are long or many, or many are `'static` |
 //! | [`BufferBackend`] | in one buffer, each behind its length | memory counts most; symbol numbers have gaps, because they are byte offsets |
 
-use crate::handle::{expect, panic_for, Handle, Status};
+use crate::handle::{expect, Handle, Status};
 use crate::hasher::{DefaultHashBuilder, InternerHasher};
 use crate::iter::{Entries, Iter};
 use crate::symbol::{DefaultSymbol, Symbol};
@@ -75,6 +75,11 @@ pub(crate) mod sealed {
     use crate::handle::Handle;
 
     /// What an interner needs of its backend. Other crates can't name this trait, nor call a handle.
+    #[diagnostic::on_unimplemented(
+        message = "`{Self}` can't be a backend: the library stores the texts, in one of its own three ways",
+        label = "is not `StringBackend`, `BucketBackend` or `BufferBackend`",
+        note = "a program with a backend of its own needs the original crate string-interner"
+    )]
     pub trait Kind {
         /// The number by which the library knows the kind.
         const KIND: u32;
@@ -84,25 +89,23 @@ pub(crate) mod sealed {
 
         fn handle(&self) -> &Handle;
 
-        /// Keeps the first `len` texts with their symbols, and drops the others.
-        fn truncate(&mut self, len: usize);
+        fn handle_mut(&mut self) -> &mut Handle;
     }
 }
 
 /// Interns a text by a call, and returns its symbol. If the symbol type has none for its number, drops the text again if
-/// it was new, and panics.
+/// it was new.
 #[inline]
-#[track_caller]
-fn intern_by<S: Symbol>(
+pub(crate) fn try_intern_by<S: Symbol>(
     handle: &mut Handle,
     call: impl FnOnce(&mut Handle) -> Result<usize, Status>,
-) -> S {
+) -> Result<S, Status> {
     let len = handle.len();
-    match S::try_from_usize(expect(call(handle))) {
-        Some(symbol) => symbol,
+    match S::try_from_usize(call(handle)?) {
+        Some(symbol) => Ok(symbol),
         None => {
             handle.truncate(len);
-            panic_for(Status(sys::SI_NO_SYMBOL))
+            Err(Status(sys::SI_NO_SYMBOL))
         }
     }
 }
@@ -130,8 +133,9 @@ macro_rules! backend {
                 &self.handle
             }
 
-            fn truncate(&mut self, len: usize) {
-                self.handle.truncate(len);
+            #[inline]
+            fn handle_mut(&mut self) -> &mut Handle {
+                &mut self.handle
             }
         }
 
@@ -149,12 +153,12 @@ macro_rules! backend {
 
             #[inline]
             fn intern(&mut self, string: &str) -> S {
-                intern_by(&mut self.handle, |handle| handle.get_or_intern(string))
+                expect(try_intern_by(&mut self.handle, |handle| handle.get_or_intern(string)))
             }
 
             #[inline]
             fn intern_static(&mut self, string: &'static str) -> S {
-                intern_by(&mut self.handle, |handle| handle.get_or_intern_static(string))
+                expect(try_intern_by(&mut self.handle, |handle| handle.get_or_intern_static(string)))
             }
 
             fn shrink_to_fit(&mut self) {

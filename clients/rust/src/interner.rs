@@ -1,4 +1,5 @@
-use crate::backend::{Backend, DefaultBackend};
+use crate::backend::{try_intern_by, Backend, DefaultBackend};
+use crate::error::InternError;
 use crate::handle::{expect, Handle};
 use crate::hasher::{DefaultHashBuilder, InternerHasher};
 use crate::iter::Entries;
@@ -6,6 +7,7 @@ use crate::json::JsonError;
 use crate::symbol::Symbol;
 use std::fmt;
 use std::marker::PhantomData;
+use std::ops::RangeBounds;
 
 /// A list of distinct texts, each with a symbol.
 ///
@@ -91,6 +93,12 @@ impl<B: Backend, H: InternerHasher> StringInterner<B, H> {
         B::Symbol::try_from_usize(number)
     }
 
+    /// Reports whether a text is known.
+    #[inline]
+    pub fn contains<T: AsRef<str>>(&self, string: T) -> bool {
+        self.backend.handle().get(string.as_ref()).is_some()
+    }
+
     /// Returns the symbol of a text. Appends a text that is not known.
     ///
     /// # Panics
@@ -113,6 +121,86 @@ impl<B: Backend, H: InternerHasher> StringInterner<B, H> {
         self.backend.intern_static(string)
     }
 
+    /// The same as [`get_or_intern`](Self::get_or_intern), but returns an error instead of a panic.
+    ///
+    /// # Errors
+    ///
+    /// Returns an error if no symbol is left for a new text, or an allocation fails.
+    #[inline]
+    pub fn try_get_or_intern<T: AsRef<str>>(
+        &mut self,
+        string: T,
+    ) -> Result<B::Symbol, InternError> {
+        let string = string.as_ref();
+        Ok(try_intern_by(self.backend.handle_mut(), |handle| {
+            handle.get_or_intern(string)
+        })?)
+    }
+
+    /// The same as [`get_or_intern_static`](Self::get_or_intern_static), but returns an error instead of a panic.
+    ///
+    /// # Errors
+    ///
+    /// Returns an error if no symbol is left for a new text, or an allocation fails.
+    #[inline]
+    pub fn try_get_or_intern_static(
+        &mut self,
+        string: &'static str,
+    ) -> Result<B::Symbol, InternError> {
+        Ok(try_intern_by(self.backend.handle_mut(), |handle| {
+            handle.get_or_intern_static(string)
+        })?)
+    }
+
+    /// Interns a part of a text, which the interner then need not lend or copy first. Returns `None` if no text has this
+    /// symbol, or `range` is not a part of it, as with `str::get`.
+    ///
+    /// ```
+    /// let mut paths = string_interner::StringInterner::default();
+    /// let path = paths.get_or_intern("bin/cargo");
+    /// let folder = paths.get_or_intern_part(path, ..3).unwrap();
+    /// assert_eq!(paths.resolve(folder), Some("bin"));
+    /// ```
+    ///
+    /// # Panics
+    ///
+    /// If no symbol is left for a new text.
+    #[track_caller]
+    pub fn get_or_intern_part(
+        &mut self,
+        symbol: B::Symbol,
+        range: impl RangeBounds<usize>,
+    ) -> Option<B::Symbol> {
+        let text = self.resolve(symbol)?;
+        let part = text.get((range.start_bound().cloned(), range.end_bound().cloned()))?;
+        let from = part.as_ptr() as usize - text.as_ptr() as usize;
+        let to = from + part.len();
+        let number = symbol.to_usize();
+        Some(expect(try_intern_by(self.backend.handle_mut(), |handle| {
+            handle.get_or_intern_part(number, from, to)
+        })))
+    }
+
+    /// Interns many texts, and returns the symbol of each.
+    ///
+    /// # Panics
+    ///
+    /// If no symbol is left for a new text. The texts before it stay.
+    #[track_caller]
+    pub fn intern_all<I>(&mut self, strings: I) -> Vec<B::Symbol>
+    where
+        I: IntoIterator,
+        I::Item: AsRef<str>,
+    {
+        let strings = strings.into_iter();
+        let mut symbols = Vec::with_capacity(strings.size_hint().0);
+        // A closure would hide from the panic who called.
+        for string in strings {
+            symbols.push(self.get_or_intern(string));
+        }
+        symbols
+    }
+
     /// Releases memory that no text needs, if it can.
     pub fn shrink_to_fit(&mut self) {
         self.backend.shrink_to_fit();
@@ -120,7 +208,7 @@ impl<B: Backend, H: InternerHasher> StringInterner<B, H> {
 
     /// Keeps the first `len` texts with their symbols, and drops the others.
     pub fn truncate(&mut self, len: usize) {
-        self.backend.truncate(len);
+        self.backend.handle_mut().truncate(len);
     }
 
     /// Returns the text of a symbol, or `None` if no text has its number.

@@ -1,18 +1,6 @@
-//! A string interner for programs written for the crate string-interner 0.19, over a library in which every function is
-//! proved.
+#![doc = include_str!("../README.md")]
 //!
-//! An interner stores each distinct text once and returns a small symbol for it. Symbols are as cheap to copy, compare
-//! and hash as numbers.
-//!
-//! ```
-//! use string_interner::DefaultStringInterner;
-//!
-//! let mut animals = <DefaultStringInterner>::from_iter(["Elephant", "Tiger"]);
-//! let tiger = animals.get_or_intern("Tiger");
-//! assert_eq!(animals.get("Tiger"), Some(tiger));
-//! assert_eq!(animals.resolve(tiger), Some("Tiger"));
-//! assert_eq!(animals.len(), 2);
-//! ```
+//! # Backends and symbols
 //!
 //! Three backends differ in how they store texts ([`backend`]), and any type may serve as the symbol ([`Symbol`]):
 //!
@@ -32,7 +20,6 @@
 //! | What does not compile | Why |
 //! |---|---|
 //! | a backend of the program's own, `impl Backend for ..` | the library stores the texts |
-//! | serde's traits | see below |
 //! | a bound `H: BuildHasher` with `FixedHashBuilder` or `KeyedHashBuilder` as `H` | these give the library keys or none, and hash nothing themselves |
 //! | programs without std, or for other targets than Linux on 64 bits | the library is built for these |
 //!
@@ -43,35 +30,52 @@
 //!   [`FixedHashBuilder`](hasher::FixedHashBuilder) has no keys: it is faster, and has the same hash codes in each process.
 //! - The numbers of all symbol types are below 2³² − 1, because those of the library are. So a `BufferBackend`, whose numbers are
 //!   byte offsets, holds less than 4 GiB.
-//! - Interning panics if no symbol is left, as in the original, and no call returns an error instead. The text is then not
-//!   stored.
+//! - If interning panics because no symbol is left, as in the original, the text is not stored.
+//!   [`try_get_or_intern`](StringInterner::try_get_or_intern) returns an error instead.
 //! - If you use a backend alone, `intern` returns the first symbol of a text that it already has. The original's stores the
 //!   text again.
+//! - `Symbol::try_from_usize` returns `None` if the type has no symbol of the number. The original's wraps: number 65,539 becomes
+//!   the [`SymbolU16`](symbol::SymbolU16) 3.
+//! - With serde the original reads each symbol as the next one, see below.
+//! - An interner takes the keys from its hasher when it is made, and drops the hasher then. The original keeps the hasher, calls
+//!   it for each text, clones it with the interner, and drops it with the interner. So here a hasher that panics does so only when
+//!   an interner is made, and a hasher's own `Drop` runs before that of the interner.
+//! - If the library is asked for more memory than there is, `with_capacity` panics. The original aborts the process for some sizes.
 //! - The `Debug` of an interner shows symbols by number, and that of a backend its texts.
 //! - Memory comes from malloc, and not from Rust's global allocator.
 //!
-//! New are [`StringInterner::truncate`], [`StringInterner::to_json`], [`StringInterner::from_json`] and the module [`hasher`].
+//! New are the modules [`hasher`] and [`sync`], the type [`InternError`], and of [`StringInterner`] the calls
+//! [`try_get_or_intern`](StringInterner::try_get_or_intern),
+//! [`try_get_or_intern_static`](StringInterner::try_get_or_intern_static),
+//! [`get_or_intern_part`](StringInterner::get_or_intern_part), [`intern_all`](StringInterner::intern_all),
+//! [`contains`](StringInterner::contains), [`truncate`](StringInterner::truncate), [`to_json`](StringInterner::to_json) and
+//! [`from_json`](StringInterner::from_json).
 //!
 //! # Features
 //!
 //! You may ask for the features `std`, `inline-more` and `backends`. They change nothing: the crate always uses std, the compiler
 //! may always inline its short calls, and the backends are always there.
 //!
-//! The feature `serde` does not compile. Its error message says what to write instead. Cargo resolves an optional dependency even
-//! if nothing uses it, so with serde as one this crate would not build without a registry.
+//! The feature `serde` gives an interner and the three symbol types serde's traits, in the forms of the original. An interner is a
+//! sequence of its texts. A symbol is its number plus one, because that is how it is stored, and is read as such: what either
+//! crate wrote is read as it was meant. The original reads a symbol as the number that is written, so each symbol that it wrote
+//! comes back as the next one.
+//!
+//! Cargo asks a registry for each dependency, also for an optional one that nothing uses. So the crate in the repository lacks
+//! serde, and builds without a registry. That of a release has it.
 //!
 //! # Why it is safe
 //!
 //! All `unsafe` blocks of this crate are in the module `handle`. They rely on the rules at the top of `string_interner.h`, which
-//! this crate keeps:
+//! this crate keeps, with one exception:
 //!
 //! | Rule | Kept by |
 //! |---|---|
 //! | 1: pass only a handle that a call wrote, before it is freed, and not null | `Handle` holds what a call wrote as a private `NonNull`, is not `Copy`, and `Drop` frees it once |
 //! | 2: pass only aligned pointers to as many elements as the length says | all come from references, slices, texts and local variables |
 //! | 3: memory that a call writes to overlaps nothing else that you pass | it is a local variable, or a `Vec` that nothing else borrows |
-//! | 4: while a call may change a handle, make no other call on it | calls that only read take `&self`, and all others `&mut self`; no call of the library calls back |
-//! | 5: read a lent text only until the next call that may change its handle, and do not pass it to that call | the text borrows the `Handle`, and calls that may change it take `&mut self` |
+//! | 4: while a call may change a handle, make no other call on it | calls that only read take `&self`, and all others `&mut self`; a `SharedHandle` has locks; no call of the library calls back |
+//! | 5: read a lent text only until the next call that may change its handle, and do not pass it to that call | the text borrows the `Handle`, and calls that may change it take `&mut self`. The exception is a text of [`sync::Interner`]: see there |
 //! | 6: one allocator; no calls in signal handlers and after forks | the program's own duty, as with any C library and with Rust's own allocator |
 //! | 7: pass only UTF-8 to calls that do not check it | the bytes are those of a `&str` |
 //! | 8: pass only bytes that stay to `si_get_or_intern_static` | they are those of a `&'static str` |
@@ -82,14 +86,8 @@
     clippy::undocumented_unsafe_blocks
 )]
 
-#[cfg(feature = "serde")]
-compile_error!(
-    "string-interner: the feature `serde` is not there, since this crate builds without a registry. \
-     Serialize `interner.iter().map(|(_, text)| text)` as a sequence, and collect the texts again to deserialize, \
-     or call `to_json` and `from_json`. A symbol serializes as the number `to_usize` returns."
-);
-
 pub mod backend;
+mod error;
 mod handle;
 pub mod hasher;
 mod interner;
@@ -97,10 +95,14 @@ mod iter;
 mod json;
 #[cfg(doctest)]
 mod refused;
+#[cfg(feature = "serde")]
+mod serde;
 pub mod symbol;
+pub mod sync;
 mod sys;
 
 pub use backend::DefaultBackend;
+pub use error::InternError;
 pub use hasher::DefaultHashBuilder;
 pub use interner::StringInterner;
 pub use iter::Iter;

@@ -32,7 +32,7 @@ macro_rules! symbol {
         $(#[$doc])*
         #[derive(Clone, Copy, Debug, PartialEq, Eq, PartialOrd, Ord, Hash)]
         pub struct $name {
-            value: $non_zero,
+            pub(crate) value: $non_zero,
         }
 
         impl Symbol for $name {

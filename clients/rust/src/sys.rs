@@ -58,6 +58,13 @@ extern "C" {
         text_len: usize,
         number: *mut usize,
     ) -> u32;
+    pub fn si_get_or_intern_part(
+        h: *mut si_interner,
+        number: usize,
+        from: usize,
+        to: usize,
+        part: *mut usize,
+    ) -> u32;
     pub fn si_get_utf8(
         h: *const si_interner,
         text: *const u8,

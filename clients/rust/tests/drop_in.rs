@@ -2,14 +2,16 @@
 //! `backend.rs`, and of hashers in `hasher.rs`.
 
 use std::borrow::Cow;
-use std::cell::RefCell;
+use std::cell::{Cell, RefCell};
+use std::cmp::Ordering;
 use std::collections::{BTreeMap, HashMap};
-use std::fmt::Debug;
-use std::hash::Hash;
+use std::fmt::{Arguments, Debug};
+use std::hash::{BuildHasher, Hash, RandomState};
+use std::rc::Rc;
 use std::sync::{LazyLock, Mutex};
 use std::thread;
 
-use string_interner::backend::{BucketBackend, StringBackend};
+use string_interner::backend::{Backend, BucketBackend, StringBackend};
 use string_interner::symbol::{SymbolU16, SymbolU32, SymbolUsize};
 use string_interner::{
     DefaultHashBuilder, DefaultStringInterner, DefaultSymbol, StringInterner, Symbol,
@@ -137,4 +139,154 @@ fn bounds_that_symbols_meet() {
     assert_eq!(first::<SymbolU32>().to_usize(), 0);
     assert_eq!(first::<SymbolUsize>().to_usize(), 0);
     assert_eq!(first::<usize>(), 0);
+}
+
+#[test]
+fn keywords_are_the_first_symbols() {
+    const KEYWORDS: [&str; 2] = ["fn", "let"];
+    let mut names: DefaultStringInterner = StringInterner::from_iter(KEYWORDS);
+    let is_keyword = "let größe = fn größe"
+        .split(' ')
+        .map(|word| names.get_or_intern(word).to_usize() < KEYWORDS.len());
+    assert!(is_keyword.eq([true, false, false, true, false]));
+}
+
+/// Interners of several types, as one.
+trait Intern {
+    fn number(&mut self, text: &str) -> usize;
+    fn text(&self, number: usize) -> Option<&str>;
+    fn all(&self) -> Box<dyn Iterator<Item = (usize, &str)> + '_>;
+}
+
+impl<B: Backend, H: BuildHasher> Intern for StringInterner<B, H> {
+    fn number(&mut self, text: &str) -> usize {
+        self.get_or_intern(text).to_usize()
+    }
+
+    fn text(&self, number: usize) -> Option<&str> {
+        self.resolve(B::Symbol::try_from_usize(number)?)
+    }
+
+    fn all(&self) -> Box<dyn Iterator<Item = (usize, &str)> + '_> {
+        Box::new(self.iter().map(|(symbol, text)| (symbol.to_usize(), text)))
+    }
+}
+
+#[test]
+fn behind_a_trait_of_the_program() {
+    let interners: [Box<dyn Intern>; 3] = [
+        Box::new(StringInterner::<StringBackend>::new()),
+        Box::new(StringInterner::<BucketBackend<SymbolU16>, RandomState>::new()),
+        Box::new(StringInterner::<StringBackend<usize>>::new()),
+    ];
+    for mut interner in interners {
+        assert_eq!(["a", "", "a"].map(|text| interner.number(text)), [0, 1, 0]);
+        assert_eq!((interner.text(1), interner.text(9)), (Some(""), None));
+        assert!(interner.all().eq([(0, "a"), (1, "")]));
+    }
+}
+
+#[test]
+fn calls_as_functions() {
+    let intern: fn(&mut DefaultStringInterner, &'static str) -> DefaultSymbol =
+        DefaultStringInterner::get_or_intern;
+    let resolve: for<'a> fn(&'a DefaultStringInterner, DefaultSymbol) -> Option<&'a str> =
+        DefaultStringInterner::resolve;
+    let names = Cell::new(DefaultStringInterner::default());
+    let mut taken = names.take();
+    let tiger = intern(&mut taken, "Tiger");
+    assert_eq!(resolve(&taken, tiger), Some("Tiger"));
+    names.set(taken);
+    assert_eq!(names.into_inner().len(), 1);
+}
+
+#[test]
+fn collected_through_other_collections() {
+    let numbers = ["1", "2", "1"].map(|text| text.parse::<u8>().map(|number| number.to_string()));
+    let read: Result<DefaultStringInterner, _> = numbers.into_iter().collect();
+    assert_eq!(read.unwrap().len(), 2);
+    let none: Option<DefaultStringInterner> = [Some("a"), None].into_iter().collect();
+    assert!(none.is_none());
+
+    fn fill<'a>(texts: &mut impl Extend<&'a str>) {
+        texts.extend("code is code".split(' '));
+    }
+    let (mut list, mut names) = (Vec::new(), DefaultStringInterner::default());
+    fill(&mut list);
+    fill(&mut names);
+    assert_eq!((list.len(), names.len()), (3, 2));
+    names.extend([Rc::<str>::from("shared")]);
+    names.extend(names.clone().iter().map(|(_, text)| text));
+    assert_eq!(names.len(), 3);
+}
+
+#[test]
+fn symbols_of_one_interner_in_another() {
+    fn merge<A: Backend, B: Backend>(
+        into: &mut StringInterner<A>,
+        from: &StringInterner<B>,
+    ) -> HashMap<usize, A::Symbol> {
+        from.iter()
+            .map(|(symbol, text)| (symbol.to_usize(), into.get_or_intern(text)))
+            .collect()
+    }
+    let part: StringInterner<BucketBackend> = ["c", "b"].into_iter().collect();
+    let mut all: DefaultStringInterner = ["a", "b"].into_iter().collect();
+    let symbols = merge(&mut all, &part);
+    for (symbol, text) in &part {
+        assert_eq!(all.resolve(symbols[&symbol.to_usize()]), Some(text));
+    }
+    assert_eq!(all.len(), 3);
+}
+
+#[test]
+fn an_extension_of_the_program() {
+    trait Format<S> {
+        fn intern_args(&mut self, args: Arguments) -> S;
+    }
+
+    impl<B: Backend, H: BuildHasher> Format<B::Symbol> for StringInterner<B, H> {
+        fn intern_args(&mut self, args: Arguments) -> B::Symbol {
+            match args.as_str() {
+                Some(text) => self.get_or_intern_static(text),
+                None => self.get_or_intern(args.to_string()),
+            }
+        }
+    }
+
+    let mut names = StringInterner::<BucketBackend>::new();
+    let plain = names.intern_args(format_args!("x1"));
+    let number = names.len();
+    assert_eq!(names.intern_args(format_args!("x{number}")), plain);
+}
+
+#[test]
+fn names_of_the_process_that_are_ordered_as_texts() {
+    static NAMES: LazyLock<Mutex<DefaultStringInterner>> = LazyLock::new(Mutex::default);
+
+    #[derive(Clone, Copy, PartialEq, Eq)]
+    struct Name(DefaultSymbol);
+
+    impl From<&str> for Name {
+        fn from(text: &str) -> Self {
+            Name(NAMES.lock().unwrap().get_or_intern(text))
+        }
+    }
+
+    impl Ord for Name {
+        fn cmp(&self, other: &Self) -> Ordering {
+            let names = NAMES.lock().unwrap();
+            names.resolve(self.0).cmp(&names.resolve(other.0))
+        }
+    }
+
+    impl PartialOrd for Name {
+        fn partial_cmp(&self, other: &Self) -> Option<Ordering> {
+            Some(self.cmp(other))
+        }
+    }
+
+    let mut fruits = ["pear", "apple", "fig"].map(Name::from);
+    fruits.sort();
+    assert!(fruits == ["apple", "fig", "pear"].map(Name::from));
 }

@@ -3,11 +3,12 @@
 use string_interner::backend::{Backend, BucketBackend, BufferBackend, StringBackend};
 use string_interner::symbol::{SymbolU16, SymbolU32, SymbolUsize};
 use string_interner::{
-    DefaultHashBuilder, DefaultStringInterner, JsonError, StringInterner, Symbol,
+    DefaultHashBuilder, DefaultStringInterner, InternError, JsonError, StringInterner, Symbol,
 };
 
 use std::cell::Cell;
 use std::collections::HashMap;
+use std::ops::Bound;
 use std::panic::{catch_unwind, AssertUnwindSafe};
 use std::thread;
 
@@ -216,6 +217,66 @@ fn agree_with_a_map<B: Backend>() {
     assert_eq!(texts(&interner), list);
 }
 
+fn calls_that_the_original_lacks<B: Backend>() {
+    let mut interner = StringInterner::<B>::new();
+    assert!(!interner.contains(TEXTS[0]));
+    let symbols = interner.intern_all(TEXTS);
+    assert!(interner.intern_all(TEXTS.map(String::from)) == symbols);
+    assert!(symbols
+        .iter()
+        .map(|symbol| symbol.to_usize())
+        .eq(numbers(&interner)));
+    check_texts(&interner);
+    assert!(TEXTS.iter().all(|text| interner.contains(text)) && !interner.contains("Horse"));
+    assert!(interner.try_get_or_intern(TEXTS[2]) == Ok(symbols[2]));
+    assert!(interner.try_get_or_intern_static(TEXTS[2]) == Ok(symbols[2]));
+    let horse = interner.try_get_or_intern("Horse").unwrap();
+    assert_eq!(interner.resolve(horse), Some("Horse"));
+}
+
+/// Interns each part of a text, as `str::get` has it, and asks for parts that there are not.
+fn intern_parts<B: Backend>() {
+    let mut interner = StringInterner::<B>::new();
+    for text in [TEXTS[2], "", &"long ß".repeat(40)] {
+        let whole = interner.get_or_intern(text);
+        for (from, to) in
+            (0..text.len() + 2).flat_map(|from| (0..9).map(move |len| (from, from + len)))
+        {
+            let len = interner.len();
+            let known = text
+                .get(from..to)
+                .map_or(true, |part| interner.contains(part));
+            let part = interner.get_or_intern_part(whole, from..to);
+            assert_eq!(
+                part.and_then(|part| interner.resolve(part)),
+                text.get(from..to)
+            );
+            assert_eq!(interner.len(), len + usize::from(!known));
+        }
+        assert!(interner.get_or_intern_part(whole, ..) == Some(whole));
+        assert!(interner.get_or_intern_part(whole, 0..=usize::MAX).is_none());
+        assert!(interner
+            .get_or_intern_part(whole, (Bound::Excluded(usize::MAX), Bound::Unbounded))
+            .is_none());
+        #[allow(clippy::reversed_empty_ranges)]
+        let reversed = interner.get_or_intern_part(whole, 1..0);
+        assert!(reversed.is_none());
+    }
+    let tiger = interner.get_or_intern("Tiger");
+    let parts = [
+        interner.get_or_intern_part(tiger, ..=1),
+        interner.get_or_intern_part(tiger, 2..),
+        interner.get_or_intern_part(tiger, (Bound::Excluded(1), Bound::Included(4))),
+    ];
+    assert_eq!(
+        parts.map(|part| interner.resolve(part.unwrap()).unwrap()),
+        ["Ti", "ger", "ger"]
+    );
+    assert!(StringInterner::<B>::new()
+        .get_or_intern_part(tiger, ..)
+        .is_none());
+}
+
 macro_rules! over_each_backend {
     ($($name:ident)*) => {
         $(mod $name {
@@ -248,6 +309,7 @@ macro_rules! over_each_backend {
 
 over_each_backend! {
     fill_in_all_ways compare_and_copy truncate walk walk_over_all_lengths find_what_was_lent json send agree_with_a_map
+    calls_that_the_original_lacks intern_parts
 }
 
 #[test]
@@ -312,6 +374,26 @@ fn symbols_of_a_caller() {
     assert_eq!(interner.resolve(Bit::One), Some("on"));
     let read = StringInterner::<StringBackend<Bit>>::from_json(r#"["a","b","c"]"#);
     assert_eq!(read.err(), Some(JsonError::NoSymbol));
+}
+
+#[test]
+fn a_text_without_a_symbol_is_an_error() {
+    let mut bits = StringInterner::<StringBackend<Bit>>::new();
+    assert_eq!(
+        bits.intern_all(["Tiger", "Horse", "Tiger"]),
+        [Bit::Zero, Bit::One, Bit::Zero]
+    );
+    assert_eq!(bits.try_get_or_intern("Ti"), Err(InternError::NoSymbol));
+    assert_eq!(
+        bits.try_get_or_intern_static("Ti"),
+        Err(InternError::NoSymbol)
+    );
+    assert!(panics(|| bits.get_or_intern_part(Bit::Zero, ..2)));
+    assert!(panics(|| bits.intern_all(["Horse", "Ti"])));
+    assert_eq!(bits.try_get_or_intern("Horse"), Ok(Bit::One));
+    assert_eq!(texts(&bits), ["Tiger", "Horse"]);
+    let said = [InternError::NoSymbol, InternError::Memory].map(|error| error.to_string());
+    assert_eq!(said, ["no symbol is left", "out of memory"]);
 }
 
 #[test]

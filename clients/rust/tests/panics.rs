@@ -59,6 +59,7 @@ fn panics_name_the_caller() {
         places_of!(interner.get_or_intern("a")),
         places_of!(interner.get_or_intern_static("a")),
         places_of!(interner.extend(["a"])),
+        places_of!(interner.intern_all(["a"])),
         places_of!(StringInterner::<StringBackend>::with_capacity(usize::MAX)),
         places_of!(backend.intern("a")),
         places_of!(backend.intern_static("a")),

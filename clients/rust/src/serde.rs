@@ -1,0 +1,93 @@
+//! The traits of serde, in the forms in which string-interner 0.19 writes.
+
+use crate::backend::Backend;
+use crate::hasher::InternerHasher;
+use crate::interner::StringInterner;
+use crate::symbol::{SymbolU16, SymbolU32, SymbolUsize};
+use serde::de::{DeserializeSeed, Deserializer, Error, SeqAccess, Visitor};
+use serde::ser::Serializer;
+use serde::{Deserialize, Serialize};
+use std::fmt;
+use std::marker::PhantomData;
+
+/// Memory for more texts than these is not reserved because of what an input says of itself.
+const MOST_RESERVED: usize = 1 << 12;
+
+impl<B: Backend, H> Serialize for StringInterner<B, H> {
+    /// Writes the texts as a sequence, in insertion order.
+    fn serialize<T: Serializer>(&self, serializer: T) -> Result<T::Ok, T::Error> {
+        serializer.collect_seq(self.into_iter().map(|(_, text)| text))
+    }
+}
+
+impl<'de, B: Backend, H: InternerHasher + Default> Deserialize<'de> for StringInterner<B, H> {
+    /// Reads a sequence of texts. Repeats add no text.
+    fn deserialize<D: Deserializer<'de>>(deserializer: D) -> Result<Self, D::Error> {
+        deserializer.deserialize_seq(OfTexts(PhantomData))
+    }
+}
+
+/// Reads an interner.
+struct OfTexts<B, H>(PhantomData<(B, H)>);
+
+impl<'de, B: Backend, H: InternerHasher + Default> Visitor<'de> for OfTexts<B, H> {
+    type Value = StringInterner<B, H>;
+
+    fn expecting(&self, f: &mut fmt::Formatter<'_>) -> fmt::Result {
+        f.write_str("a sequence of strings")
+    }
+
+    fn visit_seq<A: SeqAccess<'de>>(self, mut texts: A) -> Result<Self::Value, A::Error> {
+        let capacity = texts.size_hint().unwrap_or(0).min(MOST_RESERVED);
+        let mut interner = StringInterner::with_capacity(capacity);
+        while texts.next_element_seed(OneText(&mut interner))?.is_some() {}
+        Ok(interner)
+    }
+}
+
+/// Reads a text into an interner.
+struct OneText<'a, B: Backend, H>(&'a mut StringInterner<B, H>);
+
+impl<'de, B: Backend, H: InternerHasher> DeserializeSeed<'de> for OneText<'_, B, H> {
+    type Value = ();
+
+    fn deserialize<D: Deserializer<'de>>(self, deserializer: D) -> Result<(), D::Error> {
+        deserializer.deserialize_str(self)
+    }
+}
+
+impl<B: Backend, H: InternerHasher> Visitor<'_> for OneText<'_, B, H> {
+    type Value = ();
+
+    fn expecting(&self, f: &mut fmt::Formatter<'_>) -> fmt::Result {
+        f.write_str("a string")
+    }
+
+    fn visit_str<E: Error>(self, text: &str) -> Result<(), E> {
+        self.0.try_get_or_intern(text).map(drop).map_err(E::custom)
+    }
+}
+
+macro_rules! symbol {
+    ($name:ident) => {
+        impl Serialize for $name {
+            /// Writes the symbol's number plus one.
+            fn serialize<T: Serializer>(&self, serializer: T) -> Result<T::Ok, T::Error> {
+                self.value.serialize(serializer)
+            }
+        }
+
+        impl<'de> Deserialize<'de> for $name {
+            /// Reads the symbol's number plus one.
+            fn deserialize<D: Deserializer<'de>>(deserializer: D) -> Result<Self, D::Error> {
+                Ok($name {
+                    value: Deserialize::deserialize(deserializer)?,
+                })
+            }
+        }
+    };
+}
+
+symbol!(SymbolU16);
+symbol!(SymbolU32);
+symbol!(SymbolUsize);

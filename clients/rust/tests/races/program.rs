@@ -1,0 +1,69 @@
+//! Threads that intern, find and read texts in one interner, and compare what they read. Helgrind runs this (see
+//! `rust_races` in `clients/check`). The threads are the C library's, because helgrind does not know those of Rust's.
+
+use std::ffi::c_void;
+use std::ptr;
+
+use string_interner::sync::Interner;
+
+const THREADS: usize = 8;
+const CALLS: usize = 300;
+
+type Body = extern "C" fn(*mut c_void) -> *mut c_void;
+
+extern "C" {
+    fn pthread_create(
+        id: *mut usize,
+        attributes: *const c_void,
+        body: Body,
+        argument: *mut c_void,
+    ) -> i32;
+    fn pthread_join(id: usize, returned: *mut *mut c_void) -> i32;
+}
+
+struct Task<'a> {
+    names: &'a Interner,
+    step: usize,
+}
+
+fn spell(number: usize) -> String {
+    match number % 50 {
+        0 => "long ".repeat(number + 1),
+        _ => format!("text {number}"),
+    }
+}
+
+fn run(task: &Task) {
+    let mut kept = Vec::new();
+    for number in (0..CALLS).map(|number| number * task.step % (CALLS / 2)) {
+        let symbol = task.names.get_or_intern(spell(number));
+        kept.push((number, task.names.resolve(symbol).unwrap()));
+        let (other, text) = kept[number % kept.len()];
+        assert_eq!(text, spell(other));
+        assert!(task.names.contains(text));
+    }
+    assert!(kept.iter().all(|(number, text)| *text == spell(*number)));
+}
+
+extern "C" fn body(argument: *mut c_void) -> *mut c_void {
+    // SAFETY: `main` passes a task, and waits for this thread.
+    run(unsafe { &*argument.cast::<Task>() });
+    ptr::null_mut()
+}
+
+fn main() {
+    let names = &Interner::new();
+    let mut tasks = [1, 7, 11, 13, 17, 19, 23, 29].map(|step| Task { names, step });
+    let mut ids = [0; THREADS];
+    for (id, task) in ids.iter_mut().zip(&mut tasks) {
+        // SAFETY: the task outlives the thread, for which the next loop waits.
+        let status = unsafe { pthread_create(id, ptr::null(), body, ptr::from_mut(task).cast()) };
+        assert_eq!(status, 0);
+    }
+    for id in ids {
+        // SAFETY: the thread was made above.
+        assert_eq!(unsafe { pthread_join(id, ptr::null_mut()) }, 0);
+    }
+    assert_eq!(names.len(), CALLS / 2);
+    assert_eq!(names.iter().count(), CALLS / 2);
+}

@@ -1,0 +1,302 @@
+//! The interner that threads share, compared with a list of distinct texts. `RANDOM_CALLS` says how many calls each thread makes,
+//! and `RANDOM_SEED` which.
+
+use std::collections::{HashMap, HashSet};
+use std::env;
+use std::hint::black_box;
+use std::panic::{catch_unwind, RefUnwindSafe, UnwindSafe};
+use std::sync::{Arc, Barrier, LazyLock};
+use std::thread;
+use std::time::Instant;
+
+use string_interner::sync::Interner;
+use string_interner::{DefaultStringInterner, DefaultSymbol, Symbol};
+
+const THREADS: u64 = 8;
+
+/// Random numbers by xorshift.
+struct Random(u64);
+
+impl Random {
+    fn below(&mut self, bound: usize) -> usize {
+        self.0 ^= self.0 << 13;
+        self.0 ^= self.0 >> 7;
+        self.0 ^= self.0 << 17;
+        (self.0 % bound as u64) as usize
+    }
+}
+
+fn number_of(variable: &str, otherwise: usize) -> usize {
+    env::var(variable).map_or(otherwise, |number| {
+        number.parse().expect("the variable is a number")
+    })
+}
+
+/// Texts that all threads draw from, so that they meet. Some are long, one is empty.
+fn spell(number: usize) -> String {
+    match number {
+        0 => String::new(),
+        number if number % 97 == 0 => "long ß ".repeat(number),
+        number => format!("text {number}"),
+    }
+}
+
+static STATIC: LazyLock<Vec<&'static str>> =
+    LazyLock::new(|| (0..3_000).map(|number| &*spell(number).leak()).collect());
+
+/// What a thread was told: each text with its symbol, and where its bytes are.
+type Told<'a> = HashMap<&'static str, (DefaultSymbol, &'a str)>;
+
+/// Makes random calls, and compares each with what this thread was told before.
+fn call<'a>(interner: &'a Interner, seed: u64, calls: usize) -> Told<'a> {
+    let mut random = Random(seed);
+    let mut told = Told::new();
+    for _ in 0..calls {
+        // Few texts at first, then all.
+        let text = STATIC[random.below(STATIC.len().min(told.len() + 20))];
+        let before = told.get(text).copied();
+        let symbol = match random.below(8) {
+            0 => interner.get(text),
+            1 => interner.contains(text).then(|| interner.get(text).unwrap()),
+            2 => Some(interner.get_or_intern_static(text)),
+            3 => Some(interner.try_get_or_intern(text).unwrap()),
+            4 if interner.len() < told.len() => panic!("texts were lost"),
+            _ => Some(interner.get_or_intern(text)),
+        };
+        let Some(symbol) = symbol else {
+            assert!(before.is_none(), "{text:?} was known");
+            continue;
+        };
+        let lent = interner.resolve(symbol).unwrap();
+        assert_eq!(lent, text);
+        let (known, held) = *told.entry(text).or_insert((symbol, lent));
+        // One symbol for one text, and its bytes stay where they were.
+        assert!(known == symbol && held.as_ptr() == lent.as_ptr() && held == text);
+    }
+    told
+}
+
+/// Compares what all threads were told, and what the interner has at the end.
+fn compare(interner: &Interner, all: &[Told]) {
+    let mut symbols = HashMap::new();
+    for told in all {
+        for (text, (symbol, lent)) in told {
+            assert_eq!(symbols.entry(*symbol).or_insert(*text), text);
+            assert_eq!(lent, text);
+            assert_eq!(interner.get(text), Some(*symbol));
+        }
+    }
+    let listed: HashMap<DefaultSymbol, &str> = interner.iter().collect();
+    assert_eq!(listed, symbols);
+    assert_eq!(interner.len(), symbols.len());
+    assert_eq!(interner.iter().count(), symbols.len());
+    let distinct: HashSet<&str> = symbols.values().copied().collect();
+    assert_eq!(distinct.len(), symbols.len());
+}
+
+#[test]
+fn threads_agree_with_a_list_of_distinct_texts() {
+    let calls = number_of("RANDOM_CALLS", 40_000);
+    let first = number_of("RANDOM_SEED", 1) as u64;
+    for round in 0..3 {
+        let interner = Interner::new();
+        let start = Barrier::new(THREADS as usize);
+        let all: Vec<Told> = thread::scope(|scope| {
+            let run = |seed| {
+                let (interner, start) = (&interner, &start);
+                scope.spawn(move || {
+                    start.wait();
+                    call(interner, seed, calls)
+                })
+            };
+            let seed_of =
+                |thread: u64| (first + round * THREADS + thread).wrapping_mul(0x9E37_79B9) | 1;
+            let threads: Vec<_> = (0..THREADS).map(|thread| run(seed_of(thread))).collect();
+            threads.into_iter().map(|it| it.join().unwrap()).collect()
+        });
+        compare(&interner, &all);
+    }
+}
+
+/// Each text is new, and all threads intern it at the same time.
+#[test]
+fn threads_race_for_each_text() {
+    let interner = Interner::new();
+    let start = Barrier::new(THREADS as usize);
+    let intern = || {
+        (0..300)
+            .map(|number| {
+                start.wait();
+                interner.get_or_intern(spell(number))
+            })
+            .collect::<Vec<_>>()
+    };
+    let all = thread::scope(|scope| {
+        let threads: Vec<_> = (0..THREADS).map(|_| scope.spawn(intern)).collect();
+        threads
+            .into_iter()
+            .map(|it| it.join().unwrap())
+            .collect::<Vec<_>>()
+    });
+    assert!(all.iter().all(|symbols| *symbols == all[0]));
+    assert_eq!(interner.len(), 300);
+}
+
+/// A text is read while so many others come that its shard moves all that it may move.
+#[test]
+fn a_text_is_lent_while_others_come() {
+    let interner = Interner::new();
+    let first = interner.resolve(interner.get_or_intern("first")).unwrap();
+    let empty = interner.resolve(interner.get_or_intern("")).unwrap();
+    thread::scope(|scope| {
+        for thread in 0..2 {
+            let names = &interner;
+            scope.spawn(move || {
+                (0..100_000).for_each(|number| {
+                    names.get_or_intern(format!("{thread} {number}"));
+                })
+            });
+        }
+        for _ in 0..2 {
+            scope.spawn(|| (0..100_000).for_each(|_| assert_eq!((first, empty), ("first", ""))));
+        }
+    });
+    assert_eq!(interner.len(), 200_002);
+    assert_eq!((first, empty), ("first", ""));
+}
+
+#[test]
+fn in_an_arc_and_in_a_static() {
+    static NAMES: LazyLock<Interner> = LazyLock::new(Interner::new);
+    let shared: Arc<Interner> = Arc::new(["Tiger", "Horse", "Tiger"].into_iter().collect());
+    let threads = [(); 3].map(|()| {
+        let shared = Arc::clone(&shared);
+        thread::spawn(move || (shared.get("Tiger"), NAMES.get_or_intern("Tiger")))
+    });
+    let found = threads.map(|it| it.join().unwrap());
+    assert!(found[0].0.is_some() && found.iter().all(|it| *it == found[0]));
+    let text: &'static str = NAMES.resolve(found[0].1).unwrap();
+    assert_eq!(text, "Tiger");
+}
+
+/// A symbol's number says in its lowest bits which of the 16 interners within has the text.
+#[test]
+fn texts_are_spread() {
+    const TEXTS: usize = 1_600;
+    let families: [fn(usize) -> String; 6] = [
+        |number| number.to_string(),
+        |number| format!("{number:08}"),
+        |number| format!("a long prefix of all texts {number}"),
+        |number| format!("{number:x} with a long end that all texts have"),
+        |number| "z".repeat(number),
+        |number| char::from_u32(0x4E00 + number as u32).unwrap().to_string(),
+    ];
+    for (family, spell) in families.iter().enumerate() {
+        let names: Interner = (0..TEXTS).map(spell).collect();
+        let mut counts = [0; 16];
+        names
+            .iter()
+            .for_each(|(symbol, _)| counts[symbol.to_usize() % 16] += 1);
+        // 100 in each in the mean. By chance none has this many.
+        assert!(
+            counts.iter().all(|count| *count < 200),
+            "{family}: {counts:?}"
+        );
+    }
+}
+
+#[test]
+fn symbols_that_have_no_text() {
+    let interner = Interner::new();
+    assert!(interner.is_empty() && interner.iter().next().is_none());
+    let tiger = interner.get_or_intern("Tiger");
+    for number in [0, 1, 15, 16, 4_294_967_294] {
+        let symbol = DefaultSymbol::try_from_usize(number).unwrap();
+        let found = interner.resolve(symbol);
+        assert_eq!(found, (symbol == tiger).then_some("Tiger"));
+    }
+    assert_eq!(interner.get("Horse"), None);
+    assert!(interner.contains("Tiger") && !interner.contains("Horse"));
+}
+
+#[test]
+fn traits() {
+    fn has_all<T: Send + Sync + Unpin + UnwindSafe + RefUnwindSafe + Default>() {}
+    has_all::<Interner>();
+    let mut interner = Interner::default();
+    interner.extend(["Tiger"]);
+    (&interner).extend([String::from("Horse"), String::from("Tiger")]);
+    assert_eq!((&interner).into_iter().count(), 2);
+    let shown = format!("{interner:?}");
+    assert!(shown.contains(": \"Tiger\"") && shown.contains(": \"Horse\""));
+}
+
+/// A text that interns another one while it is read does so before any lock is held, and one that panics changes nothing.
+#[test]
+fn a_text_calls_back() {
+    struct CallsBack<'a>(&'a Interner, bool);
+
+    impl AsRef<str> for CallsBack<'_> {
+        fn as_ref(&self) -> &str {
+            self.0.get_or_intern("inner");
+            assert!(self.1, "by intent");
+            "outer"
+        }
+    }
+
+    let interner = Interner::new();
+    assert!(catch_unwind(|| interner.get_or_intern(CallsBack(&interner, false))).is_err());
+    assert_eq!(interner.len(), 1);
+    interner.get_or_intern(CallsBack(&interner, true));
+    assert_eq!(interner.len(), 2);
+}
+
+/// Prints the nanoseconds of a call that finds a known text: of a plain interner, and of a shared one with more and more threads.
+#[test]
+#[ignore = "prints times; run it alone, with --nocapture and --release"]
+fn times() {
+    const ROUNDS: usize = 20;
+    let texts: Vec<String> = (0..10_000)
+        .map(|number| format!("identifier{number}"))
+        .collect();
+    let mut plain: DefaultStringInterner = texts.iter().collect();
+    let shared: Interner = texts.iter().collect();
+    let mut least = [f64::MAX; 4];
+    let mut keep = |place: usize, begun: Instant| {
+        let took = begun.elapsed().as_nanos() as f64 / (ROUNDS * texts.len()) as f64;
+        least[place] = least[place].min(took);
+    };
+    for _ in 0..30 {
+        let begun = Instant::now();
+        for text in (0..ROUNDS).flat_map(|_| &texts) {
+            black_box(plain.get_or_intern(text));
+        }
+        keep(0, begun);
+        for (place, threads) in [(1, 1), (2, 2), (3, 4)] {
+            let start = Barrier::new(threads + 1);
+            let begun = thread::scope(|scope| {
+                for thread in 0..threads {
+                    let (texts, shared, start) = (&texts, &shared, &start);
+                    scope.spawn(move || {
+                        start.wait();
+                        let (front, back) = texts.split_at(thread * texts.len() / threads);
+                        for text in (0..ROUNDS).flat_map(|_| back.iter().chain(front)) {
+                            black_box(shared.get_or_intern(text));
+                        }
+                    });
+                }
+                start.wait();
+                Instant::now()
+            });
+            keep(place, begun);
+        }
+    }
+    let [plain, one, two, four] = least;
+    println!("nanoseconds: plain {plain:.1}, one thread {one:.1}, two {two:.1}, four {four:.1}");
+    println!("one thread takes {:.2} of the plain time", one / plain);
+    println!(
+        "two threads do {:.2} times the work of one, four {:.2}",
+        2.0 * one / two,
+        4.0 * one / four
+    );
+}

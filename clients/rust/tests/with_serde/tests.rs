@@ -1,0 +1,107 @@
+//! What serde writes and reads. These are the tests of a crate that asks for string-interner 0.19 with serde and names no path
+//! (see `rust_serde` in `clients/check`).
+
+use std::fmt::Debug;
+
+use serde::{de::DeserializeOwned, Deserialize, Serialize};
+use string_interner::backend::{Backend, BucketBackend, BufferBackend, StringBackend};
+use string_interner::symbol::{SymbolU16, SymbolU32, SymbolUsize};
+use string_interner::{DefaultStringInterner, DefaultSymbol, StringInterner, Symbol};
+
+/// A program's own table, as it is kept in a file.
+#[derive(Debug, PartialEq, Serialize, Deserialize)]
+struct Table {
+    names: DefaultStringInterner,
+    root: DefaultSymbol,
+    parent: Option<DefaultSymbol>,
+}
+
+fn table() -> Table {
+    let mut names = DefaultStringInterner::default();
+    let root = names.get_or_intern("Tiger");
+    let parent = Some(names.get_or_intern("\"語\n"));
+    Table {
+        names,
+        root,
+        parent,
+    }
+}
+
+#[test]
+fn a_table_is_read_back() {
+    let json = serde_json::to_string(&table()).unwrap();
+    assert_eq!(json, r#"{"names":["Tiger","\"語\n"],"root":1,"parent":2}"#);
+    assert_eq!(serde_json::from_str::<Table>(&json).unwrap(), table());
+    let bytes = bincode::serialize(&table()).unwrap();
+    assert_eq!(bincode::deserialize::<Table>(&bytes).unwrap(), table());
+}
+
+fn a_symbol<S: Symbol + Debug + Serialize + DeserializeOwned>() {
+    for number in [0, 7, 65_534] {
+        let symbol = S::try_from_usize(number).unwrap();
+        let json = (number + 1).to_string();
+        assert_eq!(serde_json::to_string(&symbol).unwrap(), json);
+        assert_eq!(serde_json::from_str::<S>(&json).unwrap(), symbol);
+    }
+    for json in ["0", "-1", "1.5", "18446744073709551616", "\"1\"", "null"] {
+        assert!(serde_json::from_str::<S>(json).is_err(), "{json}");
+    }
+}
+
+#[test]
+fn a_symbol_is_its_number_plus_one() {
+    a_symbol::<SymbolU16>();
+    a_symbol::<SymbolU32>();
+    a_symbol::<SymbolUsize>();
+    assert!(serde_json::from_str::<SymbolU16>("65536").is_err());
+    assert!(serde_json::from_str::<SymbolU32>("4294967296").is_err());
+}
+
+fn over<B: Backend>() {
+    let names: StringInterner<B> = ["b", "", "a"].into_iter().collect();
+    let json = serde_json::to_string(&names).unwrap();
+    assert_eq!(json, r#"["b","","a"]"#);
+    assert!(serde_json::from_str::<StringInterner<B>>(&json).unwrap() == names);
+    let repeats = r#"["b","","b","a",""]"#;
+    assert!(serde_json::from_str::<StringInterner<B>>(repeats).unwrap() == names);
+    for json in ["{}", "[1]", "[\"a\"", "\"a\""] {
+        let said = serde_json::from_str::<StringInterner<B>>(json);
+        assert!(said.is_err(), "{json}");
+    }
+}
+
+#[test]
+fn an_interner_is_a_sequence() {
+    over::<StringBackend>();
+    over::<BucketBackend>();
+    over::<BufferBackend>();
+}
+
+#[test]
+fn a_text_without_a_symbol_is_an_error() {
+    #[derive(Clone, Copy, PartialEq, Eq)]
+    struct Only;
+
+    impl Symbol for Only {
+        fn try_from_usize(index: usize) -> Option<Self> {
+            (index == 0).then_some(Only)
+        }
+
+        fn to_usize(self) -> usize {
+            0
+        }
+    }
+
+    type Names = StringInterner<StringBackend<Only>>;
+    assert!(serde_json::from_str::<Names>(r#"["a","a"]"#).is_ok());
+    let said = serde_json::from_str::<Names>(r#"["a","b"]"#).unwrap_err();
+    assert!(said.to_string().starts_with("no symbol is left"), "{said}");
+}
+
+/// An input that says it has many texts gets no memory for them before it has them.
+#[test]
+fn a_length_that_is_not_so() {
+    let mut bytes = bincode::serialize(&vec!["a"; 2]).unwrap();
+    bytes[..8].copy_from_slice(&u64::MAX.to_le_bytes());
+    assert!(bincode::deserialize::<DefaultStringInterner>(&bytes).is_err());
+}
