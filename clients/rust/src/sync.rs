@@ -18,6 +18,10 @@
 //! It consists of 16 interners of the library, the *shards*, each over buckets and behind locks of its own. A hash of the text
 //! chooses its shard. What each shard does is proved. That they make one interner together is tested, and not proved.
 //!
+//! Each call takes a lock. So with one thread a known text takes 1.5 to 2 times as long as in a `StringInterner`, and a new one, for
+//! which the shard is searched twice, up to 3 times. Four threads that find known texts took no more processor time for a call
+//! than one.
+//!
 //! A text that [`Interner::resolve`] lends may be read while other threads intern, because a bucket never moves, and no text is
 //! dropped before the interner is. The library's contracts promise no address. That the addresses stay is tested.
 
