@@ -313,10 +313,13 @@ impl SharedHandle {
     /// Interns a text, unless it is new and there are `most` texts.
     #[inline]
     pub(crate) fn get_or_intern(&self, text: &str, most: usize) -> Result<usize, Status> {
-        self.intern_by(text, most, |handle| handle.get_or_intern(text))
+        // A copy, because this handle may have lent the text, and the call must not get what the handle lent (rule 5).
+        self.intern_by(text, most, |handle| {
+            handle.get_or_intern(&String::from(text))
+        })
     }
 
-    /// The same for a static text.
+    /// The same for a static text. If the handle is never freed it may have lent that, too: then the bytes stay all the same.
     #[inline]
     pub(crate) fn get_or_intern_static(
         &self,

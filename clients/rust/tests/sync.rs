@@ -179,6 +179,25 @@ fn in_an_arc_and_in_a_static() {
     assert_eq!(text, "Tiger");
 }
 
+/// A text that the interner lent is interned again, and so are its parts.
+#[test]
+fn parts_of_lent_texts() {
+    let names: &'static Interner = Box::leak(Box::default());
+    let mut lent = names.resolve(names.get_or_intern(spell(97 * 5))).unwrap();
+    while let Some((end, _)) = lent.char_indices().last() {
+        let part = names.resolve(names.get_or_intern(&lent[..end])).unwrap();
+        let rest = names
+            .resolve(names.get_or_intern_static(&lent[end..]))
+            .unwrap();
+        assert_eq!([part, rest].concat(), lent);
+        assert_eq!(names.get(lent), Some(names.get_or_intern(lent)));
+        lent = part;
+    }
+    assert!(names
+        .iter()
+        .all(|(symbol, text)| names.get(text) == Some(symbol)));
+}
+
 /// A symbol's number says in its lowest bits which of the 16 interners within has the text.
 #[test]
 fn texts_are_spread() {
