@@ -140,7 +140,7 @@ def comment_of(source):
 def untried_blocks(blocks, repository):
     for language, block in blocks:
         written = [f"\n{indent(block, ' ' * width)}" for width in (0, 2, 4)]
-        if language not in (*EXAMPLES, "text"):
+        if language not in (*EXAMPLES, "text", "toml"):
             yield f"a block in no known language: {block.splitlines()[0]}"
         elif language in EXAMPLES and not any(it in f"\n{example}" for example in repository.examples[language] for it in written):
             yield f"in no {'crate' if language == 'rattle' else 'example'}: {block.splitlines()[0]}"
