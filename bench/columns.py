@@ -10,6 +10,7 @@ import sys
 import tempfile
 
 from cycles import count, cycles_in
+from results import summary
 
 RUNS = 5
 # Each command, and the lines that it reads. `encoded` is what dictcol made of those in order.
@@ -46,12 +47,6 @@ def lines_of(name, number):
     return lines
 
 
-def spread_of(times):
-    """How far the middle half of the times spreads, as the driver has it."""
-    last = len(times) - 1
-    return sorted(times)[last * 3 // 4] - sorted(times)[last // 4]
-
-
 def time_runs(command, given):
     """The nanoseconds of some runs, by hyperfine, and the most memory of a process of one."""
     with open(given) as lines:
@@ -62,8 +57,7 @@ def time_runs(command, given):
         told = given.with_suffix(".json")
         tool = ["hyperfine", "--warmup", "1", "--runs", str(RUNS), "--export-json", told, f"< '{given}' {command}"]
         subprocess.run(tool, check=True, capture_output=True, env=ENVIRONMENT)
-        times = sorted(1e9 * time for time in json.loads(told.read_text())["results"][0]["times"])
-        measured |= {"run": times[0], "run median": times[(RUNS - 1) // 2], "run spread": spread_of(times)}
+        measured |= summary("run", [1e9 * time for time in json.loads(told.read_text())["results"][0]["times"]])
     return measured
 
 

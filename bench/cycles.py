@@ -14,9 +14,9 @@ import subprocess
 import sys
 import tempfile
 
-from results import HERE, PHASES
+from driver import DRIVER, input_of
+from results import PHASES
 
-DRIVER = HERE / "out/beside/target/release/beside"
 SIMULATED = ["--cache-sim=yes", "--branch-sim=yes", "--I1=32768,8,64", "--D1=32768,8,64", "--LL=8388608,16,64"]
 WEIGHTS = {"Ir": 1, "Bcm": 10, "Bim": 10, "I1mr": 10, "D1mr": 10, "D1mw": 10, "ILmr": 100, "DLmr": 100, "DLmw": 100}
 
@@ -48,9 +48,10 @@ def count(words, *options, **named):
         return [totals_in(part.read_text().splitlines()) for part in parts]
 
 
-def count_phases(kind, case):
-    """The totals of each phase of a round: a part ends whenever the clock is read, before a phase and after it."""
-    parts = count([DRIVER, "once", "-", kind, case], "--dump-before=clock_gettime*")
+def count_phases(kind, path):
+    """The totals of each phase of a round over the texts of a file: a part ends whenever the clock is read, before a phase and
+    after it."""
+    parts = count([DRIVER, kind, path, "1", "0"], "--dump-before=clock_gettime*")
     # The rounds begin with a reading of the clock, and go on with two for each phase that there is.
     return dict(zip(PHASES, parts[2:-1:2]))
 
@@ -58,10 +59,12 @@ def count_phases(kind, case):
 def main():
     kind, *cases = sys.argv[1:]
     for case in cases:
-        texts = int(case.split(":")[1])
+        name, _, count = case.partition(":")
         print(f"{kind} {case}")
-        for phase, totals in count_phases(kind, case).items():
-            print(f"  {phase:9} cycles {cycles_in(totals) / texts:8.1f}  instructions {totals['Ir'] / texts:8.1f}")
+        with input_of(name, int(count)) as given:
+            for phase, totals in count_phases(kind, given.path).items():
+                of_each = {"cycles": cycles_in(totals) / given.count, "instructions": totals["Ir"] / given.count}
+                print(f"  {phase:9}", *(f"{what} {value:8.1f} " for what, value in of_each.items()))
 
 
 if __name__ == "__main__":

@@ -3,23 +3,25 @@ import collections
 import hashlib
 import pathlib
 import re
+import sys
 
 HERE = pathlib.Path(__file__).resolve().parent
 TOP = HERE.parent
+sys.path.append(str(TOP / "tools"))
+from source import CLAUSE, GHOST_USE
+
 DOCS = TOP / "docs"
 PICTURES = {"out": HERE / "out/pictures", "docs": DOCS / "pictures"}
 # What is measured by itself, each with a file of results.
 PARTS = ("times", "memory", "cycles", "columns")
 TEXTS = ("identifiers", "words", "long")
 # The sources of what each part measures, and of what it is measured by.
-LIBRARY = ("crates/string_interner/src", "crates/handles/src", "crates/string_interner_c/src", "bench/ours", "bench/beside/src")
+LIBRARY = ("crates/string_interner/src", "crates/handles/src", "crates/string_interner_c/src", "bench/ours", "bench/beside/src", "bench/driver.py")
 SOURCES = {
     **dict.fromkeys(("times", "memory", "cycles"), LIBRARY),
     "columns": ("crates/string_interner/src", "crates/string_column/src", "crates/dictcol/src", "bench/columns.py"),
 }
 COMMENT = re.compile(r"^ *(?://|# ).*\n|(?<=\S) +//.*$", re.M)
-# A clause or a ghost item: its line, those that are indented more, and what closes it.
-CONTRACT = re.compile(r"^( *)(?:pub )?(?:ensures|requires|ghost)\b.*\n(?:\1 +.*\n|\1[)}].*\n|\n)*", re.M)
 
 # The phases, and what each is called where it is shown.
 PHASES = {
@@ -62,9 +64,16 @@ SET = ("IndexSet", "-", "-", "default")
 BY_C = [("ours through C", "string", "-", of) for of in ("UTF-8", "bytes")]
 
 
+def summary(name, times):
+    """The least and the median of some times, and how far the middle half of them spreads. Fewer than four have no quarters."""
+    times, last = sorted(times), len(times) - 1
+    spread = {f"{name} spread": times[last * 3 // 4] - times[last // 4]} if last >= 3 else {}
+    return {name: times[0], f"{name} median": times[last // 2], **spread}
+
+
 def code_of(text):
     """The lines of a source without comments, imports of words, contracts and proofs, of which no machine code is made."""
-    text = CONTRACT.sub("", COMMENT.sub("", text))
+    text = CLAUSE.sub("", GHOST_USE.sub("", COMMENT.sub("", text)))
     return "\n".join(line.strip() for line in text.splitlines() if line.strip())
 
 
@@ -110,7 +119,6 @@ class Results:
         return row.get(" ".join([IN_PLACE_OF.get(phase, phase), *unit]))
 
     def ratio(self, kind, other, name, count, measure):
-        """The value over another kind's, or none."""
         ours, theirs = self.value(kind, name, count, measure), self.value(other, name, count, measure)
         return ours / theirs if ours is not None and theirs else None
 

@@ -45,12 +45,8 @@ def name_of(kind):
     return library if backend == "-" else f"{library}, {backend}, {hasher}"
 
 
-def image(file, folder="pictures"):
-    return f"![{SHOWN[file]}]({folder}/{file}.svg)"
-
-
-def picture(file, below):
-    return f"{image(file)}\n\n{below}"
+def picture(file, below=None, folder="pictures"):
+    return "\n\n".join(filter(None, [f"![{SHOWN[file]}]({folder}/{file}.svg)", below]))
 
 
 def cycles(measure):
@@ -104,11 +100,16 @@ def choices(results):
     return picture("index-and-hasher", table(said, head, rows))
 
 
+def rows_of(results, kinds, count, measures):
+    """A row for each kind by its label: measures of so many identifiers, estimated cycles where they are phases."""
+    return [(label, [results.value(kind, "identifiers", count, cycles(it)) for it in measures]) for label, kind in kinds.items()]
+
+
 def memory(results):
     count = max(results.counts["identifiers"])
     kinds = {"`TaggedIndex`": FAST["string"], "`Index`": DEFAULT["string"], "the original": FNV["string"]}
     kinds |= {"`IndexSet`": SET, "`HashMap` and `Vec`": MAP}
-    row = [results.value(kind, "identifiers", count, "live") for kind in kinds.values()]
+    row = [value for _, [value] in rows_of(results, kinds, count, ["live"])]
     said = f"Bytes per text, {count:,} {INPUTS['identifiers']}; the first three have a string backend"
     return picture("memory", table(said, ["", *kinds], [("bytes", row)]))
 
@@ -136,11 +137,9 @@ def measured(results):
 def kinds(results):
     """The library's own kinds: estimated cycles of a call, and bytes of a text."""
     count = max(results.counted("identifiers"), default=results.middle_count())
-    ours = [kind for kind in results.kinds() if kind[0] == "ours"]
-    found = [(kind, [results.value(kind, "identifiers", count, cycles(measure)) for measure in MEASURES]) for kind in ours]
-    rows = [(" | ".join((backend, f"`{index}`", f"`{hasher}`")), row) for (_, backend, index, hasher), row in found]
+    ours = {f"{kind[1]} | `{kind[2]}` | `{kind[3]}`": kind for kind in results.kinds() if kind[0] == "ours"}
     said = f"Estimated cycles per call, and bytes per text, {count:,} identifiers"
-    return table(said, ["backend", "index", "hasher", *MEASURES], rows)
+    return table(said, ["backend", "index", "hasher", *MEASURES], rows_of(results, ours, count, MEASURES))
 
 
 def by_c(results):
@@ -191,11 +190,8 @@ def peers(results):
     kinds = {"`FastStringInterner`": FAST["string"], "`DefaultStringInterner`": DEFAULT["string"]}
     kinds |= {"the original": ORIGINAL["string"], "`IndexSet`": SET, "`HashMap` and `Vec`": MAP}
     measures = ("fill", "known", "unknown", "shuffled", "iterate", "live", "peak")
-    rows = [
-        (label, [results.value(kind, "identifiers", count, cycles(measure)) for measure in measures])
-        for label, kind in kinds.items()
-    ]
-    return table(f"Estimated cycles per call, and bytes per text, {count:,} identifiers", ["", *measures], rows)
+    said = f"Estimated cycles per call, and bytes per text, {count:,} identifiers"
+    return table(said, ["", *measures], rows_of(results, kinds, count, measures))
 
 
 def speed(results):
@@ -224,7 +220,7 @@ def blocks(results):
         "through C": by_c(results),
         "columns": columns(results),
         "chosen": chosen(results),
-        "picture": image("interning", "docs/pictures"),
+        "picture": picture("interning", folder="docs/pictures"),
         "speed": speed(results),
     }
 

@@ -23,10 +23,6 @@ class Columns(unittest.TestCase):
     def test_few_of_the_repeated_lines_are_distinct(self):
         self.assertEqual(len(set(columns.lines_of("repeated", 20_000))), 600)
 
-    def test_a_slow_run_spreads_nothing(self):
-        self.assertEqual(columns.spread_of([5, 1, 3, 2, 4]), 2)
-        self.assertEqual(columns.spread_of([5000, 1, 3, 2, 4]), 2)
-
     def test_each_command_reads_its_lines(self):
         runs = {}
 

@@ -1,37 +1,21 @@
 //! The library through its calls for C, which are linked in as a shared library, over joined strings.
 
 use crate::interner::Interner;
-use std::ffi::c_void;
+use crate::sys::*;
 
-#[repr(C)]
-struct Text {
-    bytes: *const u8,
-    len: usize,
-}
-
-// As in `string_interner.h`.
+// The calls that the Rust crate of `clients/` does not make.
 extern "C" {
-    fn si_new(out: *mut *mut c_void, kind: u32) -> u32;
-    fn si_free(handle: *mut c_void);
-    fn si_len(handle: *const c_void) -> usize;
-    fn si_get_or_intern(h: *mut c_void, text: *const u8, len: usize, number: *mut usize) -> u32;
-    fn si_get_or_intern_utf8(
-        h: *mut c_void,
+    fn si_get_or_intern(
+        h: *mut si_interner,
         text: *const u8,
         len: usize,
         number: *mut usize,
     ) -> u32;
-    fn si_get(h: *const c_void, text: *const u8, len: usize, number: *mut usize) -> u32;
-    fn si_get_utf8(h: *const c_void, text: *const u8, len: usize, number: *mut usize) -> u32;
-    fn si_resolve(h: *const c_void, number: usize, text: *mut Text) -> u32;
-    fn si_clone(h: *const c_void, copy: *mut *mut c_void) -> u32;
+    fn si_get(h: *const si_interner, text: *const u8, len: usize, number: *mut usize) -> u32;
 }
 
-const SI_OK: u32 = 0;
-const SI_STRING: u32 = 0;
-
 /// A handle, on which each text is handed over as UTF-8, or as bytes that the library looks at.
-pub struct ByC<const LOOKS: bool>(*mut c_void);
+pub struct ByC<const LOOKS: bool>(*mut si_interner);
 
 impl<const LOOKS: bool> Drop for ByC<LOOKS> {
     fn drop(&mut self) {
@@ -86,7 +70,7 @@ impl<const LOOKS: bool> Interner for ByC<LOOKS> {
 
     #[inline]
     fn resolve(&self, number: usize) -> Option<&str> {
-        let mut text = Text {
+        let mut text = si_text {
             bytes: std::ptr::null(),
             len: 0,
         };

@@ -2,8 +2,7 @@
 
 use crate::by_c::ByC;
 use crate::interner::{Interner, MapAndList, Set, UnderDefault, UnderFnv};
-use crate::phases::{Budget, Results};
-use crate::texts::Inputs;
+use crate::phases::{Budget, Inputs, Results};
 use crate::{ours, phases};
 use string_interner::backend::{BucketBackend, BufferBackend, StringBackend};
 
@@ -11,73 +10,46 @@ const BACKENDS: [&str; 3] = ["string", "bucket", "buffer"];
 const INDEXES: [&str; 2] = ["Index", "TaggedIndex"];
 const HASHERS: [&str; 3] = ["Fnv1a", "FoldState", "RandomState"];
 
-type Measure = Box<dyn Fn(&Inputs, Budget) -> Results>;
-
 /// A kind of interner.
 pub struct Kind {
     /// Library, backend, index and hasher, `-` where there is none to choose.
-    pub name: [&'static str; 4],
-    measure: Measure,
-    leave: Box<dyn Fn(&Inputs)>,
+    pub name: String,
+    /// Makes rounds, or where none is wanted fills an interner and leaves it on the heap.
+    pub measure: Box<dyn Fn(&Inputs, Budget) -> Results>,
 }
 
-impl Kind {
-    fn of_peer<I: Interner + 'static>(name: [&'static str; 4]) -> Self {
-        Kind {
-            name,
-            measure: Box::new(phases::measure::<I>),
-            leave: Box::new(phases::leave::<I>),
-        }
+fn of_peer<I: Interner + 'static>(name: &str) -> Kind {
+    Kind {
+        name: name.to_string(),
+        measure: Box::new(phases::measure::<I>),
     }
+}
 
-    fn of_ours(backend: usize, index: usize, hasher: usize) -> Self {
-        let number = (backend * 6 + index * 3 + hasher) as u32;
-        Kind {
-            name: ["ours", BACKENDS[backend], INDEXES[index], HASHERS[hasher]],
-            measure: Box::new(move |inputs, budget| ours::measure(number, inputs, budget)),
-            leave: Box::new(move |inputs| ours::leave(number, inputs)),
-        }
-    }
-
-    /// The name in one word.
-    pub fn word(&self) -> String {
-        self.name.join("/")
-    }
-
-    /// Whether two kinds give the same numbers to the same texts: those over buffers count bytes, all others texts.
-    pub fn numbers_as(&self, other: &Kind) -> bool {
-        (self.name[1] == "buffer") == (other.name[1] == "buffer")
-    }
-
-    pub fn measure(&self, inputs: &Inputs, budget: Budget) -> Results {
-        (self.measure)(inputs, budget)
-    }
-
-    pub fn leave(&self, inputs: &Inputs) {
-        (self.leave)(inputs)
+/// The library's kind of this number, which counts through the backends, in each the indexes, and in each the hashers.
+fn of_ours(number: usize) -> Kind {
+    let hasher = HASHERS[number % HASHERS.len()];
+    let index = INDEXES[number / HASHERS.len() % 2];
+    let backend = BACKENDS[number / HASHERS.len() / 2];
+    Kind {
+        name: format!("ours/{backend}/{index}/{hasher}"),
+        measure: Box::new(move |inputs, budget| ours::measure(number as u32, inputs, budget)),
     }
 }
 
 /// All kinds, the peers first.
 pub fn all() -> Vec<Kind> {
-    let mut kinds = vec![
-        Kind::of_peer::<UnderFnv<StringBackend>>(["original", "string", "-", "FNV"]),
-        Kind::of_peer::<UnderFnv<BucketBackend>>(["original", "bucket", "-", "FNV"]),
-        Kind::of_peer::<UnderFnv<BufferBackend>>(["original", "buffer", "-", "FNV"]),
-        Kind::of_peer::<UnderDefault<StringBackend>>(["original", "string", "-", "default"]),
-        Kind::of_peer::<UnderDefault<BucketBackend>>(["original", "bucket", "-", "default"]),
-        Kind::of_peer::<UnderDefault<BufferBackend>>(["original", "buffer", "-", "default"]),
-        Kind::of_peer::<MapAndList>(["HashMap and Vec", "-", "-", "default"]),
-        Kind::of_peer::<Set>(["IndexSet", "-", "-", "default"]),
-        Kind::of_peer::<ByC<false>>(["ours through C", "string", "-", "UTF-8"]),
-        Kind::of_peer::<ByC<true>>(["ours through C", "string", "-", "bytes"]),
+    let peers = [
+        of_peer::<UnderFnv<StringBackend>>("original/string/-/FNV"),
+        of_peer::<UnderFnv<BucketBackend>>("original/bucket/-/FNV"),
+        of_peer::<UnderFnv<BufferBackend>>("original/buffer/-/FNV"),
+        of_peer::<UnderDefault<StringBackend>>("original/string/-/default"),
+        of_peer::<UnderDefault<BucketBackend>>("original/bucket/-/default"),
+        of_peer::<UnderDefault<BufferBackend>>("original/buffer/-/default"),
+        of_peer::<MapAndList>("HashMap and Vec/-/-/default"),
+        of_peer::<Set>("IndexSet/-/-/default"),
+        of_peer::<ByC<false>>("ours through C/string/-/UTF-8"),
+        of_peer::<ByC<true>>("ours through C/string/-/bytes"),
     ];
-    for backend in 0..BACKENDS.len() {
-        for index in 0..INDEXES.len() {
-            for hasher in 0..HASHERS.len() {
-                kinds.push(Kind::of_ours(backend, index, hasher));
-            }
-        }
-    }
-    kinds
+    let ours = (0..6 * HASHERS.len()).map(of_ours);
+    peers.into_iter().chain(ours).collect()
 }

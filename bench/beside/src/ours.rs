@@ -1,7 +1,6 @@
 //! The library's half, which is linked in.
 
-use crate::phases::{Budget, Results, Row, MOST_ROUNDS, NO_TIMES};
-use crate::texts::{Inputs, Packed};
+use crate::phases::{texts, Budget, Inputs, Results, Row, MOST_ROUNDS, NO_TIMES};
 
 extern "C" {
     fn ours_run(
@@ -27,18 +26,27 @@ extern "C" {
     ) -> u32;
 }
 
-/// Runs, and writes the times to as many rounds as there is room for.
-fn run(kind: u32, inputs: &Inputs, budget: Budget, mut rounds: Vec<Row>) -> Results {
-    let Inputs {
-        new,
-        known,
-        unknown,
-    } = inputs;
-    let bytes = |texts: &Packed| (texts.bytes.as_ptr(), texts.bytes.len());
-    let ends = |texts: &Packed| (texts.ends.as_ptr(), texts.ends.len());
+/// Texts end to end, and where each ends. They stay until the process ends, so that nothing which is counted is given back.
+fn packed(lines: &str) -> (&'static str, &'static [usize]) {
+    let bytes: String = texts(lines).collect();
+    let lengths = texts(lines).map(str::len);
+    let ends = lengths.scan(0, |end, length| {
+        *end += length;
+        Some(*end)
+    });
+    (bytes.leak(), ends.collect::<Vec<usize>>().leak())
+}
+
+/// Makes rounds on one kind of interner, or leaves one that is filled.
+pub fn measure(kind: u32, inputs: &Inputs, budget: Budget) -> Results {
+    let (new, known) = (packed(inputs.new), packed(inputs.known));
+    let unknown = packed(inputs.unknown);
     let mut sums = Row::default();
-    let (new_bytes, known_bytes, unknown_bytes) = (bytes(new), bytes(known), bytes(unknown));
-    let (new_ends, known_ends, unknown_ends) = (ends(new), ends(known), ends(unknown));
+    let mut rounds = match budget.rounds {
+        0 => Vec::new(),
+        _ => vec![NO_TIMES; MOST_ROUNDS as usize],
+    };
+    crate::reset_counter();
     // SAFETY: each pointer and count is of a slice that is there for the time of the call, and the last two of slices
     // that nothing else names.
     let status = unsafe {
@@ -46,18 +54,18 @@ fn run(kind: u32, inputs: &Inputs, budget: Budget, mut rounds: Vec<Row>) -> Resu
             kind,
             budget.rounds,
             budget.nanoseconds,
-            new_bytes.0,
-            new_bytes.1,
-            new_ends.0,
-            new_ends.1,
-            known_bytes.0,
-            known_bytes.1,
-            known_ends.0,
-            known_ends.1,
-            unknown_bytes.0,
-            unknown_bytes.1,
-            unknown_ends.0,
-            unknown_ends.1,
+            new.0.as_ptr(),
+            new.0.len(),
+            new.1.as_ptr(),
+            new.1.len(),
+            known.0.as_ptr(),
+            known.0.len(),
+            known.1.as_ptr(),
+            known.1.len(),
+            unknown.0.as_ptr(),
+            unknown.0.len(),
+            unknown.1.as_ptr(),
+            unknown.1.len(),
             rounds.as_mut_ptr().cast(),
             rounds.len() * sums.len(),
             sums.as_mut_ptr(),
@@ -67,30 +75,4 @@ fn run(kind: u32, inputs: &Inputs, budget: Budget, mut rounds: Vec<Row>) -> Resu
     assert_eq!(status, 0, "the library's half says {status} of kind {kind}");
     rounds.retain(|round| *round != NO_TIMES);
     Results { rounds, sums }
-}
-
-/// Measures all phases on one kind of interner.
-pub fn measure(kind: u32, inputs: &Inputs, budget: Budget) -> Results {
-    run(
-        kind,
-        inputs,
-        Budget {
-            rounds: budget.rounds.max(1),
-            ..budget
-        },
-        vec![NO_TIMES; MOST_ROUNDS as usize],
-    )
-}
-
-/// Fills an interner, and leaves it on the heap, where its memory is counted.
-pub fn leave(kind: u32, inputs: &Inputs) {
-    run(
-        kind,
-        inputs,
-        Budget {
-            rounds: 0,
-            nanoseconds: 0,
-        },
-        Vec::new(),
-    );
 }
