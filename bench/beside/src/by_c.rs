@@ -95,9 +95,7 @@ impl<const LOOKS: bool> Interner for ByC<LOOKS> {
     }
 
     #[inline]
-    fn walk(&self) -> usize {
-        (0..self.len())
-            .filter_map(|number| Some(number + self.resolve(number)?.len()))
-            .sum()
+    fn entries(&self) -> impl Iterator<Item = (usize, &str)> {
+        (0..self.len()).filter_map(|number| Some((number, self.resolve(number)?)))
     }
 }

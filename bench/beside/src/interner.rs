@@ -16,8 +16,8 @@ pub trait Interner: Clone {
     fn number(symbol: Self::Symbol) -> usize;
     fn len(&self) -> usize;
 
-    /// The sum of the numbers and the lengths of all entries.
-    fn walk(&self) -> usize;
+    /// All entries by their numbers.
+    fn entries(&self) -> impl Iterator<Item = (usize, &str)>;
 }
 
 /// 64-bit FNV-1a over the bytes of a text alone, as the library's `Fnv1a`. The byte that ends a `str` is left out.
@@ -94,10 +94,8 @@ where
     }
 
     #[inline]
-    fn walk(&self) -> usize {
-        self.iter()
-            .map(|(symbol, text)| symbol.to_usize() + text.len())
-            .sum()
+    fn entries(&self) -> impl Iterator<Item = (usize, &str)> {
+        self.iter().map(|(symbol, text)| (symbol.to_usize(), text))
     }
 }
 
@@ -146,12 +144,8 @@ impl Interner for MapAndList {
     }
 
     #[inline]
-    fn walk(&self) -> usize {
-        self.texts
-            .iter()
-            .enumerate()
-            .map(|(number, text)| number + text.len())
-            .sum()
+    fn entries(&self) -> impl Iterator<Item = (usize, &str)> {
+        self.texts.iter().map(|text| &**text).enumerate()
     }
 }
 
@@ -194,11 +188,7 @@ impl Interner for Set {
     }
 
     #[inline]
-    fn walk(&self) -> usize {
-        self.0
-            .iter()
-            .enumerate()
-            .map(|(number, text)| number + text.len())
-            .sum()
+    fn entries(&self) -> impl Iterator<Item = (usize, &str)> {
+        self.0.iter().map(String::as_str).enumerate()
     }
 }

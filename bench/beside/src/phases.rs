@@ -87,6 +87,12 @@ fn resolve<I: Interner>(interner: &I, symbols: &[I::Symbol]) -> usize {
     symbols.iter().map(length).sum()
 }
 
+#[inline(never)]
+fn walk<I: Interner>(interner: &I) -> usize {
+    let sums = interner.entries().map(|(number, text)| number + text.len());
+    sums.sum()
+}
+
 fn round<I: Interner>(results: &mut Results, new: &[&str], known: &[&str], unknown: &[&str]) {
     let mut symbols = Vec::with_capacity(new.len());
     let mut mixed = Vec::with_capacity(known.len());
@@ -99,7 +105,7 @@ fn round<I: Interner>(results: &mut Results, new: &[&str], known: &[&str], unkno
     results.time(2, || find(&interner, unknown), |&count| count);
     results.time(3, || resolve(&interner, &symbols), |&sum| sum);
     results.time(4, || resolve(&interner, &mixed), |&sum| sum);
-    results.time(5, || interner.walk(), |&sum| sum);
+    results.time(5, || walk(&interner), |&sum| sum);
     results.time(6, || interner.clone(), I::len);
 }
 
