@@ -23,7 +23,7 @@ use phases::{Budget, Inputs, Results};
 type Fault = Box<dyn std::error::Error>;
 
 /// Has the counter of memory count from here on, where it is loaded.
-pub fn reset_counter() {
+fn reset_counter() {
     // SAFETY: the name ends with a zero, and in `failures.c` the function of this name has this type.
     unsafe {
         let reset = libc::dlsym(libc::RTLD_DEFAULT, c"reset_bytes".as_ptr());

@@ -54,7 +54,7 @@ impl Results {
     }
 }
 
-pub fn texts(lines: &str) -> impl Iterator<Item = &str> {
+fn texts(lines: &str) -> impl Iterator<Item = &str> {
     lines.split('\n').filter(|text| !text.is_empty())
 }
 
