@@ -18,7 +18,8 @@ TEXTS = ("identifiers", "words", "long")
 # The sources of what each part measures, and of what it is measured by.
 LIBRARY = ("crates/string_interner/src", "crates/handles/src", "crates/string_interner_c/src", "bench/ours", "bench/beside/src", "bench/driver.py")
 SOURCES = {
-    **dict.fromkeys(("times", "memory", "cycles"), LIBRARY),
+    **dict.fromkeys(("times", "memory"), LIBRARY),
+    "cycles": (*LIBRARY, "clients/rust/src", "bench/rust"),
     "columns": ("crates/string_interner/src", "crates/string_column/src", "crates/dictcol/src", "bench/columns.py"),
 }
 COMMENT = re.compile(r"^ *(?://|# ).*\n|(?<=\S) +//.*$", re.M)
@@ -61,6 +62,8 @@ TAGGED = ("ours", "string", "TaggedIndex", "Fnv1a")
 KEYED = ("ours", "string", "TaggedIndex", "RandomState")
 MAP = ("HashMap and Vec", "-", "-", "default")
 SET = ("IndexSet", "-", "-", "default")
+# In one program: the Rust crate under its default hasher and without keys, and the original under its own default.
+RUST = {kind: ("rust", kind, "-", "-") for kind in ("original", "default", "fixed")}
 BY_C = [("ours through C", "string", "-", of) for of in ("UTF-8", "bytes")]
 
 

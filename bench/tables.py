@@ -10,8 +10,9 @@ import sys
 
 from results import BACKENDS, BY_C, DEFAULT, DOCS, FAST, FNV, HERE, INPUTS, KEYED, LINES, MAP, ORIGINAL, PHASES, SET
 from results import PARTS, PICTURES, TEXTS, TAGGED, Results, sum_of
+from rust_crate import PHASES as RUST_PHASES, table_rows
 
-DOCUMENTS = (DOCS.parent / "README.md", DOCS / "PERFORMANCE.md")
+DOCUMENTS = (DOCS.parent / "README.md", DOCS / "PERFORMANCE.md", DOCS.parent / "clients/rust/README.md")
 MEASURES = (*PHASES, "live", "peak")
 CALLS = ("fill", "known", "unknown")
 # What each picture shows, for whoever cannot see it.
@@ -154,6 +155,13 @@ def by_c(results):
     return "\n\n".join(shown) or "Not measured."
 
 
+def rust(results):
+    """The Rust crate beside the original."""
+    said = "Estimated cycles divided by those of the original with its own default hasher, identifiers; lower is better"
+    rows = list(table_rows(results))
+    return table(said, ["", "texts", *RUST_PHASES], rows) if rows else "Not measured."
+
+
 def columns(results):
     measures = {"cycles": "run cycles", "ns": "run", "median": "run median", "spread": "run spread", "bytes": "memory"}
     rows = {}
@@ -218,6 +226,7 @@ def blocks(results):
         "peers": peers(results),
         "kinds": kinds(results),
         "through C": by_c(results),
+        "rust": rust(results),
         "columns": columns(results),
         "chosen": chosen(results),
         "picture": picture("interning", folder="docs/pictures"),

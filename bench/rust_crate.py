@@ -1,0 +1,48 @@
+"""The Rust crate beside the original, in one program (bench/rust), which links the library as the crate does."""
+import concurrent.futures
+import os
+import shutil
+
+from cycles import count, cycles_in
+from results import HERE, RUST, TOP
+
+OUT = HERE / "out"
+FOLDER = OUT / "rust"
+PHASES = ("fill", "known", "unknown", "resolve", "shuffled", "iterate", "extend", "clone", "tokenizer")
+
+
+def build(done, words):
+    """Builds the program by these words for cargo."""
+    FOLDER.mkdir(exist_ok=True)
+    (FOLDER / "Cargo.toml").write_text(
+        f'[package]\nname = "rust"\nversion = "0.0.0"\nedition = "2021"\npublish = false\n\n[[bin]]\nname = "rust"\n'
+        f'path = "{HERE}/rust/main.rs"\n\n[dependencies]\noriginal = {{ package = "string-interner", path = "{OUT}/original" }}\n'
+        f'ours = {{ package = "string-interner", path = "{TOP}/clients/rust" }}\n\n'
+        '[profile.release]\nlto = "fat"\ncodegen-units = 1\n\n[workspace]\n'
+    )
+    environment = {**os.environ, "STRING_INTERNER_LIB": str(TOP / "clients/out"), "RUSTFLAGS": "-C target-cpu=x86-64-v2"}
+    (FOLDER / "Cargo.lock").unlink(missing_ok=True)
+    done(words, "building the Rust crate", FOLDER, env=environment)
+
+
+def count_rounds(is_quick):
+    """Lines of the estimated cycles and instructions of each kind."""
+    cases = [(kind, texts) for texts in (10_000, 100_000)[: 1 if is_quick else 2] for kind in RUST]
+    program = FOLDER / "target/release/rust"
+    # A part ends before each reading of the clock, so those of the phases are the second, the fourth, and so on.
+    run = lambda case: count([program, *map(str, case)], "--dump-before=clock_gettime*")[1::2]
+    with concurrent.futures.ThreadPoolExecutor(os.cpu_count()) as pool:
+        for (kind, texts), parts in zip(cases, pool.map(run, cases)) if shutil.which("valgrind") else ():
+            for phase, totals in zip(PHASES, parts):
+                for what, total in (("cycles", cycles_in(totals)), ("instructions", totals["Ir"])):
+                    yield "\t".join((*RUST[kind], "identifiers", str(texts), "", f"{phase} {what}", f"{total / texts:.1f}"))
+
+
+def table_rows(results):
+    """The crate's estimated cycles over the original's, by default and without keys, a row for each count of texts."""
+    for kind in ("default", "fixed"):
+        for texts in results.counts["identifiers"]:
+            pair = (RUST[kind], RUST["original"], "identifiers", texts)
+            row = [results.ratio(*pair, f"{phase} cycles") for phase in PHASES]
+            if any(row):
+                yield f"`rust, {kind}` | {texts:,}", row
