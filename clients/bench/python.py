@@ -274,7 +274,7 @@ def draw_ratios(axes, title, ways, most):
     axes.set_xlim(left=0)
     axes.grid(axis="x", color="0.9", linewidth=0.5)
     axes.set_title(title, fontsize=8, loc="left")
-    axes.legend(fontsize=7, loc="upper center", bbox_to_anchor=(0.5, -0.1), ncols=4, frameon=False)
+    axes.legend(fontsize=7, loc="upper right", bbox_to_anchor=(1, -0.1), ncols=4, frameon=False, columnspacing=1, handletextpad=0.1)
 
 
 def draw(commit):
