@@ -16,10 +16,11 @@ ITEM = re.compile(r"^pub (?:(?:unsafe|final) )*(?P<kind>const|enum|fn|struct|tra
 BLOCK_START = re.compile(rf"{ITEM.pattern}|^impl\b", re.M)
 DOC = re.compile(r"(?:^ *(?:///|#\[).*\n)*\Z", re.M)
 IMPORT = re.compile(r"^ *ghost use Rattle\.(\w+)\.specs\.(\w+)\b[^;]*;\n+", re.M)
-# Ghost members whose values are proofs, or which callers do not see.
-ONLY_FOR_PROOFS = re.compile(r"^    ghost (?:\w*laws?|invariant|inverse)\b.*\n(?:     .*\n|    [)}].*\n|\n)*", re.M)
+# Ghost members whose values are proofs, or which callers do not see, and what only the compiler and the prover read.
+HINT = r"^ *#\[(?:inline|tactic)\b.*\n"
+LEFT_OUT = re.compile(rf"{HINT}|^    ghost (?:\w*laws? =|invariant\b|inverse\b).*\n(?:     .*\n|    [)}}].*\n|\n)*", re.M)
 PRIVATE_FIELD = re.compile(r"(?:^    (?:///|#\[).*\n)*^    (?!pub |///|#\[)\w+:.*\n", re.M)
-COMMENT = re.compile(r"^ *//(?!/).*\n", re.M)
+HEAD = re.compile(r"^//!.*\n", re.M)
 ABOUT = """\
 The public items of the crate `{crate}` by the files of its sources, with their docs and contracts, as they are there. Below a
 file's name are links to the definitions of the words of its contracts. [Contracts](../docs/CONTRACTS.md) explains how to read one.
@@ -63,16 +64,22 @@ def without_bodies(text, is_trait):
 
 def interface(text, kind, is_trait):
     """What callers read of an item or an `impl` block."""
-    text = COMMENT.sub("", ONLY_FOR_PROOFS.sub("", GHOST_USE.sub("", f"{text}\n")))
+    text = LEFT_OUT.sub("", GHOST_USE.sub("", f"{text}\n"))
+    if kind == "impl" and (own := functions(text)):
+        # Behind the last method stand the proofs of the trait's laws.
+        text = f"{text[: own[-1].end]}\n}}"
     if kind == "struct":
-        shown = PRIVATE_FIELD.sub("", text)
-        text = shown if shown == text else shown.replace("\n}", "\n    // private fields\n}")
+        # Parameters stand above the brace, as far from the margin as fields.
+        head, brace, fields = text.rpartition(" {\n")
+        shown = PRIVATE_FIELD.sub("", fields)
+        text = head + brace + (shown if shown == fields else f"{shown.rstrip().removesuffix('}')}    // private fields\n}}")
     text = re.sub(r"\n{3,}", "\n\n", without_bodies(text, is_trait)).strip("\n")
     return re.sub(r"\n+(?=\n\}\Z)", "", text)
 
 
 def blocks_of(text):
-    """The items and `impl` blocks of a source: the kind and the name of what each is of, and what callers read of it."""
+    """The items and `impl` blocks of a source: the kind and the name of what each is of, and what callers read of it. A block for
+    a type of the language, like `usize`, is of its trait."""
     for start in BLOCK_START.finditer(text):
         head = HEAD_END.search(text, start.end())
         end = re.compile(r"^\}$", re.M).search(text, head.end()) if head[0] == "{" else head
@@ -81,7 +88,9 @@ def blocks_of(text):
             yield kind, start["name"], interface(block, kind, kind == "trait")
         else:
             of, trait = owner_of(BLOCK.match(text, start.start())[0] if head[0] == "{" else text[start.start() : head.start()])
-            yield "impl", of, interface(block, "impl", bool(trait))
+            code = interface(block, "impl", bool(trait))
+            if trait or not code.endswith("{\n}"):
+                yield "impl", trait if of.islower() else of, code
 
 
 def section(kind, name, code):
@@ -98,12 +107,13 @@ def page_of(crate):
     page = [f"# API of {crate}\n\n", ABOUT.format(crate=crate)]
     for file, text in texts.items():
         sections = [section(*block) for block in blocks_of(text) if block[1] in public]
-        if not sections:
+        if not sections and file.name != "lib.rt":
             continue
         specs = sorted({f"crates/{of}/specs/{name}.antt" for of, name in IMPORT.findall(text)})
         links = ", ".join(f"[`{it.rpartition('/')[2]}`](../{it})" for it in specs if (TOP / it).exists())
         page.append(f"## `{file.relative_to(TOP / 'crates' / crate / 'src')}`\n\n")
-        page += [f"Definitions: {links}\n\n" if links else "", *sections]
+        head = "".join(HEAD.findall(text))
+        page += [f"Definitions: {links}\n\n" if links else "", f"```rattle\n{head}```\n\n" if head else "", *sections]
     return "".join(page)
 
 

@@ -57,7 +57,6 @@ def contract_of(call):
 
 
 def written_anew(page):
-
     def quoted(quote):
         contract = contract_of(quote["call"])
         return quote[0] if contract is None else f"<!-- contract: {quote['call']} -->\n```rattle\n{contract}```"

@@ -5,7 +5,7 @@ The site has each page of Markdown of the repository, what callers of the crates
 file or folder to which a page links: the text of the file, or the list of the files. Pages are taken as they are, and keep
 their paths; README.html is the first. Needs sphinx with myst-parser and furo, whose settings are in docs/site/conf.py.
 
-It fails on a warning of sphinx, which reports each link of a page that leads nowhere.
+It fails on a warning of sphinx, which reports each link in Markdown that leads nowhere.
 """
 
 import argparse

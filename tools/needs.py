@@ -1,7 +1,7 @@
 #!/usr/bin/env python3
 """What a machine has of the commands, Python modules and crates that .ci/packages lists with their packages.
 
-    tools/needs.py                     prints the packages of all that is missing
+    tools/needs.py                     prints the packages of all that is missing, but for bench/run
     tools/needs.py NEED..              names each of these that is missing, with its packages, and then fails. A NEED is what is
                                        before the colon of a line: a command, `python MODULE ..`, or `crates NAME ..`
     tools/needs.py --python MODULE..   prints the first Python that has these modules, this shell's or Debian's, or fails
@@ -52,7 +52,8 @@ def missing(needs):
 def main(*words):
     match words:
         case ():
-            print(*(name for need, names in packages().items() if need not in ONLY_TO_MEASURE and not is_there(need) for name in names))
+            lacking = (names for need, names in packages().items() if need not in ONLY_TO_MEASURE and not is_there(need))
+            print(*(name for names in lacking for name in names))
             return 0
         case ("--python", *modules):
             found = python_with(*modules)

@@ -7,7 +7,8 @@ FUNCTION = re.compile(r'^(?P<indent> *)(?:pub(?:\(\w+\))? |final |unsafe |extern
 # What ends the head of a function: its body, an empty body, or the semicolon of a declaration.
 HEAD_END = re.compile(r";$|\{\}$|\{$", re.M)
 # A clause or a ghost member: its line, those that are indented more, and what closes it.
-CLAUSE = re.compile(r"^(?P<margin> *)(?:pub )?(?:ensures|requires|ghost (?!use\b)\w+)\b.*\n(?:(?P=margin) +.*\n|(?P=margin)[)}].*\n|\n)*", re.M)
+CLAUSE = re.compile(r"^(?P<margin> *)(?:pub )?(?:ensures|requires|ghost (?!use\b)\w+)\b.*\n"
+                    r"(?:(?P=margin) +.*\n|(?P=margin)[)}].*\n|\n)*", re.M)
 GHOST_USE = re.compile(r"^ *(?:pub )?ghost use [^;]*;\n+", re.M)
 BLOCK = re.compile(r"^(?:pub )?(?P<kind>impl|trait)\b.*?\{$", re.M | re.S)
 

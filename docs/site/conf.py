@@ -42,7 +42,10 @@ def put_in_imports(app, failure):
     for name, (pattern, folder) in IMPORTS.items() if not failure else ():
         file = Path(app.outdir, "_static", name)
         text = file.read_text(encoding="utf-8")
-        file.write_text(re.sub(pattern, lambda it, at=folder: (at / it[1]).read_text(encoding="utf-8"), text), encoding="utf-8")
+        text = re.sub(pattern, lambda it, at=folder: (at / it[1]).read_text(encoding="utf-8"), text)
+        if re.search(r"@import\b|^import\b", text, re.M):
+            raise ValueError(f"{name} of the theme has an import that is not put in")
+        file.write_text(text, encoding="utf-8")
 
 
 class RattleLexer(RegexLexer):

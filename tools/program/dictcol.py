@@ -200,6 +200,9 @@ def try_merges(program):
         for words in ([b"merge", *names], [b"merge", b"--backend", b"bucket", *names], [*b"-- merge".split(), *names],
                       [b"merge", *names[:3], b"--backend=buffer", *names[3:]]):
             yield f"{words}", program.run(words, b"\xff", folder=folder), wanted
+        for taken in range(1, len(names)):
+            words = [b"merge", *names[:taken]]
+            yield f"{words}", program.run(words, folder=folder), answer([b"encode"], b"".join(parts[:taken]))
         for place in range(len(names)):
             words = [b"merge", *names[:place], b"-", *names[place + 1:]]
             yield f"{words}", program.run(words, files[place], folder=folder), wanted

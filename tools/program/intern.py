@@ -115,7 +115,7 @@ TABLES = {"bad_lines": try_bad_line, "unknown_words": try_unknown_word, "bytes_t
 
 TEXTS = [b"", b"a", b"b", b" ", b"a ", b"\r", b"\0", b"len", "é".encode(), "\U0001f418".encode(), b"Tiger", b"Horse"]
 PIECES = [b"i ", b"g ", b"r ", b"n ", b"i a", b"g a", b"len", b"shrink", b"\n", b"\n", b"\n", b"a", b"0", b"1", b" ", b"\r",
-          b"+", "é".encode(), b"\xff"]
+          b"+", "é".encode()]
 
 
 def random_command(source, line):
@@ -127,12 +127,13 @@ def random_command(source, line):
 
 
 def try_random(program, seed, word):
-    """Commands, short inputs of pieces of lines, and bytes of any value; and the commands again with the memory of one of their
-    lines refused."""
+    """Commands, short inputs of pieces of lines and a byte of any value, and bytes of any value or of ASCII; and the commands again
+    with the memory of one of their lines refused."""
     source = random.Random(seed)
     lines = [random_command(source, line) for line in range(2000)]
-    pieces = [b"".join(source.choices(PIECES, k=source.randrange(9))) for _ in range(50)]
-    for data in (b"\n".join(lines), *pieces, source.randbytes(source.randrange(5000))):
+    pieces = [b"".join(source.choices([*PIECES, bytes([source.randrange(256)])], k=source.randrange(9))) for _ in range(50)]
+    hostile = bytes(source.choices(range(source.choice([128, 256])), k=source.randrange(5000)))
+    for data in (b"\n".join(lines), *pieces, hostile):
         yield f"random input {seed} over {word}, {data[:60]!r}", program.run([word], data), answer([word], data)
     data = b"\n".join(lines)
     asks = program.run_with_asks([word], data)[1]
