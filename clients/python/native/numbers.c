@@ -133,7 +133,7 @@ bool read_bytes(PyObject *given, Bytes *bytes) {
   else if (!PyBuffer_ToContiguous(bytes->copy, &view, view.len, 'C')) bytes->at = bytes->copy, bytes->length = view.len;
   PyBuffer_Release(&view);
   if (bytes->at) return true;
-  PyMem_Free(bytes->copy);
+  drop_bytes(bytes);
   return false;
 }
 
