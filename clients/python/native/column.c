@@ -97,14 +97,16 @@ static PyObject *column_counts(Column *self, PyObject *unused) {
   (void)unused;
   Py_buffer view;
   if (!is_made(self)) return NULL;
+  /* The codes first, because an audit hook may add rows while the array is made. */
+  Block *block = share_block(self->block);
+  Py_ssize_t n = self->n;
   PyObject *array = new_array(self->state, "Q", si_len(self->dictionary->h), &view);
-  if (!array) return NULL;
-  uint64_t *counts = view.buf;
-  for (Py_ssize_t row = 0; row < self->n; row++) {
-    int64_t code = code_at(self->block, row);
-    if (code >= 0) counts[code]++;
+  for (Py_ssize_t row = 0; array && row < n; row++) {
+    int64_t code = code_at(block, row);
+    if (code >= 0) ((uint64_t *)view.buf)[code]++;
   }
-  PyBuffer_Release(&view);
+  if (array) PyBuffer_Release(&view);
+  drop_block(block);
   return array;
 }
 

@@ -382,6 +382,33 @@ class CallsBetweenSteps(unittest.TestCase):
                 self.assertIn(list(interner), states)
         self.assertGreater(turn, 300)
 
+    def test_buffers_belong_together(self):
+        column, kept = Column(), []
+        with collecting(lambda: column.__init__(["x"])):
+            for _ in range(200):
+                kept.append([])
+                column.__init__(["a", "b"])
+                joined, _, codes = column.to_buffers()
+                self.assertIn((joined, codes.tolist()), ((b"ab", [0, 1]), (b"x", [0])))
+
+    def test_an_audit_hook_adds_rows(self):
+        self.assertEqual(run_apart("""
+            import sys
+            from string_interner import Column, Interner
+            column, interner, calls = Column(["a"]), Interner(["a"]), []
+            def hook(event, _):
+                if event == "array.__new__" and calls:
+                    calls.pop()()
+            sys.addaudithook(hook)
+            calls.append(lambda: column.extend(map(str, range(100_000))))
+            print(len(column.counts()), len(column.counts()))
+            calls.append(interner.close)
+            try:
+                interner.intern_all(["a"])
+            except ValueError as error:
+                print(error)
+            """), (0, "1 100001\nthe interner is closed", ""))
+
     def test_what_is_copied_may_grow_meanwhile(self):
         joined, ends, interner, failed = bytearray(b"ab" * 1000), array("Q", range(2, 2001, 2)), Interner(), []
 
