@@ -220,9 +220,9 @@ static Block *take_codes(const Column *self, const Numbers *rows) {
     if (row < 0 && !rows->is_unsigned) row += self->n;
     if (row >= 0 && row < self->n) set_code(block, at, code_at(self->block, row));
     else {
-      PyObject *exact = exact_number(rows, at);
-      if (exact) PyErr_Format(PyExc_IndexError, "there is no row %S", exact);
-      Py_XDECREF(exact);
+      PyObject *name = name_number(rows, at);
+      if (name) PyErr_Format(PyExc_IndexError, "there is no row %U", name);
+      Py_XDECREF(name);
       drop_block(block);
       return NULL;
     }

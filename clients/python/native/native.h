@@ -141,6 +141,9 @@ bool read_numbers(PyObject *given, Numbers *numbers);
 void drop_numbers(Numbers *numbers);
 PyObject *exact_number(const Numbers *numbers, Py_ssize_t row);
 
+/** The digits of a number, for a message. */
+PyObject *name_number(const Numbers *numbers, Py_ssize_t row);
+
 /** The values, or for a masked array of numpy an array of objects with a filler in each masked place. */
 PyObject *without_mask(PyObject *values, PyObject *filler);
 

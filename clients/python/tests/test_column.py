@@ -356,16 +356,19 @@ class Refusals(unittest.TestCase):
                 from _testcapi import remove_mem_hooks, set_nomemory
             except ImportError:
                 set_nomemory, remove_mem_hooks = lambda *_: None, lambda: None
+            import pickle
             from string_interner import Column
-            parts, every_second = type(Column()._parts), memoryview(bytearray(4000))[::2]
-            for request in range(30):
-                set_nomemory(request, request + 1)
-                try:
-                    parts("string", "keyed", every_second, b"", None, 4)
-                except MemoryError:
-                    pass
-                finally:
-                    remove_mem_hooks()
+            parts, every_second, column = type(Column()._parts), memoryview(bytearray(4000))[::2], Column(["a"])
+            pickle.dumps(column, 5)
+            for call in (lambda: parts("string", "keyed", every_second, b"", None, 4), lambda: column._parts.__reduce_ex__(5)):
+                for request in range(40):
+                    set_nomemory(request, request + 1)
+                    try:
+                        call()
+                    except MemoryError:
+                        pass
+                    finally:
+                        remove_mem_hooks()
             """), (0, "", ""))
 
 
@@ -735,6 +738,11 @@ class Buffers(unittest.TestCase):
         for great in (2**64 - 1, 2**64 - 2):
             with self.assertRaisesRegex(IndexError, f"^there is no row {great}$"):
                 column.take(array("Q", [great]))
+        # One with more digits than Python writes.
+        with self.assertRaisesRegex(IndexError, f"^there is no row 0x1{'0' * 5000}$"):
+            column.take([16**5000])
+        with self.assertRaisesRegex(ValueError, "^row 0 has code -0x10.*0, and the dictionary has 1 texts$"):
+            Column.from_parts(["a"], [-(16**5000)])
         for wrong in WRONG_NUMBERS:
             with self.assertRaises(TypeError):
                 column.take([wrong])
