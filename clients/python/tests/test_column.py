@@ -522,6 +522,20 @@ class Calls(unittest.TestCase):
         self.assertEqual((list(column), column.dictionary[column.code("new")]), (["x", "new"], "new"))
         self.assertEqual(len(column.dictionary), column.distinct)
 
+    def test_an_iterator_that_uses_its_texts_before_it_fails(self):
+        last = str(2 * _native._VALUES_AT_ONCE - 1)
+        for act in (lambda: column.append(last), lambda: column.extend([last]), lambda: column.extend(iter([last])),
+                    lambda: column.merge(Column([last]))):
+            def values():
+                yield from map(str, range(int(last) + 1))
+                act()
+                raise ZeroDivisionError
+
+            column = Column(["x"])
+            with self.assertRaises(ZeroDivisionError):
+                column.extend(values())
+            self.assertEqual((list(column), column.index(last)), (["x", last], 1))
+
     def test_an_iterator_that_begins_again(self):
         class Again:
             left = 3

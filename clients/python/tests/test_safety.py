@@ -673,6 +673,20 @@ class Batches(unittest.TestCase):
                     elif name == "walks and raises":
                         self.assertEqual(list(kept.pop()), list(interner))
 
+    def test_a_handler_within_other_calls(self):
+        texts, found = [f"text {number}" for number in range(400_000)], []
+        lines, numbers = "\n".join(texts).encode(), array("I", [0]) * 3_000_000 + array("I", [1])
+        for encode in (lambda it: it.intern_all(texts), lambda it: it.intern_lines(lines)):
+            self.run_with_handler(lambda: found.append(gc.isenabled()), lambda: encode(Interner()))
+        self.assertEqual((found, gc.isenabled()), ([True, True], True))
+        interner = Interner(["a", "b"])
+        raised = self.run_with_handler(lambda: interner.truncate(0) or interner.intern_all("cd"), lambda: interner.resolve_all(numbers))
+        self.assertIsInstance(raised, RuntimeError)
+        column, other = Column(["first"]), Column(texts)
+        shared = column[:]
+        self.assertIsInstance(self.run_with_handler(lambda: 1 // 0, lambda: column.merge(other)), ZeroDivisionError)
+        self.assertEqual((list(column), column.dictionary, list(shared)), (["first"], ["first"], ["first"]))
+
     def test_a_handler_changes_the_list(self):
         texts = [f"text {number}" for number in range(1_000_000)]
         for handle in (list.clear, lambda it: it.append("more")):
