@@ -28,7 +28,7 @@ class BuildWithLibrary(build_ext):
 class ManyLinuxWheel(bdist_wheel):
     def get_tag(self):
         python, abi, platform = super().get_tag()
-        # It needs nothing but the C library, of 2.14 or later; clients/check looks.
+        # It needs nothing but the C library, of 2.17 or older; clients/check looks.
         return python, abi, platform.replace("linux_x86_64", "manylinux_2_17_x86_64")
 
 

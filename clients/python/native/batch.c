@@ -110,8 +110,9 @@ bool adopt_changes(Batch *batch) {
     return false;
   }
   if (batch->column) batch->h = batch->column->dictionary->h;
-  if (uses_of(batch) != batch->uses || si_len(batch->h) != batch->count || (batch->interner && shows_more(batch->interner, batch->kept)))
-    batch->kept = si_len(batch->h);
+  bool is_seen = batch->interner ? shows_more(batch->interner, batch->kept)
+                                 : batch->column && batch->column->dictionary->texts_count > batch->kept;
+  if (is_seen || uses_of(batch) != batch->uses || si_len(batch->h) != batch->count) batch->kept = si_len(batch->h);
   return !PyErr_Occurred();
 }
 

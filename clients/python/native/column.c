@@ -97,14 +97,16 @@ static PyObject *column_counts(Column *self, PyObject *unused) {
   (void)unused;
   Py_buffer view;
   if (!is_made(self)) return NULL;
+  /* The codes first, because an audit hook may add rows while the array is made. */
+  Block *block = share_block(self->block);
+  Py_ssize_t n = self->n;
   PyObject *array = new_array(self->state, "Q", si_len(self->dictionary->h), &view);
-  if (!array) return NULL;
-  uint64_t *counts = view.buf;
-  for (Py_ssize_t row = 0; row < self->n; row++) {
-    int64_t code = code_at(self->block, row);
-    if (code >= 0) counts[code]++;
+  for (Py_ssize_t row = 0; array && row < n; row++) {
+    int64_t code = code_at(block, row);
+    if (code >= 0) ((uint64_t *)view.buf)[code]++;
   }
-  PyBuffer_Release(&view);
+  if (array) PyBuffer_Release(&view);
+  drop_block(block);
   return array;
 }
 
@@ -218,9 +220,9 @@ static Block *take_codes(const Column *self, const Numbers *rows) {
     if (row < 0 && !rows->is_unsigned) row += self->n;
     if (row >= 0 && row < self->n) set_code(block, at, code_at(self->block, row));
     else {
-      PyObject *exact = exact_number(rows, at);
-      if (exact) PyErr_Format(PyExc_IndexError, "there is no row %S", exact);
-      Py_XDECREF(exact);
+      PyObject *name = name_number(rows, at);
+      if (name) PyErr_Format(PyExc_IndexError, "there is no row %U", name);
+      Py_XDECREF(name);
       drop_block(block);
       return NULL;
     }

@@ -86,9 +86,10 @@ PyObject *column_buffers(Column *self, PyObject *unused) {
   (void)unused;
   PyObject *joined = NULL, *ends = NULL, *all = NULL;
   if (!is_made(self)) return NULL;
+  /* The dictionary first, because a collection may give the column another while the view is made. */
+  Dictionary *dictionary = share_dictionary(self->dictionary);
   PyObject *codes = column_codes(self, NULL);
-  Dictionary *dictionary = codes ? share_dictionary(self->dictionary) : NULL;
-  if (dictionary && join_texts(dictionary, &joined, &ends)) all = PyTuple_Pack(3, joined, ends, codes);
+  if (codes && join_texts(dictionary, &joined, &ends)) all = PyTuple_Pack(3, joined, ends, codes);
   drop_dictionary(dictionary);
   Py_XDECREF(joined);
   Py_XDECREF(ends);

@@ -53,24 +53,25 @@ static PyObject *read_values(PyObject *walk) {
 }
 
 /* Encodes the next values. The iterator may use the column, too, and so may what a value runs when it is dropped. Returns whether
- * there may be more. */
+ * there may be more: an iterator that ended is not asked again. */
 static bool extend_by_part(Batch *batch, PyObject *walk, bool *is_done) {
   Rows rows;
   PyObject *values = read_values(walk);
   *is_done = adopt_changes(batch) && values && open_rows_in_place(values, &rows);
   Py_XDECREF(values);
-  if (!*is_done) {
+  if (!*is_done || !reserve_batch(batch, rows.n)) {
     undo_batch(batch);
-    return false;
+    if (*is_done) close_rows(&rows);
+    return *is_done = false;
   }
-  bool is_last = rows.n == 0;
-  if (!is_last) *is_done = reserve_batch(batch, rows.n) && encode_rows(batch, &rows);
-  if (*is_done && !is_last) {
+  bool is_last = rows.n < VALUES_AT_ONCE;
+  if ((*is_done = encode_rows(batch, &rows))) {
     batch->first += rows.n;
     batch->block->used = batch->first;
     note_changes(batch);
   }
   close_rows(&rows);
+  if (*is_done && is_last && !(*is_done = adopt_changes(batch))) undo_batch(batch);
   return *is_done && !is_last;
 }
 

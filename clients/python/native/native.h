@@ -125,7 +125,7 @@ const char *utf8_of(PyObject *text, Py_ssize_t *length);
 /** The number of the text after one. On a buffer, as the header says, it is greater by the bytes of the text and of its length. */
 size_t number_after(si_kind kind, size_t number, size_t length);
 
-/** An array of the module array with n items, and a writable view of it. Runs no Python code. */
+/** An array of the module array with n items, and a writable view of it. Runs no Python code but hooks of `sys.addaudithook`. */
 PyObject *new_array(const State *state, const char *typecode, Py_ssize_t n, Py_buffer *view);
 
 /* numbers.c: integers of a buffer or an iterable, copied. */
@@ -140,6 +140,9 @@ typedef struct Numbers {
 bool read_numbers(PyObject *given, Numbers *numbers);
 void drop_numbers(Numbers *numbers);
 PyObject *exact_number(const Numbers *numbers, Py_ssize_t row);
+
+/** The digits of a number, for a message. */
+PyObject *name_number(const Numbers *numbers, Py_ssize_t row);
 
 /** The values, or for a masked array of numpy an array of objects with a filler in each masked place. */
 PyObject *without_mask(PyObject *values, PyObject *filler);

@@ -96,6 +96,17 @@ PyObject *exact_number(const Numbers *numbers, Py_ssize_t row) {
   return PyLong_FromLongLong(numbers->at[row]);
 }
 
+PyObject *name_number(const Numbers *numbers, Py_ssize_t row) {
+  PyObject *exact = exact_number(numbers, row), *name = exact ? PyObject_Str(exact) : NULL;
+  if (exact && !name && PyErr_ExceptionMatches(PyExc_ValueError)) {
+    /* Python writes no more than some thousand decimal digits. */
+    PyErr_Clear();
+    name = PyNumber_ToBase(exact, 16);
+  }
+  Py_XDECREF(exact);
+  return name;
+}
+
 /* A copy of a masked array with a filler in each masked place. */
 static PyObject *fill_masked(PyObject *module, PyObject *values, PyObject *filler) {
   PyObject *data = PyObject_GetAttrString(values, "data"), *mask = NULL, *filled = NULL;
@@ -133,7 +144,7 @@ bool read_bytes(PyObject *given, Bytes *bytes) {
   else if (!PyBuffer_ToContiguous(bytes->copy, &view, view.len, 'C')) bytes->at = bytes->copy, bytes->length = view.len;
   PyBuffer_Release(&view);
   if (bytes->at) return true;
-  PyMem_Free(bytes->copy);
+  drop_bytes(bytes);
   return false;
 }
 

@@ -96,7 +96,7 @@ size_t number_after(si_kind kind, size_t number, size_t length) {
 
 PyObject *new_array(const State *state, const char *typecode, Py_ssize_t n, Py_buffer *view) {
   static const char zeros[8];
-  int collects = PyGC_Disable(); /* So no Python code runs, and what was tested before holds. */
+  int collects = PyGC_Disable();
   PyObject *one = PyObject_CallFunction(state->array, "sy#", typecode, zeros, (Py_ssize_t)(strchr("qQ", *typecode) ? 8 : 4));
   PyObject *array = one ? PySequence_Repeat(one, n) : NULL;
   Py_XDECREF(one);

@@ -45,9 +45,9 @@ Block *check_codes(const Numbers *numbers, size_t distinct) {
     int64_t code = numbers->at[row];
     if (is_code(code, distinct) && (code >= 0 || !numbers->is_unsigned)) set_code(block, row, code);
     else {
-      PyObject *exact = exact_number(numbers, row);
-      if (exact) PyErr_Format(PyExc_ValueError, "row %zd has code %S, and the dictionary has %zu texts", row, exact, distinct);
-      Py_XDECREF(exact);
+      PyObject *name = name_number(numbers, row);
+      if (name) PyErr_Format(PyExc_ValueError, "row %zd has code %U, and the dictionary has %zu texts", row, name, distinct);
+      Py_XDECREF(name);
       drop_block(block);
       return NULL;
     }
@@ -126,6 +126,7 @@ static PyObject *parts_deepcopy(Parts *self, PyObject *memo) {
 
 /* Something with a buffer, as a pickle of a protocol holds it: from 5 on it may be out of band. */
 static PyObject *wrap_buffer(PyObject *buffer, long protocol) {
+  if (PyErr_Occurred()) return NULL; /* One that was wrapped before failed. */
   if (!buffer || buffer == Py_None) return Py_XNewRef(buffer);
   if (protocol < 5) return PyBytes_FromObject(buffer);
   PyObject *type = import_from("pickle", "PickleBuffer");

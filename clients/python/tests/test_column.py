@@ -349,6 +349,28 @@ class Refusals(unittest.TestCase):
                 if failed:
                     self.assertEqual((list(column), column.dictionary), (["a", None], ["a"]))
 
+    def test_parts_whose_requests_are_refused(self):
+        # A block of this size is malloc's, which ends the process if it is freed twice.
+        self.assertEqual(run_apart("""
+            try:
+                from _testcapi import remove_mem_hooks, set_nomemory
+            except ImportError:
+                set_nomemory, remove_mem_hooks = lambda *_: None, lambda: None
+            import pickle
+            from string_interner import Column
+            parts, every_second, column = type(Column()._parts), memoryview(bytearray(4000))[::2], Column(["a"])
+            pickle.dumps(column, 5)
+            for call in (lambda: parts("string", "keyed", every_second, b"", None, 4), lambda: column._parts.__reduce_ex__(5)):
+                for request in range(40):
+                    set_nomemory(request, request + 1)
+                    try:
+                        call()
+                    except MemoryError:
+                        pass
+                    finally:
+                        remove_mem_hooks()
+            """), (0, "", ""))
+
 
 class Calls(unittest.TestCase):
     def test_hashers(self):
@@ -484,6 +506,54 @@ class Calls(unittest.TestCase):
         with self.assertRaisesRegex(RuntimeError, "changed this during the call"):
             column.extend(rows(lambda: column.__init__(["new"])))
         self.assertEqual(list(column), ["new"])
+
+    def test_an_iterator_that_reads_the_texts_before_it_fails(self):
+        rows = 2 * _native._VALUES_AT_ONCE
+
+        def values():
+            yield from map(str, range(rows))
+            column.dictionary
+            raise ZeroDivisionError
+
+        column = Column(["x"])
+        with self.assertRaises(ZeroDivisionError):
+            column.extend(values())
+        column.append("new")
+        self.assertEqual((list(column), column.dictionary[column.code("new")]), (["x", "new"], "new"))
+        self.assertEqual(len(column.dictionary), column.distinct)
+
+    def test_an_iterator_that_uses_its_texts_before_it_fails(self):
+        last = str(2 * _native._VALUES_AT_ONCE - 1)
+        for act in (lambda: column.append(last), lambda: column.extend([last]), lambda: column.extend(iter([last])),
+                    lambda: column.merge(Column([last]))):
+            def values():
+                yield from map(str, range(int(last) + 1))
+                act()
+                raise ZeroDivisionError
+
+            column = Column(["x"])
+            with self.assertRaises(ZeroDivisionError):
+                column.extend(values())
+            self.assertEqual((list(column), column.index(last)), (["x", last], 1))
+
+    def test_an_iterator_that_begins_again(self):
+        class Again:
+            left = 3
+
+            def __iter__(self):
+                return self
+
+            def __next__(self):
+                self.left -= 1
+                if self.left < 0:
+                    self.left = 3
+                    raise StopIteration
+                return str(self.left)
+
+        # As a list is made of it.
+        for rows in (2, 3, 4):
+            Again.left = rows
+            self.assertEqual(list(Column(Again())), list(Again()))
 
     def test_a_value_that_uses_the_column_when_it_is_dropped(self):
         rows = 100 + 2 * _native._VALUES_AT_ONCE
@@ -682,6 +752,11 @@ class Buffers(unittest.TestCase):
         for great in (2**64 - 1, 2**64 - 2):
             with self.assertRaisesRegex(IndexError, f"^there is no row {great}$"):
                 column.take(array("Q", [great]))
+        # One with more digits than Python writes.
+        with self.assertRaisesRegex(IndexError, f"^there is no row 0x1{'0' * 5000}$"):
+            column.take([16**5000])
+        with self.assertRaisesRegex(ValueError, "^row 0 has code -0x10.*0, and the dictionary has 1 texts$"):
+            Column.from_parts(["a"], [-(16**5000)])
         for wrong in WRONG_NUMBERS:
             with self.assertRaises(TypeError):
                 column.take([wrong])

@@ -3,6 +3,7 @@
 import os
 import pathlib
 import random
+import signal
 import tempfile
 import threading
 import unittest
@@ -105,6 +106,23 @@ class OfFiles(unittest.TestCase):
         self.assertEqual(Column.from_file(read), Column(lines))
         filler.join()
         os.close(read)
+
+    def test_a_handler_ends_the_reading(self):
+        reader, writer = os.pipe()
+        before = signal.signal(signal.SIGALRM, lambda *_: 1 // 0)
+        end = threading.Timer(20, os.close, (writer,))
+        end.start()
+        try:
+            signal.setitimer(signal.ITIMER_REAL, 0.05)
+            with self.assertRaises(ZeroDivisionError):
+                Column.from_file(reader)
+        finally:
+            signal.setitimer(signal.ITIMER_REAL, 0)
+            signal.signal(signal.SIGALRM, before)
+            os.close(reader)
+            if end.is_alive():
+                end.cancel()
+                os.close(writer)
 
     def test_what_cannot_be_read(self):
         for wrong, error in ((self.path, FileNotFoundError), (self.path.parent, IsADirectoryError), (10**6, OSError), (-1, OSError),

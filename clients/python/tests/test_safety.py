@@ -382,6 +382,33 @@ class CallsBetweenSteps(unittest.TestCase):
                 self.assertIn(list(interner), states)
         self.assertGreater(turn, 300)
 
+    def test_buffers_belong_together(self):
+        column, kept = Column(), []
+        with collecting(lambda: column.__init__(["x"])):
+            for _ in range(200):
+                kept.append([])
+                column.__init__(["a", "b"])
+                joined, _, codes = column.to_buffers()
+                self.assertIn((joined, codes.tolist()), ((b"ab", [0, 1]), (b"x", [0])))
+
+    def test_an_audit_hook_adds_rows(self):
+        self.assertEqual(run_apart("""
+            import sys
+            from string_interner import Column, Interner
+            column, interner, calls = Column(["a"]), Interner(["a"]), []
+            def hook(event, _):
+                if event == "array.__new__" and calls:
+                    calls.pop()()
+            sys.addaudithook(hook)
+            calls.append(lambda: column.extend(map(str, range(100_000))))
+            print(len(column.counts()), len(column.counts()))
+            calls.append(interner.close)
+            try:
+                interner.intern_all(["a"])
+            except ValueError as error:
+                print(error)
+            """), (0, "1 100001\nthe interner is closed", ""))
+
     def test_what_is_copied_may_grow_meanwhile(self):
         joined, ends, interner, failed = bytearray(b"ab" * 1000), array("Q", range(2, 2001, 2)), Interner(), []
 
@@ -645,6 +672,20 @@ class Batches(unittest.TestCase):
                         self.assertEqual(interner[interner.get("handler")], "handler")
                     elif name == "walks and raises":
                         self.assertEqual(list(kept.pop()), list(interner))
+
+    def test_a_handler_within_other_calls(self):
+        texts, found = [f"text {number}" for number in range(400_000)], []
+        lines, numbers = "\n".join(texts).encode(), array("I", [0]) * 3_000_000 + array("I", [1])
+        for encode in (lambda it: it.intern_all(texts), lambda it: it.intern_lines(lines)):
+            self.run_with_handler(lambda: found.append(gc.isenabled()), lambda: encode(Interner()))
+        self.assertEqual((found, gc.isenabled()), ([True, True], True))
+        interner = Interner(["a", "b"])
+        raised = self.run_with_handler(lambda: interner.truncate(0) or interner.intern_all("cd"), lambda: interner.resolve_all(numbers))
+        self.assertIsInstance(raised, RuntimeError)
+        column, other = Column(["first"]), Column(texts)
+        shared = column[:]
+        self.assertIsInstance(self.run_with_handler(lambda: 1 // 0, lambda: column.merge(other)), ZeroDivisionError)
+        self.assertEqual((list(column), column.dictionary, list(shared)), (["first"], ["first"], ["first"]))
 
     def test_a_handler_changes_the_list(self):
         texts = [f"text {number}" for number in range(1_000_000)]
