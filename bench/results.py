@@ -12,6 +12,8 @@ from source import CLAUSE, GHOST_USE
 
 DOCS = TOP / "docs"
 PICTURES = {"out": HERE / "out/pictures", "docs": DOCS / "pictures"}
+# The results that the documents show.
+MEASURED = HERE / "measured"
 # What is measured by itself, each with a file of results.
 PARTS = ("times", "memory", "cycles", "columns")
 TEXTS = ("identifiers", "words", "long")
@@ -38,12 +40,8 @@ PHASES = {
 }
 # What a kind without a phase does in its place.
 IN_PLACE_OF = {"copy": "clone", "together": "known"}
-INPUTS = {
-    "identifiers": "identifiers of 10 bytes on average",
-    "words": "words of Debian's list",
-    "long": "texts of 200 bytes",
-    "chosen": "texts chosen against FNV-1a",
-}
+# The inputs that tables have.
+INPUTS = {"identifiers": "identifiers of 10 bytes on average", "long": "texts of 200 bytes"}
 NOUNS = {"identifiers": "identifiers", "words": "words", "long": "texts of 200 bytes"}
 # What the programs read.
 LINES = {
@@ -60,11 +58,11 @@ DEFAULT = {backend: ("ours", backend, "Index", "Fnv1a") for backend in BACKENDS}
 FAST = {backend: ("ours", backend, "TaggedIndex", "FoldState") for backend in BACKENDS}
 TAGGED = ("ours", "string", "TaggedIndex", "Fnv1a")
 KEYED = ("ours", "string", "TaggedIndex", "RandomState")
+SEEDED = ("ours", "string", "TaggedIndex", "SeededHasher")
 MAP = ("HashMap and Vec", "-", "-", "default")
 SET = ("IndexSet", "-", "-", "default")
 # In one program: the Rust crate under its default hasher and without keys, and the original under its own default.
 RUST = {kind: ("rust", kind, "-", "-") for kind in ("original", "default", "fixed")}
-BY_C = [("ours through C", "string", "-", of) for of in ("UTF-8", "bytes")]
 
 
 def summary(name, times):
@@ -128,12 +126,6 @@ class Results:
     def counted(self, name):
         """The counts of an input whose cycles were estimated."""
         return sorted({count for (_, of, count), row in self.values.items() if of == name and "fill cycles" in row})
-
-    def middle_count(self):
-        return min(self.counts["identifiers"], key=lambda count: abs(count - 100_000))
-
-    def kinds(self):
-        return list(dict.fromkeys(kind for kind, _, _ in self.values))
 
     def line(self, *parts):
         """What is said below pictures and above tables of these parts."""

@@ -38,11 +38,11 @@ def count_rounds(is_quick):
                     yield "\t".join((*RUST[kind], "identifiers", str(texts), "", f"{phase} {what}", f"{total / texts:.1f}"))
 
 
-def table_rows(results):
+def table_rows(results, phases=PHASES):
     """The crate's estimated cycles over the original's, by default and without keys, a row for each count of texts."""
     for kind in ("default", "fixed"):
         for texts in results.counts["identifiers"]:
             pair = (RUST[kind], RUST["original"], "identifiers", texts)
-            row = [results.ratio(*pair, f"{phase} cycles") for phase in PHASES]
+            row = [results.ratio(*pair, f"{phase} cycles") for phase in phases]
             if any(row):
                 yield f"`rust, {kind}` | {texts:,}", row

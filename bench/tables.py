@@ -1,29 +1,20 @@
 #!/usr/bin/env python3
 """tables.py [--docs | --check]: makes the tables of the documents of what bench/run measured, in bench/out/tables.md.
 
-With --docs it also puts each block between its two marker lines in README.md and docs/PERFORMANCE.md, and the results next to
-the pictures. With --check it makes nothing, and fails if these are results of other code than today's, or the documents show
-others: comments, contracts and proofs are no code here."""
+With --docs it also puts each block between its two marker lines in the documents, and the results into bench/measured. With
+--check it makes nothing, and fails if these are results of other code than today's, or the documents show others: comments,
+contracts and proofs are no code here. What clients/bench/python.py measured is always taken from bench/measured."""
 import re
 import shutil
 import sys
 
-from results import BACKENDS, BY_C, DEFAULT, DOCS, FAST, FNV, HERE, INPUTS, KEYED, LINES, MAP, ORIGINAL, PHASES, SET
-from results import PARTS, PICTURES, TEXTS, TAGGED, Results, sum_of
+from results import BACKENDS, DEFAULT, DOCS, FAST, FNV, HERE, INPUTS, LINES, MAP, MEASURED, NOUNS, ORIGINAL, PARTS, PHASES, SET
+from results import Results, sum_of
 from rust_crate import PHASES as RUST_PHASES, table_rows
 
-DOCUMENTS = (DOCS.parent / "README.md", DOCS / "PERFORMANCE.md", DOCS.parent / "clients/rust/README.md")
-MEASURES = (*PHASES, "live", "peak")
+DOCUMENTS = tuple(DOCS.parent / it for it in ("README.md", "docs/PERFORMANCE.md", "docs/python.md", "clients/rust/README.md"))
 CALLS = ("fill", "known", "unknown")
-# What each picture shows, for whoever cannot see it.
-SHOWN = {
-    "interning": "Time per call of four calls, by the count of texts",
-    "calls-identifiers": "Time per call of each call, by the count of texts",
-    "backends": "Time per call over each backend, by the count of texts",
-    "index-and-hasher": "Time per call with each index and hasher, by the count of texts",
-    "memory": "Bytes per text of each interner",
-    "chosen": "Time to fill an interner with chosen texts, by their count",
-}
+PICTURE = "![Time per call of four calls, by the count of texts](docs/pictures/interning.svg)"
 
 
 def short(value):
@@ -39,120 +30,50 @@ def table(said, head, rows):
     return "\n".join(lines + [f"| {label} | {' | '.join(map(short, values))} |" for label, values in rows])
 
 
-def name_of(kind):
-    library, backend, index, hasher = kind
-    if library == "ours":
-        return f"ours, {backend}, `{index}`, `{hasher}`"
-    return library if backend == "-" else f"{library}, {backend}, {hasher}"
-
-
-def picture(file, below=None, folder="pictures"):
-    return "\n\n".join(filter(None, [f"![{SHOWN[file]}]({folder}/{file}.svg)", below]))
-
-
 def cycles(measure):
     """The name of a phase's estimated cycles. What is no phase has none."""
     return f"{measure} cycles" if measure in PHASES else measure
 
 
 def calls(results):
-    """Both interners over the original under the same kind of hasher: a table of times for each input, and of estimated cycles
-    where they were counted."""
+    """Both interners over the original under the same kind of hasher: times by the count of identifiers, and estimated cycles by
+    input and count."""
     pairs = {"fast": (FAST["string"], ORIGINAL["string"]), "default": (DEFAULT["string"], FNV["string"])}
-    head = ["texts", *(f"*{kind}* {call}" for kind in pairs for call in CALLS)]
-    shown = []
-    for said, of, counts in (("Time", str, results.counts.get), ("Estimated cycles", cycles, results.counted)):
-        for name in filter(counts, TEXTS):
-            rows = [
-                (f"{count:,}", [results.ratio(*pair, name, count, of(call)) for pair in pairs.values() for call in CALLS])
-                for count in counts(name)
-            ]
-            shown.append(table(f"{said} divided by the original's, {INPUTS[name]}; lower is better", head, rows))
-    return "\n\n".join([picture("calls-identifiers", shown[0]), *shown[1:]])
+    cases = [("time", str, "identifiers", count) for count in results.counts["identifiers"]]
+    cases += [("cycles", cycles, name, count) for name in INPUTS for count in results.counted(name)]
+    columns = [(pair, call) for pair in pairs.values() for call in CALLS]
+    rows = [
+        (f"{what}, {count:,} {NOUNS[name]}", [results.ratio(*pair, name, count, of(call)) for pair, call in columns])
+        for what, of, name, count in cases
+    ]
+    said = f"Time, or estimated cycles, divided by the original's, for {' and '.join(INPUTS.values())}; lower is better"
+    return table(said, ["", *(f"*{kind}* {call}" for kind in pairs for call in CALLS)], rows)
 
 
 def with_backends(results):
-    """The fast interner over the original with the same backend, at each count: estimated cycles, and bytes."""
-    cases = [(backend, count) for backend in BACKENDS for count in results.counted("identifiers")]
-
-    def row(backend, count):
-        pair = (FAST[backend], ORIGINAL[backend])
-        return [results.ratio(*pair, "identifiers", count, cycles(measure)) for measure in MEASURES]
-
-    rows = [(f"{backend} | {count:,}", row(backend, count)) for backend, count in cases]
-    said = "Estimated cycles, and bytes, divided by those of the original with the same backend, identifiers; lower is better"
-    return picture("backends", table(said, ["backend", "texts", *MEASURES], rows))
+    """The fast interner over the original with the same backend, at the least count: estimated cycles, and bytes."""
+    measures, count = (*CALLS, "resolve", "iterate", "clone", "live"), min(results.counts["identifiers"])
+    rows = [(it, [results.ratio(FAST[it], ORIGINAL[it], "identifiers", count, cycles(of)) for of in measures]) for it in BACKENDS]
+    said = f"Estimated cycles, and bytes, divided by the original's with the same backend, {count:,} identifiers; lower is better"
+    return table(said, ["backend", *measures], rows)
 
 
-def choices(results):
-    """The tagged index under two hashers, over the default index and hasher, at each count."""
-    inputs = {"identifiers": "unknown", "long": "fill"}
-    columns = [(name, count, phase) for name, phase in inputs.items() for count in results.counted(name)]
-    kinds = {"`TaggedIndex`, `FoldState`": FAST["string"], "`TaggedIndex`, `RandomState`": KEYED}
-    rows = [
-        (label, [results.ratio(kind, DEFAULT["string"], *case, cycles(phase)) for *case, phase in columns])
-        for label, kind in kinds.items()
-    ]
-    said = (
-        "Estimated cycles divided by those of `Index` under `Fnv1a`, for unknown identifiers (unknown) and new texts of 200 "
-        "bytes (fill), with a string backend; lower is better"
-    )
-    head = ["", *(f"*{phase}* {count:,}" for _, count, phase in columns)]
-    return picture("index-and-hasher", table(said, head, rows))
-
-
-def rows_of(results, kinds, count, measures):
-    """A row for each kind by its label: measures of so many identifiers, estimated cycles where they are phases."""
-    return [(label, [results.value(kind, "identifiers", count, cycles(it)) for it in measures]) for label, kind in kinds.items()]
-
-
-def memory(results):
-    count = max(results.counts["identifiers"])
-    kinds = {"`TaggedIndex`": FAST["string"], "`Index`": DEFAULT["string"], "the original": FNV["string"]}
-    kinds |= {"`IndexSet`": SET, "`HashMap` and `Vec`": MAP}
-    row = [value for _, [value] in rows_of(results, kinds, count, ["live"])]
-    said = f"Bytes per text, {count:,} {INPUTS['identifiers']}; the first three have a string backend"
-    return picture("memory", table(said, ["", *kinds], [("bytes", row)]))
-
-
-def spread(results):
-    """How far rounds spread, in the mean over the calls of both interners and of the original."""
-    kinds = (FAST["string"], ORIGINAL["string"], DEFAULT["string"], FNV["string"])
-    shares = []
-    for kind in kinds:
-        for count in results.counts["identifiers"]:
-            row = results.values.get((kind, "identifiers", count), {})
-            shares += [row[f"{call} spread"] / row[f"{call} median"] for call in CALLS if f"{call} spread" in row]
-    return f"Half of all rounds lie within a range of {sum(shares) / len(shares):.0%} of the median time." if shares else ""
+def peers(results):
+    """Both interners, and what a user would take instead: estimated cycles, and bytes at that count and the greatest."""
+    kinds = {"`FastStringInterner`": FAST["string"], "`DefaultStringInterner`": DEFAULT["string"]}
+    kinds |= {"the original": ORIGINAL["string"], "`IndexSet`": SET, "`HashMap` and `Vec`": MAP}
+    phases, count = (*CALLS, "shuffled", "iterate"), max(results.counted("identifiers"), default=0)
+    columns = {phase: (count, cycles(phase)) for phase in phases}
+    columns |= {f"live, {count:,}": (count, "live") for count in (count, max(results.counts["identifiers"]))}
+    rows = [(label, [results.value(kind, "identifiers", *column) for column in columns.values()]) for label, kind in kinds.items()]
+    return table(f"Estimated cycles per call, {count:,} identifiers; bytes per text, by their count", ["", *columns], rows)
 
 
 def measured(results):
-    """Which commit was measured on which machine, and how sure times are."""
-    keys = ("commit", "date", "machine", "load")
-    rows = [f"| {part} | {' | '.join(results.heads[part][key] for key in keys)} |" for part in PARTS]
-    head = ["What was measured, and where:\n", f"| | {' | '.join(keys)} |", "|---|---|---|---|---|"]
-    said = f"The original is {results.heads['times']['original']}. {spread(results)}".rstrip()
-    return "\n".join([*head, *rows, "", said])
-
-
-def kinds(results):
-    """The library's own kinds: estimated cycles of a call, and bytes of a text."""
-    count = max(results.counted("identifiers"), default=results.middle_count())
-    ours = {f"{kind[1]} | `{kind[2]}` | `{kind[3]}`": kind for kind in results.kinds() if kind[0] == "ours"}
-    said = f"Estimated cycles per call, and bytes per text, {count:,} identifiers"
-    return table(said, ["backend", "index", "hasher", *MEASURES], rows_of(results, ours, count, MEASURES))
-
-
-def by_c(results):
-    """The library beside its calls through C: the measures that all three have."""
-    count = min(results.counts["identifiers"])
-    kinds, shown = [FAST["string"], *BY_C], []
-    for said, of in (("Estimated cycles", cycles), ("Least nanoseconds", str)):
-        measured = ((kind, results.values.get((kind, "identifiers", count), {})) for kind in kinds)
-        rows = [(name_of(kind), [row.get(of(phase)) for phase in PHASES]) for kind, row in measured]
-        if all(any(value is not None for value in values) for _, values in rows):
-            shown.append(table(f"{said} per call, {count:,} identifiers", ["", *PHASES], rows))
-    return "\n\n".join(shown) or "Not measured."
+    """When, on which machine and next to what was measured."""
+    dates, machines = ("; ".join(dict.fromkeys(results.heads[part][key] for part in PARTS)) for key in ("date", "machine"))
+    head = results.heads["times"]
+    return f"Measured {dates}: {machines}; for times, {head['load']}. The original is {head['original']}."
 
 
 def rust(results):
@@ -163,7 +84,7 @@ def rust(results):
 
 
 def columns(results):
-    measures = {"cycles": "run cycles", "ns": "run", "median": "run median", "spread": "run spread", "bytes": "memory"}
+    measures = {"cycles": "run cycles", "ns": "run", "bytes": "memory"}
     rows = {}
     for (kind, lines, _), row in results.values.items():
         if lines in LINES:
@@ -171,48 +92,79 @@ def columns(results):
     # Cycles are of the lesser count, where there are any.
     least, most = (of(results.counts["shuffled"], default=0) for of in (min, max))
     said = (
-        f"Per line: estimated cycles for {least:,} lines; nanoseconds and bytes for {most:,} lines (the least and the median of "
-        "all runs, how far the middle half of them spreads, and the most memory that one process had)"
+        f"Per line: estimated cycles for {least:,} lines; least nanoseconds of all runs, and the most bytes that one process had, "
+        f"for {most:,} lines"
     )
     return table(said, ["", "lines", *measures], [(label, map(row.get, measures.values())) for label, row in rows.items()])
 
 
-def chosen(results):
-    counts = results.counts["chosen"]
-    rows = []
-    for kind in results.kinds():
-        values = [results.value(kind, "chosen", count, "fill") for count in counts]
-        if any(values):
-            times = [value * count / 1e6 for value, count in zip(values, counts)]
-            rows.append((name_of(kind), [*times, times[-1] / times[-2]]))
-    said = (
-        "Milliseconds to fill an interner with texts of 84 bytes whose FNV-1a codes agree in their low 32 bits, by the "
-        f"number of texts. *Growth* is the time for {counts[-1]:,} texts divided by the time for {counts[-2]:,}"
-    )
-    return picture("chosen", table(said, ["", *(f"{count:,}" for count in counts), "*growth*"], rows))
-
-
-def peers(results):
-    """The fast interner, and what a user would take instead."""
-    count = max(results.counted("identifiers"), default=results.middle_count())
-    kinds = {"`FastStringInterner`": FAST["string"], "`DefaultStringInterner`": DEFAULT["string"]}
-    kinds |= {"the original": ORIGINAL["string"], "`IndexSet`": SET, "`HashMap` and `Vec`": MAP}
-    measures = ("fill", "known", "unknown", "shuffled", "iterate", "live", "peak")
-    said = f"Estimated cycles per call, and bytes per text, {count:,} identifiers"
-    return table(said, ["", *measures], rows_of(results, kinds, count, measures))
-
-
 def speed(results):
-    """For the README: the fast interner over the original, a row for each count of texts and a column for each call."""
-    shown = {"fill": "intern new texts", "known": "intern known texts", "unknown": "look up unknown texts"}
-    shown |= {"shuffled": "resolve", "iterate": "iterate"}
-    pair = (FAST["string"], ORIGINAL["string"])
-    rows = [
-        (f"{count:,}", [results.ratio(*pair, "identifiers", count, phase) for phase in shown])
-        for count in results.counts["identifiers"]
-    ]
-    said = "Time of `FastStringInterner` from Rattle divided by the original's (string-interner 0.19); lower is better"
-    return table(said, ["count of identifiers", *shown.values()], rows)
+    """For the README and the crate's page: what a user of the original gets."""
+    shown = {"fill": "new text", "known": "known text", "unknown": "unknown text", "resolve": "resolve", "iterate": "iterate"}
+    shown["tokenizer"] = "tokenizer"
+    said = "Estimated cycles divided by those of string-interner 0.19, by the default hasher and the fixed one; lower is better"
+    rows = list(table_rows(results, shown))
+    return table(said, ["", "texts", *shown.values()], rows) if rows else "Not measured."
+
+
+def measured_in_python():
+    """What clients/bench/python.py measured: figures by what was measured, each of some texts."""
+    figures = {}
+    for line in (MEASURED / "python.tsv").read_text(encoding="utf-8").splitlines():
+        if not line.startswith("# "):
+            what, where, figure = line.split("\t")
+            figures.setdefault(what, {})[where] = float(figure)
+    return figures
+
+
+def ranges(figures):
+    """The least and the most of some figures, or the one that there is."""
+    least, most = (f"{of(figures):.2f}" for of in (min, max))
+    return least if least == most else f"{least} .. {most}"
+
+
+def in_python(figures, rows):
+    """A table of the Python package beside what a program has without it: a row for each call."""
+    said = "Processor time, or memory, divided by that of what it is beside, over several kinds of texts; lower is better:"
+    lines = [f"| {ours} | {theirs} | {ranges(figures[what].values())} |" for what, (ours, theirs) in rows.items()]
+    return "\n".join([f"{said}\n", "| from Python | beside | |", "|---|---|---:|", *lines])
+
+
+def batches_in_python(figures):
+    """Batches of a million rows, by their kind."""
+    columns = {
+        "intern_all / pandas.factorize": "`intern_all` / `pandas.factorize`",
+        "Column(rows) / pandas.factorize": "`Column(rows)` / `pandas.factorize`",
+        "intern_all / a dict": "`intern_all` / a dict",
+    }
+    kinds = {
+        "repeats, the same objects": "repeats, .*same", "repeats, fresh objects": "repeats, .*fresh",
+        "distinct, the same objects": "distinct, .*same", "distinct, fresh, ASCII": "distinct, ASCII, fresh",
+        "distinct, fresh, not ASCII": "distinct, not ASCII, fresh",
+    }
+    lines = [f"| {' | '.join(['a million rows', *columns.values()])} |", "|---|" + "---:|" * len(columns)]
+    for name, pattern in kinds.items():
+        found = [[it for where, it in figures[column].items() if re.match(pattern, where)] for column in columns]
+        lines.append(f"| {name} | {' | '.join(map(ranges, found))} |")
+    return "\n".join(lines)
+
+
+IN_SHORT = {
+    "intern of a known text / d.setdefault": ("`intern` of a known text", "`d.setdefault(text, len(d))`"),
+    "get of a known text / d.get": ("`get` of a known text", "`d.get(text)`"),
+    "intern_all / a dict": ("`intern_all` of a million rows", "a loop that fills a dict"),
+    "Column(rows) / pandas.factorize": ("`Column` of a million rows", "`pandas.factorize`"),
+    "Column.from_file / a dict loop": ("`Column.from_file` of a million lines", "a loop over the file that fills a dict"),
+    "memory of a distinct text / a dict": ("memory of a distinct text", "a dict"),
+}
+IN_FULL = {
+    "intern of a known text / d.setdefault": IN_SHORT["intern of a known text / d.setdefault"],
+    "intern of a new text / d.setdefault": ("`intern` of a new text", "the same"),
+    "get of a known text / d.get": IN_SHORT["get of a known text / d.get"],
+    "get of an unknown text / d.get": ("`get` of an unknown text", "the same"),
+    "Column.from_file / a dict loop": IN_SHORT["Column.from_file / a dict loop"],
+    "memory of a distinct text / a dict": IN_SHORT["memory of a distinct text / a dict"],
+}
 
 
 def blocks(results):
@@ -221,16 +173,13 @@ def blocks(results):
         "measured": measured(results),
         "calls": calls(results),
         "backends": with_backends(results),
-        "index and hasher": choices(results),
-        "memory": memory(results),
         "peers": peers(results),
-        "kinds": kinds(results),
-        "through C": by_c(results),
         "rust": rust(results),
         "columns": columns(results),
-        "chosen": chosen(results),
-        "picture": picture("interning", folder="docs/pictures"),
+        "picture": PICTURE,
         "speed": speed(results),
+        "python": in_python(measured_in_python(), IN_SHORT),
+        "python in full": "\n\n".join([in_python(measured_in_python(), IN_FULL), batches_in_python(measured_in_python())]),
     }
 
 
@@ -246,16 +195,16 @@ def faults(results):
     """What the documents show that was not measured of today's code, or not at all."""
     for part in PARTS:
         if results.heads[part].get("code") != sum_of(part):
-            yield f"docs/pictures/{part}.tsv: the code has changed since; bench/run --docs --only {part} measures it"
+            yield f"bench/measured/{part}.tsv: the code has changed since; bench/run --docs --only {part} measures it"
     made = blocks(results)
     for document in DOCUMENTS:
         text = document.read_text(encoding="utf-8")
         if put(text, made) != text:
-            yield f"{document.relative_to(DOCS.parent)}: shows other results than docs/pictures has"
+            yield f"{document.relative_to(DOCS.parent)}: shows other results than bench/measured has"
 
 
 def check():
-    found = list(faults(Results(PICTURES["docs"])))
+    found = list(faults(Results(MEASURED)))
     print(*found, f"{len(PARTS) + len(DOCUMENTS) - len(found)} passed, {len(found)} failed", sep="\n")
     return 1 if found else 0
 
@@ -269,9 +218,8 @@ def main():
     if "--docs" in sys.argv:
         for document in DOCUMENTS:
             document.write_text(put(document.read_text(encoding="utf-8"), made), encoding="utf-8")
-        PICTURES["docs"].mkdir(exist_ok=True)
         for part in PARTS:
-            shutil.copy(HERE / f"out/{part}.tsv", PICTURES["docs"])
+            shutil.copy(HERE / f"out/{part}.tsv", MEASURED)
     print(f"{made['speed']}\n\n{results.line(*PARTS)}")
     return 0
 

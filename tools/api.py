@@ -1,9 +1,6 @@
-"""Writes the pages on what callers of the library have, which tools/make_site.py puts into the site: for each source file its
-public items and their `impl` blocks as they stand there, without bodies and without what callers do not see, and links to the
-definitions that its contracts cite.
-
-An item is public if it stands in the file of a module that is public, or if some `pub use` names it.
-"""
+"""Writes the pages on what callers of the library have: by source file its public items and their `impl` blocks, each below its
+docs, without bodies and what callers do not see, and links to the definitions that its contracts cite. An item is public if it
+is in the file of a module that is public, or if some `pub use` names it."""
 
 import re
 
@@ -20,12 +17,10 @@ IMPORT = re.compile(r"^ *ghost use Rattle\.(\w+)\.specs\.(\w+)\b[^;]*;\n+", re.M
 HINT = r"^ *#\[(?:inline|tactic)\b.*\n"
 LEFT_OUT = re.compile(rf"{HINT}|^    ghost (?:\w*laws? =|invariant\b|inverse\b).*\n(?:     .*\n|    [)}}].*\n|\n)*", re.M)
 PRIVATE_FIELD = re.compile(r"(?:^    (?:///|#\[).*\n)*^    (?!pub |///|#\[)\w+:.*\n", re.M)
-HEAD = re.compile(r"^//!.*\n", re.M)
-ABOUT = """\
-The public items of the crate `{crate}` by the files of its sources, with their docs and contracts, as they are there. Below a
-file's name are links to the definitions of the words of its contracts. [Contracts](../docs/CONTRACTS.md) explains how to read one.
-
-"""
+DOCS = re.compile(r"(?:^ *//[/!].*\n)+", re.M)
+# In docs the margin, with the mark of a heading, and a link to an item.
+MARK = re.compile(r"^ *//[/!] ?(#(?= ))?|\[(`[^`]+`)\]\([\w:]+\)", re.M)
+ABOUT = "Its public items by source file, and links to the definitions of their words. [Contracts](../docs/CONTRACTS.md) says how to read one.\n\n"
 
 
 def sources(crate):
@@ -93,27 +88,31 @@ def blocks_of(text):
                 yield "impl", trait if of.islower() else of, code
 
 
+def with_prose(code):
+    """Code as Markdown: each run of its docs is a text above what it is about."""
+    page = DOCS.sub(lambda docs: "```\n\n" + MARK.sub(r"\1\1\1\2", docs[0]) + "\n```rattle\n", f"```rattle\n{code}\n```\n\n")
+    return re.sub(r"```rattle\n+```\n\n", "", page)
+
+
 def section(kind, name, code):
     """A section of an item or an `impl` block, and entries of the index for the item and its methods."""
     title, own = ("", []) if kind == "impl" else (f"### {kind} `{name}`\n\n", [f"{name} ({kind})"])
     entries = [*own, *(f"{it} (of {name})" for it in re.findall(r"^    (?:\w+ )*fn (\w+)", code, re.M))]
     index = "".join(f"```{{index}} single: {it}\n```\n\n" for it in entries)
-    return f"{title}{index}```rattle\n{code}\n```\n\n"
+    return f"{title}{index}{with_prose(code)}"
 
 
 def page_of(crate):
     texts = sources(crate)
     public = public_names(texts)
-    page = [f"# API of {crate}\n\n", ABOUT.format(crate=crate)]
+    page = [f"# Rattle: `{crate}`\n\n{ABOUT}"]
     for file, text in texts.items():
         sections = [section(*block) for block in blocks_of(text) if block[1] in public]
-        if not sections and file.name != "lib.rt":
-            continue
         specs = sorted({f"crates/{of}/specs/{name}.antt" for of, name in IMPORT.findall(text)})
         links = ", ".join(f"[`{it.rpartition('/')[2]}`](../{it})" for it in specs if (TOP / it).exists())
-        page.append(f"## `{file.relative_to(TOP / 'crates' / crate / 'src')}`\n\n")
-        head = "".join(HEAD.findall(text))
-        page += [f"Definitions: {links}\n\n" if links else "", f"```rattle\n{head}```\n\n" if head else "", *sections]
+        head = [f"Definitions: {links}\n\n" if links else "", with_prose("".join(re.findall(r"^//!.*\n", text, re.M)))]
+        if sections or file.name == "lib.rt":
+            page += [f"## `{file.relative_to(TOP / 'crates' / crate / 'src')}`\n\n", *head, *sections]
     return "".join(page)
 
 

@@ -11,8 +11,8 @@ from scenarios import Part, Scenario, cut, without_asks
 
 # What `texts_asked` interns and drops again.
 QUESTION = b"how many texts were you asked for?"
-# In bytes: a text in the list of an `Extend`, a command, a reply, and a JSON value.
-TEXT, COMMAND, REPLY, VALUE = 16, 24, 32, 32
+# In bytes: a number or a text in a list of the program, a command, a reply, and a JSON value.
+NUMBER, TEXT, COMMAND, REPLY, VALUE = 8, 16, 24, 32, 32
 
 
 def make_texts(name: str, text: bytes) -> Iterator[bytes]:
@@ -98,6 +98,10 @@ class Calls:
                 self.intern_many([b""] * int(text))
             case "intern_all":
                 self.intern_all(texts)
+            case "intern_slice":
+                self.memory.ask(TEXT * len(texts))
+                self.memory.ask(NUMBER * len(texts))
+                self.one.extend(texts)
             case "extend_numbers" | "intern_all_numbers" | "from_iter_numbers":
                 self.make(name.removesuffix("_numbers"), text, self.join_numbers(int(text)))
             case "truncate" | "Truncate":

@@ -3,7 +3,7 @@
 
 A name in a code span is looked for if it has a capital or two words, except what docs/PORTING.md names of the original. A block
 of a language has to stand to the word in a crate or in an example, at the margin or indented as a body, so that it is proved or
-run; but not in the section of the guide that tools/try_guide.py follows.
+run; but not if tools/try_guide.py takes it as a step.
 """
 
 import re
@@ -13,7 +13,6 @@ from functools import cached_property
 from pathlib import PurePosixPath
 from textwrap import indent
 
-import try_guide
 from edits import TOP
 from files import read
 
@@ -37,10 +36,13 @@ VERSIONS = {
 # Folders of what is built, as .gitignore has them.
 BUILT = {"out", "__pycache__"}
 MOST_LINES = 120
-MOST_WORDS = 14_000
+MOST_WORDS = 25_000
 LINK = re.compile(r"\]\(([^)\s]+)\)")
 SPAN = re.compile(r"(?<!`)`([^`\n]+)`(?!`)")
 BLOCK = re.compile(r"^```(\w*)\n(.*?)^```$", re.M | re.S)
+# A step that tools/try_guide.py takes: a block that is written into the file which the line before it names, commands, or what
+# these print.
+STEP = re.compile(r"^(?:[^\n]*`([^`\n]+)`:\n\n```(?!sh|text)\w+|```(sh|text))\n(.*?)^```$", re.M | re.S)
 HEADING = re.compile(r"^#+ +(.*)$", re.M)
 # A path, or a file by its name alone. One that ends in two dots is the beginning of several.
 FILE = re.compile(r"(?=.*\w)(?!.*\.\.$)(?:[\w./-]*/[\w./-]*|[\w-]+\.(?:antt|c|edit|h|md|py|rs|rt|txt))")
@@ -132,6 +134,11 @@ def missing_names(page, text, repository):
             yield f"no file {command}"
 
 
+def is_tried(page):
+    """Whether tools/try_guide.py takes the steps of a page."""
+    return re.fullmatch(r"README\.md|docs/\w+\.md", page) is not None
+
+
 def comment_of(source):
     """What a source says of itself at its top."""
     return "".join(re.findall(r"^//! ?(.*\n)", source, re.M))
@@ -146,16 +153,13 @@ def untried_blocks(blocks, repository):
             yield f"in no {'crate' if language == 'rattle' else 'example'}: {block.splitlines()[0]}"
 
 
-def count_words(text):
-    return sum(len(line.split()) for line in text.splitlines() if not line.startswith("|"))
-
-
 def long_pages(texts):
     if (lines := len(texts.get("README.md", "").splitlines())) > MOST_LINES:
         yield f"README.md: {lines} lines, and {MOST_LINES} may be"
-    pages = [page for page in texts if PurePosixPath(page).parent in map(PurePosixPath, (".", "docs"))]
-    if (words := sum(count_words(texts[page]) for page in pages)) > MOST_WORDS:
-        yield f"{words} words in {', '.join(sorted(pages))}, and {MOST_WORDS} may be"
+    counts = {page: len(text.split()) for page, text in texts.items()}
+    if (words := sum(counts.values())) > MOST_WORDS:
+        longest = sorted(counts, key=counts.get, reverse=True)[:3]
+        yield f"{words} words in all pages, and {MOST_WORDS} may be; the longest are {', '.join(longest)}"
 
 
 def other_versions():
@@ -178,8 +182,9 @@ def faults():
         found = untried_blocks([(name or "rattle", block) for name, block in blocks], repository)
         yield from (f"{FRONT_PAGE}: {it}" for it in found)
     for page, text in texts.items():
-        blocks = BLOCK.findall(try_guide.SECTION.sub("", text) if page == try_guide.PAGE else text)
-        found = [*broken_links(page, text), *missing_names(page, text, repository), *untried_blocks(blocks, repository)]
+        untried = STEP.sub("", text) if is_tried(page) else text
+        found = [*broken_links(page, text), *missing_names(page, untried, repository)]
+        found += untried_blocks(BLOCK.findall(untried), repository)
         yield from (f"{page}: {it}" for it in dict.fromkeys(found))
 
 

@@ -1,5 +1,5 @@
-"""The memory that an interner has and asks for: a model of the tables in crates/suite/README.md, which knows a list of texts and
-nothing that was run. `asks.py` makes the calls of scenarios on it.
+"""A model of the memory that an interner has and asks for, by the rules that crates/suite/README.md tells. It knows a list of texts
+and nothing that was run. `asks.py` makes the calls of scenarios on it.
 """
 
 from collections.abc import Callable, Iterable
@@ -66,7 +66,7 @@ class Room:
 
 
 class BackendRoom(Room):
-    """A list of a backend, which grows by a quarter once it takes 1 MiB."""
+    """A list of a backend or of codes, which grows by a quarter once it takes 1 MiB."""
 
     def grown_by(self, count: int) -> int:
         if self.length * self.width < 2 ** 20:

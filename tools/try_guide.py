@@ -1,54 +1,118 @@
 #!/usr/bin/env python3
-"""Follows the steps of docs/GUIDE.md to the first program, in an empty folder, as they are printed.
+"""Takes the steps of the pages for users as they are printed, each page in a clean copy of the repository.
 
-    tools/try_guide.py [CLONE]    takes the library from another tree than this one, as from one where it is proved
+    tools/try_guide.py [CLONE]    takes what is built from another tree of the same sources, as from one where all is proved
 
-The section has four blocks: commands, the program, which is written into src/main.rt where these end, further commands, and
-what the last of them print.
+The pages are README.md and those of docs/ that have commands. A step is a block of code:
+
+    sh          is run, in the folder where the commands before it ended
+    another     is written into FILE there, if the line before it ends in "`FILE`:"
+    text        is what the commands before it print
+
+What is not built yet, the commands build. A page is left out if the machine lacks what it needs.
 """
 
 import os
-import re
+import shutil
 import subprocess
 import sys
 import tempfile
+from pathlib import Path
+from shlex import quote
 
+from documents import STEP, Repository, is_tried
 from edits import TOP
-from files import read, write
+from files import read
+from machine import tell_count
+from needs import missing, python_with
 
-PAGE = "docs/GUIDE.md"
-SECTION = re.compile(r"^## The first program\n(.*?)^## ", re.M | re.S)
-BLOCK = re.compile(r"^```(\w+)\n(.*?)^```$", re.M | re.S)
+# What a page needs besides a shell and `rt`.
+NEEDS = {
+    "docs/c.md": ["cc", "pkg-config"],
+    "docs/python.md": ["cc", "python3-config", "python distributed pandas", "python pip setuptools wheel"],
+    "docs/rust.md": ["cc", "cargo"],
+}
+# Puts what was built elsewhere into its place, where it counts as newer than its sources.
+TAKE = """set -eu
+. bin/proving
+for name in intern dictcol; do
+  if [ -x "$1/crates/$name/out/$name" ]; then
+    cp "$1/crates/$name/out/$name" "crates/$name/out"
+    sources_of "$name" >"crates/$name/out/bin-$name.stamp"
+  fi
+done
+archive=$1/crates/string_interner_c/out/libstring_interner_c.a
+if [ -e "$archive" ]; then
+  clients/build "$archive"
+  sources_of string_interner_c clients/build clients/c/string_interner.h VERSION >clients/out/build.stamp
+fi
+"""
+MARK = "\f"
+UNSET = ("PYTHONPATH", "PKG_CONFIG_PATH", "LD_LIBRARY_PATH", "STRING_INTERNER_LIB")
 
 
-def steps_in(page):
-    """The four blocks: commands, program, commands, output."""
-    found = BLOCK.findall(SECTION.search(page)[1])[:4]
-    if [language for language, _ in found] != ["sh", "rattle", "sh", "text"]:
-        sys.exit(f"{PAGE}: the first program is not commands, a program, commands and what they print")
-    return [text for _, text in found]
+def script_of(text):
+    """The steps of a page as a script that prints a mark before each block of commands; and what each of these must print, or
+    None."""
+    script, printed = ["set -eu"], []
+    for file, language, step in STEP.findall(text):
+        if file:
+            script.append(f"mkdir -p {quote(os.path.dirname(file) or '.')}\nprintf %s {quote(step)} >{quote(file)}")
+        elif language == "sh":
+            script.append(f"printf '{MARK}'\n{step}")
+            printed.append(None)
+        elif printed:
+            printed[-1] = step
+    return "\n".join(script), printed
 
 
-def follow(steps, clone):
-    """Takes the steps in an empty folder, and returns what was printed at their end."""
-    before, program, after, _ = steps
-    with tempfile.TemporaryDirectory() as folder:
-        write(f"{folder}/main.rt", program)
-        os.mkdir(f"{folder}/empty")
-        words = f"set -e\n{{\n{before}}} >&2\ncp {folder}/main.rt src/main.rt\n{after}"
-        environment = {**os.environ, "CLONE": str(clone)}
-        run = subprocess.run(["bash", "-c", words], cwd=f"{folder}/empty", env=environment, stdout=subprocess.PIPE, text=True, check=False)
-    return run.stdout if run.returncode == 0 else f"{run.stdout}status {run.returncode}\n"
+def lay_out(clone, folder):
+    """Copies the sources into a new folder, with what is built in a clone."""
+    for name in Repository().files:
+        (folder / name).parent.mkdir(parents=True, exist_ok=True)
+        shutil.copy2(TOP / name, folder / name)
+    for kept in clone.glob("crates/*/out"):
+        (folder / kept.relative_to(clone)).mkdir()
+        if (kept / "rlib").is_dir():
+            shutil.copytree(kept / "rlib", folder / kept.relative_to(clone) / "rlib")
+    subprocess.run(["bash", "-c", TAKE, "take", clone], cwd=folder, check=True, stdout=sys.stderr)
+
+
+def take_steps(page, text, folder):
+    """Takes the steps of a page in this folder, and yields what goes otherwise than it says."""
+    script, printed = script_of(text)
+    environment = {name: value for name, value in os.environ.items() if name not in UNSET}
+    modules = [name for need in NEEDS.get(page, ()) if need.startswith("python ") for name in need.split()[1:]]
+    if modules and (python := python_with(*modules)):
+        environment["PATH"] = f"{Path(python).parent}:{environment['PATH']}"
+    ran = subprocess.run(["bash", "-c", script], cwd=folder, env=environment, capture_output=True, text=True, check=False)
+    shown = ran.stdout.split(MARK)[1:]
+    if ran.returncode:
+        yield f"{page}: block {len(shown)} of the commands ends with status {ran.returncode}\n{''.join(shown[-1:])}{ran.stderr}"
+    for number, (one, other) in enumerate(zip(printed, shown), 1):
+        if one not in (None, other):
+            yield f"{page}: block {number} of the commands prints\n{other}and should print\n{one}"
 
 
 def main():
-    steps = steps_in(read(TOP / PAGE))
-    printed = follow(steps, os.path.abspath(sys.argv[1]) if len(sys.argv) > 1 else TOP)
-    is_right = printed == steps[3]
-    if not is_right:
-        print(f"{PAGE}: the first program prints\n{printed}and should print\n{steps[3]}", end="")
-    print(f"{int(is_right)} passed, {int(not is_right)} failed")
-    return 0 if is_right else 1
+    clone = Path(sys.argv[1] if len(sys.argv) > 1 else TOP).resolve()
+    passed = failed = 0
+    with tempfile.TemporaryDirectory() as folder:
+        lay_out(clone, Path(folder, "clean"))
+        for page in filter(is_tried, Repository().files):
+            text = read(TOP / page)
+            if not script_of(text)[1]:
+                continue
+            if lacking := missing(NEEDS.get(page, ())):
+                print(*lacking, sep="\n")
+                continue
+            # No step writes into a file of the repository, so links serve as copies.
+            own = Path(folder, page.replace("/", "."), "clone")
+            shutil.copytree(Path(folder, "clean"), own, symlinks=True, copy_function=os.link)
+            found = list(take_steps(page, text, own))
+            print(*found, sep="\n", end="\n" if found else "")
+            passed, failed = passed + (not found), failed + bool(found)
+    return tell_count(passed, failed)
 
 
 if __name__ == "__main__":

@@ -5,8 +5,9 @@ import re
 from proof_file import BY_TACTICS
 
 REFUSED, LET_THROUGH, BY_FORM_ALONE = "refused", "let through", "by form alone"
-# What an error in a proof file says of a name that a planted bug took away.
-MISSING = re.compile(r"\bhas no (?:field )?`|\bnot found\b|\bis not in scope\b")
+# What an error in a proof file says of a name that a planted bug took away; not that a goal, as shown, names what a hole there does
+# not.
+MISSING = re.compile(r"\bhas no (?:field )?`|\bnot found\b|\bis not in scope\b(?! here, so what is shown)")
 # What is said of a goal that is not proved and has no answer, above its function.
 OPEN = re.compile(r"^note: .* is not proved .*\(`([^`]+)`\)")
 # An error in a proof file: the function's folder, the definition where there is one, and what is wrong.

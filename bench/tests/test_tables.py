@@ -8,7 +8,7 @@ from unittest import mock
 
 sys.path.insert(0, str(Path(__file__).resolve().parents[1]))
 import tables
-from results import BY_C, DEFAULT, DOCS, FAST, FNV, ORIGINAL, PARTS, SOURCES, Results, code_of, sum_of
+from results import DEFAULT, FAST, FNV, MEASURED, ORIGINAL, PARTS, RUST, SOURCES, Results, code_of, sum_of
 
 HEAD = {"commit": "c0ffee", "date": "2026-01-01", "machine": "a machine", "original": "the original", "load": "busy"}
 
@@ -70,16 +70,16 @@ class Code(unittest.TestCase):
             self.assertNotEqual(sum_of("columns", Path(folder)), before)
 
     def test_results_of_other_code_are_told(self):
-        results = Results(DOCS / "pictures")
+        results = Results(MEASURED)
         results.heads = {part: {**head, "code": sum_of(part)} for part, head in results.heads.items()}
         with mock.patch.object(tables, "DOCUMENTS", ()):
             self.assertEqual(list(tables.faults(results)), [])
             results.heads["memory"]["code"] = "another"
             del results.heads["columns"]["code"]
-            self.assertEqual([fault.partition(":")[0] for fault in tables.faults(results)], ["docs/pictures/memory.tsv", "docs/pictures/columns.tsv"])
+            self.assertEqual([fault.partition(":")[0] for fault in tables.faults(results)], ["bench/measured/memory.tsv", "bench/measured/columns.tsv"])
 
     def test_a_table_of_other_results_is_told(self):
-        results = Results(DOCS / "pictures")
+        results = Results(MEASURED)
         results.heads = {part: {**head, "code": sum_of(part)} for part, head in results.heads.items()}
         with tempfile.TemporaryDirectory() as folder:
             page = Path(folder, "PAGE.md")
@@ -114,52 +114,56 @@ class Tables(unittest.TestCase):
         results = results_of(*((FAST["string"], *row) for row in (*rows, ("words", 30, "fill", 1))))
         self.assertEqual(results.counted("words"), [10, 20])
 
-    def test_calls_through_c_are_shown_once_all_are_measured(self):
-        rows = [(kind, "identifiers", 10, "fill", 7) for kind in (FAST["string"], *BY_C)]
-        rows.append((FAST["string"], "identifiers", 10, "fill cycles", 5))
-        shown = tables.by_c(results_of(*rows))
-        self.assertNotIn("cycles", shown)
-        self.assertEqual(shown.count("| 7.00 |"), 3)
-
-    def test_the_readme_has_a_row_for_each_count_and_a_column_for_each_call(self):
-        rows = [(FAST["string"], "identifiers", 10, "fill", 30), (ORIGINAL["string"], "identifiers", 10, "fill", 60)]
-        rows += [(FAST["string"], "identifiers", 2000, "known", 9), (ORIGINAL["string"], "identifiers", 2000, "known", 6)]
+    def test_the_readme_has_the_rust_crate_by_each_hasher(self):
+        rows = [(RUST[kind], "identifiers", 10, "known cycles", value) for kind, value in (("original", 4), ("default", 6), ("fixed", 3))]
+        rows.append((RUST["default"], "identifiers", 10, "clone cycles", 1))
         shown = tables.speed(results_of(*rows)).splitlines()
-        self.assertIn("divided by the original's (string-interner 0.19); lower is better:", shown[0])
-        self.assertEqual(shown[-2:], ["| 10 | 0.50 |  |  |  |  |", "| 2,000 |  | 1.50 |  |  |  |"])
+        self.assertIn("divided by those of string-interner 0.19, by the", shown[0])
+        self.assertEqual(shown[-2:], ["| `rust, default` | 10 |  | 1.50 |  |  |  |  |", "| `rust, fixed` | 10 |  | 0.75 |  |  |  |  |"])
+        self.assertEqual(tables.speed(results_of()), "Not measured.")
+
+    def test_a_row_of_python_has_a_range(self):
+        figures = {what: {"one": 0.5, "two": 0.251} for what in tables.IN_SHORT}
+        figures["intern_all / a dict"] = {"one": 0.333}
+        shown = tables.in_python(figures, tables.IN_SHORT)
+        self.assertIn("| `get` of a known text | `d.get(text)` | 0.25 .. 0.50 |", shown)
+        self.assertIn("| a loop that fills a dict | 0.33 |", shown)
+
+    def test_rows_of_python_are_told_apart(self):
+        where = {"distinct, ASCII, fresh objects": 0.1, "distinct, not ASCII, fresh objects": 0.2, "repeats, ASCII, fresh objects": 0.3}
+        where |= {"repeats, ASCII, same objects": 0.4, "distinct, not ASCII, same objects": 0.5, "repeats, not ASCII, fresh objects": 0.6}
+        names = ("intern_all / pandas.factorize", "Column(rows) / pandas.factorize", "intern_all / a dict")
+        lines = tables.batches_in_python({name: where for name in names}).splitlines()
+        self.assertEqual([line.split(" | ")[1] for line in lines[2:]], ["0.40", "0.30 .. 0.60", "0.50", "0.10", "0.20"])
 
     def test_both_interners_are_beside_the_original_under_a_like_hasher(self):
         kinds = {FAST["string"]: 3, ORIGINAL["string"]: 4, DEFAULT["string"]: 6, FNV["string"]: 2}
-        shown = tables.calls(results_of(*((kind, "long", 10, "fill", time) for kind, time in kinds.items())))
-        self.assertEqual(shown.splitlines()[-1], "| 10 | 0.75 |  |  | 3.00 |  |  |")
-        self.assertNotIn("cycles", shown)
+        shown = tables.calls(results_of(*((kind, "identifiers", 10, "fill", time) for kind, time in kinds.items())))
+        self.assertEqual(shown.splitlines()[4:], ["| time, 10 identifiers | 0.75 |  |  | 3.00 |  |  |"])
 
-    def test_spread_is_told_in_percent_of_the_median(self):
-        rows = [(FAST["string"], "identifiers", 10, f"fill {of}", value) for of, value in (("median", 50), ("spread", 2))]
-        rows += [(ORIGINAL["string"], "identifiers", 10, f"fill {of}", value) for of, value in (("median", 50), ("spread", 4))]
-        self.assertEqual(tables.spread(results_of(*rows)), "Half of all rounds lie within a range of 6% of the median time.")
-        self.assertEqual(tables.spread(results_of()), "")
+    def test_long_texts_have_cycles_and_no_times(self):
+        rows = [(kind, "long", 10, f"fill{of}", 5) for kind in (FAST["string"], ORIGINAL["string"]) for of in ("", " cycles")]
+        shown = tables.calls(results_of(*rows))
+        self.assertEqual(shown.splitlines()[4:], ["| cycles, 10 texts of 200 bytes | 1.00 |  |  |  |  |  |"])
 
-    def test_each_part_has_its_commit(self):
+    def test_the_page_says_when_and_where_it_was_measured(self):
         results = results_of()
-        results.heads["cycles"] = {**HEAD, "commit": "f00d"}
-        shown = tables.measured(results).splitlines()
-        self.assertIn("| times | c0ffee | 2026-01-01 | a machine | busy |", shown)
-        self.assertIn("| cycles | f00d | 2026-01-01 | a machine | busy |", shown)
-        self.assertEqual(shown[-1], "The original is the original.")
+        results.heads["cycles"] = {**HEAD, "date": "2026-01-02"}
+        said = "Measured 2026-01-01; 2026-01-02: a machine; for times, busy. The original is the original."
+        self.assertEqual(tables.measured(results), said)
 
-    def test_kinds_are_those_of_the_library(self):
-        rows = [(kind, "identifiers", 10, "fill cycles", 7) for kind in (FAST["string"], ORIGINAL["string"])]
-        shown = tables.kinds(results_of(*rows)).splitlines()
-        self.assertEqual(len(shown), 5)
-        self.assertTrue(shown[-1].startswith("| string | `TaggedIndex` | `FoldState` | 7.00 |"))
+    def test_bytes_beside_other_maps_are_of_the_greatest_count_too(self):
+        rows = [(10, "fill cycles", 70), (10, "live", 4), (1000, "live", 5)]
+        shown = tables.peers(results_of(*((FAST["string"], "identifiers", *row) for row in rows))).splitlines()
+        self.assertIn("| live, 10 | live, 1,000 |", shown[2])
+        self.assertEqual(shown[4], "| `FastStringInterner` | 70.0 |  |  |  |  | 4.00 | 5.00 |")
 
     def test_a_program_has_a_row_for_both_counts(self):
         sort = ("sort | uniq -c", "-", "-", "-")
         rows = [(sort, "shuffled", 10, "run cycles", 70), (sort, "shuffled", 100, "run", 300)]
-        rows += [(sort, "shuffled", 100, "run median", 310), (sort, "shuffled", 100, "memory", 25)]
+        rows.append((sort, "shuffled", 100, "memory", 25))
         last = tables.columns(results_of(*rows)).splitlines()[-1]
-        self.assertEqual(last, r"| `sort \| uniq -c` | of a log, shuffled | 70.0 | 300 | 310 |  | 25.0 |")
+        self.assertEqual(last, r"| `sort \| uniq -c` | of a log, shuffled | 70.0 | 300 | 25.0 |")
 
     def test_parts_were_measured_apart(self):
         results = results_of()

@@ -1,7 +1,8 @@
 """Measures calls of the Python package beside what a dict and pandas take, and compares each figure with the most that it may be.
 
     python.py [calls] [batches] [memory] [import] [file]    all five if none is named; RUNS=9 takes the median of nine runs
-    python.py --docs                                        all five, and writes them and a picture to docs/pictures (needs matplotlib)
+    python.py --docs                                        all five, into bench/measured, and draws a picture (needs matplotlib)
+    python.py draw                                          draws the picture of what bench/measured has
     python.py instructions                                  of each call, by callgrind (needs gcc and valgrind)
 
 Each figure but those of the import and of callgrind is a ratio of two medians of processor time, whose runs took turns. The last
@@ -23,6 +24,7 @@ TOP = Path(__file__).resolve().parent.parent.parent
 sys.path.insert(0, str(TOP / "clients/python"))
 RUNS = int(os.environ.get("RUNS", 5))
 PICTURES = TOP / "docs/pictures"
+MEASURED = TOP / "bench/measured/python.tsv"
 figures, too_great = {}, []
 
 
@@ -273,40 +275,49 @@ def draw_ratios(axes, title, ways, most):
     axes.invert_yaxis()
     axes.set_xlim(left=0)
     axes.grid(axis="x", color="0.9", linewidth=0.5)
-    axes.set_title(title, fontsize=8, loc="left")
-    axes.legend(fontsize=7, loc="upper right", bbox_to_anchor=(1, -0.1), ncols=4, frameon=False, columnspacing=1, handletextpad=0.1)
+    axes.set_title(title, fontsize=8, loc="left", x=-0.6)
+    axes.set_xlabel("time divided by what it is beside; lower is better")
+    place = {"loc": "upper right", "bbox_to_anchor": (1.03, -0.19), "ncols": 2}
+    axes.legend(fontsize=7, **place, frameon=False, columnspacing=1, handletextpad=0.1)
 
 
 def draw(commit):
-    """Draws the calls and the batches, readable in black and white."""
-    import matplotlib
+    """Draws the calls and the batches as bench/pictures.py draws: to be read 480 pixels wide, in black and white, on any ground."""
+    sys.path.append(str(TOP / "bench"))
+    from pictures import plot, write
 
-    matplotlib.use("svg")
-    import matplotlib.pyplot as plot
-
-    plot.rcParams.update({"font.size": 8, "savefig.facecolor": "white", "svg.fonttype": "none", "svg.hashsalt": "string_interner"})
-    plot.rcParams.update({"axes.spines.top": False, "axes.spines.right": False})
-    figure, (left, right) = plot.subplots(1, 2, figsize=(10, 3.2))
-    figure.subplots_adjust(left=0.2, right=0.985, top=0.9, bottom=0.2, wspace=0.55)
-    draw_ratios(left, "A million rows at once: time divided by that of pandas.factorize", {
+    figure, (upper, lower) = plot.subplots(2, 1, figsize=(5, 6.2))
+    figure.subplots_adjust(left=0.38, right=0.97, top=0.96, bottom=0.17, hspace=0.55)
+    draw_ratios(upper, "A million rows at once, beside pandas.factorize", {
         "intern_all / pandas.factorize": "intern_all", "Column(rows) / pandas.factorize": "Column(rows)",
         "a dict / pandas.factorize": "a loop over a dict"}, 0.8)
-    draw_ratios(right, "Call by call: time divided by that of a dict's method", {
+    draw_ratios(lower, "Call by call, beside a dict's method", {
         "intern of a known text / d.setdefault": "intern, known", "intern of a new text / d.setdefault": "intern, new",
         "get of a known text / d.get": "get, known", "get of an unknown text / d.get": "get, unknown"}, 1.5)
-    figure.text(0.01, 0.01, f"Commit {commit}, medians of {RUNS} runs that took turns.", fontsize=6, color="0.3")
-    figure.savefig(PICTURES / "python.svg", metadata={"Date": None})
+    line = f"Commit {commit}, medians of {RUNS} runs that took turns. Dashed: the most that it is meant to take."
+    figure.text(0.01, 0.01, line, fontsize=6, color="0.3")
+    write(figure, PICTURES / "python.svg")
 
 
 def record():
     """Writes all figures and a picture of them."""
     commit = subprocess.run(["git", "rev-parse", "--short=12", "HEAD"], cwd=TOP, capture_output=True, text=True, check=True).stdout.strip()
     lines = [f"# commit: {commit}", *(f"{what}\t{where}\t{figure:.3f}" for (what, where), figure in figures.items())]
-    (PICTURES / "python.tsv").write_text("\n".join(lines) + "\n")
+    MEASURED.write_text("\n".join(lines) + "\n")
     draw(commit)
 
 
+def draw_recorded():
+    """Draws the figures that were written before."""
+    head, *lines = MEASURED.read_text().splitlines()
+    for what, where, figure in (line.split("\t") for line in lines):
+        figures[what, where] = float(figure)
+    draw(head.removeprefix("# commit: "))
+
+
 def main(*words):
+    if words == ("draw",):
+        return draw_recorded()
     is_recorded = words == ("--docs",)
     for part in ((not is_recorded and words) or ("calls", "batches", "memory", "import", "file")):
         {"calls": measure_calls, "batches": measure_batches, "memory": measure_memory, "import": measure_import, "file": measure_file,

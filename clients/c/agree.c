@@ -14,16 +14,19 @@ typedef struct text {
   size_t len;
 } text;
 
-/* The list, and where each text's number stands on a kind: its index, or the bytes of the entries before it. */
+/* The list, and where each text's symbol stands on a kind: its index, or the bytes of the entries before it. */
 typedef struct list {
-  si_kind kind;
+  interner_kind kind;
   size_t count;
   text texts[MOST_TEXTS];
-  size_t numbers[MOST_TEXTS];
+  interner_symbol symbols[MOST_TEXTS];
 } list;
 
 static uint64_t state;
 static unsigned long agreed;
+
+/* What stands for no symbol where a call returns a symbol or a status. */
+static const uint64_t NO_SYMBOL = (uint64_t)1 << 32;
 
 static void fail(const char *claim, int line) {
   printf("agree.c:%d: after %lu commands, not so: %s\n", line, agreed, claim);
@@ -79,132 +82,215 @@ static size_t find(const list *known, const text *sought) {
   return i;
 }
 
-/* The number behind the last text. An entry of a buffer is the length, seven bits in a byte, and the bytes. */
-static size_t next_number(const list *known) {
+/* The symbol behind the last text. An entry of a buffer is the length, seven bits in a byte, and the bytes. */
+static interner_symbol next_symbol(const list *known) {
   size_t last, len, bytes = 1;
   if (known->count == 0) return 0;
   last = known->count - 1;
-  if (known->kind != SI_BUFFER) return known->count;
+  if (known->kind != INTERNER_BUFFER) return (interner_symbol)known->count;
   for (len = known->texts[last].len; len >= 128; len /= 128) bytes++;
-  return known->numbers[last] + bytes + known->texts[last].len;
+  return (interner_symbol)(known->symbols[last] + bytes + known->texts[last].len);
 }
 
-/* Interns in the list, and returns the number. */
-static size_t put(list *known, const text *given) {
-  size_t at = find(known, given), number = next_number(known);
-  if (at < known->count) return known->numbers[at];
+/* Interns in the list, and returns the symbol. */
+static interner_symbol put(list *known, const text *given) {
+  size_t at = find(known, given);
+  interner_symbol symbol = next_symbol(known);
+  if (at < known->count) return known->symbols[at];
   known->texts[at] = *given;
-  known->numbers[at] = number;
+  known->symbols[at] = symbol;
   known->count++;
-  return number;
+  return symbol;
 }
 
-static bool same(const si_text *lent, const text *wanted) {
+static bool same(const interner_text *lent, const text *wanted) {
   return lent->len == wanted->len && !memcmp(lent->bytes, wanted->bytes, wanted->len);
 }
 
-/* All entries are those of the list, in order. */
-static void compare_all(si_interner *h, const list *known) {
-  static si_entry entries[MOST_TEXTS];
-  size_t count, i;
-  MUST(si_entries(h, entries, MOST_TEXTS, &count) == SI_OK && count == known->count);
+/* Lists the next entries, which are those of the list, and returns how many. */
+static size_t list_piece(const interner *h, const list *known, interner_cursor *at) {
+  static interner_entry entries[MOST_TEXTS];
+  const size_t room = below(4) ? below(MOST_TEXTS) + 1 : below(9) + 1, begun = at->index, left = known->count - begun;
+  size_t count = interner_entries(h, at, entries, room), i;
+  MUST(count == (left < room ? left : room) && at->index == begun + count);
   for (i = 0; i < count; i++) {
-    MUST(entries[i].number == known->numbers[i]);
-    MUST(same(&entries[i].text, &known->texts[i]));
+    MUST(entries[i].symbol == known->symbols[begun + i]);
+    MUST(same(&entries[i].text, &known->texts[begun + i]));
   }
+  return count;
 }
 
-static void intern_one(si_interner *h, list *known) {
+/* All entries are those of the list, in order. */
+static void compare_all(const interner *h, const list *known) {
+  interner_cursor at = {0, 0};
+  while (list_piece(h, known, &at) > 0);
+  MUST(at.index == known->count);
+}
+
+/* The joined texts are those of the list, and what resolve lends; another kind lends none. */
+static void compare_joined(const interner *h, const list *known) {
+  interner_joined joined = {NULL, 7777, NULL, 7777, NULL, 7777};
+  size_t at = 0, i;
+  if (known->kind != INTERNER_STRING) {
+    MUST(interner_string_joined(h, &joined) == INTERNER_BAD_KIND && joined.bytes_len == 7777 && joined.ends_len == 7777);
+    return;
+  }
+  MUST(interner_string_joined(h, &joined) == INTERNER_OK && joined.ends_len + joined.long_ends_len == known->count);
+  for (i = 0; i < known->count; i++) {
+    const size_t end = i < joined.ends_len ? joined.ends[i] : joined.long_ends[i - joined.ends_len];
+    interner_text lent;
+    MUST(at <= end && end <= joined.bytes_len && end - at == known->texts[i].len);
+    MUST(!memcmp(joined.bytes + at, known->texts[i].bytes, end - at));
+    MUST(interner_resolve(h, known->symbols[i], &lent) == INTERNER_OK && same(&lent, &known->texts[i]));
+    at = end;
+  }
+  MUST(at == joined.bytes_len);
+}
+
+/* Interns a text by the call for each kind, which on a handle of another kind does nothing. Returns the symbol. */
+static interner_symbol intern_by_kind(interner *h, const list *known, const text *given) {
+  static uint64_t (*const intern[])(interner *, const char *, size_t) = {
+      interner_string_intern_utf8, interner_bucket_intern_utf8, interner_buffer_intern_utf8};
+  uint64_t symbol = intern[known->kind](h, given->bytes, given->len);
+  size_t count = interner_len(h);
+  interner_kind kind;
+  for (kind = INTERNER_STRING; kind < sizeof intern / sizeof *intern; kind++) {
+    if (kind == known->kind) continue;
+    MUST(intern[kind](h, given->bytes, given->len) == NO_SYMBOL + INTERNER_BAD_KIND);
+    MUST(intern[kind](h, "no text is this", 15) == NO_SYMBOL + INTERNER_BAD_KIND && interner_len(h) == count);
+  }
+  MUST(symbol < NO_SYMBOL);
+  return (interner_symbol)symbol;
+}
+
+static void intern_one(interner *h, list *known) {
   static const char *const lasting[] = {"", "static", "a", "\u00df", "another text that stays"};
   text given = some_text();
-  size_t number = 7777;
-  si_result told;
-  switch (below(3)) {
+  interner_symbol symbol = 7777;
+  interner_status told = INTERNER_OK;
+  switch (below(5)) {
   case 0:
-    told = si_get_or_intern(h, given.bytes, given.len, &number);
+    told = interner_get_or_intern(h, given.bytes, given.len, &symbol);
     break;
   case 1:
-    told = si_get_or_intern_utf8(h, given.bytes, given.len, &number);
+    told = interner_get_or_intern_utf8(h, given.bytes, given.len, &symbol);
+    break;
+  case 2:
+    given.bytes[given.len] = 0;
+    given.len = strlen(given.bytes);
+    told = interner_get_or_intern_c_string(h, given.bytes, &symbol);
+    break;
+  case 3:
+    symbol = intern_by_kind(h, known, &given);
     break;
   default: {
     const char *chosen = lasting[below(5)];
     given.len = strlen(chosen);
     memcpy(given.bytes, chosen, given.len);
-    told = si_get_or_intern_static(h, chosen, given.len, &number);
+    told = interner_get_or_intern_static(h, chosen, given.len, &symbol);
   }
   }
-  MUST(told == SI_OK && number == put(known, &given));
+  MUST(told == INTERNER_OK && symbol == put(known, &given));
 }
 
-static void refuse_no_text(si_interner *h) {
+static void refuse_no_text(interner *h) {
   text wrong = no_text();
-  size_t number = 7777;
-  MUST(si_get_or_intern(h, wrong.bytes, wrong.len, &number) == SI_BAD_TEXT && number == 7777);
-  MUST(si_get(h, wrong.bytes, wrong.len, &number) == SI_BAD_TEXT && number == 7777);
-  MUST(!si_contains(h, wrong.bytes, wrong.len));
+  interner_symbol symbol = 7777;
+  MUST(interner_get_or_intern(h, wrong.bytes, wrong.len, &symbol) == INTERNER_BAD_TEXT && symbol == 7777);
+  MUST(interner_get(h, wrong.bytes, wrong.len, &symbol) == INTERNER_BAD_TEXT && symbol == 7777);
+  MUST(!interner_contains(h, wrong.bytes, wrong.len));
 }
 
-static void look_up(si_interner *h, const list *known) {
+static void look_up(interner *h, const list *known) {
   text sought = some_text();
-  size_t at = find(known, &sought), number = 7777;
-  si_result (*get)(const si_interner *, const char *, size_t, size_t *) = below(2) ? si_get : si_get_utf8;
-  MUST(si_contains(h, sought.bytes, sought.len) == (at < known->count));
+  size_t at = find(known, &sought);
+  interner_symbol symbol = 7777;
+  interner_status (*get)(const interner *, const char *, size_t, interner_symbol *) = below(2) ? interner_get : interner_get_utf8;
+  MUST(interner_contains(h, sought.bytes, sought.len) == (at < known->count));
   if (at < known->count) {
-    MUST(get(h, sought.bytes, sought.len, &number) == SI_OK && number == known->numbers[at]);
+    MUST(get(h, sought.bytes, sought.len, &symbol) == INTERNER_OK && symbol == known->symbols[at]);
   } else {
-    MUST(get(h, sought.bytes, sought.len, &number) == SI_NOTHING && number == 7777);
+    MUST(get(h, sought.bytes, sought.len, &symbol) == INTERNER_NOT_FOUND && symbol == 7777);
   }
 }
 
-static void resolve_one(si_interner *h, const list *known) {
-  si_text lent;
-  size_t next = next_number(known), beyond = next + below(3) * below(1000);
+/* The calls for one kind do as those for all kinds, on a handle of another kind nothing. */
+static void resolve_by_kind(const interner *h, const list *known, const text *wanted, interner_symbol symbol) {
+  static interner_status (*const resolve[])(const interner *, interner_symbol, interner_text *) = {
+      interner_string_resolve, interner_bucket_resolve, interner_buffer_resolve};
+  static interner_status (*const get[])(const interner *, const char *, size_t, interner_symbol *) = {
+      interner_string_get_utf8, interner_bucket_get_utf8, interner_buffer_get_utf8};
+  static uint64_t (*const find[])(const interner *, const char *, size_t) = {
+      interner_string_find_utf8, interner_bucket_find_utf8, interner_buffer_find_utf8};
+  interner_kind kind;
+  for (kind = INTERNER_STRING; kind < sizeof resolve / sizeof *resolve; kind++) {
+    interner_text lent = {NULL, 7777};
+    interner_symbol found = 7777;
+    interner_status told = kind == known->kind ? INTERNER_OK : INTERNER_BAD_KIND;
+    MUST(resolve[kind](h, symbol, &lent) == told && get[kind](h, wanted->bytes, wanted->len, &found) == told);
+    MUST(told == INTERNER_OK ? same(&lent, wanted) && found == symbol : lent.len == 7777 && found == 7777);
+    MUST(find[kind](h, wanted->bytes, wanted->len) == (told == INTERNER_OK ? symbol : NO_SYMBOL + told));
+    told = kind == known->kind ? INTERNER_NOT_FOUND : INTERNER_BAD_KIND;
+    found = 7777;
+    MUST(resolve[kind](h, next_symbol(known), &lent) == told);
+    MUST(get[kind](h, "no text is this", 15, &found) == told && found == 7777);
+    MUST(find[kind](h, "no text is this", 15) == NO_SYMBOL + told);
+  }
+}
+
+static void resolve_one(interner *h, const list *known) {
+  interner_text lent;
+  interner_symbol next = next_symbol(known), beyond = next + (interner_symbol)(below(3) * below(1000));
   if (known->count > 0) {
     size_t at = below(known->count);
-    MUST(si_resolve(h, known->numbers[at], &lent) == SI_OK && same(&lent, &known->texts[at]));
-    MUST(si_len(h) == known->count && same(&lent, &known->texts[at]));
+    MUST(interner_resolve(h, known->symbols[at], &lent) == INTERNER_OK && same(&lent, &known->texts[at]));
+    resolve_by_kind(h, known, &known->texts[at], known->symbols[at]);
+    MUST(interner_len(h) == known->count && same(&lent, &known->texts[at]));
   }
   lent.len = 7777;
-  MUST(si_resolve(h, beyond, &lent) == SI_NOTHING && lent.len == 7777);
-  MUST(si_resolve(h, SIZE_MAX - below(2), &lent) == SI_NOTHING && lent.len == 7777);
+  MUST(interner_resolve(h, beyond, &lent) == INTERNER_NOT_FOUND && lent.len == 7777);
+  MUST(interner_resolve(h, UINT32_MAX - (interner_symbol)below(2), &lent) == INTERNER_NOT_FOUND && lent.len == 7777);
 }
 
-/* On a buffer, a number between those of texts reads nothing, or UTF-8, which another interner takes. */
-static void resolve_between(si_interner *h, const list *known) {
-  si_interner *judge;
-  si_text lent;
-  size_t number;
+/* On a buffer, a symbol between those of texts reads nothing, or UTF-8, which another interner takes. */
+static void resolve_between(interner *h, const list *known) {
+  interner *judge;
+  interner_text lent;
+  interner_symbol symbol;
   if (known->count == 0) return;
-  if (si_resolve(h, below(next_number(known)), &lent) == SI_OK) {
-    MUST(si_new(&judge, SI_STRING) == SI_OK);
-    MUST(si_get_or_intern(judge, lent.bytes, lent.len, &number) == SI_OK);
-    si_free(judge);
+  if (interner_resolve(h, (interner_symbol)below(next_symbol(known)), &lent) == INTERNER_OK) {
+    MUST(interner_new(INTERNER_STRING, &judge) == INTERNER_OK);
+    MUST(interner_get_or_intern(judge, lent.bytes, lent.len, &symbol) == INTERNER_OK);
+    interner_free(judge);
   } else {
-    MUST(known->kind == SI_BUFFER);
+    MUST(known->kind == INTERNER_BUFFER);
   }
 }
 
-static void copy_one(si_interner *h, const list *known) {
+static void copy_one(interner *h, const list *known) {
   char room[MOST_BYTES];
   size_t room_len = below(below(4) ? 12 : MOST_BYTES), len = 7777, at, i;
   memset(room, 0xee, sizeof room);
-  MUST(si_copy(h, next_number(known), room, room_len, &len) == SI_NOTHING && len == 7777);
+  MUST(interner_copy_text(h, next_symbol(known), room, room_len, &len) == INTERNER_NOT_FOUND && len == 7777);
   if (known->count > 0) {
     const text *wanted = &known->texts[at = below(known->count)];
     bool fits = wanted->len <= room_len;
-    MUST(si_copy(h, known->numbers[at], room, room_len, &len) == (fits ? SI_OK : SI_NO_ROOM) && len == wanted->len);
+    MUST(interner_copy_text(h, known->symbols[at], room, room_len, &len) == (fits ? INTERNER_OK : INTERNER_NO_ROOM));
+    MUST(len == wanted->len);
     if (fits) MUST(!memcmp(room, wanted->bytes, len));
     for (i = fits ? len : 0; i < sizeof room; i++) MUST(room[i] == (char)0xee);
   }
 }
 
 /* Interns up to eight texts at once. One of the things that can be wrong is so at a random place. */
-static void intern_many(si_interner *h, list *known) {
+static void intern_many(interner *h, list *known) {
   char bytes[8 * MOST_BYTES];
-  size_t ends[8], numbers[9], len = 0, done = 7777, count = below(9), wrong_at = below(12), i;
-  size_t room = below(20) ? count : below(count + 1), wanted[8], good = 0;
-  si_result told = SI_OK;
-  for (i = 0; i < 9; i++) numbers[i] = 7777;
+  size_t ends[8], len = 0, done = 7777, count = below(9), wrong_at = below(12), i;
+  interner_symbol symbols[9];
+  size_t room = below(20) ? count : below(count + 1), good = 0;
+  interner_symbol wanted[8];
+  interner_status told = INTERNER_OK;
+  for (i = 0; i < 9; i++) symbols[i] = 7777;
   for (i = 0; i < count; i++) {
     bool is_wrong = i == wrong_at;
     uint32_t how = is_wrong ? (uint32_t)below(3) : 0;
@@ -214,60 +300,104 @@ static void intern_many(si_interner *h, list *known) {
     ends[i] = len;
     if (is_wrong && how == 1) ends[i] = sizeof bytes + 1 + below(100);
     if (is_wrong && how == 2) ends[i] = i > 0 && ends[i - 1] > 0 ? ends[i - 1] - 1 : SIZE_MAX;
-    if (is_wrong && told == SI_OK) told = how == 0 ? SI_BAD_TEXT : SI_BAD_ENDS;
-    if (told == SI_OK && room == count) wanted[good++] = put(known, &given);
+    if (is_wrong && told == INTERNER_OK) told = how == 0 ? INTERNER_BAD_TEXT : INTERNER_BAD_ENDS;
+    if (told == INTERNER_OK && room == count) wanted[good++] = put(known, &given);
   }
-  if (room < count) told = SI_NO_ROOM;
-  MUST(si_intern_all(h, bytes, len, ends, count, numbers, room, &done) == told && done == good);
-  for (i = 0; i < good; i++) MUST(numbers[i] == wanted[i]);
-  for (i = good; i < 9; i++) MUST(numbers[i] == 7777);
+  if (room < count) told = INTERNER_NO_ROOM;
+  MUST(interner_intern_joined(h, bytes, len, ends, count, symbols, room, &done) == told && done == good);
+  for (i = 0; i < good; i++) MUST(symbols[i] == wanted[i]);
+  for (i = good; i < 9; i++) MUST(symbols[i] == 7777);
 }
 
-static void walk(si_interner *h, const list *known) {
-  si_entry entries[4];
-  size_t room = below(5), count = 7777, i;
-  for (i = 0; i < 4; i++) entries[i].number = 7777;
-  if (room < known->count) {
-    MUST(si_entries(h, entries, room, &count) == SI_NO_ROOM && count == known->count);
-    for (i = 0; i < 4; i++) MUST(entries[i].number == 7777);
+/* The same of texts in a list, of which one may not be UTF-8. */
+static void intern_list(interner *h, list *known) {
+  text given[8];
+  interner_text texts[8];
+  interner_symbol symbols[9], wanted[8];
+  size_t done = 7777, count = below(9), wrong_at = below(12), room = below(20) ? count : below(count + 1), good = 0, i;
+  interner_status told = wrong_at < count ? INTERNER_BAD_TEXT : INTERNER_OK;
+  for (i = 0; i < 9; i++) symbols[i] = 7777;
+  for (i = 0; i < count; i++) {
+    given[i] = i == wrong_at ? no_text() : some_text();
+    texts[i].bytes = given[i].bytes, texts[i].len = given[i].len;
+    if (i < wrong_at && room == count) wanted[good++] = put(known, &given[i]);
   }
+  if (room < count) told = INTERNER_NO_ROOM;
+  MUST(interner_intern_list(h, texts, count, symbols, room, &done) == told && done == good);
+  for (i = 0; i < good; i++) MUST(symbols[i] == wanted[i]);
+  for (i = good; i < 9; i++) MUST(symbols[i] == 7777);
+  MUST(interner_intern_texts(h, texts, good, symbols, &done) == INTERNER_OK && done == good);
+  for (i = 0; i < good; i++) MUST(symbols[i] == wanted[i]);
+}
+
+/* Lists the entries from some cursor on, which may be none. What is behind the entries is unchanged, and what is written can be
+ * read. */
+static void walk(interner *h, const list *known) {
+  interner_entry entries[4];
+  interner_cursor at = {below(known->count + 3), below(4) ? below(1000) : SIZE_MAX - below(3)};
+  const size_t room = below(5);
+  size_t count, i;
+  for (i = 0; i < 4; i++) entries[i].symbol = 7777;
+  if (at.index < known->count && below(2)) at.place = known->symbols[at.index];
+  count = interner_entries(h, &at, entries, room);
+  MUST(count <= room);
+  for (i = 0; i < count; i++) MUST(memchr(entries[i].text.bytes, 0xff, entries[i].text.len) == NULL);
+  for (i = count; i < 4; i++) MUST(entries[i].symbol == 7777);
   compare_all(h, known);
 }
 
-static void truncate_some(si_interner *h, list *known) {
+/* Lists entries while others come, and while some go that were not listed yet. */
+static void list_as_texts_come(interner *h, list *known) {
+  interner_cursor at = {0, 0};
+  size_t pieces = below(20), come;
+  while (pieces-- > 0) {
+    list_piece(h, known, &at);
+    if (below(8) == 0) {
+      const size_t len = at.index + below(known->count - at.index + 1);
+      interner_truncate(h, len);
+      known->count = len;
+    }
+    for (come = below(3); come > 0 && known->count < MOST_TEXTS - 8; come--) intern_one(h, known);
+  }
+  while (list_piece(h, known, &at) > 0);
+  MUST(at.index == known->count);
+}
+
+static void truncate_some(interner *h, list *known) {
   size_t len = below(8) ? known->count - below(known->count / 8 + 1) : below(known->count + 20);
-  si_truncate(h, len);
+  interner_truncate(h, len);
   if (len < known->count) known->count = len;
 }
 
 /* Puts another text of the same length in the place of the last one: `other` is then not equal, until that is put back. */
-static void change_last(si_interner *h, const list *known, si_interner *other) {
+static void change_last(interner *h, const list *known, interner *other) {
   text last, changed;
-  size_t number;
+  interner_symbol symbol;
   if (known->count == 0 || known->texts[known->count - 1].len == 0) return;
   last = changed = known->texts[known->count - 1];
   memset(changed.bytes, 'z', changed.len);
-  si_truncate(other, known->count - 1);
-  MUST(!si_equal(h, other));
-  MUST(si_get_or_intern(other, changed.bytes, changed.len, &number) == SI_OK && !si_equal(h, other) && !si_equal(other, h));
-  si_truncate(other, known->count - 1);
-  MUST(si_get_or_intern(other, last.bytes, last.len, &number) == SI_OK && si_equal(h, other));
+  interner_truncate(other, known->count - 1);
+  MUST(!interner_equal(h, other));
+  MUST(interner_get_or_intern(other, changed.bytes, changed.len, &symbol) == INTERNER_OK);
+  MUST(!interner_equal(h, other) && !interner_equal(other, h));
+  interner_truncate(other, known->count - 1);
+  MUST(interner_get_or_intern(other, last.bytes, last.len, &symbol) == INTERNER_OK && interner_equal(h, other));
 }
 
 /* A copy is equal until one of the two changes, and each goes on without the other. */
-static void copy_all(si_interner **handle, list *known, si_interner **copy) {
-  si_interner *h = *handle, *other;
+static void copy_all(interner **handle, list *known, interner **copy) {
+  interner *h = *handle, *other;
   text extra = {"a text that no random one is", 28};
-  size_t number;
-  si_free(*copy);
-  MUST(si_clone(h, copy) == SI_OK);
+  interner_symbol symbol;
+  interner_free(*copy);
+  MUST(interner_clone(h, copy) == INTERNER_OK);
   other = *copy;
-  MUST(si_equal(h, other) && si_equal(other, h) && si_equal(h, h));
+  MUST(interner_equal(h, other) && interner_equal(other, h) && interner_equal(h, h));
   compare_all(other, known);
-  MUST(si_get_or_intern(other, extra.bytes, extra.len, &number) == SI_OK && number == next_number(known));
-  MUST(!si_equal(h, other) && si_len(h) == known->count && si_len(other) == known->count + 1);
-  si_truncate(other, known->count);
-  MUST(si_equal(h, other));
+  MUST(interner_get_or_intern(other, extra.bytes, extra.len, &symbol) == INTERNER_OK && symbol == next_symbol(known));
+  MUST(!interner_equal(h, other) && interner_len(h) == known->count && interner_len(other) == known->count + 1);
+  interner_truncate(other, known->count);
+  MUST(interner_equal(h, other));
   change_last(h, known, other);
   if (below(2)) *handle = other, *copy = h;
 }
@@ -293,96 +423,123 @@ static size_t spell_json(const list *known, char *out) {
   return (size_t)(at - out);
 }
 
-static void write_and_read_json(si_interner *h, const list *known, si_interner **other) {
-  static char wanted[MOST_ROOM], room[MOST_ROOM];
-  si_interner *kept;
-  size_t len = spell_json(known, wanted), told = 7777, short_room = below(len);
-  memset(room, 0xee, len);
-  MUST(si_to_json(h, room, short_room, &told) == SI_NO_ROOM && told == len && room[0] == (char)0xee);
-  MUST(si_to_json(h, room, sizeof room, &told) == SI_OK && told == len && !memcmp(room, wanted, len));
-  si_free(*other);
-  MUST((below(2) ? si_from_json : si_from_json_exact)(other, known->kind, room, len) == SI_OK);
-  kept = *other;
-  MUST(si_equal(h, kept));
-  MUST(si_from_json(other, known->kind, room, len - 1) == SI_BAD_TEXT && *other == kept);
+/* Options of this kind, with some hasher, keys and capacity. */
+static interner_options some_options(interner_kind kind) {
+  interner_options made = {kind, (interner_hasher)below(3), below(50), 0, 0};
+  made.key0 = below(SIZE_MAX), made.key1 = below(SIZE_MAX);
+  return made;
 }
 
-static void read_odd_json(si_kind kind) {
+/* Reads JSON by one of the calls that do. */
+static interner_status read_json(interner_kind kind, const char *json, size_t len, bool exact, interner **out) {
+  interner_options options = some_options(kind);
+  return exact || below(2) ? interner_from_json_with(&options, json, len, exact, out) : interner_from_json(kind, json, len, out);
+}
+
+static void write_and_read_json(interner *h, const list *known, interner **other) {
+  static char wanted[MOST_ROOM], room[MOST_ROOM];
+  interner *kept;
+  size_t len = spell_json(known, wanted), told = 7777, short_room = below(len);
+  memset(room, 0xee, len);
+  MUST(interner_to_json(h, room, short_room, &told) == INTERNER_NO_ROOM && told == len && room[0] == (char)0xee);
+  MUST(interner_to_json(h, room, sizeof room, &told) == INTERNER_OK && told == len && !memcmp(room, wanted, len));
+  interner_free(*other);
+  MUST(read_json(known->kind, room, len, below(2), other) == INTERNER_OK);
+  kept = *other;
+  MUST(interner_equal(h, kept));
+  MUST(read_json(known->kind, room, len - 1, below(2), other) == INTERNER_BAD_TEXT && *other == kept);
+}
+
+static void read_odd_json(interner_kind kind) {
   static const struct row {
     const char *json;
-    si_result loose, exact;
+    interner_status loose, exact;
     size_t len;
   } rows[] = {
-      {" [ \"\\u00df\" , \"b\" ] ", SI_OK, SI_OK, 2},
-      {"[]", SI_OK, SI_OK, 0},
-      {"[\"a\",\"b\",\"a\"]", SI_OK, SI_REPEATED, 2},
-      {"[\"a\",\"\\u0061\",1]", SI_NOT_A_TEXT, SI_REPEATED, 0},
-      {"[\"a\",1,\"a\"]", SI_NOT_A_TEXT, SI_NOT_A_TEXT, 0},
-      {"{\"a\":[\"b\"]}", SI_NOT_A_LIST, SI_NOT_A_LIST, 0},
-      {"\"a\"", SI_NOT_A_LIST, SI_NOT_A_LIST, 0},
-      {"[\"a\",]", SI_BAD_TEXT, SI_BAD_TEXT, 0},
-      {"", SI_BAD_TEXT, SI_BAD_TEXT, 0},
-      {"[\"\xff\"]", SI_BAD_TEXT, SI_BAD_TEXT, 0},
+      {" [ \"\\u00df\" , \"b\" ] ", INTERNER_OK, INTERNER_OK, 2},
+      {"[]", INTERNER_OK, INTERNER_OK, 0},
+      {"[\"a\",\"b\",\"a\"]", INTERNER_OK, INTERNER_REPEATED, 2},
+      {"[\"a\",\"\\u0061\",1]", INTERNER_NOT_A_TEXT, INTERNER_REPEATED, 0},
+      {"[\"a\",1,\"a\"]", INTERNER_NOT_A_TEXT, INTERNER_NOT_A_TEXT, 0},
+      {"{\"a\":[\"b\"]}", INTERNER_NOT_A_LIST, INTERNER_NOT_A_LIST, 0},
+      {"\"a\"", INTERNER_NOT_A_LIST, INTERNER_NOT_A_LIST, 0},
+      {"[\"a\",]", INTERNER_BAD_TEXT, INTERNER_BAD_TEXT, 0},
+      {"", INTERNER_BAD_TEXT, INTERNER_BAD_TEXT, 0},
+      {"[\"\xff\"]", INTERNER_BAD_TEXT, INTERNER_BAD_TEXT, 0},
   };
   const struct row *row = &rows[below(sizeof rows / sizeof *rows)];
-  si_interner *made = NULL;
-  si_result wanted = below(2) ? row->loose : row->exact;
-  si_result (*read)(si_interner **, si_kind, const char *, size_t) = wanted == row->exact ? si_from_json_exact : si_from_json;
-  MUST(read(&made, kind, row->json, strlen(row->json)) == wanted && (made != NULL) == (wanted == SI_OK));
-  if (made) MUST(si_len(made) == row->len);
-  si_free(made);
+  interner *made = NULL;
+  bool exact = below(2);
+  interner_status wanted = exact ? row->exact : row->loose;
+  MUST(read_json(kind, row->json, strlen(row->json), exact, &made) == wanted && (made != NULL) == (wanted == INTERNER_OK));
+  if (made) MUST(interner_len(made) == row->len);
+  interner_free(made);
 }
 
 /* Interns a part of a text that is there, often while its bytes move. */
-static void intern_part(si_interner *h, list *known) {
-  size_t at, from, to, number = 7777;
+static void intern_part(interner *h, list *known) {
+  size_t at, from, to;
+  interner_symbol symbol = 7777;
   text part = {{0}, 0};
-  si_result told;
-  MUST(si_get_or_intern_part(h, next_number(known), 0, 0, &number) == SI_NOTHING && number == 7777);
+  interner_status told;
+  MUST(interner_get_or_intern_part(h, next_symbol(known), 0, 0, &symbol) == INTERNER_NOT_FOUND && symbol == 7777);
   if (known->count == 0) return;
   at = below(known->count);
   from = below(known->texts[at].len + 1);
   to = below(known->texts[at].len + 2);
-  told = si_get_or_intern_part(h, known->numbers[at], from, to, &number);
+  told = interner_get_or_intern_part(h, known->symbols[at], from, to, &symbol);
   if (from > to || to > known->texts[at].len) {
-    MUST(told == SI_BAD_ENDS && number == 7777);
+    MUST(told == INTERNER_BAD_ENDS && symbol == 7777);
   } else if (from < to && (is_cut(&known->texts[at], from) || is_cut(&known->texts[at], to))) {
-    MUST(told == SI_BAD_TEXT && number == 7777);
+    MUST(told == INTERNER_BAD_TEXT && symbol == 7777);
   } else {
     part.len = to - from;
     memcpy(part.bytes, known->texts[at].bytes + from, part.len);
-    MUST(told == SI_OK && number == put(known, &part));
+    MUST(told == INTERNER_OK && symbol == put(known, &part));
   }
 }
 
-/* Kinds that there are not, and what is said of null where nothing is to be read, written or freed. */
-static void call_with_nothing(si_interner *h, list *known) {
-  si_interner *made = NULL;
+/* Kinds that there are not, and null where nothing is to be read, written or freed; only the bytes of an interner_text are not
+ * null. */
+static void call_with_nothing(interner *h, list *known) {
+  interner *made = NULL;
   text empty = {{0}, 0};
-  size_t number = 7777, done = 7777, len = 7777;
-  MUST(si_new(&made, (si_kind)(3 + below(1000))) == SI_BAD_KIND && !made);
-  MUST(si_with_capacity(&made, (si_kind)(SI_BUFFER + 1), 10) == SI_BAD_KIND && !made);
-  MUST(si_from_json(&made, (si_kind)(3 + below(1000)), "[]", 2) == SI_BAD_KIND && !made);
-  MUST(si_from_json(&made, known->kind, NULL, 0) == SI_BAD_TEXT && !made);
-  MUST(si_intern_all(h, NULL, 0, NULL, 0, NULL, 0, &done) == SI_OK && done == 0);
-  MUST(si_to_json(h, NULL, 0, &len) == SI_NO_ROOM && len >= 2);
-  MUST(si_contains(h, NULL, 0) == (find(known, &empty) < known->count));
-  if (known->count > 0) MUST(si_entries(h, NULL, 0, &len) == SI_NO_ROOM && len == known->count);
-  MUST(si_get_or_intern(h, NULL, 0, &number) == SI_OK && number == put(known, &empty));
-  MUST(si_get(h, NULL, 0, &number) == SI_OK && number == put(known, &empty));
-  MUST(si_copy(h, number, NULL, 0, &len) == SI_OK && len == 0);
-  si_free(NULL);
+  size_t done = 7777, len = 7777;
+  interner_cursor at = {0, 0};
+  interner_symbol symbol = 7777, again = 7777;
+  const interner_text no_bytes = {"", 0};
+  interner_kind no_kind = (interner_kind)(3 + below(1000));
+  interner_options options = some_options(no_kind), unhashed = some_options(known->kind);
+  unhashed.hasher = (interner_hasher)(3 + below(1000));
+  MUST(interner_new(no_kind, &made) == INTERNER_BAD_KIND && !made);
+  MUST(interner_new_with(&options, &made) == INTERNER_BAD_KIND && !made);
+  MUST(interner_new_with(&unhashed, &made) == INTERNER_BAD_HASHER && !made);
+  MUST(interner_from_json(no_kind, "[]", 2, &made) == INTERNER_BAD_KIND && !made);
+  MUST(interner_from_json_with(&options, "[]", 2, below(2), &made) == INTERNER_BAD_KIND && !made);
+  MUST(interner_from_json_with(&unhashed, "[]", 2, below(2), &made) == INTERNER_BAD_HASHER && !made);
+  MUST(interner_from_json(known->kind, NULL, 0, &made) == INTERNER_BAD_TEXT && !made);
+  MUST(interner_intern_joined(h, NULL, 0, NULL, 0, NULL, 0, &done) == INTERNER_OK && done == 0);
+  MUST(interner_intern_texts(h, NULL, 0, NULL, &done) == INTERNER_OK && done == 0);
+  MUST(interner_to_json(h, NULL, 0, &len) == INTERNER_NO_ROOM && len >= 2);
+  MUST(interner_contains(h, NULL, 0) == (find(known, &empty) < known->count));
+  MUST(interner_entries(h, &at, NULL, 0) == 0 && at.index == 0 && at.place == 0);
+  MUST(interner_get_or_intern(h, NULL, 0, &symbol) == INTERNER_OK && symbol == put(known, &empty));
+  MUST(interner_get(h, NULL, 0, &symbol) == INTERNER_OK && symbol == put(known, &empty));
+  MUST(interner_intern_texts(h, &no_bytes, 1, &again, &done) == INTERNER_OK && done == 1 && again == symbol);
+  MUST(interner_copy_text(h, symbol, NULL, 0, &len) == INTERNER_OK && len == 0);
+  interner_free(NULL);
 }
 
-static void make_anew(si_interner **h, list *known, si_kind kind) {
+static void make_anew(interner **h, list *known, interner_kind kind) {
+  interner_options options = some_options(kind);
   known->kind = kind;
   known->count = 0;
-  si_free(*h);
-  MUST((below(2) ? si_new(h, kind) : si_with_capacity(h, kind, below(50))) == SI_OK);
+  interner_free(*h);
+  MUST((below(2) ? interner_new(kind, h) : interner_new_with(&options, h)) == INTERNER_OK);
 }
 
-static void command(si_interner **handle, list *known, si_interner **other) {
-  si_interner *h = *handle;
+static void command(interner **handle, list *known, interner **other) {
+  interner *h = *handle;
   switch (below(32)) {
   case 0: look_up(h, known); break;
   case 1: refuse_no_text(h); break;
@@ -392,34 +549,37 @@ static void command(si_interner **handle, list *known, si_interner **other) {
   case 5: intern_many(h, known); break;
   case 6: walk(h, known); break;
   case 7: truncate_some(h, known); break;
-  case 8: si_shrink(h); break;
+  case 8: interner_shrink(h); break;
   case 9: copy_all(handle, known, other); break;
   case 10: if (below(8) == 0) write_and_read_json(h, known, other); break;
   case 11: read_odd_json(known->kind); break;
   case 12: call_with_nothing(h, known); break;
   case 13: intern_part(h, known); break;
+  case 14: intern_list(h, known); break;
+  case 15: if (below(8) == 0) list_as_texts_come(h, known); break;
   default: intern_one(h, known);
   }
-  MUST(si_len(*handle) == known->count);
+  MUST(interner_len(*handle) == known->count);
+  compare_joined(*handle, known);
   agreed++;
 }
 
 int main(int count, char **words) {
-  static const si_kind kinds[] = {SI_STRING, SI_BUCKET, SI_BUFFER};
+  static const interner_kind kinds[] = {INTERNER_STRING, INTERNER_BUCKET, INTERNER_BUFFER};
   unsigned long wanted = count > 1 ? strtoul(words[1], 0, 10) : 600000;
   static list known;
-  si_interner *h = NULL, *other = NULL;
+  interner *h = NULL, *other = NULL;
   size_t round = 0;
   state = (count > 2 ? strtoull(words[2], 0, 10) : 7) * 0x9e3779b97f4a7c15u + 1;
-  MUST(si_version() == SI_VERSION);
+  MUST(interner_version() == INTERNER_VERSION);
   while (agreed < wanted) {
     make_anew(&h, &known, kinds[round++ % 3]);
     do command(&h, &known, &other);
     while (known.count < MOST_TEXTS - 8 && below(3000));
     compare_all(h, &known);
   }
-  si_free(h);
-  si_free(other);
+  interner_free(h);
+  interner_free(other);
   printf("%lu commands agree with a list\n", agreed);
   return 0;
 }

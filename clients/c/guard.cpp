@@ -10,45 +10,53 @@
 namespace {
 
 struct Free {
-  void operator()(si_interner *h) const { si_free(h); }
+  void operator()(interner *h) const { interner_free(h); }
 };
 
-void check(si_result status) {
-  if (status != SI_OK) throw std::runtime_error(si_result_text(status));
+void check(interner_status status) {
+  if (status != INTERNER_OK) throw std::runtime_error(interner_status_text(status));
 }
 
 class Names {
 public:
   Names() {
-    si_interner *made;
-    check(si_new(&made, SI_STRING));
+    interner *made;
+    check(interner_new(INTERNER_STRING, &made));
     handle.reset(made);
   }
 
-  std::size_t intern(std::string_view text) {
-    std::size_t number;
-    check(si_get_or_intern(handle.get(), text.data(), text.size(), &number));
-    return number;
+  interner_symbol intern(std::string_view text) {
+    interner_symbol symbol;
+    check(interner_get_or_intern(handle.get(), text.data(), text.size(), &symbol));
+    return symbol;
   }
 
   // Until the next call of intern.
-  std::string_view resolve(std::size_t number) const {
-    si_text text;
-    check(si_resolve(handle.get(), number, &text));
+  std::string_view resolve(interner_symbol symbol) const {
+    interner_text text;
+    check(interner_resolve(handle.get(), symbol, &text));
     return {text.bytes, text.len};
   }
 
+  // All texts, one after another, until the next call of intern.
+  std::string_view joined() const {
+    interner_joined texts;
+    check(interner_string_joined(handle.get(), &texts));
+    return {texts.bytes, texts.bytes_len};
+  }
+
 private:
-  std::unique_ptr<si_interner, Free> handle;
+  std::unique_ptr<interner, Free> handle;
 };
 
 } // namespace
 
 int main() {
   Names names;
-  const std::size_t tiger = names.intern("Tiger"), horse = names.intern("Horse"), empty = names.intern({});
+  const interner_symbol tiger = names.intern("Tiger"), horse = names.intern("Horse"), empty = names.intern({});
   Names moved = std::move(names);
   if (moved.intern("Tiger") != tiger || moved.resolve(horse) != "Horse" || !moved.resolve(empty).empty()) return 1;
+  if (moved.joined() != "TigerHorse") return 1;
   try {
     moved.resolve(7);
     return 1;

@@ -12,9 +12,9 @@ enum { MANY = 200, ROOM = 8192 };
 void *__real_malloc(size_t size);
 void *__real_realloc(void *block, size_t size);
 
-static const char *const kinds[] = {"SI_STRING", "SI_BUCKET", "SI_BUFFER"};
+static const char *const kinds[] = {"INTERNER_STRING", "INTERNER_BUCKET", "INTERNER_BUFFER"};
 static unsigned long requests, refused_request, refusals;
-static si_kind kind;
+static interner_kind kind;
 
 static void fail(const char *claim, int line) {
   printf("refuse.c:%d: %s, request %lu refused, not so: %s\n", line, kinds[kind], refused_request, claim);
@@ -34,9 +34,9 @@ void *__wrap_realloc(void *block, size_t size) {
 }
 
 /* Whether the call before was refused, so that it is to be made again. Its request was this run's. */
-static bool again(si_result told) {
-  if (told == SI_OK) return false;
-  MUST(told == SI_NO_MEMORY && requests >= refused_request);
+static bool again(interner_status told) {
+  if (told == INTERNER_OK) return false;
+  MUST(told == INTERNER_NO_MEMORY && requests >= refused_request);
   refusals++;
   return true;
 }
@@ -45,140 +45,189 @@ static size_t spell(size_t i, char *text) {
   return (size_t)sprintf(text, "text number %zu", i);
 }
 
-/* The handle has this many texts, text number 0 and so on, and says so by number and by text. */
-static void has_texts(si_interner *h, size_t count) {
-  static si_entry entries[MANY];
-  size_t found, number, i;
+/* The handle has this many texts, text number 0 and so on, and says so by symbol and by text. */
+static void has_texts(interner *h, size_t count) {
+  static interner_entry entries[MANY];
+  interner_cursor at = {0, 0};
+  size_t i;
+  interner_symbol symbol;
   char text[40];
-  MUST(si_len(h) == count && si_entries(h, entries, MANY, &found) == SI_OK && found == count);
+  MUST(interner_len(h) == count && interner_entries(h, &at, entries, MANY) == count);
   for (i = 0; i < count; i++) {
     size_t len = spell(i, text);
     MUST(entries[i].text.len == len && !memcmp(entries[i].text.bytes, text, len));
-    MUST(si_get(h, text, len, &number) == SI_OK && number == entries[i].number);
+    MUST(interner_get(h, text, len, &symbol) == INTERNER_OK && symbol == entries[i].symbol);
   }
 }
 
-static void intern_texts(si_interner *h) {
+/* Interns a text by the call for the kind of the handle. */
+static interner_status intern_utf8(interner *h, const char *text, size_t len, interner_symbol *symbol) {
+  static uint64_t (*const calls[])(interner *, const char *, size_t) = {
+      interner_string_intern_utf8, interner_bucket_intern_utf8, interner_buffer_intern_utf8};
+  const uint64_t told = calls[kind](h, text, len);
+  if (told >> 32) return (interner_status)(told & 0xffffffff);
+  *symbol = (interner_symbol)told;
+  return INTERNER_OK;
+}
+
+static void intern_texts(interner *h) {
   char text[40];
-  size_t number, i;
+  size_t i;
+  interner_symbol symbol;
   for (i = 0; i < MANY; i++) {
     size_t len = spell(i, text);
-    number = 7777777;
-    while (again(si_get_or_intern(h, text, len, &number))) {
-      MUST(number == 7777777 && !si_contains(h, text, len));
+    symbol = 7777777;
+    while (again(i % 2 ? intern_utf8(h, text, len, &symbol) : interner_get_or_intern(h, text, len, &symbol))) {
+      MUST(symbol == 7777777 && !interner_contains(h, text, len));
       has_texts(h, i);
     }
   }
 }
 
 /* Interns the same texts end to end, after a truncation: what went in before the refusal stays. */
-static void intern_all_texts(si_interner *h) {
+static void intern_all_texts(interner *h) {
   static char bytes[40 * MANY];
-  static size_t ends[MANY], numbers[MANY];
+  static size_t ends[MANY];
+  static interner_symbol symbols[MANY];
   size_t len = 0, from, done, i;
   for (i = 0; i < MANY; i++) ends[i] = len += spell(i, bytes + len);
-  si_truncate(h, 1);
-  while (again(si_intern_all(h, bytes, len, ends, MANY, numbers, MANY, &done))) has_texts(h, done > 1 ? done : 1);
+  interner_truncate(h, 1);
+  while (again(interner_intern_joined(h, bytes, len, ends, MANY, symbols, MANY, &done))) has_texts(h, done > 1 ? done : 1);
   MUST(done == MANY);
   has_texts(h, MANY);
   for (i = from = 0; i < MANY; from = ends[i++]) {
-    size_t number;
-    MUST(si_get(h, bytes + from, ends[i] - from, &number) == SI_OK && number == numbers[i]);
+    interner_symbol symbol;
+    MUST(interner_get(h, bytes + from, ends[i] - from, &symbol) == INTERNER_OK && symbol == symbols[i]);
+  }
+}
+
+/* Interns the same texts in a list, after a truncation. */
+static void intern_list_of_texts(interner *h) {
+  static char bytes[MANY][40];
+  static interner_text texts[MANY];
+  static interner_symbol symbols[MANY];
+  size_t done, i;
+  for (i = 0; i < MANY; i++) texts[i].bytes = bytes[i], texts[i].len = spell(i, bytes[i]);
+  interner_truncate(h, 1);
+  while (again(interner_intern_texts(h, texts, MANY, symbols, &done))) has_texts(h, done > 1 ? done : 1);
+  MUST(done == MANY);
+  has_texts(h, MANY);
+  for (i = 0; i < MANY; i++) {
+    interner_symbol symbol;
+    MUST(interner_get(h, texts[i].bytes, texts[i].len, &symbol) == INTERNER_OK && symbol == symbols[i]);
   }
 }
 
 /* Interns the front of each text, while the texts move as their memory grows: what it spells is the text that it stands for. */
-static void intern_parts(si_interner *h) {
-  static si_entry entries[MANY];
-  static size_t numbers[MANY];
-  size_t found, number, i;
+static void intern_parts(interner *h) {
+  static interner_entry entries[MANY];
+  static interner_symbol symbols[MANY];
+  interner_cursor at = {0, 0};
+  size_t i;
+  interner_symbol symbol, found;
   char text[40];
-  MUST(si_entries(h, entries, MANY, &found) == SI_OK && found == MANY);
-  for (i = 0; i < MANY; i++) numbers[i] = entries[i].number;
+  MUST(interner_entries(h, &at, entries, MANY) == MANY);
+  for (i = 0; i < MANY; i++) symbols[i] = entries[i].symbol;
   for (i = 0; i < MANY; i++) {
     size_t len = spell(i, text) - 1;
-    while (again(si_get_or_intern_part(h, numbers[i], 1, len + 1, &number))) MUST(!si_contains(h, text + 1, len));
-    MUST(si_get(h, text + 1, len, &found) == SI_OK && found == number);
+    while (again(interner_get_or_intern_part(h, symbols[i], 1, len + 1, &symbol))) MUST(!interner_contains(h, text + 1, len));
+    MUST(interner_get(h, text + 1, len, &found) == INTERNER_OK && found == symbol);
   }
 }
 
 /* Calls that ask for nothing, as the header says. */
-static void ask_nothing(si_interner *h) {
+static void ask_nothing(interner *h) {
   unsigned long before = requests;
-  size_t number;
-  MUST(si_get(h, "text number 0", 13, &number) == SI_OK);
-  MUST(si_get(h, "no text", 7, &number) == SI_NOTHING);
-  MUST(si_get_or_intern(h, "text number 1", 13, &number) == SI_OK);
-  si_truncate(h, MANY);
+  interner_symbol symbol;
+  MUST(interner_get(h, "text number 0", 13, &symbol) == INTERNER_OK);
+  MUST(interner_get(h, "no text", 7, &symbol) == INTERNER_NOT_FOUND);
+  MUST(interner_get_or_intern(h, "text number 1", 13, &symbol) == INTERNER_OK);
+  interner_truncate(h, MANY);
   MUST(requests == before);
 }
 
+/* Ways to intern many texts. */
+enum { ONE_BY_ONE, JOINED, LISTED, CALLS };
+
 /* As many texts as an interner was made for ask for nothing, if they have the bytes that the header grants each. */
-static void fill_room(void) {
-  static const size_t granted[] = {5, 1, 12}; /* On SI_BUFFER one byte more for the length. */
-  si_interner *h = NULL;
+static void fill_room(int call) {
+  static const size_t granted[] = {5, 1, 12}; /* On INTERNER_BUFFER one byte more for the length. */
+  const interner_options options = {kind, INTERNER_SIPHASH, 100, 3, 4};
+  interner *h = NULL;
   unsigned long before;
-  size_t number;
-  char text[12], first;
-  memset(text, 'x', sizeof text);
-  while (again(si_with_capacity(&h, kind, 100))) MUST(!h);
-  before = requests;
-  for (first = 0; first < 100; first++) {
-    text[0] = first;
-    MUST(si_get_or_intern(h, text, granted[kind], &number) == SI_OK);
+  interner_symbol symbols[100];
+  interner_text texts[100];
+  size_t ends[100], done = 100, i;
+  char bytes[100 * 12];
+  for (i = 0; i < 100; i++) {
+    texts[i].bytes = memset(bytes + i * granted[kind], 'x', granted[kind]);
+    bytes[i * granted[kind]] = (char)i;
+    texts[i].len = granted[kind], ends[i] = (i + 1) * granted[kind];
   }
-  MUST(requests == before && si_len(h) == 100);
-  si_free(h);
+  while (again(interner_new_with(&options, &h))) MUST(!h);
+  before = requests;
+  switch (call) {
+  case ONE_BY_ONE:
+    for (i = 0; i < 100; i++) MUST(interner_get_or_intern(h, texts[i].bytes, texts[i].len, &symbols[i]) == INTERNER_OK);
+    break;
+  case JOINED: MUST(interner_intern_joined(h, bytes, ends[99], ends, 100, symbols, 100, &done) == INTERNER_OK); break;
+  default: MUST(interner_intern_list(h, texts, 100, symbols, 100, &done) == INTERNER_OK);
+  }
+  MUST(requests == before && done == 100 && interner_len(h) == 100);
+  interner_free(h);
 }
 
-/* SI_BUCKET lends the caller's own bytes of a static text, which it did not copy. The other kinds copy it. */
+/* INTERNER_BUCKET lends the caller's own bytes of a static text, which it did not copy. The other kinds copy it. */
 static void lend_static_text(void) {
   static const char stays[] = {'s', 't', 'a', 'y', 's'};
-  si_interner *h = NULL;
-  si_text lent;
-  size_t number;
-  while (again(si_new(&h, kind))) MUST(!h);
-  while (again(si_get_or_intern_static(h, stays, sizeof stays, &number))) MUST(si_len(h) == 0);
-  MUST(si_resolve(h, number, &lent) == SI_OK && lent.len == sizeof stays && !memcmp(lent.bytes, stays, sizeof stays));
-  MUST((lent.bytes == stays) == (kind == SI_BUCKET));
-  si_free(h);
+  interner *h = NULL;
+  interner_text lent;
+  interner_symbol symbol;
+  while (again(interner_new(kind, &h))) MUST(!h);
+  while (again(interner_get_or_intern_static(h, stays, sizeof stays, &symbol))) MUST(interner_len(h) == 0);
+  MUST(interner_resolve(h, symbol, &lent) == INTERNER_OK && lent.len == sizeof stays && !memcmp(lent.bytes, stays, sizeof stays));
+  MUST((lent.bytes == stays) == (kind == INTERNER_BUCKET));
+  interner_free(h);
 }
 
-static void copy_and_spell(si_interner *h) {
+static void copy_and_spell(interner *h) {
   static char json[ROOM];
-  si_interner *copy = NULL, *made = NULL;
+  interner *copy = NULL, *made = NULL;
+  const interner_options options = {kind, INTERNER_SIPHASH, 0, 3, 4};
   size_t len = 7777777;
-  while (again(si_clone(h, &copy))) MUST(!copy && si_len(h) == MANY);
-  MUST(si_equal(h, copy));
-  while (again(si_to_json(h, json, sizeof json, &len))) MUST(len == 7777777);
-  while (again(si_from_json(&made, kind, json, len))) MUST(!made);
-  MUST(si_equal(h, made));
-  si_free(made);
+  while (again(interner_clone(h, &copy))) MUST(!copy && interner_len(h) == MANY);
+  MUST(interner_equal(h, copy));
+  while (again(interner_to_json(h, json, sizeof json, &len))) MUST(len == 7777777);
+  while (again(interner_from_json(kind, json, len, &made))) MUST(!made);
+  MUST(interner_equal(h, made));
+  interner_free(made);
   made = NULL;
-  while (again(si_from_json_exact(&made, kind, json, len))) MUST(!made);
-  MUST(si_equal(h, made));
-  si_free(made);
-  si_free(copy);
+  while (again(interner_from_json_with(&options, json, len, true, &made))) MUST(!made);
+  MUST(interner_equal(h, made));
+  interner_free(made);
+  interner_free(copy);
 }
 
-/* A refused request of si_shrink leaves the larger block. */
+/* A refused request of interner_shrink leaves the larger block. */
 static void run(void) {
-  si_interner *h = NULL;
-  fill_room();
+  interner *h = NULL;
+  int call;
+  for (call = ONE_BY_ONE; call < CALLS; call++) fill_room(call);
   lend_static_text();
-  while (again(si_new(&h, kind))) MUST(!h);
+  while (again(interner_new(kind, &h))) MUST(!h);
   intern_texts(h);
   ask_nothing(h);
-  si_shrink(h);
+  interner_shrink(h);
   has_texts(h, MANY);
   intern_all_texts(h);
+  intern_list_of_texts(h);
   copy_and_spell(h);
   intern_parts(h);
-  si_free(h);
+  interner_free(h);
 }
 
 int main(void) {
-  static const si_kind all[] = {SI_STRING, SI_BUCKET, SI_BUFFER};
+  static const interner_kind all[] = {INTERNER_STRING, INTERNER_BUCKET, INTERNER_BUFFER};
   unsigned long runs = 0;
   size_t i;
   for (i = 0; i < 3; i++) {

@@ -10,13 +10,13 @@ static size_t spell(unsigned i, char *text) {
 }
 
 static void *fill(void *handle) {
-  si_interner *h = handle;
+  interner *h = handle;
   char text[32];
-  size_t number;
+  interner_symbol symbol;
   unsigned i;
   for (i = 0; i < TEXTS * ROUNDS; i++) {
     size_t len = spell(i % TEXTS, text);
-    if (si_get_or_intern(h, text, len, &number) != SI_OK || number != i % TEXTS) return 0;
+    if (interner_get_or_intern(h, text, len, &symbol) != INTERNER_OK || symbol != i % TEXTS) return 0;
   }
   return h;
 }
@@ -27,23 +27,24 @@ static int failed(const char *what) {
 }
 
 int main(void) {
-  si_interner *handles[2];
+  interner *handles[2];
   pthread_t threads[2];
   unsigned i;
-  if (si_new(&handles[0], SI_STRING) != SI_OK || si_new(&handles[1], SI_BUCKET) != SI_OK) return failed("no memory");
+  if (interner_new(INTERNER_STRING, &handles[0]) != INTERNER_OK) return failed("no memory");
+  if (interner_new(INTERNER_BUCKET, &handles[1]) != INTERNER_OK) return failed("no memory");
   for (i = 0; i < 2; i++) {
     if (pthread_create(&threads[i], 0, fill, handles[i]) != 0) return failed("no thread");
   }
   for (i = 0; i < 2; i++) {
     void *filled = 0;
-    size_t number;
+    interner_symbol symbol;
     char text[32];
     size_t len = spell(TEXTS - 1, text);
     pthread_join(threads[i], &filled);
-    if (filled != handles[i] || si_len(handles[i]) != TEXTS) return failed("wrong numbers");
-    if (si_get(handles[i], text, len, &number) != SI_OK || number != TEXTS - 1) return failed("wrong text");
-    si_free(handles[i]);
+    if (filled != handles[i] || interner_len(handles[i]) != TEXTS) return failed("wrong symbols");
+    if (interner_get(handles[i], text, len, &symbol) != INTERNER_OK || symbol != TEXTS - 1) return failed("wrong text");
+    interner_free(handles[i]);
   }
-  printf("two threads had the same numbers\n");
+  printf("two threads had the same symbols\n");
   return 0;
 }

@@ -1,19 +1,30 @@
 """The settings of sphinx for the site, which tools/make_site.py makes."""
 
 import re
+import sys
 from pathlib import Path
 
 import furo
 from pygments.lexer import RegexLexer
 from pygments.token import Comment, Keyword, Name, Number, Operator, Punctuation, String, Text
 
+# Of the package for Python autodoc has what its docstrings say.
+sys.path.insert(0, str(Path(__file__).parents[2] / "clients/python"))
+
 project = "string_interner"
 root_doc = "README"
-extensions = ["myst_parser"]
+extensions = ["myst_parser", "sphinx.ext.autodoc"]
+autodoc_default_options = {"members": True, "inherited-members": True, "exclude-members": "_parts"}
+# In a docstring a word of code has one backtick on each side, as in Markdown.
+default_role = "code"
+# A type of options, which is made on demand.
+nitpick_ignore = [("py:class", "Hasher")]
 # Links lead to headings by their words, as on a forge.
 myst_heading_anchors = 6
 html_theme = "furo"
 html_title = "string_interner"
+html_static_path = ["static"]
+html_css_files = ["narrow.css"]
 html_show_copyright = False
 html_copy_source = False
 highlight_language = "text"

@@ -10,7 +10,7 @@ from typing import Any, Self
 
 from edits import TOP
 
-# In bytes: the first room that both programs ask for to read their input.
+# In bytes: the first room that `intern` asks for to read its input.
 FIRST_INPUT = 512
 # How much a large input has.
 MANY, MEBIBYTE = 200000, 2**20

@@ -1,13 +1,12 @@
-"""What memory `dictcol` asks for to encode or count lines: a model of what crates/dictcol/cases/README.md says, over that of an
-interner's memory (`rooms.py`)."""
+"""What memory `dictcol` asks for to encode or count lines: a model, over that of an interner's memory (`rooms.py`)."""
 
 import re
 
-from program.cases import rooms_of_input
-from rooms import ROOMS, Interner, Memory, Room, Slots
+from rooms import ROOMS, BackendRoom, Interner, Memory, Room, Slots
 
-# In bytes: the buffer of standard output; of `count` a number, and a row, which has a number and a text.
-OUTPUT_BUFFER, COUNT, ROW = 65536, 8, 24
+# In bytes: the buffer of standard output, and the block that an input is read to; of `count` a number, and a row, which has a number
+# and a text.
+OUTPUT_BUFFER, BLOCK, COUNT, ROW = 1 << 16, 1 << 18, 8, 24
 # The bytes that a JSON string escapes, and those that it escapes in two bytes, and not in six.
 ESCAPED, SHORT = re.compile(rb'(["\\\x00-\x1f])'), b'"\\\b\f\n\r\t'
 
@@ -39,19 +38,30 @@ class Text(Room):
 
 
 class Lines:
-    """The lines of an input in a column over a backend, and what was asked for to put them there."""
+    """The distinct lines of an input over a backend, with a code for each line or a count for each distinct one, and what was asked
+    for to put them there."""
 
-    def __init__(self, data, backend):
+    def __init__(self, data, backend, has_codes):
         self.memory = Memory()
         self.texts = data.removesuffix(b"\n").split(b"\n") if data else []
-        codes, symbols = Room(self.memory, 4), Room(self.memory, 4)
+        self.grow_block()
+        codes, counts, symbols = BackendRoom(self.memory, 4), Room(self.memory, COUNT), Room(self.memory, 4)
         self.interner = Interner(Slots(self.memory, "SymbolU32", "tagged"), ROOMS[backend.decode()](self.memory))
         for text in self.texts:
-            codes.add()
-            # There is room for the symbol of a new line before it is known whether the line is new.
-            symbols.add()
-            symbols.length -= text in self.interner.known
+            if has_codes:
+                codes.add()
+            # There is room for what a new line has before it is known whether the line is new.
+            for room in [symbols] if has_codes else [symbols, counts]:
+                room.add()
+                room.length -= text in self.interner.known
             self.interner.intern(text)
+
+    def grow_block(self):
+        """Doubles the block until it is longer than the longest line, since only whole lines leave it."""
+        size = BLOCK
+        while size <= max(map(len, self.texts), default=0):
+            size *= 2
+            self.memory.ask(size)
 
     def write_file(self, is_ended):
         """Writes the file of the lines."""
@@ -73,24 +83,18 @@ class Lines:
         text.write_token(len("}"))
         text.write(len("\n"))
 
-    def write_counts(self, output):
-        """Writes how often each line comes, as the output of the run has them."""
-        self.memory.ask(COUNT * len(self.interner.texts))
+    def list_rows(self):
+        """Lists the distinct lines with their counts."""
         self.memory.ask(ROW * len(self.interner.texts))
-        text = Text(self.memory, 1)
-        for row in output.split(b"\n")[:-1]:
-            count, _, line = row.partition(b" ")
-            for part in count, b" ", line, b"\n":
-                text.write(len(part))
 
 
-def asks_of_lines(words, data, backend, output):
-    """For the input and the buffer, the column, and what is written: the sizes of the requests of a run that ends well with
-    this output."""
-    lines = Lines(data, backend)
-    column, lines.memory.asks = lines.memory.asks, []
-    if words[0] == b"encode":
+def asks_of_lines(words, data, backend):
+    """For the buffer and the first block, the lines, and what is written: the sizes of the requests of a run that ends well."""
+    is_encoded = words[0] == b"encode"
+    lines = Lines(data, backend, is_encoded)
+    asks, lines.memory.asks = lines.memory.asks, []
+    if is_encoded:
         lines.write_file(data.endswith(b"\n"))
     else:
-        lines.write_counts(output)
-    return [*rooms_of_input(data), OUTPUT_BUFFER], column, lines.memory.asks
+        lines.list_rows()
+    return [OUTPUT_BUFFER, BLOCK], asks, lines.memory.asks

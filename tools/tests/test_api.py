@@ -126,7 +126,11 @@ class Pages(TestCase):
     def test_contracts_stay_and_bodies_do_not(self):
         self.assertIn('''\
 impl Room {
-    /// Returns the area.
+```
+
+Returns the area.
+
+```rattle
     pub fn area(&self) -> u32
         // The width counts twice.
         ensures { IsTwice self.width result };
@@ -134,15 +138,15 @@ impl Room {
 ```''', self.page)
         self.assertIn("```rattle\npub fn of(room: &Room) -> u32;\n```", self.page)
         self.assertIn("impl<'a> Hall for &'a Room {\n    fn open(&self);\n}", self.page)
-        self.assertIn("/// Always open.\nimpl Hall for u32 {\n    fn open(&self);\n}", self.page)
+        self.assertIn("Always open.\n\n```rattle\nimpl Hall for u32 {\n    fn open(&self);\n}", self.page)
         self.assertIn("    fn open(&self);\n\n    ghost open_laws: { IsOpen };\n}", self.page)
 
     def test_what_callers_do_not_see(self):
-        self.assertIn("pub struct Room<\n    W = u32,\n> {\n    /// How high.\n    pub height: u32,\n    // private fields\n}", self.page)
+        self.assertIn("pub struct Room<\n    W = u32,\n> {\n```\n\nHow high.\n\n```rattle\n    pub height: u32,\n    // private fields\n}", self.page)
         self.assertIn("impl Model for Room {\n    ghost view = { λ r. r.width };\n}", self.page)
 
     def test_links_to_definitions_and_entries_of_the_index(self):
-        self.assertIn("## `lib.rt`\n\nDefinitions: [`Words.antt`](../crates/rooms/specs/Words.antt)\n\n```rattle\n//! Rooms.\n```\n", self.page)
+        self.assertIn("## `lib.rt`\n\nDefinitions: [`Words.antt`](../crates/rooms/specs/Words.antt)\n\nRooms.\n\n", self.page)
         self.assertIn("```{index} single: area (of Room)\n```\n", self.page)
 
 

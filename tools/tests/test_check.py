@@ -101,15 +101,15 @@ class CheckTest(unittest.TestCase):
 
     def test_the_parts(self):
         names, words, kept, left_out = self.parts_of_check(True)
-        self.assertEqual(names, ["the site of the documents", "proofs", "the library for C and its clients", "scenarios",
-                                 "the program", "the program dictcol", "records of proofs", "the guide's first program",
-                                 "what was measured"])
+        self.assertEqual(names, ["proofs", "the library for C and its clients", "scenarios", "the program", "the program dictcol",
+                                 "records of proofs", "the steps of the pages for users", "the site of the documents",
+                                 "texts chosen without keys", "what was measured"])
         self.assertEqual((words, kept), (["rt", "ci"], 2))
         self.assertIn("no pip on this machine: it", left_out)
 
     def test_nothing_runs_that_is_not_proved(self):
         names, _, kept, _ = self.parts_of_check(False)
-        self.assertEqual((names, kept), (["the site of the documents", "proofs", "what was measured"], 0))
+        self.assertEqual((names, kept), (["proofs", "the site of the documents", "texts chosen without keys", "what was measured"], 0))
 
 
 if __name__ == "__main__":

@@ -16,7 +16,7 @@ echo "$1" >> '{top}/calls'
 echo 'proved: something'
 [ "$(cat src/lib.rt)" = good ] || exit 1
 mkdir -p out && rm -f out/*
-echo 'void *rattle_alloc(void); unsigned si_version(void) {{ return rattle_alloc() != 0; }}' > out/lib.c
+echo 'void *rattle_alloc(void); unsigned interner_version(void) {{ return rattle_alloc() != 0; }}' > out/lib.c
 cc -fPIC -c out/lib.c -o out/lib.o && ar rcs out/libstring_interner_c.a out/lib.o
 """
 

@@ -104,6 +104,15 @@ class DocumentsTest(SmallRepository):
         self.write("clients/c/examples/half.sh", "cc half.c\n./half\n")
         self.assertEqual(list(documents.faults()), [])
 
+    def test_steps(self):
+        steps = "```sh\ncc new.c\n```\n\n```text\n1\n```\n\nWrite this into `new.c`:\n\n```c\nint new;\n```\n"
+        self.write("docs/c.md", steps)
+        self.assertEqual(list(documents.faults()), [])
+        self.write("docs/c.md", steps.replace("`new.c`:", "`new.c`."))
+        self.assertEqual(list(documents.faults()), ["docs/c.md: no file `new.c`", "docs/c.md: in no example: int new;"])
+        self.write("docs/c.md", steps.replace("```sh", "```c"))
+        self.assertEqual(list(documents.faults()), ["docs/c.md: in no example: cc new.c"])
+
     def test_block_of_a_method(self):
         half = "fn half(number: u32) -> u32\n    ensures { IsHalf number result }\n"
         area = "fn area(&self) -> u32\n    ensures { AreaOf self.now result };\n"
@@ -117,12 +126,12 @@ class DocumentsTest(SmallRepository):
         self.assertEqual(list(documents.faults()), ["README.md: 121 lines, and 120 may be"])
 
     def test_many_words(self):
-        words = documents.count_words(README) + documents.count_words("# Words\n\n## What *they* mean\n")
-        self.write("docs/MORE.md", "word " * (14_000 - words) + "\n| a | table |\n")
-        self.write("low/MORE.md", "word " * 20_000)
+        words = len(f"{README} # Words ## What *they* mean | a | table |".split())
+        self.write("docs/MORE.md", "word " * (20_000 - words) + "\n| a | table |\n")
+        self.write("low/MORE.md", "word " * 5_000)
         self.assertEqual(list(documents.faults()), [])
-        self.write("docs/MORE.md", "word " * (14_001 - words))
-        self.assertEqual(list(documents.faults()), ["14001 words in README.md, docs/MORE.md, docs/WORDS.md, and 14000 may be"])
+        self.write("low/MORE.md", "word " * 5_001)
+        self.assertEqual(list(documents.faults()), ["25001 words in all pages, and 25000 may be; the longest are docs/MORE.md, low/MORE.md, README.md"])
 
     def test_the_front_page(self):
         page = "crates/string_interner/src/lib.rt"

@@ -19,10 +19,10 @@ WORDS = """\
 
 ## Use
 
-[Source](../crates/low/src/lib.rt), [folder](../crates/low), [below](#use), [above](../README.md)
+[Source](../crates/low/src/lib.rt), [below](#use), [above](../README.md)
 """
-FILES = {"README.md": README, "docs/WORDS.md": WORDS, "docs/GUIDE.md": "# Guide\n", "docs/picture.svg": "<svg/>", "LICENSE": "Take ```it```."}
-PAGES = ["LICENSE.md", "README.md", "api/string_interner.md", "crates/low.md", "crates/low/src/lib.rt.md", "docs/GUIDE.md", "docs/WORDS.md"]
+FILES = {"README.md": README, "docs/WORDS.md": WORDS, "docs/PORTING.md": "# Porting\n", "docs/picture.svg": "<svg/>", "LICENSE": "Take ```it```."}
+PAGES = ["LICENSE.md", "README.md", "api/string_interner.md", "crates/low/src/lib.rt.md", "docs/PORTING.md", "docs/WORDS.md"]
 # Stands for sphinx.
 SCRIPT = """\
 #!/bin/sh
@@ -62,20 +62,13 @@ class LayOutTest(SmallRepository):
         self.assertEqual(self.text("LICENSE.md"), "---\norphan: true\n---\n# `LICENSE`\n\n````text\nTake ```it```.\n````\n")
         self.assertIn("# `crates/low/src/lib.rt`\n\n```rattle\nmod shape;", self.text("crates/low/src/lib.rt.md"))
 
-    def test_files_of_a_folder(self):
-        self.write("crates/low/README.md", "# Low\n")
-        self.lay_out()
-        page = self.text("crates/low.md")
-        self.assertIn("# `crates/low/`\n\n- [`README.md`](low/README.md)\n", page)
-        self.assertIn("- `src/lib.rt`\n", page)
-        self.assertNotIn("high", page)
-
     def test_lists_beside_the_pages(self):
         self.lay_out()
         page = self.text("README.md")
         self.assertTrue(page.startswith(README))
-        self.assertIn(":caption: Use\n\ndocs/GUIDE\n```", page)
-        self.assertIn(":caption: Contracts\n\napi/string_interner\ngenindex\n```", page)
+        self.assertIn(":caption: Use\n\ndocs/PORTING\n```", page)
+        sources = "string_interner.h <clients/c/string_interner.h>\ndictcol.1 <crates/dictcol/dictcol.1>\n"
+        self.assertIn(f"{sources}api/string_interner\nIndex <genindex>\n```", page)
         self.assertIn(":caption: Work on it\n\ndocs/WORDS\n```", page)
 
 
@@ -88,11 +81,15 @@ class MakeTest(SmallRepository):
         self.write("out/html/old.html", '<a href="lost">to</a>')
         self.write("out/kept", "")
         python = mock.patch.object(make_site, "python_with", lambda *modules: str(sphinx))
-        with python, contextlib.redirect_stdout(io.StringIO()) as printed:
+        tools = {"a/b.c": ("sh", "false", "b"), "a.c": ("sh", "true", "a"), "d.c": ("no_such_tool", "true", "d")}
+        with python, mock.patch.object(make_site, "TOOLS", tools), contextlib.redirect_stdout(io.StringIO()) as printed:
             counts = make_site.make(self.top / "out")
         self.assertTrue((self.top / "out/kept").exists())
         return counts, printed.getvalue()
 
     def test_making(self):
-        self.assertEqual(self.make(0, "a page"), (True, ""))
-        self.assertEqual(self.make(1, "a page"), (False, ""))
+        self.assertEqual(self.make(0, "a page"), (1, ""))
+        self.assertEqual(self.make(1, "a page"), (2, ""))
+        self.assertIn("url=../api/b", (self.top / "out/html/a/b.c.html").read_text())
+        self.assertIn("url=api/a", (self.top / "out/html/a.c.html").read_text())
+        self.assertFalse((self.top / "out/html/d.c.html").exists())

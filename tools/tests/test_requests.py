@@ -9,23 +9,25 @@ from rooms import Memory
 
 class RequestsTest(unittest.TestCase):
     def test_a_file(self):
-        asked = asks_of_lines([b"encode"], b"red\ngreen\nred\n", b"string", b"")
-        self.assertEqual(asked, ([512, 65536], [16, 16, 64, 24, 8, 16], [6, 15, 30, 60, 120]))
+        asked = asks_of_lines([b"encode"], b"red\ngreen\nred\n", b"string")
+        self.assertEqual(asked, ([65536, 262144], [16, 16, 64, 24, 8, 16], [6, 15, 30, 60, 120]))
 
     def test_counts(self):
-        asked = asks_of_lines([b"count"], b"a\na\nb\n", b"bucket", b"2 a\n1 b\n")
-        self.assertEqual(asked, ([512, 65536], [16, 16, 64, 24, 64, 128, 2], [16, 48, 8]))
+        asked = asks_of_lines([b"count"], b"a\na\nb\n", b"bucket")
+        self.assertEqual(asked, ([65536, 262144], [16, 32, 64, 24, 64, 128, 2], [48]))
 
     def test_a_known_line_has_room_for_a_symbol(self):
-        asked = asks_of_lines([b"count"], b"a\nb\nc\nd\na\n", b"string", b"2 a\n1 b\n1 c\n1 d\n")
-        self.assertEqual(asked[1], [16, 16, 64, 24, 8, 16, 32, 32])
+        asked = asks_of_lines([b"count"], b"a\nb\nc\nd\na\n", b"string")
+        self.assertEqual(asked[1], [16, 32, 64, 24, 8, 16, 32, 64])
 
     def test_no_lines(self):
-        self.assertEqual(asks_of_lines([b"count"], b"", b"string", b""), ([512, 65536], [], []))
+        self.assertEqual(asks_of_lines([b"count"], b"", b"string"), ([65536, 262144], [], []))
 
-    def test_a_long_input(self):
-        self.assertEqual(asks_of_lines([b"count"], b"a" * 513, b"string", b"1 %s\n" % (b"a" * 513))[::2],
-                         ([512, 1024, 65536], [8, 24, 8, 515, 1030]))
+    def test_a_line_longer_than_a_block(self):
+        for longest, grown in ((262143, []), (262144, [524288]), (524288, [524288, 1048576])):
+            with self.subTest(longest):
+                asked = asks_of_lines([b"count"], b"b\n" + b"a" * longest, b"string")
+                self.assertEqual(asked[1][: len(grown) + 1], [*grown, 16])
 
     def test_strings(self):
         for text, size, asks in ((b"a", 3, [8]), (b'a"b', 6, [8]), (b"\x01\n", 10, [8, 16]), (b"a" * 20, 22, [23]),

@@ -130,12 +130,14 @@ class Start(unittest.TestCase):
             (out / name).chmod(0o700)
             self.write(out / f"bin-{name}.stamp", "crates.txt\n")
             os.utime(out / f"bin-{name}.stamp")
+        self.write(self.top / "crates/dictcol/dictcol.1", ".Dd\n")
         prefix = self.top / "installed"
         for words, folder in (([str(prefix)], prefix), (["/usr"], self.top / "staged/usr")):
             environment = {"PATH": "/usr/bin:/bin"} | ({"DESTDIR": str(self.top / "staged")} if folder != prefix else {})
             subprocess.run([str(self.top / "bin/install"), *words], env=environment, check=True, capture_output=True)
             self.assertEqual(sorted(os.listdir(folder / "bin")), ["dictcol", "intern"])
             self.assertEqual((folder / "bin/intern").stat().st_mode & 0o777, 0o755)
+            self.assertEqual((folder / "share/man/man1/dictcol.1").read_text(), ".Dd\n")
 
 
 if __name__ == "__main__":

@@ -1,86 +1,96 @@
-"""Whether the steps of a page to its first program are taken as they are printed."""
+"""Whether the steps of pages are taken as they are printed."""
 
 import contextlib
 import io
-import tempfile
-import unittest
-from pathlib import Path
 from unittest import mock
 
-import small  # Finds the tools.
+from small import SmallRepository
+import documents
 import try_guide
 
 PAGE = """\
-# A guide
+# From C
+
+At the top of a clone:
 
 ```sh
-no command
+cd crates
+echo made >made
 ```
 
-## The first program
+Write this into `yours/src/main.c`:
 
-```sh
-mkdir -p yours/src
-cp "$CLONE/library" .
-echo made
-cd yours
-```
-
-Write this:
-
-```rattle
-fn main
+```c
+int it's;
 ```
 
 ```sh
-cat ../library src/main.rt
+cat made yours/src/main.c
 ```
 
 It prints:
 
 ```text
-a library
-fn main
+made
+int it's;
 ```
 
-## The calls
+Nothing is run of this:
 
-```rattle
-fn other
-```
+    exit 1
 """
 
 
-class TryGuideTest(unittest.TestCase):
+class TryGuideTest(SmallRepository):
     def setUp(self):
-        folder = tempfile.TemporaryDirectory()
-        self.addCleanup(folder.cleanup)
-        self.top = Path(folder.name)
-        (self.top / "library").write_text("a library\n")
+        super().setUp()
+        for module in (documents, try_guide):
+            patch = mock.patch.object(module, "TOP", self.top)
+            patch.start()
+            self.addCleanup(patch.stop)
+        self.write("bin/proving", "sources_of() { echo \"$1\"; }\n")
+        self.write("crates/yours/src/main.c", "")
 
-    def outcome(self, page):
-        (self.top / "docs").mkdir(exist_ok=True)
-        (self.top / try_guide.PAGE).write_text(page)
+    def outcome(self, page, name="docs/c.md", *words):
+        self.write(name, page)
         printed = io.StringIO()
-        with mock.patch.object(try_guide, "TOP", self.top), mock.patch("sys.argv", ["try_guide.py"]), contextlib.redirect_stdout(printed):
+        with mock.patch("sys.argv", ["try_guide.py", *words]), contextlib.redirect_stdout(printed):
             status = try_guide.main()
         return status, printed.getvalue().splitlines()
 
     def test_steps_that_do_what_they_say(self):
         self.assertEqual(self.outcome(PAGE), (0, ["1 passed, 0 failed"]))
+        self.assertEqual((self.top / "crates/yours/src/main.c").read_text(), "")
 
     def test_another_output(self):
-        status, lines = self.outcome(PAGE.replace("fn main\n```\n\n```sh", "fn third\n```\n\n```sh"))
-        self.assertEqual((status, lines[1:3], lines[-1]), (1, ["a library", "fn third"], "0 passed, 1 failed"))
+        status, lines = self.outcome(PAGE.replace("echo made", "echo new"))
+        self.assertEqual((status, lines[:2], lines[-1]), (1, ["docs/c.md: block 2 of the commands prints", "new"], "0 passed, 1 failed"))
 
     def test_a_step_that_fails(self):
-        status, lines = self.outcome(PAGE.replace("mkdir -p yours/src", "mkdir yours"))
-        self.assertEqual((status, lines[1], lines[-1]), (1, "status 1", "0 passed, 1 failed"))
+        status, lines = self.outcome(PAGE.replace("cat made", "echo so far; cat no"))
+        self.assertEqual((status, lines[:2], lines[-1]), (1, ["docs/c.md: block 2 of the commands ends with status 1", "so far"], "0 passed, 1 failed"))
 
-    def test_blocks_in_another_order(self):
-        with self.assertRaisesRegex(SystemExit, "is not commands, a program"):
-            self.outcome(PAGE.replace("```text", "```sh"))
+    def test_pages_do_not_see_each_other(self):
+        self.write("docs/rust.md", "```sh\ncat crates/made\n```\n")
+        self.assertEqual(self.outcome(PAGE)[1][-1], "1 passed, 1 failed")
 
+    def test_other_pages_have_no_steps(self):
+        self.write("clients/README.md", "```sh\nfalse\n```\n")
+        self.assertEqual(self.outcome("```text\n1\n```\n", "docs/MORE.md"), (1, ["0 passed, 0 failed"]))
 
-if __name__ == "__main__":
-    unittest.main()
+    def test_what_the_machine_lacks(self):
+        with mock.patch.object(try_guide, "missing", lambda needs: [f"no {it} on this machine: it" for it in needs]):
+            self.write("README.md", "```sh\ntrue\n```\n")
+            lines = self.outcome(PAGE)[1]
+        self.assertEqual(lines, ["no cc on this machine: it", "no pkg-config on this machine: it", "1 passed, 0 failed"])
+
+    def test_what_is_built_elsewhere(self):
+        for name in ("high", "intern"):
+            self.write(f"crates/{name}/src/main.rt", "")
+            self.write(f"built/crates/{name}/out/{name}", "#!/bin/sh\necho built\n")
+            self.write(f"built/crates/{name}/out/rlib/it", "the library\n")
+            (self.top / f"built/crates/{name}/out/{name}").chmod(0o755)
+        self.write(".gitignore", "built\n")
+        page = "```sh\ncrates/intern/out/intern\ncat crates/high/out/rlib/it crates/intern/out/bin-intern.stamp\nls crates/high/out\n```\n"
+        printed = "\n```text\nbuilt\nthe library\nintern\nrlib\n```\n"
+        self.assertEqual(self.outcome(page + printed, "docs/c.md", str(self.top / "built")), (0, ["1 passed, 0 failed"]))

@@ -35,6 +35,12 @@ MISSING_STATE = """\
 fn low::double: not proved; it stands on `Rattle.low.proofs.double.Answers.returns`, which antt refuses
 only=1 holes=0
 """
+# The face of a goal that the tactics do not prove has a variable of its own.
+SHOWN_UNDER_A_NAME = REFUSAL.replace("note:", """\
+./proofs/double/Answers.antt:9:15: error: `by-tactics`: on the face `x = 1` this clause's body is `2`, but the type requires `c.result`
+  there
+  `x` is not in scope here, so what is shown does not paste back as it stands: the text binds it as `_`
+note:""")
 TACTICS_TOO = REFUSAL.replace("help:", "./proofs/double/Answers.antt:9:15: error: `by-tactics`: `grind`: no proof\nhelp:")
 
 
@@ -65,6 +71,9 @@ class VerdictsTest(unittest.TestCase):
     def test_a_name_that_is_gone(self):
         self.assertEqual(self.outcome(MISSING_GOAL), BY_FORM_ALONE)
         self.assertEqual(self.outcome(MISSING_STATE), BY_FORM_ALONE)
+
+    def test_a_variable_of_a_goal_as_shown_is_no_name_that_is_gone(self):
+        self.assertEqual(self.outcome(SHOWN_UNDER_A_NAME), REFUSED)
 
     def test_a_thorough_trial_wants_both_to_fail(self):
         self.assertEqual(self.outcome(REFUSAL, tactics=["by-tactics"]), LET_THROUGH)

@@ -1,24 +1,25 @@
-/* Interns four texts, of which two are equal, prints their numbers, and reads a text back. */
+/* Interns four texts, of which two are equal, prints their symbols, and reads a text back. */
 #include "string_interner.h"
+#include <inttypes.h>
 #include <stdio.h>
-#include <string.h>
 
 int main(void) {
   const char *words[] = {"Elephant", "Tiger", "Horse", "Tiger"};
-  si_interner *animals;
-  si_text text;
-  size_t number, i;
-  si_result status = si_new(&animals, SI_STRING);
-  for (i = 0; status == SI_OK && i < sizeof words / sizeof *words; i++) {
-    status = si_get_or_intern(animals, words[i], strlen(words[i]), &number);
-    if (status == SI_OK) printf("%s is %zu\n", words[i], number);
+  interner *animals;
+  interner_text text;
+  size_t i;
+  interner_symbol symbol;
+  interner_status status = interner_new(INTERNER_STRING, &animals);
+  for (i = 0; status == INTERNER_OK && i < sizeof words / sizeof *words; i++) {
+    status = interner_get_or_intern_c_string(animals, words[i], &symbol);
+    if (status == INTERNER_OK) printf("%s is %" PRIu32 "\n", words[i], symbol);
   }
-  if (status != SI_OK) {
-    fprintf(stderr, "demo: %s\n", si_result_text(status));
+  if (status != INTERNER_OK) {
+    fprintf(stderr, "demo: %s\n", interner_status_text(status));
     return 1;
   }
-  if (si_resolve(animals, 2, &text) == SI_OK) printf("2 is %.*s\n", (int)text.len, text.bytes);
-  printf("%zu texts\n", si_len(animals));
-  si_free(animals);
+  if (interner_resolve(animals, 2, &text) == INTERNER_OK) printf("2 is %.*s\n", (int)text.len, text.bytes);
+  printf("%zu texts\n", interner_len(animals));
+  interner_free(animals);
   return 0;
 }

@@ -1,15 +1,18 @@
-/* The program of the README: equal texts have equal numbers. demo.sh shows how a program is compiled. */
+/* The first program of docs/c.md: equal texts have equal symbols. */
 #include "string_interner.h"
-#include <assert.h>
+#include <stdio.h>
 
 int main(void) {
-  si_interner *names;
-  size_t tiger, horse, again;
-  if (si_new(&names, SI_STRING) != SI_OK) return 1;
-  if (si_get_or_intern(names, "Tiger", 5, &tiger) != SI_OK) return 1;
-  if (si_get_or_intern(names, "Horse", 5, &horse) != SI_OK) return 1;
-  if (si_get_or_intern(names, "Tiger", 5, &again) != SI_OK) return 1;
-  assert(again == tiger && horse != tiger);
-  si_free(names);
+  interner *names;
+  interner_symbol tiger, horse, again;
+  interner_text text;
+  if (interner_new(INTERNER_STRING, &names) != INTERNER_OK) return 1;
+  if (interner_get_or_intern(names, "Tiger", 5, &tiger) != INTERNER_OK) return 1;
+  if (interner_get_or_intern(names, "Horse", 5, &horse) != INTERNER_OK) return 1;
+  if (interner_get_or_intern_c_string(names, "Tiger", &again) != INTERNER_OK) return 1;
+  if (again != tiger || horse == tiger) return 1;
+  if (interner_resolve(names, horse, &text) != INTERNER_OK) return 1;
+  printf("%zu names, and one is %.*s\n", interner_len(names), (int)text.len, text.bytes);
+  interner_free(names);
   return 0;
 }

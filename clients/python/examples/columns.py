@@ -2,8 +2,10 @@
 
 from string_interner import Column
 
-colors = Column(["red", "green", None, "red"])  # None is a missing value.
-colors.merge(Column(["blue", "green"]))         # Appends the rows of another column.
+# None is a missing value.
+colors = Column(["red", "green", None, "red"])
+# Appends the rows of another column.
+colors.merge(Column(["blue", "green"]))
 assert colors.dictionary == ["red", "green", "blue"]
 assert colors.codes.tolist() == [0, 1, -1, 0, 2, 1]
 assert colors.counts().tolist() == [2, 2, 1]

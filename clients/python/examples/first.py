@@ -1,6 +1,8 @@
-"""The program of the README: equal texts have equal numbers."""
+"""The program of the package's page: equal texts have equal symbols."""
 
-from string_interner import Interner  # with PYTHONPATH=clients/python, and Python 3.11 or later
+# With PYTHONPATH=clients/python, and Python 3.11 or later:
+from string_interner import Interner
+
 names = Interner()
 tiger, horse, again = map(names.intern, ["Tiger", "Horse", "Tiger"])
 assert again == tiger != horse and names.resolve(tiger) == "Tiger"

@@ -1,4 +1,4 @@
-"""The page's program: each line of a dict, and the line of an interner that does the same."""
+"""The program of docs/python.md: each line of a dict, and the line of an interner that does the same."""
 
 from string_interner import Interner
 
@@ -15,5 +15,7 @@ assert i.get("grey", -1) == d.get("grey", -1) == -1
 assert i.get_all(["blue", "grey"]).tolist() == [d.get(text, -1) for text in ["blue", "grey"]]
 assert ("red" in i, len(i), list(i)) == ("red" in d, len(d), list(d))
 
-assert i[2] == "blue" and i.resolve_all([2, 0]) == ["blue", "red"]  # for which a dict needs a list, too
-assert i.intern_lines(b"red\nblack\n").tolist() == [0, 3]  # bytes are encoded without a str of each line
+# For this a dict needs a list, too.
+assert i[2] == "blue" and i.resolve_all([2, 0]) == ["blue", "red"]
+# Bytes are encoded without a str of each line.
+assert i.intern_lines(b"red\nblack\n").tolist() == [0, 3]

@@ -103,13 +103,13 @@ static void drop_held(Held *held) {
 }
 
 /* A copy of the dictionary. */
-static struct ArrowArray *make_texts(const si_interner *h) {
-  size_t count = si_len(h), length = 0;
-  si_text text;
+static struct ArrowArray *make_texts(const interner *h) {
+  size_t count = interner_len(h), length = 0;
+  interner_text text;
   Held *held = calloc(1, sizeof *held);
   int64_t *offsets = malloc((count + 1) * sizeof *offsets);
   for (size_t row = 0; offsets && row < count; row++) {
-    si_resolve(h, row, &text);
+    interner_resolve(h, row, &text);
     offsets[row] = length;
     length += text.len;
   }
@@ -117,7 +117,7 @@ static struct ArrowArray *make_texts(const si_interner *h) {
   if (bytes) {
     offsets[count] = length;
     for (size_t row = 0; row < count; row++) {
-      si_resolve(h, row, &text);
+      interner_resolve(h, row, &text);
       memcpy(bytes + offsets[row], text.bytes, text.len);
     }
     *held = (Held){{NULL, offsets, bytes}, {offsets, bytes}, NULL};

@@ -58,15 +58,15 @@ static void read_part(const Rows *rows, Py_ssize_t at, Py_ssize_t n, PyObject **
     for (Py_ssize_t row = 0; row < n; row++) part[row] = PyTuple_GetItem(rows->sequence, at + row);
 }
 
-Batch *new_batch(Interner *interner, Column *column, si_interner *h, Py_ssize_t rows) {
+Batch *new_batch(Interner *owner, Column *column, interner *h, Py_ssize_t rows) {
   enum { LEAST_BITS = 3, MOST_BITS = 12 };
   int bits = LEAST_BITS;
   while (bits < MOST_BITS && (Py_ssize_t)1 << bits < rows) bits++;
   Batch *batch = PyMem_Calloc(1, sizeof *batch + (sizeof *batch->seen << bits));
   if (!batch) return PyErr_NoMemory(), NULL;
   batch->seen_bits = bits;
-  batch->interner = interner, batch->column = column, batch->h = h;
-  batch->kept = batch->count = si_len(h);
+  batch->interner = owner, batch->column = column, batch->h = h;
+  batch->kept = batch->count = interner_len(h);
   return batch;
 }
 
@@ -76,7 +76,7 @@ void free_batch(Batch *batch) {
 }
 
 bool reserve_batch(Batch *batch, Py_ssize_t more) {
-  int width = width_of(si_len(batch->h)) > batch->width ? width_of(si_len(batch->h)) : batch->width;
+  int width = width_of(interner_len(batch->h)) > batch->width ? width_of(interner_len(batch->h)) : batch->width;
   if (!reserve_codes(&batch->block, batch->first, more, width)) return false;
   batch->out = batch->block->data, batch->width = width;
   return true;
@@ -89,7 +89,7 @@ static size_t uses_of(const Batch *batch) {
 }
 
 void note_changes(Batch *batch) {
-  batch->count = si_len(batch->h);
+  batch->count = interner_len(batch->h);
   batch->uses = uses_of(batch);
   if (batch->interner) batch->cuts = batch->interner->cuts;
   if (batch->column) batch->begins = batch->column->begins;
@@ -112,7 +112,7 @@ bool adopt_changes(Batch *batch) {
   if (batch->column) batch->h = batch->column->dictionary->h;
   bool is_seen = batch->interner ? shows_more(batch->interner, batch->kept)
                                  : batch->column && batch->column->dictionary->texts_count > batch->kept;
-  if (is_seen || uses_of(batch) != batch->uses || si_len(batch->h) != batch->count) batch->kept = si_len(batch->h);
+  if (is_seen || uses_of(batch) != batch->uses || interner_len(batch->h) != batch->count) batch->kept = interner_len(batch->h);
   return !PyErr_Occurred();
 }
 
@@ -133,7 +133,7 @@ bool resume_batch(Batch *batch) {
 
 void undo_batch(Batch *batch) {
   if (!batch->h || batch->only_looks || (batch->column && batch->column->dictionary->references > 1)) return;
-  si_truncate(batch->h, batch->kept);
+  interner_truncate(batch->h, batch->kept);
 }
 
 bool put_number(Batch *batch, Py_ssize_t row, int64_t number) {
@@ -159,7 +159,7 @@ static bool raise_row(const Batch *batch, Py_ssize_t row, PyObject *object) {
 /* Finds the number of a text, or adds the text. */
 static bool encode_text(Batch *batch, Py_ssize_t row, PyObject *text, int64_t *number) {
   Py_ssize_t length;
-  size_t found;
+  interner_symbol found;
   if (!PyUnicode_Check(text)) return raise_row(batch, row, text);
   const char *bytes = PyUnicode_AsUTF8AndSize(text, &length);
   *number = batch->missing;
@@ -168,12 +168,12 @@ static bool encode_text(Batch *batch, Py_ssize_t row, PyObject *text, int64_t *n
     PyErr_Clear();
     return true;
   }
-  si_result status = batch->only_looks ? si_get_utf8(batch->h, bytes, length, &found)
+  interner_status status = batch->only_looks ? interner_get_utf8(batch->h, bytes, length, &found)
                      : batch->column   ? add_text(batch->column, bytes, length, &found)
-                                       : si_get_or_intern_utf8(batch->h, bytes, length, &found);
-  if (status == SI_OK) *number = (int64_t)found;
-  else if (status != SI_NOTHING) raise_status(status);
-  return status == SI_OK || status == SI_NOTHING;
+                                       : interner_get_or_intern_utf8(batch->h, bytes, length, &found);
+  if (status == INTERNER_OK) *number = (int64_t)found;
+  else if (status != INTERNER_NOT_FOUND) raise_status(status);
+  return status == INTERNER_OK || status == INTERNER_NOT_FOUND;
 }
 
 /* Encodes some objects. A small table has the number of the last object at each place. That is sound because the caller holds the

@@ -6,7 +6,7 @@ bool is_made(const Column *self) {
   return self->dictionary != NULL;
 }
 
-int column_width(const Column *self) { return self->n ? self->block->width : width_of(si_len(self->dictionary->h)); }
+int column_width(const Column *self) { return self->n ? self->block->width : width_of(interner_len(self->dictionary->h)); }
 
 /* Making */
 
@@ -45,7 +45,7 @@ Column *make_plain(Column *like) {
 static int column_init(Column *self, PyObject *args, PyObject *keywords) {
   static char *words[] = {"values", "hasher", NULL};
   PyObject *values = NULL, *hasher = NULL;
-  Options options = {.kind = SI_STRING};
+  Options options = {.kind = INTERNER_STRING};
   if (!PyArg_ParseTupleAndKeywords(args, keywords, "|O$O:Column", words, &values, &hasher)) return -1;
   if (!read_hasher(self->state, hasher, &options)) return -1;
   Dictionary *dictionary = new_dictionary(&options);
@@ -85,12 +85,12 @@ PyObject *column_codes(Column *self, void *unused) {
 
 static PyObject *column_distinct(Column *self, void *unused) {
   (void)unused;
-  return is_made(self) ? PyLong_FromSize_t(si_len(self->dictionary->h)) : NULL;
+  return is_made(self) ? PyLong_FromSize_t(interner_len(self->dictionary->h)) : NULL;
 }
 
 static PyObject *column_hasher(Column *self, void *unused) {
   (void)unused;
-  return is_made(self) ? PyUnicode_FromString(self->dictionary->is_keyed ? "keyed" : "fixed") : NULL;
+  return is_made(self) ? PyUnicode_FromString(hasher_name(self->dictionary->hasher)) : NULL;
 }
 
 static PyObject *column_counts(Column *self, PyObject *unused) {
@@ -100,7 +100,7 @@ static PyObject *column_counts(Column *self, PyObject *unused) {
   /* The codes first, because an audit hook may add rows while the array is made. */
   Block *block = share_block(self->block);
   Py_ssize_t n = self->n;
-  PyObject *array = new_array(self->state, "Q", si_len(self->dictionary->h), &view);
+  PyObject *array = new_array(self->state, "Q", interner_len(self->dictionary->h), &view);
   for (Py_ssize_t row = 0; array && row < n; row++) {
     int64_t code = code_at(block, row);
     if (code >= 0) ((uint64_t *)view.buf)[code]++;
@@ -113,7 +113,7 @@ static PyObject *column_counts(Column *self, PyObject *unused) {
 /* The code of the rows with a value. 1: found, 0: there is none, -1: raised. */
 static int find_code(Column *self, PyObject *value, int64_t *code) {
   Py_ssize_t length = 0;
-  size_t number;
+  interner_symbol number;
   const char *bytes = NULL;
   *code = -1;
   if (PyUnicode_Check(value) && !(bytes = PyUnicode_AsUTF8AndSize(value, &length))) {
@@ -122,7 +122,7 @@ static int find_code(Column *self, PyObject *value, int64_t *code) {
   }
   if (!is_made(self)) return -1;
   if (value == Py_None) return 1;
-  if (!bytes || si_get_utf8(self->dictionary->h, bytes, length, &number) != SI_OK) return 0;
+  if (!bytes || interner_get_utf8(self->dictionary->h, bytes, length, &number) != INTERNER_OK) return 0;
   *code = (int64_t)number;
   return 1;
 }
@@ -213,7 +213,7 @@ static PyObject *column_subscript(Column *self, PyObject *key) {
 
 /* The codes of rows. Raises IndexError for a row that there is not. */
 static Block *take_codes(const Column *self, const Numbers *rows) {
-  Block *block = new_block(rows->n, width_of(si_len(self->dictionary->h)));
+  Block *block = new_block(rows->n, width_of(interner_len(self->dictionary->h)));
   for (Py_ssize_t at = 0; block && at < rows->n; at++) {
     int64_t row = rows->at[at];
     /* A number of a buffer without signs is great, not negative. */
@@ -245,14 +245,15 @@ static PyObject *column_take(Column *self, PyObject *given) {
 
 /* The code in this dictionary of each text of another, with -1 before the first, and -2 for a text that is not here. */
 static int64_t *compare_texts(const Dictionary *here, const Dictionary *other) {
-  size_t count = si_len(other->h), number;
+  size_t count = interner_len(other->h);
+  interner_symbol number;
   int64_t *table = PyMem_Malloc((count + 1) * sizeof *table);
   if (!table) return PyErr_NoMemory(), NULL;
   *table = -1;
   for (size_t code = 0; code < count; code++) {
-    si_text text;
-    si_resolve(other->h, code, &text);
-    table[code + 1] = si_get_utf8(here->h, text.bytes, text.len, &number) == SI_OK ? (int64_t)number : -2;
+    interner_text text;
+    interner_resolve(other->h, code, &text);
+    table[code + 1] = interner_get_utf8(here->h, text.bytes, text.len, &number) == INTERNER_OK ? (int64_t)number : -2;
   }
   return table;
 }
@@ -260,7 +261,7 @@ static int64_t *compare_texts(const Dictionary *here, const Dictionary *other) {
 /* 1: the rows are equal, 0: they differ, -1: raised. */
 static int compare_rows(const Column *self, const Column *other) {
   if (self->n != other->n) return 0;
-  bool is_same = self->dictionary == other->dictionary || si_equal(self->dictionary->h, other->dictionary->h);
+  bool is_same = self->dictionary == other->dictionary || interner_equal(self->dictionary->h, other->dictionary->h);
   int64_t *table = is_same ? NULL : compare_texts(self->dictionary, other->dictionary);
   if (!is_same && !table) return -1;
   Py_ssize_t row = 0;
@@ -282,7 +283,7 @@ static PyObject *column_richcompare(Column *self, PyObject *other, int operator)
 static PyObject *column_repr(Column *self) {
   PyObject *name = PyType_GetName(Py_TYPE((PyObject *)self)), *repr = NULL;
   if (name && self->dictionary)
-    repr = PyUnicode_FromFormat("<%U of %zd rows, %zu distinct texts>", name, self->n, si_len(self->dictionary->h));
+    repr = PyUnicode_FromFormat("<%U of %zd rows, %zu distinct texts>", name, self->n, interner_len(self->dictionary->h));
   else if (name) repr = PyUnicode_FromFormat("<%U that was not initialized>", name);
   Py_XDECREF(name);
   return repr;
@@ -305,17 +306,17 @@ static PyMethodDef column_methods[] = {
      "Looks up each text of the other dictionary once. Appends those that are new, in their order there, also if no row has\n"
      "them. So you may merge several columns in pairs, in any grouping."},
     {"from_parts", (PyCFunction)(void (*)(void))column_from_parts, METH_VARARGS | METH_KEYWORDS | METH_CLASS,
-     "from_parts($type, /, dictionary, codes, *, hasher='keyed')\n--\n\n"
+     "from_parts($type, /, dictionary, codes, *, hasher='seeded')\n--\n\n"
      "Makes a column of distinct texts, such as those of an `Interner`, and a code for each row. Copies both.\n\n"
      "The dictionary stays as it is, with texts that no row has. A masked code of numpy is a row that is None. Raises ValueError\n"
      "at the first text that repeats an earlier one, and if there is none, at the first code that is neither -1 nor an index of\n"
      "the dictionary. The message says where."},
     {"from_buffers", (PyCFunction)(void (*)(void))column_from_buffers, METH_VARARGS | METH_KEYWORDS | METH_CLASS,
-     "from_buffers($type, /, joined, ends, codes, *, hasher='keyed')\n--\n\n"
+     "from_buffers($type, /, joined, ends, codes, *, hasher='seeded')\n--\n\n"
      "Makes a column of what `to_buffers` returns. Copies all, and checks what `from_parts` checks, and that texts are UTF-8.\n\n"
      "The texts are end to end in `joined`: text `i` ends before byte `ends[i]`."},
     {"from_file", (PyCFunction)(void (*)(void))column_from_file, METH_VARARGS | METH_KEYWORDS | METH_CLASS,
-     "from_file($type, /, file, *, hasher='keyed')\n--\n\n"
+     "from_file($type, /, file, *, hasher='seeded')\n--\n\n"
      "Makes a column of the lines of a file: a path, or the number of an open file, which stays open. Makes no str of a line.\n\n"
      "A line ends at a newline, which is not part of it, or at the end of the file. Raises ValueError for a line that is not\n"
      "UTF-8, and says which, counted from 1; and OSError."},
@@ -355,7 +356,7 @@ static PyGetSetDef column_getset[] = {
      "A code takes 4 bytes, or 8 if the dictionary has more than 2 ** 31 - 1 texts. `numpy.asarray` reads them without a copy.",
      NULL},
     {"distinct", (getter)column_distinct, NULL, "The number of texts in the dictionary.", NULL},
-    {"hasher", (getter)column_hasher, NULL, "How texts are hashed: `keyed` for any keys.", NULL},
+    {"hasher", (getter)column_hasher, NULL, "How texts are hashed: `seeded`, `siphash` or `fixed`.", NULL},
     {"_parts", (getter)column_parts, (setter)column_set_parts, NULL, NULL},
     {NULL, NULL, NULL, NULL, NULL}};
 
@@ -363,7 +364,7 @@ static PyMemberDef column_members[] = {
     {"__weaklistoffset__", T_PYSSIZET, offsetof(Column, weak), READONLY, NULL}, {NULL, 0, 0, 0, NULL}};
 
 static PyType_Slot column_slots[] = {
-    {Py_tp_doc, "Column(values=(), *, hasher='keyed')\n--\n\nA list of rows that stores each distinct text once."},
+    {Py_tp_doc, "Column(values=(), *, hasher='seeded')\n--\n\nA list of rows that stores each distinct text once."},
     {Py_tp_new, column_new}, {Py_tp_init, column_init}, {Py_tp_dealloc, column_dealloc}, {Py_tp_traverse, column_traverse},
     {Py_tp_methods, column_methods}, {Py_tp_members, column_members}, {Py_tp_getset, column_getset}, {Py_tp_repr, column_repr},
     {Py_tp_iter, column_iter}, {Py_tp_hash, PyObject_HashNotImplemented}, {Py_tp_richcompare, column_richcompare},

@@ -1,20 +1,20 @@
 /* Dictionaries of columns: lists of distinct texts, which columns share. */
 #include "native.h"
 
-Dictionary *wrap_handle(si_interner *h, si_kind kind, bool is_keyed) {
+Dictionary *wrap_handle(interner *h, interner_kind kind, interner_hasher hasher) {
   Dictionary *dictionary = h ? PyMem_Calloc(1, sizeof *dictionary) : NULL;
   if (dictionary) {
     dictionary->references = 1, dictionary->h = h;
-    dictionary->kind = kind, dictionary->is_keyed = is_keyed;
+    dictionary->kind = kind, dictionary->hasher = hasher;
   } else if (h) {
-    si_free(h);
+    interner_free(h);
     PyErr_NoMemory();
   }
   return dictionary;
 }
 
 Dictionary *new_dictionary(const Options *options) {
-  return wrap_handle(make_handle(options, 0), options->kind, options->is_keyed);
+  return wrap_handle(make_handle(options, 0), options->kind, options->hasher);
 }
 
 Dictionary *share_dictionary(Dictionary *dictionary) {
@@ -26,39 +26,39 @@ void drop_dictionary(Dictionary *dictionary) {
   if (!dictionary || --dictionary->references) return;
   for (size_t text = 0; text < dictionary->texts_count; text++) Py_DECREF(dictionary->texts[text]);
   PyMem_Free(dictionary->texts);
-  si_free(dictionary->h);
+  interner_free(dictionary->h);
   PyMem_Free(dictionary);
 }
 
 /* Gives the column a dictionary of its own, with the same texts. */
 static bool own_dictionary(Column *self) {
   Dictionary *shared = self->dictionary, *own;
-  si_interner *h = NULL;
-  if (si_clone(shared->h, &h) != SI_OK || !(own = wrap_handle(h, shared->kind, shared->is_keyed))) return false;
+  interner *h = NULL;
+  if (interner_clone(shared->h, &h) != INTERNER_OK || !(own = wrap_handle(h, shared->kind, shared->hasher))) return false;
   own->uses = shared->uses + 1;
   self->dictionary = own;
   drop_dictionary(shared);
   return true;
 }
 
-si_result add_text(Column *self, const char *bytes, size_t length, size_t *number) {
+interner_status add_text(Column *self, const char *bytes, size_t length, interner_symbol *number) {
   if (self->dictionary->references > 1) {
-    if (si_get_utf8(self->dictionary->h, bytes, length, number) == SI_OK) return SI_OK;
-    if (!own_dictionary(self)) return SI_NO_MEMORY;
+    if (interner_get_utf8(self->dictionary->h, bytes, length, number) == INTERNER_OK) return INTERNER_OK;
+    if (!own_dictionary(self)) return INTERNER_NO_MEMORY;
   }
-  return si_get_or_intern_utf8(self->dictionary->h, bytes, length, number);
+  return interner_get_or_intern_utf8(self->dictionary->h, bytes, length, number);
 }
 
 /* Makes the strings of the dictionary that are not made yet. */
 static bool read_strings(Dictionary *dictionary) {
-  size_t count = si_len(dictionary->h);
+  size_t count = interner_len(dictionary->h);
   if (dictionary->texts_count >= count) return true;
   PyObject **texts = PyMem_Realloc(dictionary->texts, count * sizeof *texts);
   if (!texts) return PyErr_NoMemory(), false;
   dictionary->texts = texts;
   while (dictionary->texts_count < count) {
-    si_text text;
-    si_resolve(dictionary->h, dictionary->texts_count, &text);
+    interner_text text;
+    interner_resolve(dictionary->h, dictionary->texts_count, &text);
     if (!(texts[dictionary->texts_count] = PyUnicode_DecodeUTF8(text.bytes, text.len, NULL))) return false;
     dictionary->texts_count++;
   }
@@ -78,9 +78,9 @@ PyObject *list_strings(Dictionary *dictionary) {
 }
 
 PyObject *value_of(const Dictionary *dictionary, int64_t code) {
-  si_text text;
+  interner_text text;
   if (code < 0) Py_RETURN_NONE;
   if ((size_t)code < dictionary->texts_count) return Py_NewRef(dictionary->texts[code]);
-  si_resolve(dictionary->h, code, &text);
+  interner_resolve(dictionary->h, code, &text);
   return PyUnicode_DecodeUTF8(text.bytes, text.len, NULL);
 }

@@ -2,7 +2,7 @@
 #include "native.h"
 
 /* Adds distinct texts to a handle that nobody else has. Raises ValueError if one repeats. */
-static bool add_distinct(si_interner *h, PyObject *texts) {
+static bool add_distinct(interner *h, PyObject *texts) {
   Rows rows;
   if (!open_rows(texts, &rows)) return false;
   Batch *batch = new_batch(NULL, NULL, h, rows.n);
@@ -13,7 +13,7 @@ static bool add_distinct(si_interner *h, PyObject *texts) {
     batch->out = numbers, batch->width = 4;
     is_done = encode_rows(batch, &rows);
   }
-  if (is_done && si_len(h) < (size_t)rows.n) {
+  if (is_done && interner_len(h) < (size_t)rows.n) {
     Py_ssize_t row = 0;
     while (numbers[row] == row) row++;
     PyErr_Format(PyExc_ValueError, "entry %zd of the dictionary repeats entry %zu", row, (size_t)numbers[row]);
@@ -32,7 +32,7 @@ static PyObject *make_of_parts(State *state, PyTypeObject *type, Dictionary *dic
   PyObject *minus_one = PyLong_FromLong(-1), *codes = minus_one ? without_mask(given, minus_one) : NULL;
   Py_XDECREF(minus_one);
   if (codes && read_numbers(codes, &numbers)) {
-    Block *block = check_codes(&numbers, si_len(dictionary->h));
+    Block *block = check_codes(&numbers, interner_len(dictionary->h));
     if (block && (column = make_column(state, type))) begin_column(column, dictionary, block, numbers.n);
     else drop_block(block);
     drop_numbers(&numbers);
@@ -45,7 +45,7 @@ static PyObject *make_of_parts(State *state, PyTypeObject *type, Dictionary *dic
 PyObject *column_from_parts(PyTypeObject *type, PyObject *args, PyObject *keywords) {
   static char *words[] = {"dictionary", "codes", "hasher", NULL};
   PyObject *texts, *codes, *hasher = NULL;
-  Options options = {.kind = SI_STRING};
+  Options options = {.kind = INTERNER_STRING};
   State *state = state_of_type(type);
   if (!state || !PyArg_ParseTupleAndKeywords(args, keywords, "OO|$O:from_parts", words, &texts, &codes, &hasher)) return NULL;
   Dictionary *dictionary = read_hasher(state, hasher, &options) ? new_dictionary(&options) : NULL;
@@ -56,7 +56,7 @@ PyObject *column_from_parts(PyTypeObject *type, PyObject *args, PyObject *keywor
 }
 
 /* Adds distinct texts, which are end to end in a buffer, to a handle that nobody else has. */
-static bool add_joined(si_interner *h, PyObject *given, PyObject *given_ends) {
+static bool add_joined(interner *h, PyObject *given, PyObject *given_ends) {
   Bytes joined;
   Numbers ends;
   bool is_done = false;
@@ -72,7 +72,7 @@ static bool add_joined(si_interner *h, PyObject *given, PyObject *given_ends) {
 PyObject *column_from_buffers(PyTypeObject *type, PyObject *args, PyObject *keywords) {
   static char *words[] = {"joined", "ends", "codes", "hasher", NULL};
   PyObject *joined, *ends, *codes, *hasher = NULL;
-  Options options = {.kind = SI_STRING};
+  Options options = {.kind = INTERNER_STRING};
   State *state = state_of_type(type);
   if (!state || !PyArg_ParseTupleAndKeywords(args, keywords, "OOO|$O:from_buffers", words, &joined, &ends, &codes, &hasher)) return NULL;
   Dictionary *dictionary = read_hasher(state, hasher, &options) ? new_dictionary(&options) : NULL;
@@ -118,31 +118,32 @@ int column_set_parts(Column *self, PyObject *value, void *unused) {
 
 /* Encodes the rows under the dictionary of a column that has none yet. */
 static bool add_in_order(const Column *self, Column *compact, Block *block) {
-  size_t distinct = si_len(self->dictionary->h), number;
+  size_t distinct = interner_len(self->dictionary->h);
+  interner_symbol number;
   int64_t *table = PyMem_Malloc(distinct * sizeof *table + 1);
-  si_result status = table ? SI_OK : SI_NO_MEMORY;
+  interner_status status = table ? INTERNER_OK : INTERNER_NO_MEMORY;
   for (size_t code = 0; table && code < distinct; code++) table[code] = -1;
-  for (Py_ssize_t row = 0; status == SI_OK && row < self->n; row++) {
+  for (Py_ssize_t row = 0; status == INTERNER_OK && row < self->n; row++) {
     int64_t code = code_at(self->block, row);
     if (code >= 0 && table[code] < 0) {
-      si_text text;
-      si_resolve(self->dictionary->h, code, &text);
+      interner_text text;
+      interner_resolve(self->dictionary->h, code, &text);
       status = add_text(compact, text.bytes, text.len, &number);
       table[code] = (int64_t)number;
     }
-    if (status == SI_OK) set_code(block, row, code < 0 ? -1 : table[code]);
+    if (status == INTERNER_OK) set_code(block, row, code < 0 ? -1 : table[code]);
   }
   PyMem_Free(table);
-  if (status != SI_OK) raise_status(status);
-  return status == SI_OK;
+  if (status != INTERNER_OK) raise_status(status);
+  return status == INTERNER_OK;
 }
 
 PyObject *column_compact(Column *self, PyObject *unused) {
   (void)unused;
-  Options options = {.kind = SI_STRING};
+  Options options = {.kind = INTERNER_STRING};
   Column *compact = make_plain(self);
   Dictionary *dictionary = compact && is_made(self) && read_hasher(self->state, NULL, &options) ? new_dictionary(&options) : NULL;
-  Block *block = dictionary ? new_block(self->n, width_of(si_len(self->dictionary->h))) : NULL;
+  Block *block = dictionary ? new_block(self->n, width_of(interner_len(self->dictionary->h))) : NULL;
   if (dictionary) begin_column(compact, dictionary, NULL, 0);
   if (!block || !add_in_order(self, compact, block) || !add_codes(compact, block, self->n)) Py_CLEAR(compact);
   drop_block(block);

@@ -2,7 +2,7 @@
 #include "native.h"
 
 bool add_codes(Column *self, Block *codes, Py_ssize_t n) {
-  int width = width_of(si_len(self->dictionary->h));
+  int width = width_of(interner_len(self->dictionary->h));
   if (!self->n && codes && codes->width == width) {
     codes->used = n;
     share_block(codes);
@@ -104,16 +104,16 @@ PyObject *column_extend(Column *self, PyObject *given) {
 
 PyObject *column_append(Column *self, PyObject *value) {
   Py_ssize_t length = 0;
-  size_t number = 0;
+  interner_symbol number = 0;
   const char *bytes = value == Py_None ? "" : utf8_of(value, &length);
   if (!bytes || !is_made(self)) return NULL;
-  size_t before = si_len(self->dictionary->h);
-  si_result status = value == Py_None ? SI_OK : add_text(self, bytes, length, &number);
-  if (status != SI_OK) return raise_status(status);
+  size_t before = interner_len(self->dictionary->h);
+  interner_status status = value == Py_None ? INTERNER_OK : add_text(self, bytes, length, &number);
+  if (status != INTERNER_OK) return raise_status(status);
   Dictionary *dictionary = self->dictionary;
   dictionary->uses++;
-  if (!reserve_codes(&self->block, self->n, 1, width_of(si_len(dictionary->h)))) {
-    if (dictionary->references == 1) si_truncate(dictionary->h, before);
+  if (!reserve_codes(&self->block, self->n, 1, width_of(interner_len(dictionary->h)))) {
+    if (dictionary->references == 1) interner_truncate(dictionary->h, before);
     return NULL;
   }
   set_code(self->block, self->n, value == Py_None ? -1 : (int64_t)number);
@@ -123,20 +123,21 @@ PyObject *column_append(Column *self, PyObject *value) {
 
 /* The code in a batch's column of each text of another dictionary, with -1 before the first. Adds those that are new. */
 static int64_t *translate(Batch *batch, const Dictionary *from) {
-  size_t count = si_len(from->h), number;
+  size_t count = interner_len(from->h);
+  interner_symbol number;
   int64_t *table = PyMem_Malloc((count + 1) * sizeof *table);
   if (!table) return PyErr_NoMemory(), NULL;
   *table = -1;
   begin_batch(batch);
   bool is_done = true;
   for (size_t code = 0; is_done && code < count; code++) {
-    si_text text;
+    interner_text text;
     if (code && code % ROWS_OF_A_PART == 0 && !(is_done = resume_batch(batch))) break;
-    si_result status = si_resolve(from->h, code, &text);
-    if (status == SI_OK) status = add_text(batch->column, text.bytes, text.len, &number);
+    interner_status status = interner_resolve(from->h, code, &text);
+    if (status == INTERNER_OK) status = add_text(batch->column, text.bytes, text.len, &number);
     table[code + 1] = (int64_t)number;
     batch->h = batch->column->dictionary->h;
-    if (status != SI_OK) is_done = raise_status(status) != NULL;
+    if (status != INTERNER_OK) is_done = raise_status(status) != NULL;
   }
   end_batch(batch);
   if (is_done) return table;
@@ -146,7 +147,7 @@ static int64_t *translate(Batch *batch, const Dictionary *from) {
 
 /* Appends n codes under a table. Without a table they are the same. */
 static bool add_translated(Column *self, const Block *codes, Py_ssize_t n, const int64_t *table) {
-  if (!reserve_codes(&self->block, self->n, n, width_of(si_len(self->dictionary->h)))) return false;
+  if (!reserve_codes(&self->block, self->n, n, width_of(interner_len(self->dictionary->h)))) return false;
   for (Py_ssize_t row = 0; row < n; row++) {
     int64_t code = code_at(codes, row);
     set_code(self->block, self->n + row, table ? table[code + 1] : code);

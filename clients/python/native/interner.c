@@ -8,7 +8,7 @@ bool is_open(const Interner *self) {
 
 /* Making and closing */
 
-static PyObject *interner_new(PyTypeObject *type, PyObject *args, PyObject *keywords) {
+static PyObject *method_new(PyTypeObject *type, PyObject *args, PyObject *keywords) {
   (void)args, (void)keywords;
   State *state = state_of_type(type);
   Interner *self = state ? (Interner *)PyType_GenericAlloc(type, 0) : NULL;
@@ -17,15 +17,15 @@ static PyObject *interner_new(PyTypeObject *type, PyObject *args, PyObject *keyw
 }
 
 /* Has the interner begin again with a handle, which it takes over, or close if that is null. */
-static bool replace_handle(Interner *self, si_interner *h, si_kind kind, bool is_keyed) {
+static bool replace_handle(Interner *self, interner *h, interner_kind kind, interner_hasher hasher) {
   if (!read_walks(self)) {
-    si_free(h);
+    interner_free(h);
     return false;
   }
-  si_interner *before = self->h;
-  self->h = h, self->kind = kind, self->is_keyed = is_keyed;
+  interner *before = self->h;
+  self->h = h, self->kind = kind, self->hasher = hasher;
   self->cuts++;
-  si_free(before);
+  interner_free(before);
   return true;
 }
 
@@ -40,29 +40,26 @@ static bool read_capacity(PyObject *given, size_t *capacity) {
   return false;
 }
 
-static int interner_init(Interner *self, PyObject *args, PyObject *keywords) {
+static int method_init(Interner *self, PyObject *args, PyObject *keywords) {
   static char *words[] = {"texts", "backend", "capacity", "hasher", NULL};
   PyObject *texts = NULL, *backend = NULL, *room = NULL, *hasher = NULL;
   size_t capacity;
   Options options;
   if (!PyArg_ParseTupleAndKeywords(args, keywords, "|O$OOO:Interner", words, &texts, &backend, &room, &hasher)) return -1;
   if (!read_capacity(room, &capacity) || !read_backend(backend, &options.kind) || !read_hasher(self->state, hasher, &options)) return -1;
-  si_interner *h = make_handle(&options, capacity);
-  if (!h || !replace_handle(self, h, options.kind, options.is_keyed)) return -1;
+  interner *h = make_handle(&options, capacity);
+  if (!h || !replace_handle(self, h, options.kind, options.hasher)) return -1;
   PyObject *numbers = texts ? intern_objects(self, texts, "I") : Py_NewRef(Py_None);
   Py_XDECREF(numbers);
   return numbers ? 0 : -1;
 }
 
-static si_result read_json(si_interner **h, const Options *options, bool is_exact, const char *json, size_t length) {
-  const uint64_t *keys = options->keys;
-  if (options->is_keyed && is_exact) return si_from_json_exact_keyed(h, options->kind, json, length, keys[0], keys[1]);
-  if (options->is_keyed) return si_from_json_keyed(h, options->kind, json, length, keys[0], keys[1]);
-  if (is_exact) return si_from_json_exact(h, options->kind, json, length);
-  return si_from_json(h, options->kind, json, length);
+static interner_status read_json(interner **h, const Options *options, bool is_exact, const char *json, size_t length) {
+  const interner_options made_by = library_options(options, 0);
+  return interner_from_json_with(&made_by, json, length, is_exact, h);
 }
 
-static PyObject *interner_from_json(PyTypeObject *type, PyObject *args, PyObject *keywords) {
+static PyObject *method_from_json(PyTypeObject *type, PyObject *args, PyObject *keywords) {
   static char *words[] = {"text", "backend", "exact", "hasher", NULL};
   PyObject *text, *backend = NULL, *hasher = NULL;
   int is_exact = 0;
@@ -77,58 +74,58 @@ static PyObject *interner_from_json(PyTypeObject *type, PyObject *args, PyObject
     PyErr_SetString(PyExc_TypeError, "__new__ returned no Interner");
     json = NULL;
   }
-  si_interner *h = NULL;
-  si_result status = json ? read_json(&h, &options, is_exact, json, length) : SI_OK;
-  if (status != SI_OK) raise_status(status);
-  if (h && replace_handle(self, h, options.kind, options.is_keyed)) return (PyObject *)self;
+  interner *h = NULL;
+  interner_status status = json ? read_json(&h, &options, is_exact, json, length) : INTERNER_OK;
+  if (status != INTERNER_OK) raise_status(status);
+  if (h && replace_handle(self, h, options.kind, options.hasher)) return (PyObject *)self;
   Py_XDECREF((PyObject *)self);
   return NULL;
 }
 
-static PyObject *interner_close(Interner *self, PyObject *unused) {
+static PyObject *method_close(Interner *self, PyObject *unused) {
   (void)unused;
-  if (self->h && !replace_handle(self, NULL, self->kind, self->is_keyed)) return NULL;
+  if (self->h && !replace_handle(self, NULL, self->kind, self->hasher)) return NULL;
   Py_RETURN_NONE;
 }
 
-static PyObject *interner_enter(Interner *self, PyObject *unused) {
+static PyObject *method_enter(Interner *self, PyObject *unused) {
   (void)unused;
   return is_open(self) ? Py_NewRef((PyObject *)self) : NULL;
 }
 
-static PyObject *interner_exit(Interner *self, PyObject *args) {
+static PyObject *method_exit(Interner *self, PyObject *args) {
   (void)args;
   return PyObject_CallMethod((PyObject *)self, "close", NULL);
 }
 
-static void interner_dealloc(Interner *self) {
+static void method_dealloc(Interner *self) {
   PyTypeObject *type = Py_TYPE((PyObject *)self);
   PyObject_GC_UnTrack(self);
   if (self->weak) PyObject_ClearWeakRefs((PyObject *)self);
-  si_free(self->h); /* Live iterators refer to it, so there are none. */
+  interner_free(self->h); /* Live iterators refer to it, so there are none. */
   ((freefunc)PyType_GetSlot(type, Py_tp_free))(self);
   Py_DECREF(type);
 }
 
-static int interner_traverse(PyObject *self, visitproc visit, void *arg) {
+static int method_traverse(PyObject *self, visitproc visit, void *arg) {
   Py_VISIT(Py_TYPE(self));
   return 0;
 }
 
 /* One text, one number */
 
-static PyObject *interner_intern(Interner *self, PyObject *text) {
+static PyObject *method_intern(Interner *self, PyObject *text) {
   Py_ssize_t length;
-  size_t number;
+  interner_symbol number;
   const char *bytes = utf8_of(text, &length);
   if (!bytes || !is_open(self)) return NULL;
   self->uses++;
-  si_result status = si_get_or_intern_utf8(self->h, bytes, length, &number);
-  return status == SI_OK ? PyLong_FromSize_t(number) : raise_status(status);
+  interner_status status = interner_get_or_intern_utf8(self->h, bytes, length, &number);
+  return status == INTERNER_OK ? PyLong_FromSize_t(number) : raise_status(status);
 }
 
 /* 1: found, 0: not known, -1: raised. A text without a UTF-8 form is not known. */
-static int look_up(Interner *self, PyObject *text, size_t *number) {
+static int look_up(Interner *self, PyObject *text, interner_symbol *number) {
   Py_ssize_t length;
   const char *bytes = utf8_of(text, &length);
   if (!bytes) {
@@ -136,13 +133,13 @@ static int look_up(Interner *self, PyObject *text, size_t *number) {
     PyErr_Clear();
   }
   if (!is_open(self)) return -1;
-  return bytes && si_get_utf8(self->h, bytes, length, number) == SI_OK;
+  return bytes && interner_get_utf8(self->h, bytes, length, number) == INTERNER_OK;
 }
 
-static PyObject *interner_get(Interner *self, PyObject *const *args, Py_ssize_t given, PyObject *names) {
+static PyObject *method_get(Interner *self, PyObject *const *args, Py_ssize_t given, PyObject *names) {
   PyObject *otherwise = given > 1 ? args[1] : Py_None;
   Py_ssize_t named = names ? PyTuple_Size(names) : 0;
-  size_t number;
+  interner_symbol number;
   if (named == 1 && given == 1 && !PyUnicode_CompareWithASCIIString(PyTuple_GetItem(names, 0), "default")) otherwise = args[1];
   else if (named || given < 1 || given > 2) {
     PyErr_SetString(PyExc_TypeError, "get takes a text and at most a default");
@@ -155,148 +152,148 @@ static PyObject *interner_get(Interner *self, PyObject *const *args, Py_ssize_t 
   }
 }
 
-static int interner_contains(Interner *self, PyObject *text) {
-  size_t number;
+static int method_contains(Interner *self, PyObject *text) {
+  interner_symbol number;
   if (!PyUnicode_Check(text)) return is_open(self) ? 0 : -1;
   return look_up(self, text, &number);
 }
 
 /* The text with a number. Null without an exception if there is none. */
 static PyObject *find_text(Interner *self, PyObject *given) {
-  si_text text;
+  interner_text text;
   Py_ssize_t number = PyNumber_AsSsize_t(given, NULL);
   if (number == -1 && PyErr_Occurred()) return NULL;
-  if (!is_open(self) || number < 0 || si_resolve(self->h, number, &text) != SI_OK) return NULL;
+  if (!is_open(self) || number < 0 || number > UINT32_MAX || interner_resolve(self->h, number, &text) != INTERNER_OK) return NULL;
   return PyUnicode_DecodeUTF8(text.bytes, text.len, NULL);
 }
 
-static PyObject *interner_resolve(Interner *self, PyObject *number) {
+static PyObject *method_resolve(Interner *self, PyObject *number) {
   PyObject *text = find_text(self, number);
   return text || PyErr_Occurred() ? text : Py_NewRef(Py_None);
 }
 
-static PyObject *interner_subscript(Interner *self, PyObject *number) {
+static PyObject *method_subscript(Interner *self, PyObject *number) {
   PyObject *text = find_text(self, number);
   if (!text && !PyErr_Occurred()) PyErr_SetObject(PyExc_KeyError, number);
   return text;
 }
 
-static Py_ssize_t interner_length(Interner *self) { return is_open(self) ? (Py_ssize_t)si_len(self->h) : -1; }
+static Py_ssize_t method_length(Interner *self) { return is_open(self) ? (Py_ssize_t)interner_len(self->h) : -1; }
 
 /* All texts */
 
-static PyObject *interner_truncate(Interner *self, PyObject *length) {
+static PyObject *method_truncate(Interner *self, PyObject *length) {
   Py_ssize_t kept = PyNumber_AsSsize_t(length, NULL);
   if (kept == -1 && PyErr_Occurred()) return NULL;
   if (kept < 0) return PyErr_Format(PyExc_ValueError, "length %zd", kept);
   if (!is_open(self) || !read_walks(self)) return NULL;
   self->cuts++;
-  si_truncate(self->h, kept);
+  interner_truncate(self->h, kept);
   Py_RETURN_NONE;
 }
 
-static PyObject *interner_shrink(Interner *self, PyObject *unused) {
+static PyObject *method_shrink(Interner *self, PyObject *unused) {
   (void)unused;
   if (!is_open(self)) return NULL;
-  si_shrink(self->h);
+  interner_shrink(self->h);
   Py_RETURN_NONE;
 }
 
-static PyObject *interner_to_json(Interner *self, PyObject *unused) {
+static PyObject *method_to_json(Interner *self, PyObject *unused) {
   (void)unused;
   if (!is_open(self)) return NULL;
   /* The library makes all of it before it says that room is short. So a guess that holds most texts saves that time. */
-  size_t room = 1024 + 24 * si_len(self->h), length = 0;
+  size_t room = 1024 + 24 * interner_len(self->h), length = 0;
   char *json = NULL;
-  si_result status = SI_NO_MEMORY;
+  interner_status status = INTERNER_NO_MEMORY;
   for (int tries = 0; tries < 2; tries++) {
     PyMem_Free(json);
     if (!(json = PyMem_Malloc(room))) return PyErr_NoMemory();
-    status = si_to_json(self->h, json, room, &length);
-    if (status != SI_NO_ROOM) break;
+    status = interner_to_json(self->h, json, room, &length);
+    if (status != INTERNER_NO_ROOM) break;
     room = length;
   }
-  PyObject *text = status == SI_OK ? PyUnicode_DecodeUTF8(json, length, NULL) : raise_status(status);
+  PyObject *text = status == INTERNER_OK ? PyUnicode_DecodeUTF8(json, length, NULL) : raise_status(status);
   PyMem_Free(json);
   return text;
 }
 
-static PyObject *interner_richcompare(Interner *self, PyObject *other, int operator) {
+static PyObject *method_richcompare(Interner *self, PyObject *other, int operator) {
   if ((operator != Py_EQ && operator != Py_NE) || !PyObject_TypeCheck(other, self->state->interner)) Py_RETURN_NOTIMPLEMENTED;
   Interner *second = (Interner *)other;
   if (self == second) return PyBool_FromLong(operator == Py_EQ);
   if (!is_open(self) || !is_open(second)) return NULL;
-  return PyBool_FromLong(si_equal(self->h, second->h) == (operator == Py_EQ));
+  return PyBool_FromLong(interner_equal(self->h, second->h) == (operator == Py_EQ));
 }
 
-static PyObject *interner_repr(Interner *self) {
+static PyObject *method_repr(Interner *self) {
   PyObject *name = PyType_GetName(Py_TYPE((PyObject *)self)), *repr = NULL;
-  if (name && self->h) repr = PyUnicode_FromFormat("<%U of %zu texts, backend '%s'>", name, si_len(self->h), backend_name(self->kind));
+  if (name && self->h) repr = PyUnicode_FromFormat("<%U of %zu texts, backend '%s'>", name, interner_len(self->h), backend_name(self->kind));
   else if (name) repr = PyUnicode_FromFormat("<%U that is closed>", name);
   Py_XDECREF(name);
   return repr;
 }
 
-static PyObject *interner_backend(Interner *self, void *unused) {
+static PyObject *method_backend(Interner *self, void *unused) {
   (void)unused;
   return PyUnicode_FromString(backend_name(self->kind));
 }
 
-static PyObject *interner_hasher(Interner *self, void *unused) {
+static PyObject *method_hasher(Interner *self, void *unused) {
   (void)unused;
-  return PyUnicode_FromString(self->is_keyed ? "keyed" : "fixed");
+  return PyUnicode_FromString(hasher_name(self->hasher));
 }
 
 /* What copies and pickles hold. */
-static PyObject *interner_parts(Interner *self, void *unused) {
+static PyObject *method_parts(Interner *self, void *unused) {
   (void)unused;
-  si_interner *h = NULL;
+  interner *h = NULL;
   Parts *parts = (Parts *)new_parts(self->state, NULL, NULL, -1);
   if (!parts || !is_open(self)) goto failed;
-  if (si_clone(self->h, &h) != SI_OK) {
+  if (interner_clone(self->h, &h) != INTERNER_OK) {
     PyErr_NoMemory();
     goto failed;
   }
-  if ((parts->dictionary = wrap_handle(h, self->kind, self->is_keyed))) return (PyObject *)parts;
+  if ((parts->dictionary = wrap_handle(h, self->kind, self->hasher))) return (PyObject *)parts;
 failed:
   Py_XDECREF((PyObject *)parts);
   return NULL;
 }
 
-static int interner_set_parts(Interner *self, PyObject *value, void *unused) {
+static int method_set_parts(Interner *self, PyObject *value, void *unused) {
   (void)unused;
   if (!value || !PyObject_TypeCheck(value, self->state->parts) || ((Parts *)value)->n >= 0)
     return PyErr_SetString(PyExc_TypeError, "no parts of an interner"), -1;
   Dictionary *dictionary = ((Parts *)value)->dictionary;
   if (!dictionary) return PyErr_SetString(PyExc_ValueError, "these parts were taken"), -1;
-  si_interner *h = NULL;
+  interner *h = NULL;
   if (dictionary->references > 1) {
-    if (si_clone(dictionary->h, &h) != SI_OK) return PyErr_NoMemory(), -1;
+    if (interner_clone(dictionary->h, &h) != INTERNER_OK) return PyErr_NoMemory(), -1;
   } else h = dictionary->h, dictionary->h = NULL;
-  si_kind kind = dictionary->kind;
-  bool is_keyed = dictionary->is_keyed;
+  interner_kind kind = dictionary->kind;
+  interner_hasher hasher = dictionary->hasher;
   ((Parts *)value)->dictionary = NULL;
   drop_dictionary(dictionary);
-  return replace_handle(self, h, kind, is_keyed) ? 0 : -1;
+  return replace_handle(self, h, kind, hasher) ? 0 : -1;
 }
 
-static PyMethodDef interner_methods[] = {
-    {"from_json", (PyCFunction)(void (*)(void))interner_from_json, METH_VARARGS | METH_KEYWORDS | METH_CLASS,
-     "from_json($type, /, text, *, backend='string', exact=False, hasher='keyed')\n--\n\n"
+static PyMethodDef method_methods[] = {
+    {"from_json", (PyCFunction)(void (*)(void))method_from_json, METH_VARARGS | METH_KEYWORDS | METH_CLASS,
+     "from_json($type, /, text, *, backend='string', exact=False, hasher='seeded')\n--\n\n"
      "Makes an interner of the texts of a JSON array of strings. Does not call the `__init__` of a subclass.\n\n"
      "A repeated string adds no text; if `exact` is true, it raises ValueError. Raises ValueError for a text that is no such\n"
      "array, OverflowError if no number is left for a text, and MemoryError."},
-    {"intern", (PyCFunction)interner_intern, METH_O,
+    {"intern", (PyCFunction)method_intern, METH_O,
      "intern($self, text, /)\n--\n\n"
      "Returns the number of a text. Appends a text that is not known.\n\n"
      "Raises OverflowError if no number is left for it, and MemoryError. The interner is then unchanged."},
-    {"intern_all", (PyCFunction)(void (*)(void))interner_intern_all, METH_VARARGS | METH_KEYWORDS,
+    {"intern_all", (PyCFunction)(void (*)(void))method_intern_all, METH_VARARGS | METH_KEYWORDS,
      "intern_all($self, /, texts, *, typecode='I')\n--\n\n"
      "Returns the number of each text, in order, in an array: 4 bytes for each, or 8 if the typecode is \"Q\".\n\n"
      "It is all or nothing: if a value is no text, or has no UTF-8 form, or if no number or memory is left, nothing changes. For\n"
      "what is no text, the TypeError says which. Reads a list, a tuple and an array of objects in place. numpy reads the result\n"
      "without a copy."},
-    {"intern_column", (PyCFunction)(void (*)(void))interner_intern_column, METH_VARARGS | METH_KEYWORDS,
+    {"intern_column", (PyCFunction)(void (*)(void))method_intern_column, METH_VARARGS | METH_KEYWORDS,
      "intern_column($self, /, joined, ends, *, typecode='I')\n--\n\n"
      "Does the same for texts that are end to end in `joined`: text `i` ends before byte `ends[i]`.\n\n"
      "`joined` may be anything with a buffer; all but `bytes` is copied. `ends` is copied, too. That is fastest for a buffer of\n"
@@ -307,51 +304,51 @@ static PyMethodDef interner_methods[] = {
      "Returns the number of each line of some bytes, in an array of 4 bytes for each. Makes no str of a line.\n\n"
      "A line ends at a newline, which is not part of it, or at the end of the bytes. Raises ValueError for a line that is not\n"
      "UTF-8, and says which, counted from 1; then nothing changes."},
-    {"get", (PyCFunction)(void (*)(void))interner_get, METH_FASTCALL | METH_KEYWORDS,
+    {"get", (PyCFunction)(void (*)(void))method_get, METH_FASTCALL | METH_KEYWORDS,
      "get($self, text, /, default=None)\n--\n\nReturns the number of a text, or the default if it is not known."},
-    {"get_all", (PyCFunction)(void (*)(void))interner_get_all, METH_VARARGS | METH_KEYWORDS,
+    {"get_all", (PyCFunction)(void (*)(void))method_get_all, METH_VARARGS | METH_KEYWORDS,
      "get_all($self, /, texts, missing=-1)\n--\n\n"
      "Returns the number of each text, in order, and `missing` for a text that is not known. Adds no text.\n\n"
      "The array has 4 bytes for each, with a sign, or 8 if a number does not fit."},
-    {"resolve", (PyCFunction)interner_resolve, METH_O,
+    {"resolve", (PyCFunction)method_resolve, METH_O,
      "resolve($self, number, /)\n--\n\n"
      "Returns the text with a number, or None if there is none.\n\n"
      "With the backend `buffer`, a number that belongs to no text may return a piece of other texts."},
-    {"resolve_all", (PyCFunction)interner_resolve_all, METH_O,
+    {"resolve_all", (PyCFunction)method_resolve_all, METH_O,
      "resolve_all($self, numbers, /)\n--\n\n"
      "Returns the text with each number, in order. Raises KeyError at a number without one.\n\n"
      "Undoes `intern_all`. With the backend `buffer`, a number that belongs to no text may return a piece of other texts, or\n"
      "raise KeyError."},
-    {"entries", (PyCFunction)interner_entries, METH_NOARGS,
+    {"entries", (PyCFunction)method_entries, METH_NOARGS,
      "entries($self, /)\n--\n\nReturns an iterator of each number with its text, in insertion order, as they are now."},
-    {"items", (PyCFunction)interner_entries, METH_NOARGS,
+    {"items", (PyCFunction)method_entries, METH_NOARGS,
      "items($self, /)\n--\n\nReturns the same as `entries`: each number and `interner[number]`, as `dict.items` does."},
-    {"truncate", (PyCFunction)interner_truncate, METH_O,
+    {"truncate", (PyCFunction)method_truncate, METH_O,
      "truncate($self, length, /)\n--\n\nKeeps the first texts with their numbers, and drops the others."},
-    {"shrink", (PyCFunction)interner_shrink, METH_NOARGS, "shrink($self, /)\n--\n\nReleases memory that no text needs, if it can."},
-    {"to_json", (PyCFunction)interner_to_json, METH_NOARGS, "to_json($self, /)\n--\n\nReturns the JSON array of the texts."},
-    {"close", (PyCFunction)interner_close, METH_NOARGS,
+    {"shrink", (PyCFunction)method_shrink, METH_NOARGS, "shrink($self, /)\n--\n\nReleases memory that no text needs, if it can."},
+    {"to_json", (PyCFunction)method_to_json, METH_NOARGS, "to_json($self, /)\n--\n\nReturns the JSON array of the texts."},
+    {"close", (PyCFunction)method_close, METH_NOARGS,
      "close($self, /)\n--\n\nFrees the texts. A second `close` does nothing, and any other call then raises ValueError."},
-    {"__enter__", (PyCFunction)interner_enter, METH_NOARGS, NULL},
-    {"__exit__", (PyCFunction)interner_exit, METH_VARARGS, NULL},
-    {"__reversed__", (PyCFunction)interner_reversed, METH_NOARGS, "The texts in reverse order, as they are now."},
+    {"__enter__", (PyCFunction)method_enter, METH_NOARGS, NULL},
+    {"__exit__", (PyCFunction)method_exit, METH_VARARGS, NULL},
+    {"__reversed__", (PyCFunction)method_reversed, METH_NOARGS, "The texts in reverse order, as they are now."},
     {NULL, NULL, 0, NULL}};
 
-static PyGetSetDef interner_getset[] = {
-    {"backend", (getter)interner_backend, NULL, "How texts are stored.", NULL},
-    {"hasher", (getter)interner_hasher, NULL, "How texts are hashed: `keyed` for any keys.", NULL},
-    {"_parts", (getter)interner_parts, (setter)interner_set_parts, NULL, NULL},
+static PyGetSetDef method_getset[] = {
+    {"backend", (getter)method_backend, NULL, "How texts are stored.", NULL},
+    {"hasher", (getter)method_hasher, NULL, "How texts are hashed: `seeded`, `siphash` or `fixed`.", NULL},
+    {"_parts", (getter)method_parts, (setter)method_set_parts, NULL, NULL},
     {NULL, NULL, NULL, NULL, NULL}};
 
-static PyMemberDef interner_members[] = {
+static PyMemberDef method_members[] = {
     {"__weaklistoffset__", T_PYSSIZET, offsetof(Interner, weak), READONLY, NULL}, {NULL, 0, 0, 0, NULL}};
 
-static PyType_Slot interner_slots[] = {
-    {Py_tp_doc, "Interner(texts=(), *, backend='string', capacity=0, hasher='keyed')\n--\n\nA list of distinct texts, each with a number."},
-    {Py_tp_new, interner_new}, {Py_tp_init, interner_init}, {Py_tp_dealloc, interner_dealloc}, {Py_tp_traverse, interner_traverse},
-    {Py_tp_methods, interner_methods}, {Py_tp_members, interner_members}, {Py_tp_getset, interner_getset},
-    {Py_tp_repr, interner_repr}, {Py_tp_iter, interner_iter}, {Py_tp_hash, PyObject_HashNotImplemented},
-    {Py_tp_richcompare, interner_richcompare}, {Py_sq_contains, interner_contains}, {Py_mp_length, interner_length},
-    {Py_mp_subscript, interner_subscript}, {0, NULL}};
-PyType_Spec interner_spec = {"string_interner._native.Interner", sizeof(Interner), 0,
-                             Py_TPFLAGS_DEFAULT | Py_TPFLAGS_BASETYPE | Py_TPFLAGS_HAVE_GC, interner_slots};
+static PyType_Slot method_slots[] = {
+    {Py_tp_doc, "Interner(texts=(), *, backend='string', capacity=0, hasher='seeded')\n--\n\nA list of distinct texts, each with a number."},
+    {Py_tp_new, method_new}, {Py_tp_init, method_init}, {Py_tp_dealloc, method_dealloc}, {Py_tp_traverse, method_traverse},
+    {Py_tp_methods, method_methods}, {Py_tp_members, method_members}, {Py_tp_getset, method_getset},
+    {Py_tp_repr, method_repr}, {Py_tp_iter, method_iter}, {Py_tp_hash, PyObject_HashNotImplemented},
+    {Py_tp_richcompare, method_richcompare}, {Py_sq_contains, method_contains}, {Py_mp_length, method_length},
+    {Py_mp_subscript, method_subscript}, {0, NULL}};
+PyType_Spec method_spec = {"string_interner._native.Interner", sizeof(Interner), 0,
+                             Py_TPFLAGS_DEFAULT | Py_TPFLAGS_BASETYPE | Py_TPFLAGS_HAVE_GC, method_slots};

@@ -15,10 +15,10 @@ static Py_ssize_t count_newlines(const char *at, const char *end) {
 static bool encode_lines(Batch *batch, const char *at, const char *end) {
   while (at < end) {
     const char *newline = memchr(at, '\n', end - at), *stop = newline ? newline : end;
-    size_t number;
-    si_result status = si_get_or_intern(batch->h, at, stop - at, &number);
-    if (status != SI_OK) {
-      if (status == SI_BAD_TEXT) PyErr_Format(PyExc_ValueError, "line %zd is not UTF-8", batch->first + 1);
+    interner_symbol number;
+    interner_status status = interner_get_or_intern(batch->h, at, stop - at, &number);
+    if (status != INTERNER_OK) {
+      if (status == INTERNER_BAD_TEXT) PyErr_Format(PyExc_ValueError, "line %zd is not UTF-8", batch->first + 1);
       else raise_status(status);
       return false;
     }
@@ -173,7 +173,7 @@ static Block *encode_named(Dictionary *dictionary, PyObject *name, Py_ssize_t *r
 PyObject *column_from_file(PyTypeObject *type, PyObject *args, PyObject *keywords) {
   static char *words[] = {"file", "hasher", NULL};
   PyObject *name, *hasher = NULL;
-  Options options = {.kind = SI_STRING};
+  Options options = {.kind = INTERNER_STRING};
   Py_ssize_t rows = 0;
   State *state = state_of_type(type);
   if (!state || !PyArg_ParseTupleAndKeywords(args, keywords, "O|$O:from_file", words, &name, &hasher)) return NULL;

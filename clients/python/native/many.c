@@ -28,7 +28,7 @@ static const char *read_typecode(PyObject *given) {
   return NULL;
 }
 
-PyObject *interner_intern_all(Interner *self, PyObject *args, PyObject *keywords) {
+PyObject *method_intern_all(Interner *self, PyObject *args, PyObject *keywords) {
   static char *words[] = {"texts", "typecode", NULL};
   PyObject *texts, *given = NULL;
   if (!PyArg_ParseTupleAndKeywords(args, keywords, "O|$O:intern_all", words, &texts, &given)) return NULL;
@@ -36,30 +36,30 @@ PyObject *interner_intern_all(Interner *self, PyObject *args, PyObject *keywords
   return typecode && is_open(self) ? intern_objects(self, texts, typecode) : NULL;
 }
 
-/* Interns the parts of bytes, and writes their numbers of 8 bytes. The texts before a failure stay. */
-static bool intern_parts(Interner *self, const Bytes *joined, const size_t *ends, Py_ssize_t n, size_t *numbers) {
+/* Interns the parts of bytes, and writes their symbols. The texts before a failure stay. */
+static bool intern_parts(Interner *self, const Bytes *joined, const size_t *ends, Py_ssize_t n, interner_symbol *numbers) {
   size_t done;
   if (!is_open(self)) return false;
   self->uses++;
-  si_result status = si_intern_all(self->h, joined->at, joined->length, ends, n, numbers, n, &done);
-  if (status == SI_BAD_TEXT) PyErr_Format(PyExc_ValueError, "text %zu is not UTF-8", done);
-  else if (status != SI_OK) raise_status(status);
-  return status == SI_OK;
+  interner_status status = interner_intern_joined(self->h, joined->at, joined->length, ends, n, numbers, n, &done);
+  if (status == INTERNER_BAD_TEXT) PyErr_Format(PyExc_ValueError, "text %zu is not UTF-8", done);
+  else if (status != INTERNER_OK) raise_status(status);
+  return status == INTERNER_OK;
 }
 
 /* The numbers in an array. */
-static PyObject *pack_numbers(const State *state, const char *typecode, const size_t *numbers, Py_ssize_t n) {
+static PyObject *pack_numbers(const State *state, const char *typecode, const interner_symbol *numbers, Py_ssize_t n) {
   Py_buffer view;
   PyObject *array = new_array(state, typecode, n, &view);
   if (!array) return NULL;
   for (Py_ssize_t row = 0; row < n; row++)
-    if (*typecode == 'I') ((uint32_t *)view.buf)[row] = (uint32_t)numbers[row];
+    if (*typecode == 'I') ((uint32_t *)view.buf)[row] = numbers[row];
     else ((uint64_t *)view.buf)[row] = numbers[row];
   PyBuffer_Release(&view);
   return array;
 }
 
-PyObject *interner_intern_column(Interner *self, PyObject *args, PyObject *keywords) {
+PyObject *method_intern_column(Interner *self, PyObject *args, PyObject *keywords) {
   static char *words[] = {"joined", "ends", "typecode", NULL};
   PyObject *given, *given_ends, *given_typecode = NULL, *array = NULL;
   Bytes joined;
@@ -69,7 +69,7 @@ PyObject *interner_intern_column(Interner *self, PyObject *args, PyObject *keywo
   if (!typecode || !read_bytes(given, &joined)) return NULL;
   if (read_numbers(given_ends, &ends)) {
     /* A negative end passes the bytes as a great one does. So the library rejects it in its turn. */
-    size_t *numbers = PyMem_Malloc(ends.n * sizeof *numbers + 1);
+    interner_symbol *numbers = PyMem_Malloc(ends.n * sizeof *numbers + 1);
     if (!numbers) PyErr_NoMemory();
     else if (intern_parts(self, &joined, (const size_t *)ends.at, ends.n, numbers))
       array = pack_numbers(self->state, typecode, numbers, ends.n);
@@ -104,7 +104,7 @@ static PyObject *pack_signed(const State *state, const int64_t *numbers, Py_ssiz
   return array;
 }
 
-PyObject *interner_get_all(Interner *self, PyObject *args, PyObject *keywords) {
+PyObject *method_get_all(Interner *self, PyObject *args, PyObject *keywords) {
   static char *words[] = {"texts", "missing", NULL};
   PyObject *texts, *array = NULL;
   long long missing = -1;
@@ -133,8 +133,8 @@ typedef struct Table {
 } Table;
 
 static bool make_table(const Interner *self, Py_ssize_t numbers, Table *table) {
-  size_t most = (size_t)numbers < si_len(self->h) || self->kind == SI_BUFFER ? (size_t)numbers : si_len(self->h);
-  table->limit = self->kind == SI_BUFFER ? INT64_MAX : (int64_t)si_len(self->h);
+  size_t most = (size_t)numbers < interner_len(self->h) || self->kind == INTERNER_BUFFER ? (size_t)numbers : interner_len(self->h);
+  table->limit = self->kind == INTERNER_BUFFER ? INT64_MAX : (int64_t)interner_len(self->h);
   table->mask = 1;
   while (table->mask < 2 * most) table->mask = 2 * table->mask + 1;
   table->found = PyMem_Calloc(table->mask + 1, sizeof *table->found);
@@ -150,11 +150,11 @@ static void drop_table(Table *table) {
 /* The text of a number, borrowed from the table. */
 static PyObject *find_once(const Interner *self, Table *table, int64_t number) {
   size_t place = (uint64_t)number * 0x9E3779B97F4A7C15u >> 20 & table->mask;
-  si_text text;
+  interner_text text;
   if (number < 0 || number >= table->limit) return NULL;
   while (table->found[place].text && table->found[place].number != number) place = (place + 1) & table->mask;
   Found *found = &table->found[place];
-  if (!found->text && si_resolve(self->h, number, &text) == SI_OK)
+  if (!found->text && number <= UINT32_MAX && interner_resolve(self->h, number, &text) == INTERNER_OK)
     found->number = number, found->text = PyUnicode_DecodeUTF8(text.bytes, text.len, NULL);
   return found->text;
 }
@@ -178,7 +178,7 @@ static PyObject *list_texts(PyObject *const *texts, Py_ssize_t n) {
   return list;
 }
 
-PyObject *interner_resolve_all(Interner *self, PyObject *given) {
+PyObject *method_resolve_all(Interner *self, PyObject *given) {
   Numbers numbers;
   Table table = {0};
   PyObject *list = NULL;

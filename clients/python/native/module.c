@@ -18,9 +18,9 @@ static bool draw_keys(State *state) {
 
 static int fill_module(PyObject *module) {
   State *state = PyModule_GetState(module);
-  if (si_version() != SI_VERSION) return PyErr_SetString(PyExc_ImportError, "the library has another interface"), -1;
+  if (interner_version() != INTERNER_VERSION) return PyErr_SetString(PyExc_ImportError, "the library has another interface"), -1;
   if (!(state->array = import_from("array", "array"))) return -1;
-  bool is_done = draw_keys(state) && add_type(module, &state->interner, &interner_spec) && add_type(module, &state->walk, &walk_spec) &&
+  bool is_done = draw_keys(state) && add_type(module, &state->interner, &method_spec) && add_type(module, &state->walk, &walk_spec) &&
                  add_type(module, &state->codes, &codes_spec) && add_type(module, &state->column, &column_spec) &&
                  add_type(module, &state->rows_walk, &rows_walk_spec) && add_type(module, &state->parts, &parts_spec);
   is_done = is_done && !PyModule_AddIntConstant(module, "_MOST_NARROW", MOST_NARROW);

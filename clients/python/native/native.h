@@ -8,7 +8,7 @@
  *      open (is_open, is_made); then call the library; then make the results.
  *   2. No repr of what is given, because it may be written in Python. Types are named by PyType_GetName.
  *   3. A batch runs under PyGC_Disable, so that no finalizer comes between a failure and its undoing. It is all or nothing:
- *      undone by si_truncate.
+ *      undone by interner_truncate.
  *   4. A text that the library lends becomes a str before anything else is called.
  *   5. Between the parts of a batch PyErr_CheckSignals runs handlers. After it all is tested again (resume_batch): the handle,
  *      the length of the list, the counts of changes. The table of seen objects is cleared, because a handler may have dropped them.
@@ -47,13 +47,13 @@ enum { ROWS_OF_A_PART = 1 << 16, BYTES_OF_A_PART = 1 << 20 };
 typedef struct State {
   PyTypeObject *interner, *walk, *column, *rows_walk, *codes, *parts;
   PyObject *array;  /* array.array */
-  uint64_t keys[2]; /* random keys of this interpreter */
+  uint64_t keys[2][2]; /* random keys of this interpreter, for SipHash and for the seeded hasher */
 } State;
 
 /** How texts are stored and hashed. */
 typedef struct Options {
-  si_kind kind;
-  bool is_keyed;
+  interner_kind kind;
+  interner_hasher hasher;
   uint64_t keys[2];
 } Options;
 
@@ -69,17 +69,17 @@ typedef struct Walk Walk;
 /** An interner of Python. */
 typedef struct Interner {
   PyObject_HEAD
-  si_interner *h; /* null if it is closed */
+  interner *h; /* null if it is closed */
   State *state;
   PyObject *weak;
   Walk *walks;   /* iterators that have not read all yet */
   size_t cuts;   /* how often texts were dropped or the handle was replaced */
   size_t uses;   /* how often texts were interned */
-  si_kind kind;
-  bool is_keyed;
+  interner_kind kind;
+  interner_hasher hasher;
 } Interner;
 
-extern PyType_Spec interner_spec;
+extern PyType_Spec method_spec;
 
 bool is_open(const Interner *self);
 
@@ -87,9 +87,9 @@ bool is_open(const Interner *self);
 
 extern PyType_Spec walk_spec;
 
-PyObject *interner_iter(Interner *self);
-PyObject *interner_entries(Interner *self, PyObject *unused);
-PyObject *interner_reversed(Interner *self, PyObject *unused);
+PyObject *method_iter(Interner *self);
+PyObject *method_entries(Interner *self, PyObject *unused);
+PyObject *method_reversed(Interner *self, PyObject *unused);
 
 /** Whether an iterator shows more texts than the first few. */
 bool shows_more(const Interner *self, size_t count);
@@ -102,28 +102,31 @@ bool read_walks(Interner *self);
 /** The number of each text, in an array with a typecode. */
 PyObject *intern_objects(Interner *self, PyObject *texts, const char *typecode);
 
-PyObject *interner_intern_all(Interner *self, PyObject *args, PyObject *keywords);
-PyObject *interner_intern_column(Interner *self, PyObject *args, PyObject *keywords);
-PyObject *interner_get_all(Interner *self, PyObject *args, PyObject *keywords);
-PyObject *interner_resolve_all(Interner *self, PyObject *given);
+PyObject *method_intern_all(Interner *self, PyObject *args, PyObject *keywords);
+PyObject *method_intern_column(Interner *self, PyObject *args, PyObject *keywords);
+PyObject *method_get_all(Interner *self, PyObject *args, PyObject *keywords);
+PyObject *method_resolve_all(Interner *self, PyObject *given);
 
 /* options.c */
 
 /** An attribute of a module. */
 PyObject *import_from(const char *name, const char *attribute);
 
-PyObject *raise_status(si_result status);
+PyObject *raise_status(interner_status status);
 PyObject *raise_type(const char *before, PyObject *object, const char *after);
-bool read_backend(PyObject *given, si_kind *kind);
+bool read_backend(PyObject *given, interner_kind *kind);
 bool read_hasher(const State *state, PyObject *given, Options *options);
-const char *backend_name(si_kind kind);
-si_interner *make_handle(const Options *options, size_t capacity);
+const char *backend_name(interner_kind kind);
+const char *hasher_name(interner_hasher hasher);
+/** The same for the library, with spare capacity for so many texts. */
+interner_options library_options(const Options *options, size_t capacity);
+interner *make_handle(const Options *options, size_t capacity);
 
 /** The UTF-8 form of a text, which lives as long as the text. Raises TypeError for what is no text. */
 const char *utf8_of(PyObject *text, Py_ssize_t *length);
 
 /** The number of the text after one. On a buffer, as the header says, it is greater by the bytes of the text and of its length. */
-size_t number_after(si_kind kind, size_t number, size_t length);
+size_t number_after(interner_kind kind, size_t number, size_t length);
 
 /** An array of the module array with n items, and a writable view of it. Runs no Python code but hooks of `sys.addaudithook`. */
 PyObject *new_array(const State *state, const char *typecode, Py_ssize_t n, Py_buffer *view);
@@ -196,18 +199,18 @@ PyObject *view_codes(State *state, Block *block, Py_ssize_t n, int width);
 /** A list of distinct texts. Columns share it; one that adds a text to a shared one copies it first. */
 typedef struct Dictionary {
   size_t references;
-  si_interner *h;
+  interner *h;
   size_t uses;        /* how often texts were added */
   PyObject **texts;   /* a str of each text at the front, as far as they were read */
   size_t texts_count;
-  si_kind kind;
-  bool is_keyed;
+  interner_kind kind;
+  interner_hasher hasher;
 } Dictionary;
 
 Dictionary *new_dictionary(const Options *options);
 
 /** A dictionary with a handle, which it takes over. */
-Dictionary *wrap_handle(si_interner *h, si_kind kind, bool is_keyed);
+Dictionary *wrap_handle(interner *h, interner_kind kind, interner_hasher hasher);
 Dictionary *share_dictionary(Dictionary *dictionary);
 void drop_dictionary(Dictionary *dictionary);
 
@@ -246,7 +249,7 @@ Column *make_column(State *state, PyTypeObject *type);
 Column *make_plain(Column *like);
 
 /** Finds the number of a text, or adds the text to a dictionary that is the column's own. */
-si_result add_text(Column *self, const char *bytes, size_t length, size_t *number);
+interner_status add_text(Column *self, const char *bytes, size_t length, interner_symbol *number);
 
 PyObject *column_codes(Column *self, void *unused);
 
@@ -299,7 +302,7 @@ typedef struct Batch {
   /* Whose handle it is: an interner's, a column's, or one that nobody else has. */
   Interner *interner;
   Column *column;
-  si_interner *h;
+  interner *h;
   bool only_looks;    /* whether unknown texts are `missing`, and not added */
   int64_t missing;
   bool takes_none;    /* whether None is a row, with the code -1 */
@@ -316,7 +319,7 @@ typedef struct Batch {
 } Batch;
 
 /** Makes a batch for about so many rows. */
-Batch *new_batch(Interner *interner, Column *column, si_interner *h, Py_ssize_t rows);
+Batch *new_batch(Interner *owner, Column *column, interner *h, Py_ssize_t rows);
 void free_batch(Batch *batch);
 
 /** Gives the batch codes of its own, with room for more rows behind the first `batch->first`. */
@@ -365,7 +368,7 @@ PyObject *new_parts(State *state, Dictionary *dictionary, Block *block, Py_ssize
 bool join_texts(const Dictionary *dictionary, PyObject **joined, PyObject **ends);
 
 /** Adds the texts between ends to an empty handle. Raises ValueError if one repeats. */
-bool split_texts(si_interner *h, const Bytes *joined, const size_t *ends, Py_ssize_t n);
+bool split_texts(interner *h, const Bytes *joined, const size_t *ends, Py_ssize_t n);
 
 /** The numbers as codes of a dictionary. Raises ValueError at the first that is none. */
 Block *check_codes(const Numbers *numbers, size_t distinct);

@@ -3,7 +3,11 @@
 
 static const char *const names[] = {"string", "bucket", "buffer"};
 
-const char *backend_name(si_kind kind) { return names[kind]; }
+const char *backend_name(interner_kind kind) { return names[kind]; }
+
+static const char *const hashers[] = {"fixed", "siphash", "seeded"};
+
+const char *hasher_name(interner_hasher hasher) { return hashers[hasher]; }
 
 PyObject *import_from(const char *name, const char *attribute) {
   PyObject *module = PyImport_ImportModule(name), *found = module ? PyObject_GetAttrString(module, attribute) : NULL;
@@ -11,13 +15,13 @@ PyObject *import_from(const char *name, const char *attribute) {
   return found;
 }
 
-PyObject *raise_status(si_result status) {
+PyObject *raise_status(interner_status status) {
   switch (status) {
-  case SI_NO_MEMORY: return PyErr_NoMemory();
-  case SI_NO_SYMBOL: PyErr_SetString(PyExc_OverflowError, "no number is left"); break;
-  case SI_BAD_TEXT: PyErr_SetString(PyExc_ValueError, "not JSON"); break;
-  case SI_NOT_A_LIST: PyErr_SetString(PyExc_ValueError, "not an array"); break;
-  default: PyErr_SetString(PyExc_ValueError, si_result_text(status));
+  case INTERNER_NO_MEMORY: return PyErr_NoMemory();
+  case INTERNER_NO_SYMBOL: PyErr_SetString(PyExc_OverflowError, "no number is left"); break;
+  case INTERNER_BAD_TEXT: PyErr_SetString(PyExc_ValueError, "not JSON"); break;
+  case INTERNER_NOT_A_LIST: PyErr_SetString(PyExc_ValueError, "not an array"); break;
+  default: PyErr_SetString(PyExc_ValueError, interner_status_text(status));
   }
   return NULL;
 }
@@ -29,9 +33,9 @@ PyObject *raise_type(const char *before, PyObject *object, const char *after) {
   return NULL;
 }
 
-bool read_backend(PyObject *given, si_kind *kind) {
+bool read_backend(PyObject *given, interner_kind *kind) {
   if (given && !PyUnicode_Check(given) && given != Py_None) return raise_type("a backend is a str, not ", given, "");
-  for (*kind = SI_STRING; *kind <= SI_BUFFER; ++*kind)
+  for (*kind = INTERNER_STRING; *kind < sizeof names / sizeof *names; ++*kind)
     if (!given || (given != Py_None && !PyUnicode_CompareWithASCIIString(given, names[*kind]))) return true;
   if (given == Py_None) PyErr_SetString(PyExc_ValueError, "no backend None");
   else PyErr_Format(PyExc_ValueError, "no backend '%U'", given);
@@ -50,33 +54,44 @@ static bool read_key(PyObject *given, uint64_t *key) {
   return false;
 }
 
+/* Reads the name of a hasher. Former releases called the default one 'keyed'. */
+static bool read_hasher_name(PyObject *given, interner_hasher *hasher) {
+  for (*hasher = INTERNER_FIXED; *hasher <= INTERNER_SEEDED; ++*hasher)
+    if (!PyUnicode_CompareWithASCIIString(given, hashers[*hasher])) return true;
+  *hasher = INTERNER_SEEDED;
+  if (!PyUnicode_CompareWithASCIIString(given, "keyed")) return true;
+  PyErr_Format(PyExc_ValueError, "no hasher '%U'", given);
+  return false;
+}
+
 bool read_hasher(const State *state, PyObject *given, Options *options) {
-  options->is_keyed = true;
-  memcpy(options->keys, state->keys, sizeof options->keys);
-  if (!given) return true;
-  if (PyUnicode_Check(given)) {
-    options->is_keyed = PyUnicode_CompareWithASCIIString(given, "fixed") != 0;
-    if (!options->is_keyed || !PyUnicode_CompareWithASCIIString(given, "keyed")) return true;
-    PyErr_Format(PyExc_ValueError, "no hasher '%U'", given);
-    return false;
+  options->hasher = INTERNER_SEEDED;
+  if (!given || PyUnicode_Check(given)) {
+    if (given && !read_hasher_name(given, &options->hasher)) return false;
+    memcpy(options->keys, state->keys[options->hasher == INTERNER_SEEDED], sizeof options->keys);
+    return true;
   }
   if (!PyTuple_Check(given)) {
-    PyErr_SetString(PyExc_TypeError, "a hasher is 'keyed', 'fixed' or a tuple of two keys");
+    PyErr_SetString(PyExc_TypeError, "a hasher is 'seeded', 'siphash', 'fixed' or a tuple of two keys");
     return false;
   }
   if (PyTuple_Size(given) != 2) {
     PyErr_SetString(PyExc_ValueError, "a hasher has two keys");
     return false;
   }
+  options->hasher = INTERNER_SIPHASH;
   return read_key(PyTuple_GetItem(given, 0), &options->keys[0]) && read_key(PyTuple_GetItem(given, 1), &options->keys[1]);
 }
 
-si_interner *make_handle(const Options *options, size_t capacity) {
-  si_interner *h = NULL;
-  si_result status = options->is_keyed
-                         ? si_with_capacity_keyed(&h, options->kind, capacity, options->keys[0], options->keys[1])
-                         : si_with_capacity(&h, options->kind, capacity);
-  if (status == SI_OK) return h;
+interner_options library_options(const Options *options, size_t capacity) {
+  return (interner_options){options->kind, options->hasher, capacity, options->keys[0], options->keys[1]};
+}
+
+interner *make_handle(const Options *options, size_t capacity) {
+  interner *h = NULL;
+  const interner_options made_by = library_options(options, capacity);
+  interner_status status = interner_new_with(&made_by, &h);
+  if (status == INTERNER_OK) return h;
   raise_status(status);
   return NULL;
 }
@@ -87,8 +102,8 @@ const char *utf8_of(PyObject *text, Py_ssize_t *length) {
   return NULL;
 }
 
-size_t number_after(si_kind kind, size_t number, size_t length) {
-  if (kind != SI_BUFFER) return number + 1;
+size_t number_after(interner_kind kind, size_t number, size_t length) {
+  if (kind != INTERNER_BUFFER) return number + 1;
   number += length + 1;
   for (size_t rest = length >> 7; rest; rest >>= 7) number++;
   return number;

@@ -8,32 +8,33 @@ PyObject *new_parts(State *state, Dictionary *dictionary, Block *block, Py_ssize
 }
 
 bool join_texts(const Dictionary *dictionary, PyObject **joined, PyObject **ends) {
-  size_t count = si_len(dictionary->h), length = 0, number = 0;
-  si_text text;
+  size_t count = interner_len(dictionary->h), length = 0, number = 0;
+  interner_text text;
   if (!(*ends = PyBytes_FromStringAndSize(NULL, count * sizeof(uint64_t)))) return false;
   uint64_t *end = (uint64_t *)PyBytes_AsString(*ends);
   for (size_t row = 0; row < count; row++, number = number_after(dictionary->kind, number, text.len)) {
-    si_resolve(dictionary->h, number, &text);
+    interner_resolve(dictionary->h, number, &text);
     end[row] = length += text.len;
   }
   if (!(*joined = PyBytes_FromStringAndSize(NULL, length))) return false;
   char *at = PyBytes_AsString(*joined);
   number = 0;
   for (size_t row = 0; row < count; row++, number = number_after(dictionary->kind, number, text.len)) {
-    si_resolve(dictionary->h, number, &text);
+    interner_resolve(dictionary->h, number, &text);
     memcpy(at, text.bytes, text.len);
     at += text.len;
   }
   return true;
 }
 
-bool split_texts(si_interner *h, const Bytes *joined, const size_t *ends, Py_ssize_t n) {
-  size_t done = 0, *numbers = PyMem_Malloc(n * sizeof *numbers + 1);
-  si_result status = numbers ? si_intern_all(h, joined->at, joined->length, ends, n, numbers, n, &done) : SI_NO_MEMORY;
+bool split_texts(interner *h, const Bytes *joined, const size_t *ends, Py_ssize_t n) {
+  size_t done = 0;
+  interner_symbol *numbers = PyMem_Malloc(n * sizeof *numbers + 1);
+  interner_status status = numbers ? interner_intern_joined(h, joined->at, joined->length, ends, n, numbers, n, &done) : INTERNER_NO_MEMORY;
   PyMem_Free(numbers);
-  if (status == SI_BAD_TEXT) PyErr_Format(PyExc_ValueError, "text %zu is not UTF-8", done);
-  else if (status != SI_OK) raise_status(status);
-  else if (si_len(h) < (size_t)n) PyErr_SetString(PyExc_ValueError, "a text repeats an earlier one");
+  if (status == INTERNER_BAD_TEXT) PyErr_Format(PyExc_ValueError, "text %zu is not UTF-8", done);
+  else if (status != INTERNER_OK) raise_status(status);
+  else if (interner_len(h) < (size_t)n) PyErr_SetString(PyExc_ValueError, "a text repeats an earlier one");
   return !PyErr_Occurred();
 }
 
@@ -84,8 +85,8 @@ static bool fill_parts(Parts *self, const Options *options, PyObject *const *giv
   }
   is_done = is_done && split_texts(self->dictionary->h, &joined, (const size_t *)ends.at, ends.length / sizeof(size_t));
   if (is_done && given[2] != Py_None) {
-    is_done = read_bytes(given[2], &codes) && (self->block = read_codes(&codes, width, si_len(self->dictionary->h), &self->n));
-    if (is_done && options->kind != SI_STRING) {
+    is_done = read_bytes(given[2], &codes) && (self->block = read_codes(&codes, width, interner_len(self->dictionary->h), &self->n));
+    if (is_done && options->kind != INTERNER_STRING) {
       PyErr_SetString(PyExc_ValueError, "the codes have another backend");
       is_done = false;
     }
@@ -146,7 +147,7 @@ static PyObject *parts_reduce(Parts *self, PyObject *given) {
   PyObject *codes = self->n < 0 ? Py_NewRef(Py_None) : view_codes(self->state, self->block, self->n, width);
   if (codes && join_texts(dictionary, &joined, &ends))
     reduced = Py_BuildValue("O(ssNNNi)", (PyObject *)Py_TYPE((PyObject *)self), backend_name(dictionary->kind),
-                            dictionary->is_keyed ? "keyed" : "fixed", wrap_buffer(joined, protocol),
+                            hasher_name(dictionary->hasher), wrap_buffer(joined, protocol),
                             wrap_buffer(ends, protocol), wrap_buffer(codes, protocol), width);
   drop_dictionary(dictionary);
   Py_XDECREF(joined);

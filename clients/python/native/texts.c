@@ -25,9 +25,9 @@ static void forget_interner(Walk *walk) {
 
 /* The next text, or with its number. Null without an exception if there is no other. */
 static PyObject *read_next(Walk *walk) {
-  si_text text;
+  interner_text text;
   size_t number = walk->number;
-  if (walk->index == walk->end || si_resolve(walk->of->h, number, &text) != SI_OK) return NULL;
+  if (walk->index == walk->end || number > UINT32_MAX || interner_resolve(walk->of->h, number, &text) != INTERNER_OK) return NULL;
   walk->index++, walk->number = number_after(walk->of->kind, number, text.len);
   PyObject *string = PyUnicode_DecodeUTF8(text.bytes, text.len, NULL);
   return string && walk->has_numbers ? Py_BuildValue("(nN)", (Py_ssize_t)number, string) : string;
@@ -120,19 +120,19 @@ static PyObject *make_walk(Interner *self, bool has_numbers) {
     return NULL;
   }
   Py_INCREF((PyObject *)self);
-  walk->of = self, walk->end = si_len(self->h), walk->has_numbers = has_numbers;
+  walk->of = self, walk->end = interner_len(self->h), walk->has_numbers = has_numbers;
   walk->next = self->walks, self->walks = walk;
   return (PyObject *)walk;
 }
 
-PyObject *interner_iter(Interner *self) { return make_walk(self, false); }
+PyObject *method_iter(Interner *self) { return make_walk(self, false); }
 
-PyObject *interner_entries(Interner *self, PyObject *unused) {
+PyObject *method_entries(Interner *self, PyObject *unused) {
   (void)unused;
   return make_walk(self, true);
 }
 
-PyObject *interner_reversed(Interner *self, PyObject *unused) {
+PyObject *method_reversed(Interner *self, PyObject *unused) {
   (void)unused;
   PyObject *walk = make_walk(self, false), *texts = walk ? PySequence_List(walk) : NULL, *backwards = NULL;
   if (texts && !PyList_Reverse(texts)) backwards = PyObject_GetIter(texts);

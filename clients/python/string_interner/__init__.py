@@ -27,15 +27,17 @@ A `Column` stores the rows, too, and exchanges them with numpy, pandas, Arrow, f
 
 From a dict to an `Interner`:
 
-| dict | Interner |
-|---|---|
-| `d.setdefault(text, len(d))` | `i.intern(text)` |
-| `[d.setdefault(text, len(d)) for text in texts]` | `i.intern_all(texts)` |
-| `d.get(text)`, `d.get(text, -1)` | `i.get(text)`, `i.get(text, -1)` |
-| `[d.get(text, -1) for text in texts]` | `i.get_all(texts)` |
-| `text in d`, `len(d)`, `list(d)` | `text in i`, `len(i)`, `list(i)` |
-| `d.items()` | `((text, number) for number, text in i.items())` |
-| a list for the way back: `texts[number]` | `i[number]` |
+================================================  ================================================
+dict                                              Interner
+================================================  ================================================
+`d.setdefault(text, len(d))`                      `i.intern(text)`
+`[d.setdefault(text, len(d)) for text in texts]`  `i.intern_all(texts)`
+`d.get(text)`, `d.get(text, -1)`                  `i.get(text)`, `i.get(text, -1)`
+`[d.get(text, -1) for text in texts]`             `i.get_all(texts)`
+`text in d`, `len(d)`, `list(d)`                  `text in i`, `len(i)`, `list(i)`
+`d.items()`                                       `((text, number) for number, text in i.items())`
+a list for the way back: `texts[number]`          `i[number]`
+================================================  ================================================
 
 A call holds Python's global lock, so threads take turns, and each call is whole for the others. A call in a coroutine blocks its
 loop for as long as it takes, and nothing is to be awaited; for a long batch use `asyncio.to_thread`. Between parts of a batch
@@ -52,7 +54,7 @@ if TYPE_CHECKING:
     from typing import Any, Literal, Self, SupportsIndex
 
     Backend = Literal["string", "bucket", "buffer"]
-    Hasher = Literal["keyed", "fixed"] | tuple[SupportsIndex, SupportsIndex]
+    Hasher = Literal["seeded", "siphash", "fixed"] | tuple[SupportsIndex, SupportsIndex]
     Typecode = Literal["I", "Q"]
 else:
     # Made on demand, because to import `typing` takes longer than all else here.
@@ -63,11 +65,12 @@ else:
         `string` and `bucket` the numbers are 0, 1, 2, .. With `buffer`, which takes the least memory, they are byte offsets. All
         numbers are below 2 ** 32 - 1, so `buffer` holds less than 4 GiB.
 
-        `Hasher` is how texts are hashed. This decides how long a call takes, and changes no result. `keyed` is SipHash-1-3 under
-        two random keys of this process. Texts with one hash code would make each call slow, and no way is known to choose such
-        texts without the keys. A tuple of two numbers below 2 ** 64 gives keys of your own, which should be random and secret.
-        `fixed` has no keys, and is faster, above all for long texts. Do not use it if strangers choose the texts: they easily
-        find many with one code.
+        `Hasher` is how texts are hashed. This decides how long a call takes, and changes no result. `seeded` is a fast hash
+        under random keys of this process. Many texts with one hash code would make each call slow, and no way is known to choose
+        such texts without the keys, except by timing single calls. `siphash` is SipHash-1-3 under random keys of this process: it
+        is slower, and timing calls does not help against it. A tuple of two numbers below 2 ** 64 is SipHash-1-3 under these keys,
+        which should be random and secret. `fixed` is a fast hash without keys. Do not use it if strangers choose the texts: they
+        easily find many with one code.
 
         `Typecode` is how many bytes a number takes in an array: 4 or 8.
         """
@@ -75,7 +78,7 @@ else:
 
         types = {
             "Backend": Literal["string", "bucket", "buffer"],
-            "Hasher": Literal["keyed", "fixed"] | tuple[SupportsIndex, SupportsIndex],
+            "Hasher": Literal["seeded", "siphash", "fixed"] | tuple[SupportsIndex, SupportsIndex],
             "Typecode": Literal["I", "Q"],
         }
         if name not in types:
@@ -91,7 +94,8 @@ class Interner(_native.Interner):
     """A list of distinct texts, each with a number.
 
     Like a set of texts, it has a length, supports `text in interner`, and iterates over its texts, in insertion order. Like a
-    dict, it finds a text by its number: `interner[number]`.
+    dict, it finds a text by its number: `interner[number]`. It equals an interner over the same backend with the same texts in
+    the same order.
 
     Any thread may call it, and a finalizer or a handler of a signal may, too; calls take turns. Results are copies, so they stay
     valid. An iterator shows the texts that there were when it began, whatever happens to the interner.
@@ -103,7 +107,7 @@ class Interner(_native.Interner):
     `intern_all` raises. There is then spare capacity for about `capacity` texts.
 
     Copies and pickles have the class and the attributes of a subclass. They do not call its `__init__`. A copy has the same
-    keys. A pickle holds no keys: the interner that is read from it has those of its process, unless its hasher is `fixed`.
+    keys. A pickle holds no keys: the interner that is read from it has those of its process.
     """
 
     __slots__ = ()

@@ -42,19 +42,19 @@ class Column(_native.Column):
     __slots__ = ()
 
     @classmethod
-    def from_values(cls, values: Iterable[str | None], *, hasher: Hasher = "keyed") -> Self:
+    def from_values(cls, values: Iterable[str | None], *, hasher: Hasher = "seeded") -> Self:
         """Makes a column of the values, as `Column` does. Does not call the `__init__` of a subclass."""
         column = cls.__new__(cls)
         Column.__init__(column, values, hasher=hasher)
         return column
 
     @classmethod
-    def encode(cls, values: Iterable[str | None], *, hasher: Hasher = "keyed") -> Self:
+    def encode(cls, values: Iterable[str | None], *, hasher: Hasher = "seeded") -> Self:
         """Does what `from_values` does, under the name that dictionary encoding has elsewhere."""
         return cls.from_values(values, hasher=hasher)
 
     @classmethod
-    def from_pandas(cls, values: Any, *, hasher: Hasher = "keyed") -> Self:
+    def from_pandas(cls, values: Any, *, hasher: Hasher = "seeded") -> Self:
         """Makes a column of a Series, Index, Categorical or other array of pandas. What pandas counts as missing becomes None.
 
         The categories of a Categorical become the dictionary, in their order. Raises TypeError for a category or a value that

@@ -20,8 +20,6 @@ import numpy
 import pandas
 from dask.distributed import Client, LocalCluster
 
-from string_interner import Column
-
 EXAMPLES = Path(__file__).resolve().parent.parent / "examples"
 sys.path.insert(0, str(EXAMPLES))
 from columns_on_dask import encode_lines, encode_on  # noqa: E402
@@ -72,21 +70,20 @@ class OnDask(unittest.TestCase):
         self.client = Client(self.cluster)
         self.addCleanup(self.client.close)
 
-    def check(self, columns):
-        """Compares columns of all parts with what pandas finds in all rows."""
-        self.assertEqual(len(columns), PARTS)
-        for column in columns:
-            self.assertEqual(column.dictionary, self.texts)
-        codes = numpy.concatenate([numpy.asarray(column.codes) for column in columns])
-        self.assertTrue(numpy.array_equal(codes, self.codes))
-        whole = Column()
-        for column in columns:
-            whole.merge(column)
-        self.assertEqual(list(whole), self.rows)
+    def check(self, parts):
+        """Compares all parts with what pandas finds in all rows."""
+        self.assertEqual(len(parts), PARTS)
+        self.assertTrue(numpy.array_equal(numpy.concatenate([part.codes for part in parts]), self.codes))
+        texts = []
+        for part in parts:
+            self.assertEqual(part.start, len(texts))
+            texts += part.texts
+        self.assertEqual(texts, self.texts)
 
     def test_the_same_as_factorize(self):
         futures = encode_on(self.client, encode_lines, self.paths)
         self.check(self.client.gather(futures))
+        self.check(self.client.gather(encode_on(self.client, encode_lines, self.paths, shards=5)))
         self.assertEqual(len({*sum(self.client.who_has(futures).values(), ())}), 2, "one worker did all the work")
 
     def test_a_worker_is_killed(self):

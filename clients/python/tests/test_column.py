@@ -360,7 +360,7 @@ class Refusals(unittest.TestCase):
             from string_interner import Column
             parts, every_second, column = type(Column()._parts), memoryview(bytearray(4000))[::2], Column(["a"])
             pickle.dumps(column, 5)
-            for call in (lambda: parts("string", "keyed", every_second, b"", None, 4), lambda: column._parts.__reduce_ex__(5)):
+            for call in (lambda: parts("string", "seeded", every_second, b"", None, 4), lambda: column._parts.__reduce_ex__(5)):
                 for request in range(40):
                     set_nomemory(request, request + 1)
                     try:
@@ -374,11 +374,11 @@ class Refusals(unittest.TestCase):
 
 class Calls(unittest.TestCase):
     def test_hashers(self):
-        for hasher in ("keyed", "fixed", (1, 2)):
+        for hasher in ("seeded", "siphash", "fixed", (1, 2)):
             for column in (Column(["a", None, "a"], hasher=hasher), Column.encode(["a", None, "a"], hasher=hasher),
                            Column.from_parts(["a"], [0, -1, 0], hasher=hasher)):
                 self.assertEqual(list(column), ["a", None, "a"])
-                self.assertEqual(column.hasher, "fixed" if hasher == "fixed" else "keyed")
+                self.assertEqual(column.hasher, "siphash" if hasher == (1, 2) else hasher)
 
     def test_a_dictionary_of_any_backend(self):
         for backend in ("string", "bucket", "buffer"):
@@ -625,7 +625,7 @@ class Calls(unittest.TestCase):
 
 class Copies(unittest.TestCase):
     def test_pickles_out_of_band(self):
-        for hasher in ("keyed", "fixed"):
+        for hasher in ("seeded", "siphash", "fixed"):
             column, buffers = Column(["a" * 1000, None, "ß"] * 1000, hasher=hasher), []
             written = pickle.dumps(column, 5, buffer_callback=buffers.append)
             self.assertLess(len(written), 300)

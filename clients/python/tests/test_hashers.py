@@ -17,7 +17,8 @@ LENGTH = 32
 MULTIPLIER, START = 0x9E3779B97F4A7C15, 0x243F6A8885A308D3
 """What the fixed hasher multiplies by, and the state that it begins with."""
 BACKENDS = ("string", "bucket", "buffer")
-HASHERS = ("keyed", "fixed", (0, LIMIT - 1), (1, True))
+NAMES = ("seeded", "siphash", "fixed")
+HASHERS = (*NAMES, (0, LIMIT - 1), (1, True))
 
 
 def state_after(block: bytes, state: int) -> int:
@@ -67,7 +68,7 @@ class Hashers(unittest.TestCase):
                     names = Interner(["a", "b", "a", ""], backend=backend, capacity=2, hasher=hasher)
                     self.assertEqual(list(names), ["a", "b", ""])
                     self.assertEqual(names, Interner(["a", "b", ""], backend=backend))
-                    self.assertEqual(names.hasher, "fixed" if hasher == "fixed" else "keyed")
+                    self.assertEqual(names.hasher, hasher if hasher in NAMES else "siphash")
                     read = Interner.from_json(names.to_json(), backend=backend, exact=True, hasher=hasher)
                     self.assertEqual((read, read.hasher), (names, names.hasher))
                     read = Interner.from_json('["a", "b", "a", ""]', backend=backend, hasher=hasher)
@@ -75,11 +76,14 @@ class Hashers(unittest.TestCase):
                     for other in (names.copy(), copy.deepcopy(names), pickle.loads(pickle.dumps(names))):
                         self.assertEqual((other, other.hasher), (names, names.hasher))
                         self.assertEqual(other.get("b"), names.get("b"))
-        self.assertEqual(Interner().hasher, "keyed")
+        self.assertEqual(Interner().hasher, "seeded")
+
+    def test_the_former_name_of_the_default(self):
+        self.assertEqual(Interner(["a"], hasher="keyed").hasher, "seeded")
 
     def test_what_is_no_hasher(self):
         for make in (Interner, lambda hasher: Interner.from_json("[]", hasher=hasher)):
-            for wrong in ("", "Fixed", (1, 2, 3), (1,), (-1, 0), (0, LIMIT)):
+            for wrong in ("", "Fixed", "sip", (1, 2, 3), (1,), (-1, 0), (0, LIMIT)):
                 self.assertRaises(ValueError, make, hasher=wrong)
             for wrong in (None, b"ab", [1, 2], 1, ("1", "2"), (1.0, 2.0)):
                 self.assertRaises(TypeError, make, hasher=wrong)
@@ -106,7 +110,7 @@ class Hashers(unittest.TestCase):
             print(asked)
             """
         told = subprocess.run([sys.executable, "-c", lines], capture_output=True, text=True, check=True).stdout
-        self.assertEqual(told, "[16]\n")
+        self.assertEqual(told, "[32]\n")
 
 
 class ChosenTexts(unittest.TestCase):
@@ -115,6 +119,7 @@ class ChosenTexts(unittest.TestCase):
         kept = Interner(others).to_json()
         for name, options in (
             ("of the process", {}),
+            ("of the process, for SipHash", {"hasher": "siphash"}),
             ("given", {"hasher": (3, 4)}),
             ("with room", {"capacity": 80_000}),
         ):

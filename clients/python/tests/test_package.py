@@ -76,7 +76,7 @@ class Imports(unittest.TestCase):
         with tempfile.TemporaryDirectory() as folder:
             package = Path(folder) / "string_interner"
             shutil.copytree(PACKAGE, package, ignore=shutil.ignore_patterns("*.so"))
-            (package / "version.c").write_text("unsigned si_version(void) { return 7; }\n")
+            (package / "version.c").write_text("unsigned interner_version(void) { return 7; }\n")
             # Nothing else of the library is called, and so nothing else is found.
             subprocess.run(["cc", "-shared", "-fPIC", "-O0", f"-I{header}", f"-I{HEADERS}", *SOURCES.glob("*.c"), package / "version.c",
                             "-Wl,-z,lazy", "-o", package / "_native.abi3.so"], check=True)

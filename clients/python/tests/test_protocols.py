@@ -352,7 +352,7 @@ class Subclasses(unittest.TestCase):
 
     def test_a_pickle_with_texts_out_of_band(self):
         for backend in BACKENDS:
-            for hasher in ("keyed", "fixed"):
+            for hasher in ("seeded", "siphash", "fixed"):
                 interner, buffers = Interner(["a" * 1000, "", "ß" * 300], backend=backend, hasher=hasher), []
                 written = pickle.dumps(interner, 5, buffer_callback=buffers.append)
                 self.assertLess(len(written), 300)

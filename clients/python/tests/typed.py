@@ -15,7 +15,7 @@ backend: Backend = "buffer"
 hasher: Hasher = (1, 2)
 names = Interner(["a"], backend=backend, capacity=3, hasher=hasher)
 assert_type(names.backend, Backend)
-assert_type(names.hasher, Literal["keyed", "fixed"])
+assert_type(names.hasher, Literal["seeded", "siphash", "fixed"])
 assert_type(names.intern("a"), int)
 assert_type(names.get("a"), int | None)
 assert_type(names.get("a", -1), int)

@@ -1,4 +1,5 @@
-//! The program of the README: equal texts have equal symbols. `cargo run --example first` runs it in the folder of this crate.
+//! The first program of docs/rust.md and of the crate's page: equal texts have equal symbols. `cargo run --example first` runs it in
+//! the folder of this crate.
 
 fn main() {
     let mut names = string_interner::StringInterner::default();
@@ -6,4 +7,5 @@ fn main() {
     let horse = names.get_or_intern("Horse");
     let again = names.get_or_intern("Tiger");
     assert!(again == tiger && horse != tiger);
+    println!("{} names, and one is {}", names.len(), names.resolve(horse).unwrap());
 }

@@ -6,7 +6,7 @@
 //! | [`BucketBackend`] | in blocks that never move; static texts are not copied | texts are long or many, or many are `'static` |
 //! | [`BufferBackend`] | in one buffer, each behind its length | memory counts most; symbol numbers have gaps, because they are byte offsets |
 
-use crate::handle::{expect, Handle, Status};
+use crate::handle::{expect, Handle, Kind, Status};
 use crate::hasher::{DefaultHashBuilder, InternerHasher};
 use crate::iter::{Entries, Iter};
 use crate::symbol::{DefaultSymbol, Symbol};
@@ -71,18 +71,22 @@ pub trait Backend:
     fn iter(&self) -> Self::Iter<'_>;
 }
 
+use sealed::Kind as _;
+
 pub(crate) mod sealed {
     use crate::handle::Handle;
+    use crate::handle::Kind as LibraryKind;
 
-    /// What an interner needs of its backend. Other crates can't name this trait, nor call a handle.
+    /// What an interner needs of its backend. Other crates can't name this trait, nor call a handle. If
+    /// generic code swaps two handles, the library refuses the other kind, which is no more than a panic.
     #[diagnostic::on_unimplemented(
         message = "`{Self}` can't be a backend: the library stores the texts, in one of its own three ways",
         label = "is not `StringBackend`, `BucketBackend` or `BufferBackend`",
         note = "a program with a backend of its own needs the original crate string-interner"
     )]
     pub trait Kind {
-        /// The number by which the library knows the kind.
-        const KIND: u32;
+        /// The kind as the library knows it.
+        const KIND: LibraryKind;
 
         /// Returns the backend over a handle, which is open on an interner of this kind.
         fn of(handle: Handle) -> Self;
@@ -100,18 +104,19 @@ pub(crate) fn try_intern_by<S: Symbol>(
     handle: &mut Handle,
     call: impl FnOnce(&mut Handle) -> Result<usize, Status>,
 ) -> Result<S, Status> {
-    let len = handle.len();
+    // The count to go back to, which a type that has all numbers never needs. If it lies, `usize::MAX` keeps the text.
+    let len = if S::HAS_ALL { usize::MAX } else { handle.len() };
     match S::try_from_usize(call(handle)?) {
         Some(symbol) => Ok(symbol),
         None => {
             handle.truncate(len);
-            Err(Status(sys::SI_NO_SYMBOL))
+            Err(Status(sys::INTERNER_NO_SYMBOL))
         }
     }
 }
 
 macro_rules! backend {
-    ($(#[$doc:meta])* $name:ident, $kind:expr) => {
+    ($(#[$doc:meta])* $name:ident, $number:expr, $find:expr, $intern:expr, $resolve:expr, $is_joined:expr) => {
         $(#[$doc])*
         pub struct $name<S = DefaultSymbol> {
             handle: Handle,
@@ -119,7 +124,13 @@ macro_rules! backend {
         }
 
         impl<S> sealed::Kind for $name<S> {
-            const KIND: u32 = $kind;
+            const KIND: Kind = Kind {
+                number: $number,
+                find: $find,
+                intern: $intern,
+                resolve: $resolve,
+                is_joined: $is_joined,
+            };
 
             fn of(handle: Handle) -> Self {
                 $name {
@@ -147,13 +158,13 @@ macro_rules! backend {
                 Self: 'a;
 
             fn with_capacity(cap: usize) -> Self {
-                let keys = DefaultHashBuilder.keys();
-                sealed::Kind::of(expect(Handle::with_capacity($kind, cap, keys)))
+                let hashing = DefaultHashBuilder.hashing();
+                sealed::Kind::of(expect(Handle::new(Self::KIND, cap, hashing)))
             }
 
             #[inline]
             fn intern(&mut self, string: &str) -> S {
-                expect(try_intern_by(&mut self.handle, |handle| handle.get_or_intern(string)))
+                expect(try_intern_by(&mut self.handle, |handle| handle.get_or_intern(Self::KIND, string)))
             }
 
             #[inline]
@@ -167,7 +178,7 @@ macro_rules! backend {
 
             #[inline]
             fn resolve(&self, symbol: S) -> Option<&str> {
-                self.handle.resolve(symbol.to_usize())
+                self.handle.resolve(Self::KIND, symbol.to_usize())
             }
 
             #[inline]
@@ -177,13 +188,14 @@ macro_rules! backend {
 
             #[inline]
             fn iter(&self) -> Iter<'_, Self> {
-                Iter::over(&self.handle)
+                Iter::over(Self::KIND, &self.handle)
             }
         }
 
         impl<S> Default for $name<S> {
             fn default() -> Self {
-                sealed::Kind::of(expect(Handle::new($kind, DefaultHashBuilder.keys())))
+                let hashing = DefaultHashBuilder.hashing();
+                sealed::Kind::of(expect(Handle::new(Self::KIND, 0, hashing)))
             }
         }
 
@@ -205,7 +217,7 @@ macro_rules! backend {
 
         impl<S> fmt::Debug for $name<S> {
             fn fmt(&self, f: &mut fmt::Formatter<'_>) -> fmt::Result {
-                let entries = Entries::over(&self.handle, $kind);
+                let entries = Entries::over(Self::KIND, &self.handle);
                 let texts: Vec<&str> = entries.map(|(_, text)| text).collect();
                 f.debug_struct(stringify!($name))
                     .field("texts", &texts)
@@ -226,15 +238,18 @@ macro_rules! backend {
 
 backend! {
     /// All texts joined in one string. Symbols number 0, 1, 2, ..
-    StringBackend, sys::SI_STRING
+    StringBackend, sys::INTERNER_STRING, sys::interner_string_find_utf8, sys::interner_string_intern_utf8,
+    sys::interner_string_resolve, true
 }
 backend! {
     /// Texts in blocks that never move. Symbols number 0, 1, 2, ..
-    BucketBackend, sys::SI_BUCKET
+    BucketBackend, sys::INTERNER_BUCKET, sys::interner_bucket_find_utf8, sys::interner_bucket_intern_utf8,
+    sys::interner_bucket_resolve, false
 }
 backend! {
     /// Texts in one buffer of bytes. The number of a symbol is where its entry begins.
     ///
     /// A symbol of another backend or interner may read some part of the buffer.
-    BufferBackend, sys::SI_BUFFER
+    BufferBackend, sys::INTERNER_BUFFER, sys::interner_buffer_find_utf8, sys::interner_buffer_intern_utf8,
+    sys::interner_buffer_resolve, false
 }

@@ -16,8 +16,8 @@ pub enum InternError {
 impl From<Status> for InternError {
     fn from(status: Status) -> Self {
         match status.0 {
-            sys::SI_NO_SYMBOL => InternError::NoSymbol,
-            sys::SI_NO_MEMORY => InternError::Memory,
+            sys::INTERNER_NO_SYMBOL => InternError::NoSymbol,
+            sys::INTERNER_NO_MEMORY => InternError::Memory,
             other => unreachable!("status {other}"),
         }
     }

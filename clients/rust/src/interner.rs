@@ -1,6 +1,6 @@
 use crate::backend::{try_intern_by, Backend, DefaultBackend};
 use crate::error::InternError;
-use crate::handle::{expect, Handle};
+use crate::handle::{expect, Handle, FEWEST};
 use crate::hasher::{DefaultHashBuilder, InternerHasher};
 use crate::iter::Entries;
 use crate::json::JsonError;
@@ -47,8 +47,8 @@ impl<B: Backend, H: InternerHasher + Default> StringInterner<B, H> {
     ///
     /// Returns an error if the text is not such an array, no symbol is left for a text, or an allocation fails.
     pub fn from_json(json: &str) -> Result<Self, JsonError> {
-        let handle = Handle::from_json(B::KIND, json, H::default().keys())?;
-        let have_symbols = Entries::over(&handle, B::KIND)
+        let handle = Handle::from_json(B::KIND, json, H::default().hashing())?;
+        let have_symbols = Entries::over(B::KIND, &handle)
             .all(|(number, _)| B::Symbol::try_from_usize(number).is_some());
         if have_symbols {
             Ok(Self::of(B::of(handle)))
@@ -63,14 +63,14 @@ impl<B: Backend, H: InternerHasher> StringInterner<B, H> {
     #[must_use]
     #[track_caller]
     pub fn with_hasher(hash_builder: H) -> Self {
-        Self::of(B::of(expect(Handle::new(B::KIND, hash_builder.keys()))))
+        Self::with_capacity_and_hasher(0, hash_builder)
     }
 
     /// The same, with spare capacity for about `cap` texts.
     #[must_use]
     #[track_caller]
     pub fn with_capacity_and_hasher(cap: usize, hash_builder: H) -> Self {
-        let handle = Handle::with_capacity(B::KIND, cap, hash_builder.keys());
+        let handle = Handle::new(B::KIND, cap, hash_builder.hashing());
         Self::of(B::of(expect(handle)))
     }
 
@@ -89,14 +89,17 @@ impl<B: Backend, H: InternerHasher> StringInterner<B, H> {
     /// Returns the symbol of a text, if it is known.
     #[inline]
     pub fn get<T: AsRef<str>>(&self, string: T) -> Option<B::Symbol> {
-        let number = self.backend.handle().get(string.as_ref())?;
+        let number = self.backend.handle().get(B::KIND, string.as_ref())?;
         B::Symbol::try_from_usize(number)
     }
 
     /// Reports whether a text is known.
     #[inline]
     pub fn contains<T: AsRef<str>>(&self, string: T) -> bool {
-        self.backend.handle().get(string.as_ref()).is_some()
+        self.backend
+            .handle()
+            .get(B::KIND, string.as_ref())
+            .is_some()
     }
 
     /// Returns the symbol of a text. Appends a text that is not known.
@@ -133,7 +136,7 @@ impl<B: Backend, H: InternerHasher> StringInterner<B, H> {
     ) -> Result<B::Symbol, InternError> {
         let string = string.as_ref();
         Ok(try_intern_by(self.backend.handle_mut(), |handle| {
-            handle.get_or_intern(string)
+            handle.get_or_intern(B::KIND, string)
         })?)
     }
 
@@ -181,7 +184,8 @@ impl<B: Backend, H: InternerHasher> StringInterner<B, H> {
         })))
     }
 
-    /// Interns many texts, and returns the symbol of each.
+    /// Interns many texts, and returns the symbol of each. If there are more than a few, one call of the library interns 128 of
+    /// them.
     ///
     /// # Panics
     ///
@@ -193,10 +197,17 @@ impl<B: Backend, H: InternerHasher> StringInterner<B, H> {
         I::Item: AsRef<str>,
     {
         let strings = strings.into_iter();
-        let mut symbols = Vec::with_capacity(strings.size_hint().0);
-        // A closure would hide from the panic who called.
-        for string in strings {
-            symbols.push(self.get_or_intern(string));
+        let (fewest, most) = strings.size_hint();
+        let mut symbols = Vec::with_capacity(fewest);
+        if takes_batches::<B>(most) {
+            expect(self.backend.handle_mut().intern_each(strings, |numbers| {
+                symbols.extend(numbers.iter().map(|number| symbol_of::<B::Symbol>(*number)));
+            }));
+        } else {
+            // A closure would hide from the panic who called.
+            for string in strings {
+                symbols.push(self.get_or_intern(string));
+            }
         }
         symbols
     }
@@ -289,7 +300,7 @@ struct Numbers<'a, B>(&'a B);
 
 impl<B: Backend> fmt::Debug for Numbers<'_, B> {
     fn fmt(&self, f: &mut fmt::Formatter<'_>) -> fmt::Result {
-        let entries = Entries::over(self.0.handle(), B::KIND);
+        let entries = Entries::over(B::KIND, self.0.handle());
         let numbers = entries.map(|(number, _)| (number, ()));
         f.debug_map().entries(numbers).finish()
     }
@@ -306,11 +317,36 @@ impl<B: Backend, H: InternerHasher + Default, T: AsRef<str>> FromIterator<T>
     }
 }
 
+/// Reports whether texts, of which there are at most so many, are interned by calls for many at once. A symbol type that may lack
+/// a number is asked for each text.
+fn takes_batches<B: Backend>(most: Option<usize>) -> bool {
+    B::Symbol::HAS_ALL && !most.is_some_and(|most| most < FEWEST)
+}
+
+/// Returns the symbol of a number. The type has all.
+fn symbol_of<S: Symbol>(number: u32) -> S {
+    S::try_from_usize(number as usize).expect("the type has all numbers")
+}
+
 impl<B: Backend, H: InternerHasher, T: AsRef<str>> Extend<T> for StringInterner<B, H> {
+    /// Interns all texts. If there are more than a few, one call of the library interns 128 of them. A new interner first makes
+    /// room for as many as the iterator says that there are at least, up to 131,072.
+    ///
+    /// # Panics
+    ///
+    /// If no symbol is left for a new text. The texts before it stay; up to 127 behind it are taken from the iterator and dropped.
     #[track_caller]
     fn extend<I: IntoIterator<Item = T>>(&mut self, iter: I) {
-        for string in iter {
-            self.get_or_intern(string);
+        let strings = iter.into_iter();
+        let (fewest, most) = strings.size_hint();
+        if takes_batches::<B>(most) {
+            let handle = self.backend.handle_mut();
+            handle.make_first_room(fewest);
+            expect(handle.intern_each(strings, |_| ()));
+        } else {
+            for string in strings {
+                self.get_or_intern(string);
+            }
         }
     }
 }

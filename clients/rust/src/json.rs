@@ -22,11 +22,11 @@ pub enum JsonError {
 impl From<Status> for JsonError {
     fn from(status: Status) -> Self {
         match status.0 {
-            sys::SI_BAD_TEXT => JsonError::NotJson,
-            sys::SI_NOT_A_LIST => JsonError::NotAList,
-            sys::SI_NOT_A_TEXT => JsonError::NotAText,
-            sys::SI_NO_SYMBOL => JsonError::NoSymbol,
-            sys::SI_NO_MEMORY => JsonError::Memory,
+            sys::INTERNER_BAD_TEXT => JsonError::NotJson,
+            sys::INTERNER_NOT_A_LIST => JsonError::NotAList,
+            sys::INTERNER_NOT_A_TEXT => JsonError::NotAText,
+            sys::INTERNER_NO_SYMBOL => JsonError::NoSymbol,
+            sys::INTERNER_NO_MEMORY => JsonError::Memory,
             other => unreachable!("status {other}"),
         }
     }

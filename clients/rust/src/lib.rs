@@ -25,13 +25,15 @@
 //!
 //! What compiles and behaves differently:
 //!
-//! - The library hashes the texts by SipHash-1-3, under two keys that the interner's hasher gives. Those of
-//!   [`DefaultHashBuilder`] are random. The original's default hasher is faster, and has a random seed.
-//!   [`FixedHashBuilder`](hasher::FixedHashBuilder) has no keys: it is faster, and has the same hash codes in each process.
+//! - The library hashes the texts under two keys that the interner's hasher gives: by a fast hash if it is
+//!   [`DefaultHashBuilder`], whose keys are random, and by SipHash-1-3 if it is another. The original's default hasher has a random
+//!   seed. [`FixedHashBuilder`](hasher::FixedHashBuilder) has no keys, and the same hash codes in each process.
 //! - The numbers of all symbol types are below 2³² − 1, because those of the library are. So a `BufferBackend`, whose numbers are
 //!   byte offsets, holds less than 4 GiB.
 //! - If interning panics because no symbol is left, as in the original, the text is not stored.
 //!   [`try_get_or_intern`](StringInterner::try_get_or_intern) returns an error instead.
+//! - If `extend` panics because no symbol is left or an allocation fails, up to 127 texts behind that one were taken from the
+//!   iterator, too. The texts before it are interned, as in the original.
 //! - If you use a backend alone, `intern` returns the first symbol of a text that it already has. The original's stores the
 //!   text again.
 //! - `Symbol::try_from_usize` returns `None` if the type has no symbol of the number. The original's wraps: number 65,539 becomes
@@ -50,6 +52,35 @@
 //! [`get_or_intern_part`](StringInterner::get_or_intern_part), [`intern_all`](StringInterner::intern_all),
 //! [`contains`](StringInterner::contains), [`truncate`](StringInterner::truncate), [`to_json`](StringInterner::to_json) and
 //! [`from_json`](StringInterner::from_json).
+//!
+//! # If you come from lasso
+//!
+//! | In lasso | Here |
+//! |---|---|
+//! | `Rodeo` | [`StringInterner`] |
+//! | `ThreadedRodeo` | [`sync::Interner`], whose `get_or_intern` takes `&self`, too |
+//! | `RodeoReader`, `RodeoResolver` | no types of their own: share a `&StringInterner`, which threads read at the same time without a lock |
+//! | `Spur`, `MiniSpur`, `LargeSpur` | [`SymbolU32`](symbol::SymbolU32), [`SymbolU16`](symbol::SymbolU16), [`SymbolUsize`](symbol::SymbolUsize); there is none of one byte |
+//! | the trait `Key` | [`Symbol`], which is safe to implement |
+//! | `resolve(&key)`, which panics if the key is of another | [`resolve(symbol)`](StringInterner::resolve), which returns an `Option` |
+//! | `try_get_or_intern` | the [same](StringInterner::try_get_or_intern); but a memory limit can't be set |
+//! | `contains`, `contains_key` | [`contains`](StringInterner::contains), and `resolve(symbol).is_some()` |
+//!
+//! ```
+//! use string_interner::{backend::StringBackend, symbol::SymbolU16, StringInterner};
+//!
+//! // A `Rodeo<MiniSpur>` by the names of this crate.
+//! let mut rodeo = StringInterner::<StringBackend<SymbolU16>>::new();
+//! let hello = rodeo.get_or_intern("Hello");
+//! assert!(rodeo.contains("Hello") && rodeo.resolve(hello) == Some("Hello"));
+//!
+//! // What a `RodeoReader` is for: threads that only read.
+//! let [one, other] = std::thread::scope(|scope| {
+//!     let read = || rodeo.get("Hello");
+//!     [scope.spawn(read), scope.spawn(read)].map(|thread| thread.join().unwrap())
+//! });
+//! assert!(one == Some(hello) && other == one);
+//! ```
 //!
 //! # Features
 //!
@@ -75,10 +106,10 @@
 //! | 2: pass only aligned pointers to as many elements as the length says | all come from references, slices, texts and local variables |
 //! | 3: memory that a call writes to overlaps nothing else that you pass | it is a local variable, or a `Vec` that nothing else borrows |
 //! | 4: while a call may change a handle, make no other call on it | calls that only read take `&self`, and all others `&mut self`; a `SharedHandle` has locks; no call of the library calls back |
-//! | 5: read a lent text only until the next call that may change its handle, and do not pass it to that call | the text borrows the `Handle`, and calls that may change it take `&mut self`. The exception is a text of [`sync::Interner`]: see there |
+//! | 5: read a lent text only until the next call that may change its handle, and do not pass it to that call | the text borrows the `Handle`, and calls that may change it take `&mut self`, and forget where its joined texts were. The exception is a text of [`sync::Interner`]: see there |
 //! | 6: one allocator; no calls in signal handlers and after forks | the program's own duty, as with any C library and with Rust's own allocator |
 //! | 7: pass only UTF-8 to calls that do not check it | the bytes are those of a `&str` |
-//! | 8: pass only bytes that stay to `si_get_or_intern_static` | they are those of a `&'static str` |
+//! | 8: pass only bytes that stay to `interner_get_or_intern_static` | they are those of a `&'static str` |
 
 #![warn(
     missing_docs,

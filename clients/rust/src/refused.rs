@@ -119,7 +119,7 @@
 //!
 //! ```compile_fail,E0603
 //! use string_interner::hasher::InternerHasher;
-//! let keys = string_interner::DefaultHashBuilder.keys();
+//! let keys = string_interner::DefaultHashBuilder.hashing();
 //! ```
 //!
 //! A caller writes no backend:

@@ -9,12 +9,18 @@ pub trait Symbol: Copy + Eq {
 
     /// Returns the number of the symbol.
     fn to_usize(self) -> usize;
+
+    /// Whether the type has each number that the library gives, so that no text is ever dropped again.
+    #[doc(hidden)]
+    const HAS_ALL: bool = false;
 }
 
 /// The symbol type of an interner whose type names none.
 pub type DefaultSymbol = SymbolU32;
 
 impl Symbol for usize {
+    const HAS_ALL: bool = true;
+
     #[inline]
     fn try_from_usize(index: usize) -> Option<Self> {
         Some(index)
@@ -36,6 +42,9 @@ macro_rules! symbol {
         }
 
         impl Symbol for $name {
+            // The library's numbers are below 2³² − 1.
+            const HAS_ALL: bool = <$number>::BITS >= 32;
+
             #[inline]
             fn try_from_usize(index: usize) -> Option<Self> {
                 let value = <$number>::try_from(index).ok()?.checked_add(1)?;

@@ -19,8 +19,8 @@
 //! chooses its shard. What each shard does is proved. That they make one interner together is tested, and not proved.
 //!
 //! Each call takes a lock. So with one thread a known text takes 1.5 to 2 times as long as in a `StringInterner`, and a new one, for
-//! which the shard is searched twice, up to 3 times. Four threads that find known texts took no more processor time for a call
-//! than one.
+//! which the shard is searched twice, up to 2.7 times. On four processors that had other work, too, four threads that find known
+//! texts did up to 2.7 times the work of one; a call took about as much processor time.
 //!
 //! A text that [`Interner::resolve`] lends may be read while other threads intern, because a bucket never moves, and no text is
 //! dropped before the interner is. The library's contracts promise no address. That the addresses stay is tested.
@@ -56,26 +56,33 @@ pub struct Interner {
 #[inline]
 fn mix(key: u64, text: &str) -> u64 {
     const ODD: u64 = 0x9E37_79B9_7F4A_7C15;
-    let step = |state: u64, word: u64| {
-        let product = (state ^ word).wrapping_mul(ODD);
-        product ^ (product >> 32)
-    };
     let bytes = text.as_bytes();
     let mut state = key ^ bytes.len() as u64;
-    for word in bytes.chunks_exact(8) {
-        state = step(state, u64::from_le_bytes(word.try_into().unwrap()));
-    }
-    let (first, last) = (bytes.first_chunk::<4>(), bytes.last_chunk::<4>());
-    let rest = match (bytes.last_chunk::<8>(), first, last) {
-        (Some(last), ..) => u64::from_le_bytes(*last),
-        (_, Some(first), Some(last)) => {
-            u64::from(u32::from_le_bytes(*first)) << 32 | u64::from(u32::from_le_bytes(*last))
+    // The words of a text overlap, so that no byte is read alone.
+    let (first, last) = match (bytes.first_chunk(), bytes.last_chunk()) {
+        (Some(first), Some(last)) => {
+            for word in bytes[8..].chunks_exact(8) {
+                let product =
+                    (state ^ u64::from_le_bytes(word.try_into().unwrap())).wrapping_mul(ODD);
+                state = product ^ (product >> 32);
+            }
+            (u64::from_le_bytes(*first), u64::from_le_bytes(*last))
         }
-        _ => bytes
-            .iter()
-            .fold(0, |rest, byte| rest << 8 | u64::from(*byte)),
+        _ => match (bytes.first_chunk(), bytes.last_chunk()) {
+            (Some(first), Some(last)) => (
+                u32::from_le_bytes(*first).into(),
+                u32::from_le_bytes(*last).into(),
+            ),
+            _ => (
+                bytes
+                    .iter()
+                    .fold(0, |rest, byte| rest << 8 | u64::from(*byte)),
+                0,
+            ),
+        },
     };
-    step(state, rest).wrapping_mul(ODD)
+    let product = (state ^ first).wrapping_mul(ODD);
+    (product ^ (product >> 32) ^ last).wrapping_mul(ODD)
 }
 
 /// Returns the symbol of a text by its shard and its number there, which is below `MOST`.
@@ -89,8 +96,8 @@ impl Interner {
     #[must_use]
     #[track_caller]
     pub fn new() -> Self {
-        let keys = DefaultHashBuilder.keys();
-        let shards = (0..SHARDS).map(|_| expect(SharedHandle::new(keys)));
+        let hashing = DefaultHashBuilder.hashing();
+        let shards = (0..SHARDS).map(|_| expect(SharedHandle::new(hashing)));
         Interner {
             shards: shards.collect(),
             key: DefaultHashBuilder.hash_one("shards of a string interner"),

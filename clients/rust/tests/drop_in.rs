@@ -5,7 +5,7 @@ use std::borrow::Cow;
 use std::cell::{Cell, RefCell};
 use std::cmp::Ordering;
 use std::collections::{BTreeMap, HashMap};
-use std::fmt::{Arguments, Debug};
+use std::fmt::{self, Arguments, Debug, Display, Formatter};
 use std::hash::{BuildHasher, Hash, RandomState};
 use std::rc::Rc;
 use std::sync::{LazyLock, Mutex};
@@ -289,4 +289,117 @@ fn names_of_the_process_that_are_ordered_as_texts() {
     let mut fruits = ["pear", "apple", "fig"].map(Name::from);
     fruits.sort();
     assert!(fruits == ["apple", "fig", "pear"].map(Name::from));
+}
+
+#[test]
+fn generic_over_backend_and_hasher() {
+    fn intern_words<B, H>(names: &mut StringInterner<B, H>, line: &str) -> Vec<B::Symbol>
+    where
+        B: Backend,
+        B::Symbol: Debug,
+        H: BuildHasher,
+    {
+        let words = line.split_whitespace();
+        words.map(|word| names.get_or_intern(word)).collect()
+    }
+
+    let mut names = StringInterner::<BucketBackend<SymbolU16>, RandomState>::default_of();
+    let symbols = intern_words(&mut names, "let a = a ;");
+    assert_eq!(symbols[1], symbols[3]);
+    assert_eq!(names.len(), 4);
+}
+
+/// Makes a value where the type that it is of has no `Default`, as for a hasher other than the default.
+trait DefaultOf {
+    fn default_of() -> Self;
+}
+
+impl<B: Backend, H: BuildHasher + Default> DefaultOf for StringInterner<B, H> {
+    fn default_of() -> Self {
+        Self::with_hasher(H::default())
+    }
+}
+
+#[test]
+fn a_tree_that_shows_its_names() {
+    enum Tree {
+        Name(DefaultSymbol),
+        Sum(Box<Tree>, Box<Tree>),
+    }
+
+    struct Shown<'a>(&'a Tree, &'a DefaultStringInterner);
+
+    impl Display for Shown<'_> {
+        fn fmt(&self, f: &mut Formatter<'_>) -> fmt::Result {
+            let Shown(tree, names) = *self;
+            match tree {
+                Tree::Name(name) => f.write_str(names.resolve(*name).ok_or(fmt::Error)?),
+                Tree::Sum(left, right) => {
+                    write!(f, "({} + {})", Shown(left, names), Shown(right, names))
+                }
+            }
+        }
+    }
+
+    let mut names = DefaultStringInterner::default();
+    let mut leaf = |text| Box::new(Tree::Name(names.get_or_intern(text)));
+    let inner = Box::new(Tree::Sum(leaf("x"), leaf("y")));
+    let tree = Tree::Sum(inner, leaf("x"));
+    assert_eq!(Shown(&tree, &names).to_string(), "((x + y) + x)");
+    assert_eq!(names.len(), 2);
+}
+
+#[test]
+fn scopes_of_a_checker() {
+    #[derive(Default)]
+    struct Checker {
+        names: DefaultStringInterner,
+        scopes: Vec<HashMap<DefaultSymbol, usize>>,
+    }
+
+    impl Checker {
+        fn declare(&mut self, text: &str, kind: usize) {
+            let name = self.names.get_or_intern(text);
+            self.scopes.last_mut().unwrap().insert(name, kind);
+        }
+
+        fn find(&self, text: &str) -> Option<usize> {
+            let name = self.names.get(text)?;
+            let mut scopes = self.scopes.iter().rev();
+            scopes.find_map(|scope| scope.get(&name).copied())
+        }
+    }
+
+    let mut checker = Checker::default();
+    checker.scopes.push(HashMap::new());
+    checker.declare("x", 1);
+    checker.scopes.push(HashMap::new());
+    checker.declare("x", 2);
+    checker.declare("y", 3);
+    assert_eq!((checker.find("x"), checker.find("y")), (Some(2), Some(3)));
+    checker.scopes.pop();
+    assert_eq!((checker.find("x"), checker.find("y")), (Some(1), None));
+    assert_eq!(checker.find("z"), None);
+}
+
+#[test]
+fn an_iterator_in_a_struct() {
+    struct Pages<'a, B: Backend + 'a> {
+        texts: <B as Backend>::Iter<'a>,
+    }
+
+    impl<'a, B: Backend> Iterator for Pages<'a, B> {
+        type Item = Vec<&'a str>;
+
+        fn next(&mut self) -> Option<Self::Item> {
+            let page: Vec<&str> = self.texts.by_ref().take(2).map(|(_, text)| text).collect();
+            (!page.is_empty()).then_some(page)
+        }
+    }
+
+    let names: StringInterner<BucketBackend> = ["a", "b", "c"].into_iter().collect();
+    let pages = Pages::<BucketBackend> {
+        texts: names.iter(),
+    };
+    assert!(pages.eq([vec!["a", "b"], vec!["c"]]));
 }

@@ -135,3 +135,11 @@ fn marker_traits() {
     has_all::<BucketBackend>();
     has_all::<BufferBackend>();
 }
+
+#[test]
+fn iterators_go_to_other_threads() {
+    fn is_sent<T: Send + Sync>() {}
+    is_sent::<<StringBackend as Backend>::Iter<'static>>();
+    is_sent::<<BucketBackend as Backend>::Iter<'static>>();
+    is_sent::<<BufferBackend as Backend>::Iter<'static>>();
+}

@@ -1,10 +1,17 @@
 -- Laws of files, for whoever doubts the definitions.
-use Rattle.std.proofs.Common.{◌≡◌, ◌++◌, sym, ap, subst, ◌∙◌}
+use Rattle.std.proofs.Common.{◌≡◌, ℕ, Bool, List, [], ◌∷◌, ◌++◌, sym, ap, ap₂, subst, ◌∙◌}
 use Rattle.std.proofs.lemmas.List.{append_assoc}
 use Rattle.std.proofs.lemmas.Option.{same_Some}
 use Rattle.string_interner.specs.Text.{Text}
+use Rattle.string_interner.specs.Extend.{fresh}
+use Rattle.string_column.specs.Column.{AreCodes, rows_of}
+use Rattle.string_column.proofs.Lemmas.AreNumbered.{slice_get-append}
+use Rattle.string_column.proofs.Lemmas.Rows.{codes-within, rows-are}
+use Rattle.dictcol.specs.Lines.{lines_of}
+use Rattle.dictcol.specs.Plain.{plain_text, IsDictionary, IsPlain, HoldPlain}
 use Rattle.dictcol.specs.File.{HoldsText, IsColumnFile, DecodesFile}
 use Rattle.dictcol.proofs.HoldsLines.{holds-once, comes-back}
+use Rattle.dictcol.proofs.PlainColumns.{dictionary-lines, plain-lines, same-numbers}
 
 -- a file is decoded to one text
 pub decodes-once : (file text other : Text) → DecodesFile file text → DecodesFile file other → text ≡ other
@@ -32,3 +39,38 @@ merged-files-alike a b c ab bc left right text other ab_is left_is bc_is right_i
     ∙ ap (λ front. front ++ left_is.1) ab_text ∙ append_assoc ab_is.0 ab_is.1 left_is.1
     ∙ ap (λ back. ab_is.0 ++ back) (sym bc_text)
     ∙ sym (merge-decodes a bc right ab_is.0 right_is.1 other right_is ab_is.2 right_is.3 other_is)
+
+-- What was written as plain columns comes back, and nothing else.
+pub plain-comes-back : (before text dictionary numbers said : Text) (is_cut : Bool) → IsPlain before text dictionary numbers is_cut → HoldPlain dictionary numbers is_cut said → said ≡ text
+plain-comes-back before text dictionary numbers said is_cut plain holds =
+    let lines : holds.lines ≡ plain.known ++ fresh plain.known plain.lines =
+    sym (dictionary-lines holds.lines dictionary holds.dictionary_is) ∙ dictionary-lines _ dictionary plain.dictionary_is in
+    let codes = same-numbers holds.codes_are plain.numbers_are.0 numbers holds.numbers_are plain.numbers_are.2 in
+    let rows : rows_of holds.lines holds.codes_are ≡ plain.lines = ap₂ rows_of lines codes ∙ rows-are _ plain.numbers_are.0 plain.lines plain.numbers_are.1 in
+    holds.text_is ∙ ap₂ plain_text rows plain.is_cut_is ∙ plain-lines text plain.lines plain.is_ended plain.lines_are
+
+-- And it does come back.
+pub plain-holds : (before text dictionary numbers : Text) (is_cut : Bool) → IsPlain before text dictionary numbers is_cut → HoldPlain dictionary numbers is_cut text
+plain-holds before text dictionary numbers is_cut plain =
+    let entries = plain.known ++ fresh plain.known plain.lines in record {
+      lines = entries;
+      dictionary_is = plain.dictionary_is;
+      codes_are = plain.numbers_are.0;
+      numbers_are = plain.numbers_are.2;
+      within = codes-within entries plain.numbers_are.0 plain.lines plain.numbers_are.1;
+      text_is = sym (ap₂ plain_text (rows-are entries plain.numbers_are.0 plain.lines plain.numbers_are.1) plain.is_cut_is ∙ plain-lines text plain.lines plain.is_ended plain.lines_are);
+    }
+
+codes-longer : (dictionary more : List Text) (codes : List ℕ) (rows : List Text) → AreCodes dictionary codes rows → AreCodes (dictionary ++ more) codes rows
+codes-longer dictionary more [] [] are = tt
+codes-longer dictionary more [] (row ∷ rows) are = absurd are
+codes-longer dictionary more (code ∷ codes) [] are = absurd are
+codes-longer dictionary more (code ∷ codes) (row ∷ rows) are = (slice_get-append dictionary more code row are.0, codes-longer dictionary more codes rows are.1)
+
+-- Codes of lines in a dictionary from before are codes of the same lines in the new one.
+pub old-codes-hold : (before text dictionary numbers : Text) (is_cut : Bool) (lines rows : List Text) (codes : List ℕ) → IsPlain before text dictionary numbers is_cut
+    → IsDictionary lines before → AreCodes lines codes rows → AreCodes (lines_of dictionary) codes rows
+old-codes-hold before text dictionary numbers is_cut lines rows codes plain is are =
+    let same : lines ≡ plain.known = sym (dictionary-lines lines before is) ∙ dictionary-lines plain.known before plain.before_is in
+    subst (λ ls. AreCodes ls codes rows) (sym (dictionary-lines _ dictionary plain.dictionary_is))
+    (codes-longer plain.known (fresh plain.known plain.lines) codes rows (subst (λ ls. AreCodes ls codes rows) same are))

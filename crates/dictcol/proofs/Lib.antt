@@ -1,5 +1,6 @@
 pub mod Laws
 pub mod Lines
+pub mod Cut
 pub mod Rows
 pub mod Merged
 pub mod Parts
@@ -7,3 +8,7 @@ pub mod HoldsLines
 pub mod Newline
 pub mod PutsValue
 pub mod StreamTokens
+pub mod Taken
+pub mod Counted
+pub mod CountRows
+pub mod PlainColumns

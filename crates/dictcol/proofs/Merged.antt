@@ -15,9 +15,9 @@ use Rattle.string_interner.specs.declared.backend.InternError.{InternError}
 use Rattle.string_column.specs.Column.{AppendsRows}
 use Rattle.string_column.proofs.Lemmas.Recodes.{range-more}
 use Rattle.dictcol.specs.File.{indexed_text, indexed_texts}
-use Rattle.dictcol.specs.Lines.{is_newline, behind_newline, text_of_ended, has_newline, lines_of, AreLines}
+use Rattle.dictcol.specs.Lines.{is_newline, behind_newline, text_of_ended, text_of_lines, has_newline, lines_of, AreLines}
 
-abbrev ended : Text → Text
+abbrev pub ended : Text → Text
 ended line = line ++ 10 ∷ []
 
 -- ---- what is appended
@@ -109,18 +109,35 @@ line-alone : (b : ℕ) (bs : Text) → has_newline (b ∷ bs) ≡ false → line
 line-alone b [] plain = let parts = or_parts (is_newline b) false plain in rw parts.0 refl
 line-alone b (d ∷ bs) plain = let parts = or_parts (is_newline b) (has_newline (d ∷ bs)) plain in rw (parts.0, line-alone d bs parts.1) refl
 
-ended-first : (lines : List Text) (rest : Text) → list_any has_newline lines ≡ false → lines_of (text_of_ended lines rest) ≡ lines ++ lines_of rest
+-- a line that no newline ends
+pub one-line : (line : Text) → has_newline line ≡ false → line ≢ [] → lines_of line ≡ line ∷ []
+one-line [] plain some = absurd (some refl)
+one-line (b ∷ bs) plain some = line-alone b bs plain
+
+pub ended-first : (lines : List Text) (rest : Text) → list_any has_newline lines ≡ false → lines_of (text_of_ended lines rest) ≡ lines ++ lines_of rest
 ended-first [] rest plain = refl
 ended-first (line ∷ lines) rest plain =
     let parts = or_parts (has_newline line) (list_any has_newline lines) plain in
     ap lines_of (append_assoc (line ++ 10 ∷ []) (flat_map ended lines) rest ∙ append_assoc line (10 ∷ []) (flat_map ended lines ++ rest))
     ∙ line-first line (flat_map ended lines ++ rest) parts.0 ∙ ap (λ ls. line ∷ ls) (ended-first lines rest parts.1)
 
-ended-joined : (line : Text) (lines : List Text) → flat_map ended (line ∷ lines) ≡ join_with_byte 10 (line ∷ lines) ++ 10 ∷ []
+pub ended-joined : (line : Text) (lines : List Text) → flat_map ended (line ∷ lines) ≡ join_with_byte 10 (line ∷ lines) ++ 10 ∷ []
 ended-joined line [] = append-nil (line ++ 10 ∷ [])
 ended-joined line (next ∷ lines) =
     ap (λ rest. (line ++ 10 ∷ []) ++ rest) (ended-joined next lines) ∙ append_assoc line (10 ∷ []) (join_with_byte 10 (next ∷ lines) ++ 10 ∷ [])
     ∙ sym (append_assoc line (10 ∷ join_with_byte 10 (next ∷ lines)) (10 ∷ []))
+
+-- the text of ended lines, of which there is one
+pub ended-lines : (lines : List Text) (rest : Text) → lines ≢ [] → length rest ≡ 0 → text_of_ended lines rest ≡ text_of_lines lines true
+ended-lines lines (b ∷ bs) some none = absurd (cc)
+ended-lines [] [] some none = absurd (some refl)
+ended-lines (line ∷ lines) [] some none = append-nil (flat_map ended (line ∷ lines)) ∙ ended-joined line lines
+
+-- the empty text
+pub no-text : (lines : List Text) (rest : Text) → lines ≡ [] → length rest ≡ 0 → text_of_ended lines rest ≡ []
+no-text lines (b ∷ bs) empty none = absurd (cc)
+no-text (line ∷ lines) [] empty none = absurd (cc)
+no-text [] [] empty none = refl
 
 -- a text without a rest
 pub are-ended : (lines : List Text) (rest : Text) → list_any has_newline lines ≡ false → length rest ≡ 0 → AreLines (text_of_ended lines rest) lines (nat_lt 0 (length lines))

@@ -33,13 +33,13 @@ within-outside count codes row within outside =
     let below : outside.code < count = rw (← is) (within row 0 inside) in
     omega (arith, below, outside.outside)
 
-module _ {S : Type 0} (numbering : Numbering S) (entries dictionary : List Text) (codes : List ℕ) (outcome : Result (List Text) PartsError)
-    (made : IsMadeOf numbering entries codes outcome) (same : entries ≡ dictionary) where
+module _ {S : Type 0} (numbering : Numbering S) (dictionary : List Text) (codes : List ℕ) (outcome : Result (List Text) PartsError)
+    (made : IsMadeOf numbering dictionary codes outcome) where
   pub made-rows : (rows : List Text) → outcome ≡ Ok rows → rows_of dictionary codes ≡ rows
-  made-rows rows is = rows-are dictionary codes rows (rw (is, same) at made).1
+  made-rows rows is = rows-are dictionary codes rows (rw is at made).1
 
   pub no-repeat : (index : ℕ) → outcome ≡ Err (Repeated index) → IsDistinct dictionary → ⊥
-  no-repeat index is distinct = distinct-repeat dictionary index distinct (rw (is, same) at made)
+  no-repeat index is distinct = distinct-repeat dictionary index distinct (rw is at made)
 
   pub no-outside : (row : ℕ) → outcome ≡ Err (NoEntry row) → All (λ code. code < length dictionary) codes → ⊥
-  no-outside row is within = within-outside (length dictionary) codes row within (rw (is, same) at made).1
+  no-outside row is within = within-outside (length dictionary) codes row within (rw is at made).1

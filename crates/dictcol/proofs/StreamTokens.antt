@@ -149,7 +149,7 @@ number-is text first index found at plus parsed is =
     rw (sign, some, parts.0.0.1, parts.0.0.2, fits) (ap (λ n. Some (unsigned n)) (sym parts.1))
 
 -- what was found in the tokens of a file is what it holds
-pub stream-found : {E : Type 0} (file : Text) (ts : List Token) (found : Result (Option Parts) E) → ts ≡ tokens file
+pub stream-found : {E B S : Type 0} (file : Text) (ts : List Token) (found : Result (Option (Parts B S)) E) → ts ≡ tokens file
     → IfOk found (λ o. IfSome o (λ parts. (numbers : List Text) × (ts ≡ stream parts.dictionary.texts parts.is_ended numbers) × AreIndexes numbers parts.codes.items))
     → IfOk found (λ o. IfSome o (λ parts. IsDistinct parts.dictionary.texts)) → IfOk found (λ o. IfSome o (λ parts. list_any has_newline parts.dictionary.texts ≡ false))
     → IfOk found (λ o. IfSome o (λ parts. All (λ code. code < length parts.dictionary.texts) parts.codes.items))

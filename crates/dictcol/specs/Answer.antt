@@ -1,27 +1,34 @@
--- What a run writes for the bytes of its input: which texts are right.
+-- What a run writes for all that its input yields, and how it may fail.
 -- Cited by `answer`.
-use Rattle.std.specs.Prelude.{⊤}
+use Rattle.std.specs.Prelude.{◌⊎◌, true, false, Option, IfSome}
 use Rattle.string_interner.specs.Text.{Text}
+use Rattle.dictcol.specs.Blocks.{IsLinesFault}
+use Rattle.dictcol.specs.Counts.{IsCountsText}
 use Rattle.dictcol.specs.File.{IsColumnFile, DecodesFile}
-use Rattle.dictcol.specs.Fault.{IsNoDamage, IsRightFault}
+use Rattle.dictcol.specs.Fault.{IsRightFault, IsWriteFault}
+use Rattle.dictcol.specs.Lines.{lines_of}
 use Rattle.dictcol.specs.declared.fault.Fault.{Fault}
 use Rattle.dictcol.specs.declared.arguments.Form.{Form}
 use Rattle.dictcol.specs.declared.arguments.Form.TheVariants.{File, Counts, SortedCounts}
 use Rattle.dictcol.specs.declared.arguments.Task.{Task}
 use Rattle.dictcol.specs.declared.arguments.Task.TheVariants.{Decode, Write}
 
--- What the text says of the lines of the bytes: of counts nothing.
+-- what the text is of the lines of the bytes
 abbrev pub IsFormOutput : Form → Text → Text → Type 0
 IsFormOutput File bytes text = IsColumnFile bytes text
-IsFormOutput Counts bytes text = ⊤
-IsFormOutput SortedCounts bytes text = ⊤
+IsFormOutput Counts bytes text = IsCountsText false (lines_of bytes) text
+IsFormOutput SortedCounts bytes text = IsCountsText true (lines_of bytes) text
 
 -- what the text is for the task
 abbrev pub IsTaskOutput : Task → Text → Text → Type 0
 IsTaskOutput Decode bytes text = DecodesFile bytes text
 IsTaskOutput (Write form _) bytes text = IsFormOutput form bytes text
 
--- how the task may fail: a file that is decoded is called damaged only if it holds no text, and lines never are
-abbrev pub IsTaskFault : Task → Text → Fault → Type 0
-IsTaskFault Decode bytes fault = IsRightFault (DecodesFile bytes) fault
-IsTaskFault (Write _ _) bytes fault = IsNoDamage fault
+-- the faults of reading lines and writing what is asked for of them
+abbrev pub IsLinesTaskFault : Option Text → Fault → Type 0
+IsLinesTaskFault input fault = IsLinesFault input fault ⊎ IsWriteFault fault
+
+-- How the task may fail. A file that is decoded is called damaged only if it holds no text.
+abbrev pub IsTaskFault : Task → Option Text → Fault → Type 0
+IsTaskFault Decode input fault = IfSome input (λ bytes. IsRightFault (DecodesFile bytes) fault)
+IsTaskFault (Write _ _) input fault = IsLinesTaskFault input fault

@@ -1,4 +1,4 @@
--- The exit status of each fault, and which faults a step returns. Cited by `Fault`, and by `file`, `stream`, `merge` and `answer`.
+-- The exit status of each fault, and which faults a step returns. Cited by `Fault`, and by `file`, `stream`, `merge`, `count` and `answer`.
 use Rattle.std.specs.Prelude.{ℕ, ⊤, ◌≡◌, ◌⊎◌, Result, IsOk, IsErrAnd}
 use Rattle.std.specs.declared.io.Error.{Error}
 use Rattle.std.specs.declared.io.ErrorKind.{ErrorKind}
@@ -7,11 +7,14 @@ use Rattle.string_interner.specs.Text.{Text}
 use Rattle.string_interner.specs.declared.backend.InternError.{InternError}
 use Rattle.string_interner.specs.declared.backend.InternError.TheVariants.{NoSymbol, Memory as InternMemory}
 use Rattle.dictcol.specs.declared.fault.Fault.{Fault}
-use Rattle.dictcol.specs.declared.fault.Fault.TheVariants.{Argument, Input, NotUtf8, NoKeys, TooMany, Memory, Output, ClosedOutput}
+use Rattle.dictcol.specs.declared.fault.Fault.TheVariants.{Argument, Input, NotUtf8, DictionaryNotUtf8, DictionaryFile, NumbersFile, Folder, NoKeys, TooMany, Memory, Output, ClosedOutput}
 
 -- 2 if the arguments or the input are wrong, 1 if the system failed or there is too much, 141 if the output is closed
 abbrev pub status_of : Fault → ℕ
 status_of (Input _) = 1
+status_of (DictionaryFile _) = 1
+status_of (NumbersFile _) = 1
+status_of (Folder _) = 1
 status_of (NoKeys _) = 1
 status_of TooMany = 1
 status_of Memory = 1
@@ -45,11 +48,21 @@ IsReadFault (Input _) = ⊤
 IsReadFault Memory = ⊤
 IsReadFault _ = ⊥
 
+-- the faults of taking lines: there are too many distinct ones, or no memory is left for them
+abbrev pub IsTakeFault : Fault → Type 0
+IsTakeFault TooMany = ⊤
+IsTakeFault Memory = ⊤
+IsTakeFault _ = ⊥
+
 -- the faults of writing the output
 abbrev pub IsWriteFault : Fault → Type 0
 IsWriteFault (Output _) = ⊤
 IsWriteFault ClosedOutput = ⊤
 IsWriteFault _ = ⊥
+
+-- the faults of writing what was asked for of lines: those of taking lines, and those of writing
+abbrev pub IsLinesWriteFault : Fault → Type 0
+IsLinesWriteFault fault = IsTakeFault fault ⊎ IsWriteFault fault
 
 -- it writes last: if it fails before that, the output is unchanged
 abbrev pub WritesLast : {T W : Type 0} → Result T Fault → W → W → Type 0
@@ -60,6 +73,10 @@ abbrev pub IsDamage : Fault → Type 0
 IsDamage Argument = ⊥
 IsDamage (Input _) = ⊥
 IsDamage (NotUtf8 _) = ⊥
+IsDamage (DictionaryNotUtf8 _) = ⊥
+IsDamage (DictionaryFile _) = ⊥
+IsDamage (NumbersFile _) = ⊥
+IsDamage (Folder _) = ⊥
 IsDamage (NoKeys _) = ⊥
 IsDamage TooMany = ⊥
 IsDamage Memory = ⊥

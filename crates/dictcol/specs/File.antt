@@ -13,6 +13,7 @@ use Rattle.string_interner.specs.Text.{Text, IsDistinct}
 use Rattle.string_interner.specs.Json.{json_of_texts, json_of_number}
 use Rattle.string_column.specs.Column.{AreCodes, dictionary_of}
 use Rattle.dictcol.specs.Lines.{has_newline, text_of_lines, AreLines}
+use Rattle.dictcol.specs.declared.file.Parts.{Parts}
 
 -- the object with these texts, numbers and boolean
 abbrev pub column_file : List Text → List ℕ → Bool → Data
@@ -36,6 +37,10 @@ indexed_texts dictionary (item value rest) = option_and_then (λ text. option_ma
 -- each code is the index of a text
 abbrev pub HaveEntries : List Text → List ℕ → Type 0
 HaveEntries dictionary codes = All (λ code. code < length dictionary) codes
+
+-- each code of these parts is the index of a text of theirs
+abbrev pub AreWithin : {B S : Type 0} → Parts B S → Type 0
+AreWithin parts = HaveEntries parts.dictionary.texts parts.codes.items
 
 -- A value holds these lines, and whether the last one ends in a newline.
 pub record HoldsLines (value : Data) (lines : List Text) (is_ended : Bool) : Type 0 where

@@ -1,12 +1,11 @@
 -- The code of a line.
 -- Cited by `LineHasher`.
 use Rattle.std.specs.Prelude.{ℕ}
-use Rattle.std.specs.Hash.DefaultHasher as sip
-use Rattle.std.specs.RandomState.{initial_hasher}
-use Rattle.std.specs.declared.random_state.RandomState.{RandomState}
 use Rattle.string_interner.specs.Text.{Text}
 use Rattle.string_interner.specs.Hasher.{one_write}
+use Rattle.string_interner.specs.SeededHash as seeded
+use Rattle.string_interner.specs.declared.hash.seeded.SeededState.{SeededState}
 
--- under SipHash-1-3 with these keys
-abbrev pub keyed_code : RandomState → Text → ℕ
-keyed_code keys text = one_write sip.write sip.finish (initial_hasher keys) text
+-- under the seeded hasher with these keys
+abbrev pub seeded_code : SeededState → Text → ℕ
+seeded_code keys text = one_write seeded.write seeded.finish (seeded.with_keys keys) text

@@ -1,7 +1,10 @@
 pub mod Answer
+pub mod Blocks
+pub mod Counts
 pub mod Fault
 pub mod File
 pub mod Hasher
 pub mod Lines
+pub mod Plain
 pub mod StreamTokens
 pub mod Writes

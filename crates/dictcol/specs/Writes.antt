@@ -1,5 +1,5 @@
 -- What a step writes.
--- Cited by `file`, `merge` and `answer`.
+-- Cited by `file`, `merge`, `count` and `answer`.
 use Rattle.std.specs.Prelude.{ℕ, List, Option}
 use Rattle.std.specs.Io.KnownBytes.{Appends}
 use Rattle.string_interner.specs.Text.{Text}

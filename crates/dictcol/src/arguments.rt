@@ -1,5 +1,6 @@
 //! The arguments.
 
+use crate::mend::Mending;
 use std::alloc::Global;
 use thiserror::Error;
 
@@ -31,6 +32,24 @@ pub enum Task {
     Write(Form, Choice),
 }
 
+/// How lines are read.
+#[derive(Clone, Copy)]
+pub struct Reading {
+    /// What is done with lines that are not UTF-8. If nothing is, they are faults.
+    pub mending: Option<Mending>,
+    /// Whether a zero byte ends each line, and not a newline.
+    pub is_zero_ended: bool,
+}
+
+/// Where plain columns are written.
+#[derive(Clone, Copy)]
+pub struct Columns<'a> {
+    /// The folder.
+    pub folder: &'a str,
+    /// The folder whose dictionary they begin with.
+    pub onto: Option<&'a str>,
+}
+
 /// Where the input comes from.
 #[derive(Clone, Copy)]
 pub enum Source<'a> {
@@ -44,9 +63,12 @@ pub enum Source<'a> {
 pub enum Request<'a> {
     Help,
     Version,
-    Do(Task, Source<'a>),
-    /// The files are merged, in this order.
-    Merge(Choice, Vec<Source<'a>>),
+    /// The files are read one after another, or standard input if there are none.
+    Do(Task, Reading, Vec<Source<'a>>),
+    /// Their lines are written as plain columns.
+    WriteColumns(Choice, Columns<'a>, Reading, Vec<Source<'a>>),
+    /// The files, which `encode` wrote, are merged in this order, and this is written of the lines.
+    Merge(Form, Choice, Vec<Source<'a>>),
 }
 
 /// What is wrong with the arguments. It is displayed as the message for standard error.
@@ -62,12 +84,18 @@ pub enum Misuse<'a> {
     OptionOfAnother(&'static str, &'static str),
     #[error("option '{0}' needs a value")]
     NoValue(&'static str),
+    #[error("option '{0}' needs option '{1}'")]
+    NeedsOption(&'static str, &'static str),
     #[error("option '{0}' takes no value")]
     HasValue(&'a str),
     #[error("unknown backend '{0}'")]
     UnknownBackend(&'a str),
+    #[error("option '--invalid' takes error, replace or skip, and not '{0}'")]
+    UnknownMending(&'a str),
     #[error("extra operand '{0}'")]
     ExtraOperand(&'a str),
+    #[error("option '{0}' excludes option '{1}'")]
+    Excluded(&'static str, &'static str),
     #[error("merge needs a FILE")]
     NoFile,
     #[error("standard input is named twice")]
@@ -85,12 +113,44 @@ enum Command {
     Merge,
 }
 
+impl Command {
+    fn name(self) -> &'static str {
+        match self {
+            Command::Encode => "encode",
+            Command::Decode => "decode",
+            Command::Count => "count",
+            Command::Merge => "merge",
+        }
+    }
+
+    /// Returns whether it takes this option.
+    fn takes(self, option: &str) -> bool {
+        match self {
+            Command::Encode => {
+                option == "--plain"
+                    || option == "--onto"
+                    || option == "--backend"
+                    || option == "--invalid"
+            }
+            Command::Decode => false,
+            Command::Count => option != "--plain" && option != "--onto",
+            Command::Merge => option == "--backend",
+        }
+    }
+}
+
 /// What the next word is.
 #[derive(Clone, Copy)]
 enum Next {
     OptionOrOperand,
     /// The value of `--backend`.
     Backend,
+    /// The value of `--invalid`.
+    Mending,
+    /// The value of `--plain`.
+    Folder,
+    /// The value of `--onto`.
+    Onto,
     /// Behind `--`.
     Operand,
 }
@@ -99,13 +159,19 @@ enum Next {
 #[derive(Drop)]
 struct Given<'a> {
     command: Option<Command>,
-    source: Option<Source<'a>>,
-    /// The files for `merge`.
     files: Vec<Source<'a>>,
     /// Whether one of them is standard input.
     has_input: bool,
     choice: Option<Choice>,
     is_sorted: bool,
+    /// What `--invalid` says.
+    mending: Option<Option<Mending>>,
+    is_zero_ended: bool,
+    is_encoded: bool,
+    /// What `--plain` says.
+    folder: Option<&'a str>,
+    /// What `--onto` says.
+    onto: Option<&'a str>,
 }
 
 impl<'a> Given<'a> {
@@ -120,117 +186,222 @@ impl<'a> Given<'a> {
         Ok(())
     }
 
-    /// Takes a file for `merge`.
-    fn take_file(&mut self, file: Source<'a>) -> Result<(), Misuse<'a>> {
-        if let Source::StandardInput = file {
-            if self.has_input {
-                return Err(Misuse::InputTwice);
-            }
-            self.has_input = true;
+    /// Takes what is done with lines that are not UTF-8. Of several words the last decides.
+    fn take_mending(&mut self, word: &'a str) -> Result<(), Misuse<'a>> {
+        self.mending = Some(match word {
+            "error" => None,
+            "replace" => Some(Mending::Replace),
+            "skip" => Some(Mending::Skip),
+            _ => return Err(Misuse::UnknownMending(word)),
+        });
+        Ok(())
+    }
+
+    /// Takes the folder that plain columns are written into. Of several the last decides.
+    fn take_folder(&mut self, path: &'a str) -> Result<(), Misuse<'a>> {
+        self.folder = Some(check_value("--plain", path)?);
+        Ok(())
+    }
+
+    /// Takes the folder whose dictionary they begin with. Of several the last decides.
+    fn take_onto(&mut self, path: &'a str) -> Result<(), Misuse<'a>> {
+        self.onto = Some(check_value("--onto", path)?);
+        Ok(())
+    }
+
+    /// Takes the command.
+    fn take_command(&mut self, word: &'a str) -> Result<(), Misuse<'a>> {
+        self.command = Some(match word {
+            "encode" => Command::Encode,
+            "decode" => Command::Decode,
+            "count" => Command::Count,
+            "merge" => Command::Merge,
+            _ => return Err(Misuse::UnknownCommand(word)),
+        });
+        Ok(())
+    }
+
+    /// Takes a file.
+    fn take_file(&mut self, word: &'a str) -> Result<(), Misuse<'a>> {
+        let is_input = word == "-";
+        if is_input && self.has_input {
+            return Err(Misuse::InputTwice);
         }
+        self.has_input |= is_input;
+        let file = if is_input {
+            Source::StandardInput
+        } else {
+            Source::File(word)
+        };
         self.files.push(file).map_err(|_| Misuse::Memory)
     }
 
     /// Takes the command, or a file behind it.
     fn take_operand(&mut self, word: &'a str) -> Result<(), Misuse<'a>> {
-        let source = match word {
-            "-" => Source::StandardInput,
-            path => Source::File(path),
-        };
-        match (self.command, self.source) {
-            (None, _) => {
-                self.command = Some(match word {
-                    "encode" => Command::Encode,
-                    "decode" => Command::Decode,
-                    "count" => Command::Count,
-                    "merge" => Command::Merge,
-                    _ => return Err(Misuse::UnknownCommand(word)),
-                });
-            }
-            (Some(Command::Merge), _) => return self.take_file(source),
-            (Some(_), None) => self.source = Some(source),
-            (Some(_), Some(_)) => return Err(Misuse::ExtraOperand(word)),
+        match self.command {
+            None => self.take_command(word),
+            Some(Command::Decode) if !self.files.is_empty() => Err(Misuse::ExtraOperand(word)),
+            Some(_) => self.take_file(word),
         }
-        Ok(())
     }
 
-    /// Takes an option with its value behind `=`, or an operand.
+    /// Takes an option, with a value behind `=` or none, or an operand.
     fn take_word(&mut self, word: &'a str) -> Result<(), Misuse<'a>> {
+        match word {
+            "--sorted" => {
+                self.is_sorted = true;
+                return Ok(());
+            }
+            "--encoded" => {
+                self.is_encoded = true;
+                return Ok(());
+            }
+            "-z" | "--zero-terminated" => {
+                self.is_zero_ended = true;
+                return Ok(());
+            }
+            _ => {}
+        }
         match word.split_once('=') {
             Some(("--backend", name)) => self.take_backend(name),
-            Some((option, _))
-                if option == "--sorted" || option == "--help" || option == "--version" => {
-                Err(Misuse::HasValue(option))
-            }
+            Some(("--invalid", how)) => self.take_mending(how),
+            Some(("--plain", path)) => self.take_folder(path),
+            Some(("--onto", path)) => self.take_onto(path),
+            Some((option, _)) if is_flag(option) => Err(Misuse::HasValue(option)),
             _ if word.starts_with('-') && word != "-" => Err(Misuse::UnknownOption(word)),
             _ => self.take_operand(word),
         }
     }
 
-    /// Returns what all the words ask for.
-    fn decide(self) -> Result<Request<'a>, Misuse<'a>> {
-        let choice = self.choice.unwrap_or(Choice::String);
-        let task = match self.command.ok_or(Misuse::NoCommand)? {
-            Command::Encode if self.is_sorted => {
-                return Err(Misuse::OptionOfAnother("encode", "--sorted"));
+    /// Checks that the command takes the options.
+    fn check_options(&self, command: Command) -> Result<(), Misuse<'a>> {
+        let given = [
+            ("--plain", self.folder.is_some()),
+            ("--onto", self.onto.is_some()),
+            ("--sorted", self.is_sorted),
+            ("--backend", self.choice.is_some()),
+            ("--invalid", self.mending.is_some()),
+            ("--zero-terminated", self.is_zero_ended),
+            ("--encoded", self.is_encoded),
+        ];
+        for (option, is_given) in given {
+            if is_given && !command.takes(option) {
+                return Err(Misuse::OptionOfAnother(command.name(), option));
             }
+            if is_given && self.is_encoded && is_of_lines(option) {
+                return Err(Misuse::Excluded("--encoded", option));
+            }
+        }
+        if self.onto.is_some() && self.folder.is_none() {
+            return Err(Misuse::NeedsOption("--onto", "--plain"));
+        }
+        Ok(())
+    }
+
+    /// Takes the next word, and returns what the one behind it is.
+    fn take(&mut self, next: Next, word: &'a str) -> Result<Next, Misuse<'a>> {
+        match (next, word) {
+            (Next::Backend, name) => self.take_backend(name)?,
+            (Next::Mending, how) => self.take_mending(how)?,
+            (Next::Folder, path) => self.take_folder(path)?,
+            (Next::Onto, path) => self.take_onto(path)?,
+            (Next::Operand, word) => {
+                self.take_operand(word)?;
+                return Ok(Next::Operand);
+            }
+            (Next::OptionOrOperand, "--backend") => return Ok(Next::Backend),
+            (Next::OptionOrOperand, "--invalid") => return Ok(Next::Mending),
+            (Next::OptionOrOperand, "--plain") => return Ok(Next::Folder),
+            (Next::OptionOrOperand, "--onto") => return Ok(Next::Onto),
+            (Next::OptionOrOperand, "--") => return Ok(Next::Operand),
+            (Next::OptionOrOperand, word) => self.take_word(word)?,
+        }
+        Ok(Next::OptionOrOperand)
+    }
+
+    /// Returns what all the words ask for.
+    fn decide(mut self) -> Result<Request<'a>, Misuse<'a>> {
+        let command = self.command.ok_or(Misuse::NoCommand)?;
+        self.check_options(command)?;
+        let choice = self.choice.unwrap_or(Choice::String);
+        let task = match command {
             Command::Encode => Task::Write(Form::File, choice),
             Command::Count if self.is_sorted => Task::Write(Form::SortedCounts, choice),
             Command::Count => Task::Write(Form::Counts, choice),
-            Command::Decode if self.is_sorted => {
-                return Err(Misuse::OptionOfAnother("decode", "--sorted"));
-            }
-            Command::Decode if self.choice.is_some() => {
-                return Err(Misuse::OptionOfAnother("decode", "--backend"));
-            }
             Command::Decode => Task::Decode,
-            Command::Merge if self.is_sorted => {
-                return Err(Misuse::OptionOfAnother("merge", "--sorted"));
-            }
             Command::Merge if self.files.is_empty() => return Err(Misuse::NoFile),
-            Command::Merge => return Ok(Request::Merge(choice, self.files)),
+            Command::Merge => return Ok(Request::Merge(Form::File, choice, self.files)),
         };
-        Ok(Request::Do(task, self.source.unwrap_or(Source::StandardInput)))
+        if let (true, Task::Write(form, _)) = (self.is_encoded, task) {
+            if self.files.is_empty() {
+                self.take_file("-")?;
+            }
+            return Ok(Request::Merge(form, choice, self.files));
+        }
+        let reading = Reading {
+            mending: self.mending.flatten(),
+            is_zero_ended: self.is_zero_ended,
+        };
+        match self.folder {
+            Some(folder) => {
+                let onto = self.onto;
+                let columns = Columns { folder, onto };
+                Ok(Request::WriteColumns(choice, columns, reading, self.files))
+            }
+            None => Ok(Request::Do(task, reading, self.files)),
+        }
     }
+}
+
+/// Returns the value of an option, which may not be empty.
+fn check_value<'a>(option: &'static str, value: &'a str) -> Result<&'a str, Misuse<'a>> {
+    if value.is_empty() {
+        return Err(Misuse::NoValue(option));
+    }
+    Ok(value)
+}
+
+/// Returns whether a word is an option that takes no value.
+fn is_flag(word: &str) -> bool {
+    word == "--sorted"
+        || word == "--encoded"
+        || word == "--zero-terminated"
+        || word == "--help"
+        || word == "--version"
+}
+
+/// Returns whether an option says how lines are read.
+fn is_of_lines(option: &str) -> bool {
+    option == "--invalid" || option == "--zero-terminated"
 }
 
 /// Returns what the arguments ask for, or the first thing that is wrong with them. Options may be anywhere before `--`.
 pub fn parse_arguments(alloc: Global, arguments: &[String]) -> Result<Request<'_>, Misuse<'_>> {
     let mut given = Given {
         command: None,
-        source: None,
         files: Vec::new(alloc),
         has_input: false,
         choice: None,
         is_sorted: false,
+        mending: None,
+        is_zero_ended: false,
+        is_encoded: false,
+        folder: None,
+        onto: None,
     };
     let mut next = Next::OptionOrOperand;
     for argument in arguments {
         next = match (next, argument.as_str()) {
-            (Next::Backend, name) => {
-                given.take_backend(name)?;
-                Next::OptionOrOperand
-            }
-            (Next::Operand, word) => {
-                given.take_operand(word)?;
-                Next::Operand
-            }
             (Next::OptionOrOperand, "-h" | "--help") => return Ok(Request::Help),
             (Next::OptionOrOperand, "--version") => return Ok(Request::Version),
-            (Next::OptionOrOperand, "--backend") => Next::Backend,
-            (Next::OptionOrOperand, "--") => Next::Operand,
-            (Next::OptionOrOperand, "--sorted") => {
-                given.is_sorted = true;
-                Next::OptionOrOperand
-            }
-            (Next::OptionOrOperand, word) => {
-                given.take_word(word)?;
-                Next::OptionOrOperand
-            }
+            (_, word) => given.take(next, word)?,
         };
     }
-    if let Next::Backend = next {
-        return Err(Misuse::NoValue("--backend"));
+    match next {
+        Next::Backend => Err(Misuse::NoValue("--backend")),
+        Next::Mending => Err(Misuse::NoValue("--invalid")),
+        Next::Folder => Err(Misuse::NoValue("--plain")),
+        Next::Onto => Err(Misuse::NoValue("--onto")),
+        Next::OptionOrOperand | Next::Operand => given.decide(),
     }
-    given.decide()
 }

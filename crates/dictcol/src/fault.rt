@@ -2,7 +2,7 @@
 
 ghost use Rattle.std.specs.Prelude.{◌≡◌};
 ghost use Rattle.std.specs.IoError.{error_kind};
-ghost use Rattle.dictcol.specs.Fault.{arguments_fault, intern_fault, read_fault, write_fault, status_of, IsNoDamage, IsReadFault, IsWriteFault};
+ghost use Rattle.dictcol.specs.Fault.{arguments_fault, intern_fault, read_fault, write_fault, status_of, IsNoDamage, IsReadFault, IsTakeFault, IsWriteFault};
 
 use std::io;
 use std::io::ErrorKind;
@@ -51,6 +51,42 @@ pub enum Fault {
     /// The file has no boolean of this name.
     #[error("no boolean \"final_newline\"")]
     NoFinalNewline,
+    /// The line with this number (1-based) of `dict.txt` is the first that is not UTF-8.
+    #[error("dict.txt: line {0} is not UTF-8")]
+    DictionaryNotUtf8(usize),
+    /// The last line of `dict.txt` has no newline.
+    #[error("dict.txt does not end in a newline")]
+    NotEnded,
+    /// The line with this number (1-based) of `dict.txt` is there already.
+    #[error("dict.txt: line {0} repeats an earlier line")]
+    RepeatedLine(usize),
+    /// `codes.npy` does not begin as a file of NumPy, or is too short.
+    #[error("codes.npy is not in NumPy's format 1.0")]
+    NotNpy,
+    /// `codes.npy` has other items.
+    #[error("codes.npy has another type than '<u4'")]
+    OtherType,
+    /// `codes.npy` says that its items are in another order.
+    #[error("codes.npy is in Fortran's order")]
+    OtherOrder,
+    /// `codes.npy` has not one dimension.
+    #[error("codes.npy has another shape than a list")]
+    OtherShape,
+    /// `codes.npy` was cut off or extended.
+    #[error("codes.npy has another length than its header says")]
+    OtherLength,
+    /// The number at this index (0-based) of `codes.npy` is not that of a line of `dict.txt`.
+    #[error("codes[{0}] is not the number of a line of dict.txt")]
+    NotALine(usize),
+    /// `dict.txt` cannot be read.
+    #[error("cannot read dict.txt: {0}")]
+    DictionaryFile(io::Error),
+    /// `codes.npy` cannot be read.
+    #[error("cannot read codes.npy: {0}")]
+    NumbersFile(io::Error),
+    /// A folder or its files cannot be written.
+    #[error("cannot write columns: {0}")]
+    Folder(io::Error),
     /// The system gave no random keys.
     #[error("cannot draw random keys: {0}")]
     NoKeys(io::Error),
@@ -105,12 +141,45 @@ impl Fault {
     /// Returns the fault of lines that an interner does not take.
     pub fn of_intern(error: InternError) -> Fault
         ensures value { result ≡ intern_fault error }
+        ensures taking { IsTakeFault result }
         ensures sound { IsNoDamage result }
     {
         match error {
             InternError::NoSymbol => Fault::TooMany,
             InternError::Memory(_) => Fault::Memory,
         }
+    }
+
+    /// Returns a fault of reading lines as one of reading `dict.txt`.
+    pub fn of_dictionary(fault: Fault) -> Fault
+        ensures { IsNoDamage fault → IsNoDamage result }
+    {
+        match fault {
+            Fault::Input(error) => Fault::DictionaryFile(error),
+            Fault::NotUtf8(line) => Fault::DictionaryNotUtf8(line),
+            fault => fault,
+        }
+    }
+
+    /// Returns a fault of reading the input as one of reading `codes.npy`.
+    pub fn of_numbers(fault: Fault) -> Fault
+        ensures { IsNoDamage fault → IsNoDamage result }
+    {
+        match fault {
+            Fault::Input(error) => Fault::NumbersFile(error),
+            fault => fault,
+        }
+    }
+
+    /// Returns whether the fault is one of a file `dict.txt`.
+    pub fn is_of_dictionary(&self) -> bool {
+        matches!(
+            self,
+            Fault::DictionaryFile(_)
+                | Fault::DictionaryNotUtf8(_)
+                | Fault::NotEnded
+                | Fault::RepeatedLine(_)
+        )
     }
 
     /// Returns the exit status: 2 if the arguments or the input are wrong, 1 if the system failed or there is too much. If
@@ -121,6 +190,9 @@ impl Fault {
         match self {
             Fault::ClosedOutput => 141,
             Fault::Input(_)
+            | Fault::DictionaryFile(_)
+            | Fault::NumbersFile(_)
+            | Fault::Folder(_)
             | Fault::NoKeys(_)
             | Fault::TooMany
             | Fault::Memory

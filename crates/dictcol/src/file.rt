@@ -12,43 +12,52 @@ ghost use Rattle.string_interner.specs.Extend.{texts_of};
 ghost use Rattle.string_interner.specs.Json.{json_of_texts};
 ghost use Rattle.string_column.specs.Column.{rows_of};
 ghost use Rattle.dictcol.specs.Fault.{IsDamage, IsNoDamage, IsRightFault, IsWriteFault, WritesLast};
-ghost use Rattle.dictcol.specs.File.{indexed_texts, HaveEntries, HoldsLines, HoldsText, FileHolds, DecodesFile};
+ghost use Rattle.dictcol.specs.File.{indexed_texts, AreWithin, HaveEntries, HoldsLines, HoldsText, FileHolds, DecodesFile};
 ghost use Rattle.dictcol.specs.Lines.{has_newline, newline_if, text_of_lines};
 ghost use Rattle.dictcol.specs.Writes.{Writes};
 
-use crate::answer::check_utf8;
+use crate::blocks::check_utf8;
 use crate::fault::Fault;
 use crate::hasher::LineHasher;
 use crate::stream;
 use serde_json::Value;
 use std::alloc::Global;
+use std::io;
 use std::io::Write;
 use string_column::{Codes, Column, PartsError};
+use string_interner::StringInterner;
 use string_interner::backend::{Backend, DefaultBackend};
 use string_interner::dedup::TaggedIndex;
 use string_interner::json::JsonError;
-use string_interner::{DefaultSymbol, StringInterner};
 
 /// The texts of a file.
-pub type Dictionary = StringInterner<DefaultBackend, LineHasher, TaggedIndex<DefaultSymbol>>;
+pub type Dictionary<B = DefaultBackend> = StringInterner<
+    B,
+    LineHasher,
+    TaggedIndex<<B as Backend>::Symbol>,
+>;
 
 /// What a file holds: its texts, for each line the index of its text, and whether the last line ends in a newline.
 #[derive(Drop)]
-pub struct Parts {
-    pub dictionary: Dictionary,
+pub struct Parts<B: Backend> {
+    pub dictionary: Dictionary<B>,
     pub codes: Codes,
     pub is_ended: bool,
 }
 
 /// Reads the dictionary.
-fn read_dictionary(alloc: Global, hasher: LineHasher, file: &Value) -> Result<Dictionary, Fault>
+fn read_dictionary<B: Backend + Drop>(
+    alloc: Global,
+    hasher: LineHasher,
+    file: &Value,
+) -> Result<Dictionary<B>, Fault>
     ensures ok { IfOk result (λ dictionary.
         get (codes "dictionary") (view file.now) ≡ Some (json_of_texts dictionary.texts)) }
     ensures err { IfErr result (λ fault. IsDamage fault → (texts : List Text) → IsDistinct texts
         → get (codes "dictionary") (view file.now) ≢ Some (json_of_texts texts)) }
 {
     let value = file.get("dictionary").ok_or(Fault::NoDictionary)?;
-    match Dictionary::from_json_exact_with_hasher(alloc, value, hasher) {
+    match Dictionary::<B>::from_json_exact_with_hasher(alloc, value, hasher) {
         Ok(dictionary) => Ok(dictionary),
         Err(JsonError::NotAText { index }) => Err(Fault::NotAText(index)),
         Err(JsonError::Repeated { index }) => Err(Fault::Repeated(index)),
@@ -60,7 +69,7 @@ fn read_dictionary(alloc: Global, hasher: LineHasher, file: &Value) -> Result<Di
 }
 
 /// Checks that each text of the dictionary is one line.
-fn check_texts(dictionary: &Dictionary) -> Result<(), Fault>
+fn check_texts<B: Backend>(dictionary: &Dictionary<B>) -> Result<(), Fault>
     ensures ok { OnOk result (list_any has_newline dictionary.now.texts ≡ false) }
     ensures err { IfErr result (λ fault. list_any has_newline dictionary.now.texts ≡ true) }
 {
@@ -75,7 +84,7 @@ fn check_texts(dictionary: &Dictionary) -> Result<(), Fault>
 }
 
 /// Returns the texts of the dictionary.
-fn list_texts(alloc: Global, dictionary: &Dictionary) -> Result<Vec<&str>, Fault>
+pub fn list_texts(alloc: Global, dictionary: &Dictionary) -> Result<Vec<&str>, Fault>
     ensures ok { IfOk result (λ texts. texts_of texts.items ≡ dictionary.now.texts) }
     ensures fault { IfErr result IsNoDamage }
 {
@@ -87,7 +96,11 @@ fn list_texts(alloc: Global, dictionary: &Dictionary) -> Result<Vec<&str>, Fault
 }
 
 /// Returns the numbers of the lines, each of which must be the index of a text.
-fn read_codes(alloc: Global, dictionary: &Dictionary, numbers: &[Value]) -> Result<Codes, Fault>
+fn read_codes<B: Backend>(
+    alloc: Global,
+    dictionary: &Dictionary<B>,
+    numbers: &[Value],
+) -> Result<Codes, Fault>
     ensures ok { IfOk result (λ codes. indexed_texts dictionary.now.texts (items_view numbers.now)
         ≡ Some (rows_of dictionary.now.texts codes.items)) }
     ensures within { IfOk result (λ codes. HaveEntries dictionary.now.texts codes.items) }
@@ -106,7 +119,7 @@ fn read_codes(alloc: Global, dictionary: &Dictionary, numbers: &[Value]) -> Resu
 }
 
 /// Writes some bytes.
-fn write<W: Write>(output: &mut W, bytes: &[u8]) -> Result<(), Fault>
+pub fn write<W: Write>(output: &mut W, bytes: &[u8]) -> Result<(), Fault>
     ensures written { OnOk result
         (Appends (W.contents output.old) (W.contents output.new) bytes.now) }
     ensures fault { IfErr result IsWriteFault }
@@ -115,23 +128,21 @@ fn write<W: Write>(output: &mut W, bytes: &[u8]) -> Result<(), Fault>
 }
 
 /// Writes a line, behind a newline if it is a further one.
-fn write_line<W: Write>(output: &mut W, line: &str, is_further: bool) -> Result<(), Fault>
-    ensures written { OnOk result (Appends (W.contents output.old) (W.contents output.new)
+fn write_line<W: Write>(output: &mut W, line: &str, is_further: bool) -> io::Result<()>
+    ensures { OnOk result (Appends (W.contents output.old) (W.contents output.new)
         (newline_if is_further ++ line.now)) }
-    ensures fault { IfErr result IsWriteFault }
 {
     if is_further {
-        write(output, b"\n")?;
+        output.write_all(b"\n")?;
     }
-    write(output, line.as_bytes())
+    output.write_all(line.as_bytes())
 }
 
 /// Writes lines with newlines between them.
-fn write_joined<W: Write>(output: &mut W, texts: &[&str], codes: &Codes) -> Result<(), Fault>
+fn write_joined<W: Write>(output: &mut W, texts: &[&str], codes: &Codes) -> io::Result<()>
     requires { All (λ code. code < length texts.now) codes.now.items }
-    ensures written { OnOk result (Appends (W.contents output.old) (W.contents output.new)
+    ensures { OnOk result (Appends (W.contents output.old) (W.contents output.new)
         (join_with_byte 10 (rows_of (texts_of texts.now) codes.now.items))) }
-    ensures fault { IfErr result IsWriteFault }
 {
     for row in 0..codes.len() {
         write_line(output, texts[codes.at(row)], row > 0)?;
@@ -140,7 +151,7 @@ fn write_joined<W: Write>(output: &mut W, texts: &[&str], codes: &Codes) -> Resu
 }
 
 /// Writes the text of the lines.
-fn write_lines<W: Write>(
+pub fn write_lines<W: Write>(
     output: &mut W,
     texts: &[&str],
     codes: &Codes,
@@ -151,7 +162,7 @@ fn write_lines<W: Write>(
         (text_of_lines (rows_of (texts_of texts.now) codes.now.items) is_ended)) }
     ensures fault { IfErr result IsWriteFault }
 {
-    write_joined(output, texts, codes)?;
+    write_joined(output, texts, codes).map_err(Fault::of_write)?;
     if is_ended {
         write(output, b"\n")?;
     }
@@ -183,11 +194,14 @@ fn find_final_newline(file: &Value) -> Result<bool, Fault>
 }
 
 /// Returns what the value holds. Faults are looked for in the order of its members.
-fn read_value(alloc: Global, hasher: LineHasher, file: &Value) -> Result<Parts, Fault>
+fn read_value<B: Backend + Drop>(
+    alloc: Global,
+    hasher: LineHasher,
+    file: &Value,
+) -> Result<Parts<B>, Fault>
     ensures lines { IfOk result (λ parts. HoldsLines (view file.now)
         (rows_of parts.dictionary.texts parts.codes.items) parts.is_ended) }
-    ensures within { IfOk result (λ parts.
-        HaveEntries parts.dictionary.texts parts.codes.items) }
+    ensures within { IfOk result AreWithin }
     ensures err { IfErr result (IsRightFault (HoldsText (view file.now))) }
 {
     let dictionary = read_dictionary(alloc, hasher, file)?;
@@ -228,11 +242,14 @@ fn parse(alloc: Global, file: &str) -> Result<Value, Fault>
 }
 
 /// Returns what a file holds, or finds where it is damaged.
-pub fn read(alloc: Global, hasher: LineHasher, file: &str) -> Result<Parts, Fault>
+pub fn read<B: Backend + Drop>(
+    alloc: Global,
+    hasher: LineHasher,
+    file: &str,
+) -> Result<Parts<B>, Fault>
     ensures lines { IfOk result (λ parts. FileHolds file.now
         (rows_of parts.dictionary.texts parts.codes.items) parts.is_ended) }
-    ensures within { IfOk result (λ parts.
-        HaveEntries parts.dictionary.texts parts.codes.items) }
+    ensures within { IfOk result AreWithin }
 
     // A file that holds a text is never called damaged.
     ensures err { IfErr result (IsRightFault (DecodesFile file.now)) }
@@ -260,13 +277,12 @@ pub fn read_column<B: Backend + Drop>(
         dictionary,
         codes,
         is_ended,
-    } = read(alloc, hasher, check_utf8(&bytes)?)?;
+    } = read(alloc, hasher, check_utf8(0, &bytes)?)?;
     // The column needs nothing of the file, which is as long as the texts.
     drop(bytes);
     // For the proof: states that the texts are distinct.
     let _ = dictionary.len();
-    let texts = list_texts(alloc, &dictionary)?;
-    match Column::from_parts(alloc, hasher, &texts, codes) {
+    match Column::from_interner(alloc, hasher, dictionary, codes) {
         Ok(lines) => Ok((lines, is_ended)),
         Err(PartsError::NoSymbol) => Err(Fault::TooMany),
         Err(PartsError::Memory(_)) => Err(Fault::Memory),
@@ -293,7 +309,7 @@ pub fn decode<W: Write>(
     // Unless all went well or a write failed, the output was not touched.
     ensures silent { WritesLast result output.old output.new }
 {
-    let parts = read(alloc, hasher, file)?;
+    let parts = read::<DefaultBackend>(alloc, hasher, file)?;
     let texts = list_texts(alloc, &parts.dictionary)?;
     write_lines(output, &texts, &parts.codes, parts.is_ended)
 }

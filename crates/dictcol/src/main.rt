@@ -4,51 +4,37 @@
 
 mod answer;
 mod arguments;
+mod block;
+mod blocks;
+mod columns;
 mod count;
 mod fault;
 mod file;
 mod format;
 mod hasher;
+mod help;
+mod inputs;
+mod mend;
 mod merge;
+mod plain;
+mod split;
 mod stream;
+mod zero;
 
-use arguments::{Choice, Misuse, Request, Source, Task};
+use arguments::{Choice, Form, Misuse, Reading, Request, Source, Task};
 use fault::Fault;
 use hasher::LineHasher;
+use help::{HELP, USAGE};
+use inputs::{Inputs, report_progress};
+use mend::{Mended, Mending};
 use merge::Merged;
+use plain::folder;
 use std::env;
-use std::fs::File;
-use std::io::{BufWriter, IsTerminal, Write};
+use std::env::{Env, FillError};
+use std::io::{BufWriter, Read, Write};
 use std::process::ExitCode;
 use string_interner::backend::{Backend, BucketBackend, BufferBackend, StringBackend};
-
-/// What `--help` prints.
-const HELP: &str = "\
-usage: dictcol encode [--backend NAME] [FILE]
-       dictcol decode [FILE]
-       dictcol count [--sorted] [--backend NAME] [FILE]
-       dictcol merge [--backend NAME] FILE ..
-
-Reads FILE, or standard input if there is no FILE or it is -, and writes to standard output.
-
-encode   writes lines as JSON: the distinct lines in order of first appearance, and a number for each line
-decode   writes the lines back, byte for byte
-count    writes how often each distinct line occurs, and the line, in order of first appearance
-merge    writes one file for several that encode wrote; it decodes to what they decode to, one after another
-
-    --sorted         sorts by count, the most frequent first
-    --backend NAME   how texts are stored while it runs: string, bucket or buffer; the output is the same
-    --               no word after it is an option
--h, --help           prints this help
-    --version        prints the version
-
-Exit status: 0 on success; 1 if the system fails or there are too many distinct lines; 2 if the arguments or the input are
-wrong; 141, without a message, if the output is closed.
-";
-
-/// What follows a message about arguments.
-const USAGE: &str =
-    "usage: dictcol encode|decode|count|merge [OPTION ..] [FILE ..] (try dictcol --help)";
+use zero::Exchanged;
 
 /// The status if the arguments are wrong.
 const MISUSED: u8 = 2;
@@ -56,19 +42,14 @@ const MISUSED: u8 = 2;
 /// What `--version` prints.
 const VERSION: &str = "dictcol 0.1.0\n";
 
+/// What may be done about the name of a file that is not UTF-8.
+const NAME_ADVICE: &str = " (a file with such a name can be standard input)";
+
+/// What is said of lines that look like what `encode` writes.
+const LOOKS_ENCODED: &str = "lines were read from what encode wrote (see decode, count --encoded)";
+
 /// How many bytes are written at once.
 const BUFFER: usize = 1 << 16;
-
-/// Input of this many bytes is long: progress is reported on a terminal.
-const LONG: usize = 1 << 24;
-
-/// Reports on a terminal how far the work on a long input is.
-fn report_progress(rt: &HostRuntime, bytes: usize, what: &str) {
-    if bytes >= LONG && rt.stderr().is_terminal() {
-        // Nothing is lost if standard error is closed.
-        let _ = eprintln!(rt; "dictcol: {} MiB {what}", bytes >> 20);
-    }
-}
 
 /// Returns the arguments behind the program's name.
 fn read_arguments(rt: &HostRuntime) -> Result<Vec<String>, Fault> {
@@ -76,30 +57,116 @@ fn read_arguments(rt: &HostRuntime) -> Result<Vec<String>, Fault> {
     words.skip(1).collect(rt.alloc()).map_err(|_| Fault::Memory)
 }
 
-/// Reads the whole input.
-fn read(rt: &HostRuntime, source: Source<'_>) -> Result<Vec<u8>, Fault> {
-    match source {
-        Source::StandardInput => answer::read(rt.alloc(), &mut rt.stdin()),
-        Source::File(path) => {
-            let mut file = File::open(rt, path).map_err(Fault::of_read)?;
-            answer::read(rt.alloc(), &mut file)
+/// Returns the number of the first argument that is not UTF-8. One longer than any path is passed over.
+fn find_argument(rt: &HostRuntime) -> Option<usize> {
+    let mut bytes = [0; 4096];
+    for number in 1..usize::MAX {
+        match rt.arg(number, &mut bytes) {
+            Ok(length) if str::from_utf8(&bytes[..length]).is_err() => return Some(number),
+            Ok(_) | Err(FillError::TooLong) => {}
+            Err(FillError::NotPresent) => return None,
         }
+    }
+    None
+}
+
+/// Prints why the arguments cannot be read, and returns the status.
+fn end_arguments(rt: &HostRuntime, fault: Fault) -> ExitCode {
+    match (&fault, find_argument(rt)) {
+        (Fault::Argument, Some(number)) => {
+            let _ = eprintln!(rt; "dictcol: argument {number} is not UTF-8{NAME_ADVICE}");
+            ExitCode::from(MISUSED)
+        }
+        _ => end(rt, Source::StandardInput, Err(fault)),
     }
 }
 
 /// Reads the input, and writes what the task asks for.
-fn work(rt: &HostRuntime, task: Task, source: Source<'_>) -> Result<(), Fault> {
+fn work<R: Read>(
+    rt: &HostRuntime,
+    task: Task,
+    is_exchanged: bool,
+    input: &mut R,
+) -> Result<(), Fault> {
     let alloc = rt.alloc();
     let hasher = LineHasher::draw(rt)?;
-    let bytes = read(rt, source)?;
-    let length = bytes.len();
-    report_progress(rt, length, "read");
-    let mut output = BufWriter::with_capacity(alloc, BUFFER, rt.stdout()).map_err(
+    let output = Exchanged::new(alloc, rt.stdout(), is_exchanged).map_err(|_| Fault::Memory)?;
+    let mut output = BufWriter::with_capacity(alloc, BUFFER, output).map_err(|_| Fault::Memory)?;
+    answer::answer(alloc, hasher, task, input, &mut output)
+}
+
+/// Does a task on mended input, and tells how many lines were left out.
+fn work_mended(
+    rt: &HostRuntime,
+    task: Task,
+    mending: Mending,
+    is_exchanged: bool,
+    inputs: &mut Inputs<'_>,
+) -> Result<(), Fault> {
+    let mut mended = Mended::new(rt.alloc(), inputs, mending);
+    work(rt, task, is_exchanged, &mut mended)?;
+    tell_skipped(rt, mended.skipped());
+    Ok(())
+}
+
+/// Tells on standard error how many lines were left out.
+fn tell_skipped(rt: &HostRuntime, skipped: usize) {
+    if skipped > 0 {
+        // Nothing is lost if standard error is closed.
+        let _ = eprintln!(rt; "dictcol: lines left out that are not UTF-8: {skipped}");
+    }
+}
+
+/// Writes the text of a folder of plain columns.
+fn decode_folder(rt: &HostRuntime, path: &str) -> Result<(), Fault> {
+    let hasher = LineHasher::draw(rt)?;
+    let mut output = BufWriter::with_capacity(rt.alloc(), BUFFER, rt.stdout()).map_err(
         |_| Fault::Memory,
     )?;
-    answer::answer(alloc, hasher, task, bytes, &mut output)?;
-    report_progress(rt, length, "done");
-    Ok(())
+    folder::decode(rt, hasher, path, &mut output)
+}
+
+/// Does a task on the files. Returns how it ended, and the file where it ended, if it was at one.
+fn work_on<'a>(
+    rt: &'a HostRuntime,
+    task: Task,
+    reading: Reading,
+    files: &'a [Source<'a>],
+) -> (Source<'a>, Result<(), Fault>) {
+    if let (Task::Decode, Some(Source::File(path))) = (task, files.first()) {
+        if folder::is_folder(rt, path) {
+            return (Source::File(path), decode_folder(rt, path));
+        }
+    }
+    let is_exchanged = reading.is_zero_ended;
+    let mut inputs = Inputs::new(rt, files, is_exchanged);
+    let outcome = match reading.mending {
+        Some(mending) => work_mended(rt, task, mending, is_exchanged, &mut inputs),
+        None => work(rt, task, is_exchanged, &mut inputs),
+    };
+    match outcome {
+        Ok(()) => {
+            report_progress(rt, inputs.length(), "done");
+            if let Task::Write(..) = task {
+                warn_of_encoded(rt, &inputs);
+            }
+            (Source::StandardInput, Ok(()))
+        }
+        Err(fault) => {
+            let (source, fault) = inputs.locate(fault);
+            (source, Err(fault))
+        }
+    }
+}
+
+/// Warns on standard error if a file whose lines were read looks like one that `encode` wrote.
+fn warn_of_encoded(rt: &HostRuntime, inputs: &Inputs<'_>) {
+    // Nothing is lost if standard error is closed.
+    let _ = match inputs.find_encoded() {
+        Some(Source::File(path)) => { eprintln!(rt; "dictcol: {path}: warning: {LOOKS_ENCODED}") }
+        Some(Source::StandardInput) => eprintln!(rt; "dictcol: warning: {LOOKS_ENCODED}"),
+        None => Ok(()),
+    };
 }
 
 /// Appends the text that a file holds. What was read is freed before the lines are appended.
@@ -109,16 +176,17 @@ fn append_file<B: Backend + Drop>(
     merged: &mut Merged<B>,
     source: Source<'_>,
 ) -> Result<(), Fault> {
-    let bytes = read(rt, source)?;
-    report_progress(rt, bytes.len(), "read");
+    let sources = [source];
+    let bytes = answer::read(rt.alloc(), &mut Inputs::new(rt, &sources, false))?;
     merged.append_file(rt.alloc(), hasher, bytes)
 }
 
-/// Merges files, whose lines are stored in the backend `B`. Returns how it ended, and the file where it ended, if it was at
-/// one: standard input has no name to tell.
+/// Merges files, whose lines are stored in the backend `B`, and writes what is asked for of them. Returns how it ended, and the
+/// file where it ended, if it was at one: standard input has no name to tell.
 fn merge_over<'a, B: Backend + Drop>(
     rt: &HostRuntime,
     hasher: LineHasher,
+    form: Form,
     files: &[Source<'a>],
 ) -> (Source<'a>, Result<(), Fault>) {
     let mut merged = Merged::<B>::new(rt.alloc(), hasher);
@@ -128,15 +196,19 @@ fn merge_over<'a, B: Backend + Drop>(
             return (*file, outcome);
         }
     }
-    (
-        Source::StandardInput,
-        merged.write(rt.alloc(), &mut rt.stdout()),
-    )
+    let (alloc, output) = (rt.alloc(), &mut rt.stdout());
+    let outcome = match form {
+        Form::File => merged.write(alloc, output),
+        Form::Counts => merged.write_counts(alloc, false, output),
+        Form::SortedCounts => merged.write_counts(alloc, true, output),
+    };
+    (Source::StandardInput, outcome)
 }
 
 /// Merges files, as `merge_over` does, in the backend of this name.
 fn merge_files<'a>(
     rt: &HostRuntime,
+    form: Form,
     choice: Choice,
     files: &[Source<'a>],
 ) -> (Source<'a>, Result<(), Fault>) {
@@ -145,9 +217,9 @@ fn merge_files<'a>(
         Err(fault) => return (Source::StandardInput, Err(fault)),
     };
     match choice {
-        Choice::String => merge_over::<StringBackend>(rt, hasher, files),
-        Choice::Bucket => merge_over::<BucketBackend>(rt, hasher, files),
-        Choice::Buffer => merge_over::<BufferBackend>(rt, hasher, files),
+        Choice::String => merge_over::<StringBackend>(rt, hasher, form, files),
+        Choice::Bucket => merge_over::<BucketBackend>(rt, hasher, form, files),
+        Choice::Buffer => merge_over::<BufferBackend>(rt, hasher, form, files),
     }
 }
 
@@ -158,20 +230,39 @@ fn print(rt: &HostRuntime, text: &str) -> Result<(), Fault> {
         .map_err(Fault::of_write)
 }
 
-/// Prints on standard error what failed, if something did, and returns the status.
+/// Returns what may be done about a fault of a task.
+fn advice(task: Task, fault: &Fault) -> &'static str {
+    match (task, fault) {
+        (Task::Write(..), Fault::NotUtf8(_)) => " (see --invalid)",
+        _ => "",
+    }
+}
+
+/// Does what `end_task` does, for what needs no advice.
 fn end(rt: &HostRuntime, source: Source<'_>, outcome: Result<(), Fault>) -> ExitCode {
+    end_task(rt, Task::Decode, source, outcome)
+}
+
+/// Prints on standard error what failed in a task, if something did, and returns the status.
+fn end_task(
+    rt: &HostRuntime,
+    task: Task,
+    source: Source<'_>,
+    outcome: Result<(), Fault>,
+) -> ExitCode {
     let Err(fault) = outcome else {
         return ExitCode::SUCCESS;
     };
+    let advice = advice(task, &fault);
     // Nothing is left to do if standard error is closed.
     let _ = match (source, &fault) {
         // A reader that closed the output, as `head` does, needs no message.
         (_, Fault::ClosedOutput) => Ok(()),
         // The file has no part in these.
         (Source::StandardInput, _) | (_, Fault::NoKeys(_) | Fault::Output(_)) => {
-            eprintln!(rt; "dictcol: {fault}")
+            eprintln!(rt; "dictcol: {fault}{advice}")
         }
-        (Source::File(path), _) => eprintln!(rt; "dictcol: {path}: {fault}"),
+        (Source::File(path), _) => eprintln!(rt; "dictcol: {path}: {fault}{advice}"),
     };
     ExitCode::from(fault.status())
 }
@@ -179,14 +270,21 @@ fn end(rt: &HostRuntime, source: Source<'_>, outcome: Result<(), Fault>) -> Exit
 fn main(rt: HostRuntime) -> ExitCode {
     let arguments = match read_arguments(&rt) {
         Ok(arguments) => arguments,
-        Err(fault) => return end(&rt, Source::StandardInput, Err(fault)),
+        Err(fault) => return end_arguments(&rt, fault),
     };
     match arguments::parse_arguments(rt.alloc(), &arguments) {
         Ok(Request::Help) => end(&rt, Source::StandardInput, print(&rt, HELP)),
         Ok(Request::Version) => end(&rt, Source::StandardInput, print(&rt, VERSION)),
-        Ok(Request::Do(task, source)) => end(&rt, source, work(&rt, task, source)),
-        Ok(Request::Merge(choice, files)) => {
-            let (source, outcome) = merge_files(&rt, choice, &files);
+        Ok(Request::Do(task, reading, files)) => {
+            let (source, outcome) = work_on(&rt, task, reading, &files);
+            end_task(&rt, task, source, outcome)
+        }
+        Ok(Request::WriteColumns(choice, columns, reading, files)) => {
+            let (source, outcome) = columns::write(&rt, choice, columns, reading, &files);
+            end_task(&rt, Task::Write(Form::File, choice), source, outcome)
+        }
+        Ok(Request::Merge(form, choice, files)) => {
+            let (source, outcome) = merge_files(&rt, form, choice, &files);
             end(&rt, source, outcome)
         }
         Err(Misuse::Memory) => end(&rt, Source::StandardInput, Err(Fault::Memory)),

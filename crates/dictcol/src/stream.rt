@@ -8,7 +8,7 @@ ghost use Rattle.serde_json.specs.Read.{number_of};
 ghost use Rattle.string_interner.specs.Text.{Text, IsDistinct};
 ghost use Rattle.string_column.specs.Column.{rows_of};
 ghost use Rattle.dictcol.specs.Fault.{IsNoDamage};
-ghost use Rattle.dictcol.specs.File.{FileHolds, HaveEntries};
+ghost use Rattle.dictcol.specs.File.{AreWithin, FileHolds};
 ghost use Rattle.dictcol.specs.Lines.{has_newline};
 ghost use Rattle.dictcol.specs.StreamTokens.{AreIndexes, stream};
 
@@ -19,6 +19,7 @@ use fast_float::Numeral;
 use json::{Reader, Scratch, Token};
 use std::alloc::Global;
 use string_column::Codes;
+use string_interner::backend::Backend;
 
 /// Takes the key of a member and the bracket that opens an array.
 fn takes_array(reader: &mut Reader<'_>, name: &str) -> bool
@@ -32,18 +33,18 @@ fn takes_array(reader: &mut Reader<'_>, name: &str) -> bool
 }
 
 /// Reads distinct texts of one line each, up to the bracket behind them. Returns `None` if there is something else.
-fn read_texts(
+fn read_texts<B: Backend + Drop>(
     alloc: Global,
     hasher: LineHasher,
     reader: &mut Reader<'_>,
-) -> Result<Option<Dictionary>, Fault>
+) -> Result<Option<Dictionary<B>>, Fault>
     ensures texts { IfOk result (λ found. IfSome found (λ dictionary.
         reader.old ≡ map string dictionary.texts ++ end_array ∷ reader.new)) }
     ensures plain { IfOk result (λ found. IfSome found (λ dictionary.
         list_any has_newline dictionary.texts ≡ false)) }
     ensures fault { IfErr result IsNoDamage }
 {
-    let mut dictionary = Dictionary::with_hasher(alloc, hasher);
+    let mut dictionary = Dictionary::<B>::with_hasher(alloc, hasher);
     'texts: while !reader.take_end_array() {
         let Some(Token::String(text)) = reader.next() else {
             return Ok(None);
@@ -134,11 +135,11 @@ fn takes_end(reader: &mut Reader<'_>) -> bool
 
 /// Reads what an object holds that has the members of a file in the order in which `encode` writes them. Returns `None` if
 /// there is something else.
-fn read_parts(
+fn read_parts<B: Backend + Drop>(
     alloc: Global,
     hasher: LineHasher,
     reader: &mut Reader<'_>,
-) -> Result<Option<Parts>, Fault>
+) -> Result<Option<Parts<B>>, Fault>
     ensures stream { IfOk result (λ found. IfSome found (λ parts. (numbers : List Text)
         × (reader.old ≡ stream parts.dictionary.texts parts.is_ended numbers)
         × AreIndexes numbers parts.codes.items)) }
@@ -146,8 +147,7 @@ fn read_parts(
         IsDistinct parts.dictionary.texts)) }
     ensures plain { IfOk result (λ found. IfSome found (λ parts.
         list_any has_newline parts.dictionary.texts ≡ false)) }
-    ensures within { IfOk result (λ found. IfSome found (λ parts.
-        HaveEntries parts.dictionary.texts parts.codes.items)) }
+    ensures within { IfOk result (λ found. IfSome found AreWithin) }
     ensures fault { IfErr result IsNoDamage }
 {
     if !takes_object(reader) {
@@ -179,11 +179,14 @@ fn read_parts(
 }
 
 /// Returns what a file holds, if it is in the form that `encode` writes. `None` says nothing of the file.
-pub fn read_stream(alloc: Global, hasher: LineHasher, file: &str) -> Result<Option<Parts>, Fault>
+pub fn read_stream<B: Backend + Drop>(
+    alloc: Global,
+    hasher: LineHasher,
+    file: &str,
+) -> Result<Option<Parts<B>>, Fault>
     ensures lines { IfOk result (λ found. IfSome found (λ parts. FileHolds file.now
         (rows_of parts.dictionary.texts parts.codes.items) parts.is_ended)) }
-    ensures within { IfOk result (λ found. IfSome found (λ parts.
-        HaveEntries parts.dictionary.texts parts.codes.items)) }
+    ensures within { IfOk result (λ found. IfSome found AreWithin) }
     ensures fault { IfErr result IsNoDamage }
 {
     let mut scratch = Scratch::new(alloc);

@@ -1,10 +1,10 @@
-//! The examples that docs/GUIDE.md, the README and the front page of `string_interner` show.
+//! The examples that docs/rattle.md, the README and the front page of `string_interner` show.
 
 ghost use Rattle.std.specs.Prelude.{◌≡◌, [], take, true, IfOk};
 
 use std::alloc::Global;
 use string_interner::backend::{BufferBackend, DefaultBackend, InternError};
-use string_interner::dedup::{KeyedHasher, KeyedState};
+use string_interner::dedup::{SeededHasher, SeededState};
 use string_interner::json::JsonError;
 use string_interner::scope::Scopes;
 use string_interner::{DefaultStringInterner, FastStringInterner, StringInterner};
@@ -54,11 +54,11 @@ pub fn intern_fast(alloc: Global) -> Result<bool, InternError>
 }
 
 /// The same calls under keys. If these are random and secret, no way is known to choose texts that make it slow.
-pub fn intern_keyed(alloc: Global, key0: u64, key1: u64) -> Result<bool, InternError>
+pub fn intern_seeded(alloc: Global, key0: u64, key1: u64) -> Result<bool, InternError>
     ensures { IfOk result (λ same. same ≡ true) }
 {
-    let hasher = KeyedHasher::new(KeyedState::new(key0, key1));
-    let mut interner = StringInterner::<DefaultBackend, KeyedHasher>::with_hasher(alloc, hasher);
+    let hasher = SeededHasher::new(SeededState::new(key0, key1));
+    let mut interner = StringInterner::<DefaultBackend, SeededHasher>::with_hasher(alloc, hasher);
     let tiger = interner.get_or_intern("Tiger")?;
     let again = interner.get_or_intern("Tiger")?;
     // For the proof: states that symbols are equal exactly if their texts are.

@@ -1,7 +1,7 @@
 use examples::blocks::Blocks;
 use examples::lexer::{Kind, Lexer};
 use examples::lines::{
-    collect, encode, intern_and_compare, intern_fast, intern_keyed, keep_the_first, nested_scopes,
+    collect, encode, intern_and_compare, intern_fast, intern_seeded, keep_the_first, nested_scopes,
     to_json_and_back,
 };
 use examples::same_text::same_text;
@@ -9,7 +9,7 @@ use examples::tokens::{is_keyword, lex};
 use std::alloc::Global;
 use std::test::Fail;
 use string_interner::backend::{Backend, BucketBackend, BufferBackend, InternError, StringBackend};
-use string_interner::dedup::KeyedState;
+use string_interner::dedup::{KeyedState, SeededHasher, SeededState, TextHasher};
 use string_interner::symbol::Symbol;
 use string_interner::{DefaultStringInterner, StringInterner};
 
@@ -107,7 +107,7 @@ fn reads_back(alloc: Global) -> Result<bool, InternError> {
 }
 
 fn lines_answer(alloc: Global) -> Result<bool, InternError> {
-    let are_equal = intern_and_compare(alloc)? & intern_fast(alloc)? & intern_keyed(alloc, 1, 2)?;
+    let are_equal = intern_and_compare(alloc)? & intern_fast(alloc)? & intern_seeded(alloc, 1, 2)?;
     let codes = encode(alloc)?;
     Ok(are_equal & (codes == 3) & (nested_scopes(alloc)? == (true, true)))
 }
@@ -119,13 +119,36 @@ fn lines_answer_as_they_say(rt: HostRuntime) -> Result<(), Fail> {
 }
 
 fn shows_no_key(alloc: Global) -> Result<bool, InternError> {
-    let shown = format!(in alloc; "{:?}", KeyedState::new(77_777, 88_888))?;
-    Ok(shown.as_str() == "KeyedState { .. }")
+    let keyed = format!(in alloc; "{:?}", KeyedState::new(77_777, 88_888))?;
+    let seeded = format!(in alloc; "{:?}", SeededState::new(77_777, 88_888))?;
+    Ok((keyed.as_str() == "KeyedState { .. }") & (seeded.as_str() == "SeededState { .. }"))
 }
 
 #[test]
-fn a_keyed_state_shows_no_key(rt: HostRuntime) -> Result<(), Fail> {
+fn a_builder_shows_no_key(rt: HostRuntime) -> Result<(), Fail> {
     check_answer(shows_no_key(rt.alloc()))
+}
+
+/// The codes are those of another program, under the same keys.
+fn interns_seeded(alloc: Global) -> Result<bool, InternError> {
+    let keys = SeededState::new(0xAED6_6CE1_84BE_2329, 0xEBE9_BBF1_F149_9052);
+    let hasher = SeededHasher::new(keys);
+    let has_codes = (hasher.hash_text("") == 0x2DCA_98ED_8279_6A8C)
+        & (hasher.hash_text("foo") == 0x4EF3_7E5B_EC45_5730)
+        & (hasher.hash_text("Tiger") == 0x28DD_40AB_1948_C05D)
+        & (hasher.hash_text("fifteen bytes !") == 0x8CD7_D790_E7C9_1118)
+        & (hasher.hash_text("seventeen bytes !") == 0x4D07_AD8D_7DFC_0B17);
+    let mut names = StringInterner::<StringBackend, SeededHasher>::with_hasher(alloc, hasher);
+    let tiger = names.get_or_intern("Tiger")?;
+    let horse = names.get_or_intern("Horse")?;
+    let is_known = names.get_or_intern("Tiger")? == tiger;
+    let is_found = (names.get("Horse") == Some(horse)) & names.get("Zebra").is_none();
+    Ok(has_codes & is_known & is_found & (names.resolve(tiger) == Some("Tiger")))
+}
+
+#[test]
+fn a_seeded_hasher_has_its_codes(rt: HostRuntime) -> Result<(), Fail> {
+    check_answer(interns_seeded(rt.alloc()))
 }
 
 fn iterates_backends(alloc: Global) -> Result<bool, InternError> {

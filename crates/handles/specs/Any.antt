@@ -26,6 +26,12 @@ contents (String interner) = interner
 contents (Bucket interner) = interner
 contents (Buffer interner) = interner
 
+-- the interner of a kind with these contents
+abbrev pub any_of : Kind → InternerContents → AnyInterner
+any_of kind.String interner = String interner
+any_of kind.Bucket interner = Bucket interner
+any_of kind.Buffer interner = Buffer interner
+
 abbrev pub texts_in : AnyInterner → List Text
 texts_in any = (contents any).texts
 
@@ -33,17 +39,17 @@ texts_in any = (contents any).texts
 abbrev pub numbering_of : AnyInterner → Numbering ℕ
 numbering_of any = numbering_in (kind_of any)
 
--- the text that is read at a number, if one is
+-- the text that is read at a symbol, if one is
 abbrev pub text_at : AnyInterner → ℕ → Option Text
-text_at any number = option_and_then ((numbering_of any).read (texts_in any)) (symbol_of number)
+text_at any symbol = option_and_then ((numbering_of any).read (texts_in any)) (symbol_of symbol)
 
 -- whether a text is known
 abbrev pub Knows : AnyInterner → Text → Type 0
 Knows any text = IsSome (first (texts_in any) text)
 
 -- A text is looked for, and this is found.
-abbrev pub FindsNumber : AnyInterner → Text → Option ℕ → Type 0
-FindsNumber any text found = Finds (numbering_of any) (texts_in any) text found
+abbrev pub FindsAny : AnyInterner → Text → Option ℕ → Type 0
+FindsAny any text found = Finds (numbering_of any) (texts_in any) text found
 
 -- Interning a text has this outcome: that of the library.
 pub record InternsAny (old : AnyInterner) (text : Text) (outcome : Result ℕ InternError) (new : AnyInterner) : Type 0 where
@@ -60,20 +66,20 @@ pub record IsMade (kind : Kind) (capacity : ℕ) (made : AnyInterner) : Type 0 w
   pub kind_is : kind_of made ≡ kind
   pub made_for : IsMadeFor seven_eighths capacity (grant_in kind capacity) (contents made)
 
--- the first texts stay, and so their numbers, and the memory
+-- the first texts stay, and so their symbols, and the memory
 pub record KeepsFirst (len : ℕ) (old new : AnyInterner) : Type 0 where
   pub kind : kind_of new ≡ kind_of old
   pub first : texts_in new ≡ take len (texts_in old)
   pub memory : KeepsMemory (contents old) (contents new)
 
--- the texts stay, and so their numbers, and so do buckets and slots
+-- the texts stay, and so their symbols, and so do buckets and slots
 pub record IsShrunk (old new : AnyInterner) : Type 0 where
   pub kind : kind_of new ≡ kind_of old
   pub texts : texts_in new ≡ texts_in old
   pub buckets : (contents new).buckets ≡ (contents old).buckets
   pub slots : (contents new).slot_count ≡ (contents old).slot_count
 
--- the copy has the same kind and the same texts, and so the same numbers, as many slots, and the buckets of a copy
+-- the copy has the same kind and the same texts, and so the same symbols, as many slots, and the buckets of a copy
 pub record IsAnyCopy (any copy : AnyInterner) : Type 0 where
   pub kind : kind_of copy ≡ kind_of any
   pub texts : texts_in copy ≡ texts_in any
@@ -99,3 +105,8 @@ ReadsAs kind value (Err error) = ReadsArray (numbering_in kind) value (Err error
 abbrev pub ReadsAsExactly : Kind → Data → Result AnyInterner JsonError → Type 0
 ReadsAsExactly kind value (Ok any) = (kind_of any ≡ kind) × (value ≡ json_of_texts (texts_in any)) × ReadsArrayExactly (numbering_in kind) value (Ok (contents any))
 ReadsAsExactly kind value (Err error) = ReadsArrayExactly (numbering_in kind) value (Err error)
+
+-- The one or the other, by whether it is exact.
+abbrev pub ReadsBy : Bool → Kind → Data → Result AnyInterner JsonError → Type 0
+ReadsBy true = ReadsAsExactly
+ReadsBy false = ReadsAs

@@ -1,17 +1,16 @@
--- Interning many texts, which lie end to end, with their numbers in a list; and all texts in a list.
--- Cited by `AnyInterner::intern_all` and `AnyInterner::entries`, by the calls of these names, and by exports.
-use Rattle.std.specs.Prelude.{◌≡◌, ℕ, zero, suc, ◌<◌, ◌≤◌, List, [], ◌∷◌, ◌++◌, length, map, take, drop, slice_index, slice_range, Option, Some, Result, Ok, Err}
+-- Interning many texts, end to end or in a list, with their symbols in a list.
+-- Cited by `intern_all` and `intern_texts` of `AnyInterner`, by the calls of these names, and by exports.
+use Rattle.std.specs.Prelude.{◌≡◌, ℕ, zero, suc, ◌<◌, ◌≤◌, List, [], ◌∷◌, ◌++◌, length, map, take, drop, slice_get, slice_index, slice_range, Some, Result, Ok, Err}
 use Rattle.std.specs.Borrow.{Bor}
 use Rattle.std.specs.Str.{IsUtf8}
 use Rattle.string_interner.specs.Text.{Text}
 use Rattle.string_interner.specs.StandsFor.{StandInOrder}
 use Rattle.string_interner.specs.StringBackend.{start_at}
 use Rattle.string_interner.specs.Extend.{TakesIn}
-use Rattle.string_interner.specs.Iter.{entries}
 use Rattle.handles.specs.Any.{contents, kind_of, numbering_of, texts_in}
 use Rattle.handles.specs.Calls.{InternsBytes}
 use Rattle.handles.specs.declared.any.AnyInterner.{AnyInterner}
-use Rattle.handles.specs.declared.text.Entry.{Entry}
+use Rattle.handles.specs.declared.text.Text.{Text as LentText}
 use Rattle.handles.specs.declared.status.Status.{Status}
 use Rattle.handles.specs.declared.status.Status.TheVariants.{BadText, NoSymbol, NoMemory, NoRoom, BadEnds}
 
@@ -36,16 +35,20 @@ IsTextBetween bytes from end (Err BadText) = (from ≤ end) × (end ≤ length b
 IsTextBetween bytes from end (Err BadEnds) = ¬ ((from ≤ end) × (end ≤ length bytes))
 IsTextBetween bytes from end (Err _) = ⊥
 
--- The first parts, so many of them, are interned, and their numbers stand at the front of a list, whose rest stays. It has room
--- for the numbers of all parts.
-pub record TakesParts (bytes ends : List ℕ) (old : AnyInterner × List ℕ) (done : ℕ) (new : AnyInterner × List ℕ) : Type 0 where
-  pub fits : length ends ≤ length old.1
+-- These texts, so many of them, are interned, and their symbols are at the front of a list, whose rest stays. It has room for as
+-- many symbols as are wanted.
+pub record TakesEach (wanted : ℕ) (texts : List Text) (old : AnyInterner × List ℕ) (done : ℕ) (new : AnyInterner × List ℕ) : Type 0 where
+  pub fits : wanted ≤ length old.1
   pub kind : kind_of new.0 ≡ kind_of old.0
-  pub ends_are : (i : ℕ) → i < done → IsEnd bytes ends i
-  pub taken : TakesIn (numbering_of old.0) (contents old.0) (parts bytes ends done) (contents new.0)
-  pub stand : StandInOrder (numbering_of old.0) (texts_in new.0) (take done new.1) (parts bytes ends done)
+  pub taken : TakesIn (numbering_of old.0) (contents old.0) texts (contents new.0)
+  pub stand : StandInOrder (numbering_of old.0) (texts_in new.0) (take done new.1) texts
   pub rest : drop done new.1 ≡ drop done old.1
   pub same_length : length new.1 ≡ length old.1
+
+-- The first parts, so many of them, are interned.
+pub record TakesParts (bytes ends : List ℕ) (old : AnyInterner × List ℕ) (done : ℕ) (new : AnyInterner × List ℕ) : Type 0 where
+  pub ends_are : (i : ℕ) → i < done → IsEnd bytes ends i
+  pub each : TakesEach (length ends) (parts bytes ends done) old done new
 
 -- The first parts, so many of them, are interned, and the next one is refused as a text is.
 abbrev pub RefusesNext : List ℕ → List ℕ → AnyInterner × List ℕ → ℕ → Status → AnyInterner × List ℕ → Type 0
@@ -54,7 +57,7 @@ RefusesNext bytes ends old done status (new, after) =
     × InternsBytes (part bytes ends done) mid (Err status) new
 
 -- Parts are interned: all of them, or those before the first that is refused. What changes is the interner, the list of
--- numbers, and how many parts are done, which is counted from 0.
+-- symbols, and how many parts are done, which is counted from 0.
 abbrev pub InternsParts : List ℕ → List ℕ → AnyInterner × List ℕ × ℕ → Result (Unit {0}) Status → AnyInterner × List ℕ × ℕ → Type 0
 InternsParts bytes ends (old, before, _) (Ok _) (new, after, done) = (done ≡ length ends) × TakesParts bytes ends (old, before) done (new, after)
 InternsParts bytes ends (old, before, _) (Err NoRoom) (new, after, done) = (length before < length ends) × (done ≡ 0) × (new ≡ old) × (after ≡ before)
@@ -64,17 +67,25 @@ InternsParts bytes ends (old, before, _) (Err NoSymbol) (new, after, done) = Ref
 InternsParts bytes ends (old, before, _) (Err NoMemory) (new, after, done) = RefusesNext bytes ends (old, before) done NoMemory (new, after)
 InternsParts bytes ends (old, before, _) (Err _) (new, after, done) = ⊥
 
--- an entry as `entries` lists it: its number and its text
-abbrev pub number_and_text : Entry → Option ℕ × Text
-number_and_text entry = (Some entry.number, entry.text.bytes.now)
+-- the first texts of a list, so many of them
+abbrev pub first_texts : List LentText → ℕ → List Text
+first_texts texts done = map (λ text. text.bytes.now) (take done texts)
 
--- All texts stand at the front of a list, each with its number, in their order, and the rest stays.
-pub record Lists (any : AnyInterner) (before after : List Entry) : Type 0 where
-  pub front : map number_and_text (take (length (texts_in any)) after) ≡ entries (numbering_of any) [] (texts_in any)
-  pub rest : drop (length (texts_in any)) after ≡ drop (length (texts_in any)) before
+-- The first texts of a list, so many of them, are interned.
+abbrev pub TakesTexts : List LentText → AnyInterner × List ℕ → ℕ → AnyInterner × List ℕ → Type 0
+TakesTexts texts old done new = TakesEach (length texts) (first_texts texts done) old done new
 
--- All texts are listed, or the room is too short for them and stays as it is. Their count is written in both cases.
-abbrev pub ListsEntries : AnyInterner → List Entry × ℕ → Result (Unit {0}) Status → List Entry × ℕ → Type 0
-ListsEntries any (room, _) (Ok _) (after, count) = (length (texts_in any) ≤ length room) × Lists any room after × (count ≡ length (texts_in any))
-ListsEntries any (room, _) (Err NoRoom) (after, count) = (length room < length (texts_in any)) × (after ≡ room) × (count ≡ length (texts_in any))
-ListsEntries any (room, _) (Err _) (after, count) = ⊥
+-- The first texts of a list, so many of them, are interned, and the next one is refused.
+abbrev pub RefusesText : List LentText → AnyInterner × List ℕ → ℕ → Status → AnyInterner × List ℕ → Type 0
+RefusesText texts old done status (new, after) =
+    (mid : AnyInterner) × TakesTexts texts old done (mid, after)
+    × (text : LentText) × (slice_get texts done ≡ Some text) × InternsBytes text.bytes.now mid (Err status) new
+
+-- Texts are interned: all of them, or those before the first that is refused. What changes is as in `InternsParts`.
+abbrev pub InternsTexts : List LentText → AnyInterner × List ℕ × ℕ → Result (Unit {0}) Status → AnyInterner × List ℕ × ℕ → Type 0
+InternsTexts texts (old, before, _) (Ok _) (new, after, done) = (done ≡ length texts) × TakesTexts texts (old, before) done (new, after)
+InternsTexts texts (old, before, _) (Err NoRoom) (new, after, done) = (length before < length texts) × (done ≡ 0) × (new ≡ old) × (after ≡ before)
+InternsTexts texts (old, before, _) (Err BadText) (new, after, done) = RefusesText texts (old, before) done BadText (new, after)
+InternsTexts texts (old, before, _) (Err NoSymbol) (new, after, done) = RefusesText texts (old, before) done NoSymbol (new, after)
+InternsTexts texts (old, before, _) (Err NoMemory) (new, after, done) = RefusesText texts (old, before) done NoMemory (new, after)
+InternsTexts texts (old, before, _) (Err _) (new, after, done) = ⊥

@@ -1,4 +1,4 @@
--- The kinds of interner: their codes in C, and what each means for the numbers of texts.
+-- The kinds of interner: their codes in C, and what each means for the symbols of texts.
 -- Cited by `Kind` and by all that speaks of an interner of any kind.
 use Rattle.std.specs.Prelude.{◌≡◌, ℕ, ◌-◌, ◌*◌, ◌^◌, List, [], Option, Result, Ok, Err}
 use Rattle.string_interner.specs.Text.{Text}

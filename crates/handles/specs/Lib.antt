@@ -1,10 +1,14 @@
 pub mod Kind
 pub mod Status
 pub mod Hasher
+pub mod Options
 pub mod Any
 pub mod Owns
 pub mod Address
 pub mod Follows
 pub mod Calls
 pub mod InternAll
+pub mod Entries
 pub mod Part
+pub mod OneKind
+pub mod Joined

@@ -8,14 +8,14 @@ use Rattle.handles.specs.declared.any.AnyInterner.{AnyInterner}
 use Rattle.handles.specs.declared.status.Status.{Status}
 use Rattle.handles.specs.declared.status.Status.TheVariants.{NoMemory, Nothing, BadEnds}
 
--- a text is read at the number, and these are the bytes between two places in it
+-- a text is read at the symbol, and these are the bytes between two places in it
 abbrev pub HasPart : ℕ → ℕ → ℕ → AnyInterner → List ℕ → Type 0
-HasPart number from to any part = (text : Text) × (text_at any number ≡ Some text) × (from ≤ to) × (to ≤ length text) × (part ≡ slice_range text from to)
+HasPart symbol from to any part = (text : Text) × (text_at any symbol ≡ Some text) × (from ≤ to) × (to ≤ length text) × (part ≡ slice_range text from to)
 
--- A part is interned as its bytes are; or no text is read at the number, or these are no places in it, or memory is refused
+-- A part is interned as its bytes are; or no text is read at the symbol, or these are no places in it, or memory is refused
 -- for the copy of the part, and nothing changes.
 abbrev pub InternsPart : ℕ → ℕ → ℕ → AnyInterner → Result ℕ Status → AnyInterner → Type 0
-InternsPart number from to old (Err Nothing) new = (text_at old number ≡ None) × (new ≡ old)
-InternsPart number from to old (Err BadEnds) new = (text : Text) × (text_at old number ≡ Some text) × ¬ ((from ≤ to) × (to ≤ length text)) × (new ≡ old)
-InternsPart number from to old (Err NoMemory) new = (part : List ℕ) × HasPart number from to old part × ((new ≡ old) ⊎ InternsBytes part old (Err NoMemory) new)
-InternsPart number from to old outcome new = (part : List ℕ) × HasPart number from to old part × InternsBytes part old outcome new
+InternsPart symbol from to old (Err Nothing) new = (text_at old symbol ≡ None) × (new ≡ old)
+InternsPart symbol from to old (Err BadEnds) new = (text : Text) × (text_at old symbol ≡ Some text) × ¬ ((from ≤ to) × (to ≤ length text)) × (new ≡ old)
+InternsPart symbol from to old (Err NoMemory) new = (part : List ℕ) × HasPart symbol from to old part × ((new ≡ old) ⊎ InternsBytes part old (Err NoMemory) new)
+InternsPart symbol from to old outcome new = (part : List ℕ) × HasPart symbol from to old part × InternsBytes part old outcome new

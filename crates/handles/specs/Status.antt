@@ -1,12 +1,12 @@
 -- How a call ends: the codes that C sees, and what they tell.
--- Cited by `status`, by `any` where it writes a number, and by `Calls`.
-use Rattle.std.specs.Prelude.{◌≡◌, ℕ, Result, Ok, Err}
+-- Cited by `status`, by `any` where it writes a symbol, and by `Calls`.
+use Rattle.std.specs.Prelude.{◌≡◌, ℕ, ◌+◌, Result, Ok, Err}
 use Rattle.string_interner.specs.declared.backend.InternError.{InternError}
 use Rattle.string_interner.specs.declared.backend.InternError.TheVariants.{NoSymbol as InternNoSymbol, Memory}
 use Rattle.string_interner.specs.declared.json.JsonError.{JsonError}
 use Rattle.string_interner.specs.declared.json.JsonError.TheVariants as json
 use Rattle.handles.specs.declared.status.Status.{Status}
-use Rattle.handles.specs.declared.status.Status.TheVariants.{BadText, NoSymbol, NoMemory, Nothing, NoRoom, BadKind, BadEnds, NotAList, NotAText, Repeated}
+use Rattle.handles.specs.declared.status.Status.TheVariants.{BadText, NoSymbol, NoMemory, Nothing, NoRoom, BadKind, BadEnds, NotAList, NotAText, Repeated, BadHasher}
 
 abbrev pub code_of : Status → ℕ
 code_of BadText = 1
@@ -19,6 +19,7 @@ code_of BadEnds = 7
 code_of NotAList = 8
 code_of NotAText = 9
 code_of Repeated = 10
+code_of BadHasher = 11
 
 -- why a text was not interned
 abbrev pub status_of : InternError → Status
@@ -39,12 +40,17 @@ abbrev pub Tells : {T : Type 0} → Result T Status → ℕ → T → T → Type
 Tells (Ok value) code before after = (code ≡ 0) × (after ≡ value)
 Tells (Err status) code before after = (code ≡ code_of status) × (after ≡ before)
 
+-- the number that a call returns instead of a code and a symbol: the symbol, or 2^32 and the code of why there is none
+abbrev pub packed : Result ℕ Status → ℕ
+packed (Ok symbol) = symbol
+packed (Err status) = 4294967296 + code_of status
+
 -- what a call tells of interning a text
 abbrev pub outcome_of : {T : Type 0} → Result T InternError → Result T Status
 outcome_of (Ok value) = Ok value
 outcome_of (Err error) = Err (status_of error)
 
--- Interning a text has an outcome and leaves this interner. A code tells the outcome, and its number is written.
+-- Interning a text has an outcome and leaves this interner. A code tells the outcome, and its symbol is written.
 pub record TellsInterned {I T : Type 0} (interns : Result T InternError → I → Type 0) (new : I) (code : ℕ) (before after : T) : Type 0 where
   pub outcome : Result T InternError
   pub tells : Tells (outcome_of outcome) code before after

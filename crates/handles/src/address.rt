@@ -13,7 +13,7 @@ use crate::loose::Loose;
 use std::alloc::Global;
 use std::marker::Model;
 
-/// Where a call writes the address of a handle that it makes: what `si_interner **` points to in C. Before the call it may
+/// Where a call writes the address of a handle that it makes: what `interner **` points to in C. Before the call it may
 /// hold anything.
 #[derive(Drop)]
 #[repr(C)]
@@ -44,7 +44,7 @@ impl Slot {
     }
 }
 
-/// The address of a handle that C gives back, or null: `si_interner *` of C. A struct of one pointer is passed by value as that
+/// The address of a handle that C gives back, or null: `interner *` of C. A struct of one pointer is passed by value as that
 /// pointer is.
 #[repr(C)]
 pub struct Returned {

@@ -4,18 +4,26 @@ ghost use Rattle.std.specs.Prelude.{◌≡◌, ◌↔◌, length, IfOk, IsTrue};
 ghost use Rattle.std.specs.Option.{option_copied};
 ghost use Rattle.serde_json.specs.View.{view};
 ghost use Rattle.string_interner.specs.Json.{json_of_texts};
-ghost use Rattle.handles.specs.Any.{FindsNumber, InternsAny, IsAnyCopy, IsEmpty, IsMade, IsShrunk, KeepsFirst, Knows, ReadsAs, ReadsAsExactly, any_eq, text_at, texts_in};
-ghost use Rattle.string_interner.specs.Interner.{InternsInto};
+ghost use Rattle.handles.specs.Any.{FindsAny, InternsAny, IsAnyCopy, IsEmpty, IsMade, IsShrunk, KeepsFirst, Knows, ReadsAs, ReadsAsExactly, any_eq, any_of, numbering_of, text_at, texts_in};
+ghost use Rattle.string_interner.specs.Interner.{InternsInto, IsInternerList};
 ghost use Rattle.string_interner.specs.LoadFactor.{seven_eighths};
+ghost use Rattle.handles.specs.Calls.{ResolvesSymbol};
+ghost use Rattle.handles.specs.Kind.{numbering_in};
+ghost use Rattle.handles.specs.declared.kind.Kind.{Kind};
 ghost use Rattle.handles.specs.Status.{TellsInterned, outcome_of};
 
 mod entries;
+mod guessed;
 mod intern_all;
+mod intern_texts;
+mod joined;
+mod one_kind;
 mod part;
 
 use crate::hasher::ChosenHasher;
 use crate::kind::Kind;
 use crate::status::{Status, tell};
+use crate::text::Text;
 use serde_json::Value;
 use std::alloc::{AllocError, Global};
 use string_interner::StringInterner;
@@ -57,50 +65,71 @@ macro_rules! make {
     };
 }
 
-/// Returns the number of the symbol, if there is one.
+/// Returns a symbol as C stores it.
 #[inline(always)]
-fn number_found(found: Option<SymbolU32>) -> Option<usize>
+fn to_u32(symbol: SymbolU32) -> u32
+    ensures { result ≡ symbol }
+{
+    symbol.to_usize() as u32
+}
+
+/// Returns the symbol that was found as C stores it, if there is one.
+#[inline(always)]
+fn symbol_found(found: Option<SymbolU32>) -> Option<u32>
     ensures { result ≡ found }
 {
     match found {
-        Some(symbol) => Some(symbol.to_usize()),
+        Some(symbol) => Some(to_u32(symbol)),
         None => None,
     }
 }
 
-/// Returns the number of the symbol that a text was interned under.
+/// Returns the symbol that a text was interned under as C stores it.
 #[inline(always)]
-fn number_given(outcome: Result<SymbolU32, InternError>) -> Result<usize, InternError>
+fn symbol_given(outcome: Result<SymbolU32, InternError>) -> Result<u32, InternError>
     ensures { result ≡ outcome }
 {
     match outcome {
-        Ok(symbol) => Ok(symbol.to_usize()),
+        Ok(symbol) => Ok(to_u32(symbol)),
         Err(error) => Err(error),
     }
 }
 
-/// Returns the number of the symbol that a text was interned under, or the status that says why it was not.
+/// Returns the symbol that a text was interned under, or the status that says why it was not.
 #[inline(always)]
-fn status_given(outcome: Result<SymbolU32, InternError>) -> Result<usize, Status>
+fn status_given(outcome: Result<SymbolU32, InternError>) -> Result<u32, Status>
     ensures { result ≡ outcome_of outcome }
 {
-    Ok(number_given(outcome)?)
+    Ok(symbol_given(outcome)?)
 }
 
-/// Writes the number of a text, and returns the code of the outcome. Appends a new text.
+/// Writes the symbol of a text, and returns the code of the outcome. Appends a new text.
 ///
 /// There is one function for each kind, and a call from C jumps to it. The library's `get_or_intern` is inlined in it, so it
 /// calls nothing for a known text.
 #[inline(never)]
-fn write_number_in<B: Backend<Symbol = SymbolU32>>(
+fn write_symbol_in<B: Backend<Symbol = SymbolU32>>(
     interner: &mut HashedInterner<B>,
     text: &str,
-    number: &mut usize,
+    symbol: &mut u32,
 ) -> u32
     ensures { TellsInterned (InternsInto B.numbering seven_eighths interner.old text.now)
-        interner.new result number.old number.new }
+        interner.new result symbol.old symbol.new }
 {
-    tell(status_given(interner.get_or_intern(text)), number)
+    tell(status_given(interner.get_or_intern(text)), symbol)
+}
+
+/// Returns the text at a symbol, if there is one.
+#[inline(always)]
+fn resolve_in<B: Backend<Symbol = SymbolU32>>(
+    interner: &HashedInterner<B>,
+    symbol: u32,
+) -> Option<&str>
+    ensures { (kind : Kind) → numbering_in kind ≡ B.numbering
+        → option_copied result ≡ text_at (any_of kind interner.now) symbol }
+{
+    let symbol = SymbolU32::try_from_usize(symbol as usize)?;
+    interner.resolve(symbol)
 }
 
 impl AnyInterner {
@@ -128,17 +157,18 @@ impl AnyInterner {
 
     /// Returns the number of texts.
     pub fn len(&self) -> usize
-        ensures { result ≡ length (texts_in self.now) }
+        ensures value { result ≡ length (texts_in self.now) }
+        ensures list { IsInternerList (numbering_of self.now) (texts_in self.now) }
     {
         each!(self, interner => interner.len())
     }
 
-    /// Returns the number of a text, if it is known.
+    /// Returns the symbol of a text, if it is known.
     #[inline(always)]
-    pub fn get(&self, text: &str) -> Option<usize>
-        ensures { FindsNumber self.now text.now result }
+    pub fn get(&self, text: &str) -> Option<u32>
+        ensures { FindsAny self.now text.now result }
     {
-        number_found(each!(self, interner => interner.get(text)))
+        symbol_found(each!(self, interner => interner.get(text)))
     }
 
     /// Reports whether a text is known.
@@ -148,39 +178,51 @@ impl AnyInterner {
         each!(self, interner => interner.contains(text))
     }
 
-    /// Writes the number of a text, and returns the code of the outcome. Appends a new text.
+    /// Writes the symbol of a text, and returns the code of the outcome. Appends a new text.
     #[inline(always)]
-    pub fn write_number(&mut self, text: &str, number: &mut usize) -> u32
+    pub fn write_symbol(&mut self, text: &str, symbol: &mut u32) -> u32
         ensures { TellsInterned (InternsAny self.old text.now) self.new
-            result number.old number.new }
+            result symbol.old symbol.new }
     {
-        each!(self, interner => write_number_in(interner, text, number))
+        each!(self, interner => write_symbol_in(interner, text, symbol))
     }
 
-    /// Returns the number of a text. Appends a new text.
-    pub fn get_or_intern(&mut self, text: &str) -> Result<usize, InternError>
+    /// Returns the symbol of a text. Appends a new text.
+    pub fn get_or_intern(&mut self, text: &str) -> Result<u32, InternError>
         ensures { InternsAny self.old text.now result self.new }
     {
-        number_given(each!(self, interner => interner.get_or_intern(text)))
+        symbol_given(each!(self, interner => interner.get_or_intern(text)))
     }
 
-    /// Returns the number of a text, as `get_or_intern` does. A new text may be borrowed and not copied.
-    pub fn get_or_intern_static(&mut self, text: &'static str) -> Result<usize, InternError>
+    /// Returns the symbol of a text, as `get_or_intern` does. A new text may be borrowed and not copied.
+    pub fn get_or_intern_static(&mut self, text: &'static str) -> Result<u32, InternError>
         ensures { InternsAny self.old text.now result self.new }
     {
-        number_given(each!(self, interner => interner.get_or_intern_static(text)))
+        symbol_given(each!(self, interner => interner.get_or_intern_static(text)))
     }
 
-    /// Returns the text at a number, if there is one.
+    /// Returns the text at a symbol, if there is one.
     ///
     /// Inlined, so that the text goes to the caller's memory at once: through memory between, a load of its pointer and its
     /// length together waits for both to be written.
     #[inline(always)]
-    pub fn resolve(&self, number: usize) -> Option<&str>
-        ensures { option_copied result ≡ text_at self.now number }
+    pub fn resolve(&self, symbol: u32) -> Option<&str>
+        ensures { option_copied result ≡ text_at self.now symbol }
     {
-        let symbol = SymbolU32::try_from_usize(number)?;
-        each!(self, interner => interner.resolve(symbol))
+        each!(self, interner => resolve_in(interner, symbol))
+    }
+
+    /// Lends the text at a symbol, as C sees it.
+    #[inline(always)]
+    pub fn lend<'a>(&'a self, symbol: u32) -> Result<Text<'a>, Status>
+        ensures { ResolvesSymbol symbol self.now result }
+    {
+        match self.resolve(symbol) {
+            Some(text) => Ok(Text {
+                bytes: text.as_bytes(),
+            }),
+            None => Err(Status::Nothing),
+        }
     }
 
     /// Keeps the first `len` texts.
@@ -197,7 +239,7 @@ impl AnyInterner {
         each!(self, interner => interner.shrink_to_fit())
     }
 
-    /// Makes a copy: an interner of the same kind under the same hasher, with the same texts under the same numbers, and as
+    /// Makes a copy: an interner of the same kind under the same hasher, with the same texts under the same symbols, and as
     /// many slots.
     pub fn try_copy(&self) -> Result<AnyInterner, AllocError>
         ensures { IfOk result (IsAnyCopy self.now) }

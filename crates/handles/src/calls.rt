@@ -1,9 +1,13 @@
 //! The calls on a handle, each with its outcome.
 
 ghost use Rattle.std.specs.Prelude.{◌≡◌, ◌↔◌, IsTrue, length, Result};
+ghost use types.Logic.{sem};
 ghost use Rattle.handles.specs.Any.{IsShrunk, KeepsFirst, any_eq, texts_in};
-ghost use Rattle.handles.specs.Calls.{Changes, Copies, CopiesOut, CopiesText, FillsWith, Fills, FindsBytes, FindsText, InternsBytes, InternsText, KnowsBytes, MakesNew, MakesRoom, ResolvesNumber};
-ghost use Rattle.handles.specs.InternAll.{InternsParts, ListsEntries};
+ghost use Rattle.handles.specs.Calls.{Changes, Copies, CopiesOut, CopiesText, FillsWith, Fills, FindsBytes, FindsText, InternsBytes, InternsText, KnowsBytes, MakesNew, MakesRoom, ResolvesSymbol};
+ghost use Rattle.handles.specs.Entries.{ListsFrom};
+ghost use Rattle.handles.specs.Follows.{IsKept};
+ghost use Rattle.handles.specs.InternAll.{InternsParts, InternsTexts};
+ghost use Rattle.handles.specs.Options.{MakesBy};
 ghost use Rattle.handles.specs.Part.{InternsPart};
 
 pub mod json;
@@ -13,8 +17,9 @@ use crate::any::AnyInterner;
 use crate::handle::Handle;
 use crate::hasher::ChosenHasher;
 use crate::kind::Kind;
+use crate::options::Options;
 use crate::status::{Status, tell};
-use crate::text::{Entry, Text, text_of};
+use crate::text::{Cursor, Entry, Text, text_of};
 use std::alloc::Global;
 
 /// Returns the number of texts.
@@ -25,65 +30,65 @@ pub fn len(h: &mut Handle) -> usize
     h.interner().len()
 }
 
-/// Writes the number of a text, and appends the text if it is new. Returns the code of the outcome, because a `Result` that
+/// Writes the symbol of a text, and appends the text if it is new. Returns the code of the outcome, because a `Result` that
 /// the export takes apart makes a known text slower.
-pub fn get_or_intern(h: &mut Handle, text: &str, number: &mut usize) -> u32
-    ensures { Changes (InternsText text.now) h.old h.new result number.old number.new }
+pub fn get_or_intern(h: &mut Handle, text: &str, symbol: &mut u32) -> u32
+    ensures { Changes (InternsText text.now) (h.old, symbol.old) result (h.new, symbol.new) }
 {
-    h.interner().write_number(text, number)
+    h.interner().write_symbol(text, symbol)
 }
 
-/// Writes the number of the bytes, and appends them if they are a new text. Returns the code of the outcome, as
+/// Writes the symbol of the bytes, and appends them if they are a new text. Returns the code of the outcome, as
 /// `get_or_intern` does and for the same reason.
-pub fn get_or_intern_bytes(h: &mut Handle, bytes: &[u8], number: &mut usize) -> u32
-    ensures { Changes (InternsBytes bytes.now) h.old h.new result number.old number.new }
+pub fn get_or_intern_bytes(h: &mut Handle, bytes: &[u8], symbol: &mut u32) -> u32
+    ensures { Changes (InternsBytes bytes.now) (h.old, symbol.old) result (h.new, symbol.new) }
 {
     match text_of(bytes) {
-        Ok(text) => h.interner().write_number(text, number),
-        Err(status) => tell(Err(status), number),
+        Ok(text) => h.interner().write_symbol(text, symbol),
+        Err(status) => tell(Err(status), symbol),
     }
 }
 
-/// Returns the number of a text, if it is known.
-pub fn get(h: &mut Handle, text: &str) -> Result<usize, Status>
+/// Returns the symbol of a text, if it is known.
+pub fn get(h: &mut Handle, text: &str) -> Result<u32, Status>
     ensures found { FindsText text.now h.old.value result }
     ensures same { h.new.value ≡ h.old.value }
 {
     h.interner().get(text).ok_or(Status::Nothing)
 }
 
-/// Returns the number of the bytes, if they are a known text.
-pub fn get_bytes(h: &mut Handle, bytes: &[u8]) -> Result<usize, Status>
+/// Returns the symbol of the bytes, if they are a known text.
+pub fn get_bytes(h: &mut Handle, bytes: &[u8]) -> Result<u32, Status>
     ensures found { FindsBytes bytes.now h.old.value result }
     ensures same { h.new.value ≡ h.old.value }
 {
     h.interner().get(text_of(bytes)?).ok_or(Status::Nothing)
 }
 
-/// Returns the number of a static text, as `get_or_intern_bytes` does. A new text may be borrowed and not copied.
-pub fn get_or_intern_static(h: &mut Handle, bytes: &'static [u8]) -> Result<usize, Status>
+/// Returns the symbol of a static text, as `get_or_intern_bytes` does. A new text may be borrowed and not copied.
+pub fn get_or_intern_static(h: &mut Handle, bytes: &'static [u8]) -> Result<u32, Status>
     ensures { InternsBytes bytes.now h.old.value result h.new.value }
 {
     let text = text_of(bytes)?;
     Ok(h.interner().get_or_intern_static(text)?)
 }
 
-/// Returns the number of a part of the text at a number. Appends a new part.
+/// Returns the symbol of a part of the text at a symbol. Appends a new part.
 pub fn get_or_intern_part(
     alloc: Global,
     h: &mut Handle,
-    number: usize,
+    symbol: u32,
     from: usize,
     to: usize,
-) -> Result<usize, Status>
-    ensures { InternsPart number from to h.old.value result h.new.value }
+) -> Result<u32, Status>
+    ensures { InternsPart symbol from to h.old.value result h.new.value }
 {
-    h.interner().get_or_intern_part(alloc, number, from, to)
+    h.interner().get_or_intern_part(alloc, symbol, from, to)
 }
 
 /// Reports whether the bytes are a known text.
 pub fn contains(h: &mut Handle, bytes: &[u8]) -> bool
-    ensures known { IsTrue result ↔ KnowsBytes h.old.value bytes.now }
+    ensures known { IsTrue result ↔ KnowsBytes bytes.now h.old.value }
     ensures same { h.new.value ≡ h.old.value }
 {
     match text_of(bytes) {
@@ -106,16 +111,12 @@ pub fn shrink_to_fit(h: &mut Handle)
     h.interner().shrink_to_fit();
 }
 
-/// Returns the text at a number. It lives until the next call on the handle.
-pub fn resolve<'a>(h: &'a mut Handle, number: usize) -> Result<Text<'a>, Status>
-    ensures { ResolvesNumber number h.old.value result }
+/// Returns the text at a symbol. It lives until the next call on the handle.
+pub fn resolve<'a>(h: &'a mut Handle, symbol: u32) -> Result<Text<'a>, Status>
+    ensures* same { sem 𝓛 (IsKept h.entry) }
+    ensures resolves { ResolvesSymbol symbol h.old.value result }
 {
-    match h.interner().resolve(number) {
-        Some(text) => Ok(Text {
-            bytes: text.as_bytes(),
-        }),
-        None => Err(Status::Nothing),
-    }
+    h.read().lend(symbol)
 }
 
 /// Copies bytes to the front of a buffer, if it is long enough. Returns how many there are.
@@ -130,19 +131,19 @@ fn copy_out(bytes: &[u8], room: &mut [u8], len: &mut usize) -> Result<(), Status
     Ok(())
 }
 
-/// Copies the text at a number to a buffer.
-pub fn copy(h: &mut Handle, number: usize, room: &mut [u8], len: &mut usize) -> Result<(), Status>
-    ensures copies { CopiesText number h.old.value (room.old, len.old) result (room.new, len.new) }
+/// Copies the text at a symbol to a buffer.
+pub fn copy(h: &mut Handle, symbol: u32, room: &mut [u8], len: &mut usize) -> Result<(), Status>
+    ensures copies { CopiesText symbol h.old.value (room.old, len.old) result (room.new, len.new) }
     ensures same { h.new.value ≡ h.old.value }
 {
-    match h.interner().resolve(number) {
+    match h.interner().resolve(symbol) {
         Some(text) => copy_out(text.as_bytes(), room, len),
         None => Err(Status::Nothing),
     }
 }
 
 /// Makes a handle on an interner that was made, and puts its address into a slot.
-fn fill(alloc: Global, slot: &mut Slot, made: Result<AnyInterner, Status>) -> Result<(), Status>
+fn fill(alloc: Global, made: Result<AnyInterner, Status>, slot: &mut Slot) -> Result<(), Status>
     ensures { FillsWith made slot.old result slot.new }
 {
     let Ok(interner) = Box::new(alloc, made?) else {
@@ -155,19 +156,19 @@ fn fill(alloc: Global, slot: &mut Slot, made: Result<AnyInterner, Status>) -> Re
     Ok(())
 }
 
-/// Makes an empty interner of the kind with this code, with this hasher.
-fn make_interner(alloc: Global, kind: u32, hasher: ChosenHasher) -> Result<AnyInterner, Status>
+/// Makes an empty interner of the kind with this code, without keys.
+fn make_interner(alloc: Global, kind: u32) -> Result<AnyInterner, Status>
     ensures { MakesNew kind result }
 {
     let kind = Kind::from_code(kind)?;
-    Ok(AnyInterner::new(alloc, kind, hasher))
+    Ok(AnyInterner::new(alloc, kind, ChosenHasher::fixed()))
 }
 
-/// Makes a handle on an empty interner of the kind with this code, with this hasher.
-pub fn make(alloc: Global, slot: &mut Slot, kind: u32, hasher: ChosenHasher) -> Result<(), Status>
+/// Makes a handle on an empty interner of the kind with this code, without keys.
+pub fn make(alloc: Global, kind: u32, slot: &mut Slot) -> Result<(), Status>
     ensures { Fills (MakesNew kind) slot.old result slot.new }
 {
-    fill(alloc, slot, make_interner(alloc, kind, hasher))
+    fill(alloc, make_interner(alloc, kind), slot)
 }
 
 /// Makes an empty interner of the kind with this code, with this hasher and spare capacity for `capacity` texts.
@@ -183,21 +184,22 @@ fn make_interner_with_capacity(
     Ok(AnyInterner::with_capacity(alloc, kind, capacity, hasher)?)
 }
 
-/// Makes a handle on an empty interner of the kind with this code, with this hasher and spare capacity for `capacity` texts.
-pub fn make_with_capacity(
-    alloc: Global,
-    slot: &mut Slot,
-    kind: u32,
-    capacity: usize,
-    hasher: ChosenHasher,
-) -> Result<(), Status>
-    ensures { Fills (MakesRoom kind capacity) slot.old result slot.new }
+/// Makes an empty interner with these options.
+fn make_interner_with(alloc: Global, options: &Options) -> Result<AnyInterner, Status>
+    ensures { MakesBy options.now (MakesRoom options.now.kind options.now.capacity) result }
 {
-    fill(
-        alloc,
-        slot,
-        make_interner_with_capacity(alloc, kind, capacity, hasher),
-    )
+    let Some(hasher) = options.choose_hasher() else {
+        return Err(Status::BadHasher);
+    };
+    make_interner_with_capacity(alloc, options.kind, options.capacity, hasher)
+}
+
+/// Makes a handle on an empty interner with these options.
+pub fn make_with(alloc: Global, options: &Options, slot: &mut Slot) -> Result<(), Status>
+    ensures { Fills (MakesBy options.now (MakesRoom options.now.kind options.now.capacity))
+        slot.old result slot.new }
+{
+    fill(alloc, make_interner_with(alloc, options), slot)
 }
 
 /// Copies the interner of a handle.
@@ -213,7 +215,7 @@ pub fn clone(alloc: Global, h: &mut Handle, slot: &mut Slot) -> Result<(), Statu
     ensures copies { Fills (Copies h.old.value) slot.old result slot.new }
     ensures same { h.new.value ≡ h.old.value }
 {
-    fill(alloc, slot, copy_interner(h))
+    fill(alloc, copy_interner(h), slot)
 }
 
 /// Reports whether both handles hold interners of one kind with the same texts in the same order.
@@ -225,27 +227,37 @@ pub fn equal(h: &mut Handle, other: &mut Handle) -> bool
     h.interner().equals(other.interner())
 }
 
-/// Interns texts that are end to end in the bytes, and writes their numbers, until one fails.
+/// Interns texts that are end to end in the bytes, and writes their symbols, until one fails.
 pub fn intern_all(
     h: &mut Handle,
     bytes: &[u8],
     ends: &[usize],
-    numbers: &mut [usize],
+    symbols: &mut [u32],
     done: &mut usize,
 ) -> Result<(), Status>
     ensures { InternsParts bytes.now ends.now
-        (h.old.value, numbers.old, done.old) result (h.new.value, numbers.new, done.new) }
+        (h.old.value, symbols.old, done.old) result (h.new.value, symbols.new, done.new) }
 {
-    h.interner().intern_all(bytes, ends, numbers, done)
+    h.interner().intern_all(bytes, ends, symbols, done)
 }
 
-/// Writes all texts, each with its number, to the front of a buffer. They live until the next call on the handle.
-pub fn entries<'a>(
-    h: &'a mut Handle,
-    room: &mut [Entry<'a>],
-    count: &mut usize,
+/// Interns texts, and writes their symbols, until one fails.
+pub fn intern_texts(
+    h: &mut Handle,
+    texts: &[Text],
+    symbols: &mut [u32],
+    done: &mut usize,
 ) -> Result<(), Status>
-    ensures { ListsEntries h.old.value (room.old, count.old) result (room.new, count.new) }
+    ensures { InternsTexts texts.now
+        (h.old.value, symbols.old, done.old) result (h.new.value, symbols.new, done.new) }
 {
-    h.interner().entries(room, count)
+    h.interner().intern_texts(texts, symbols, done)
+}
+
+/// Writes the entries from a cursor on to the front of a buffer, as many as there are and fit. Moves the cursor behind them, and
+/// returns how many they are. Their texts live until the next call that may change the handle.
+pub fn entries<'a>(h: &'a mut Handle, cursor: &mut Cursor, room: &mut [Entry<'a>]) -> usize
+    ensures { ListsFrom h.old.value (room.old, cursor.old) result (room.new, cursor.new) }
+{
+    h.read().entries(cursor, room)
 }

@@ -12,7 +12,7 @@ use crate::loose::Loose;
 use std::alloc::Global;
 use std::marker::Model;
 
-/// An interner behind a pointer: what `si_interner *` points to in C.
+/// An interner behind a pointer: what `interner *` points to in C.
 #[repr(C)]
 pub struct Handle {
     at: *mut u8,

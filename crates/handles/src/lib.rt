@@ -11,5 +11,6 @@ pub mod handle;
 pub mod hasher;
 pub mod kind;
 mod loose;
+pub mod options;
 pub mod status;
 pub mod text;

@@ -4,6 +4,7 @@
 mod fault;
 mod line;
 mod serve;
+mod split;
 #[cfg(test)]
 mod tests;
 

@@ -1,8 +1,7 @@
 //! From the arguments and the input to the output.
 
-ghost use Rattle.std.specs.Prelude.{◌≡◌, ℕ, List, [], ◌+◌, ◌<◌, ◌^◌, ◌↔◌, ◌⊎◌, true, flat_map, string_bytes, All, IfErr, IfOk, IfSome, IsErrOf, IsNone, IsOk, IsOkUnless, MatchOption, OnOk};
+ghost use Rattle.std.specs.Prelude.{◌≡◌, ℕ, List, [], ◌+◌, ◌<◌, ◌^◌, ◌↔◌, ◌⊎◌, flat_map, string_bytes, All, IfErr, IfOk, IfSome, IsErrOf, IsNone, IsOk, IsOkUnless, MatchOption, OnOk};
 ghost use Rattle.std.specs.List.{AllZip};
-ghost use Rattle.std.specs.Str.Iter.{split_has_more, split_terminator_parts, split_terminator_pattern, split_text};
 ghost use Rattle.std.specs.Io.KnownBytes.{Appends, IsAtEnd};
 ghost use Rattle.intern.specs.Arguments.{Names};
 ghost use Rattle.intern.specs.Fault.{IsReadFault, IsLineFault};
@@ -15,9 +14,9 @@ ghost use Rattle.string_interner.specs.Text.{Text};
 
 use crate::fault::Fault;
 use crate::line;
+use crate::split::Lines;
 use std::alloc::Global;
 use std::io::{ErrorKind, Read, Write};
-use std::str::SplitTerminator;
 use string_interner::StringInterner;
 use string_interner::backend::{Backend, BucketBackend, BufferBackend, StringBackend};
 use string_interner::run::{Command, Reply, run};
@@ -58,22 +57,13 @@ fn read_text<R: Read>(alloc: Global, input: &mut R) -> Result<String, Fault>
     }
 }
 
-/// Splits a text into lines. A newline at the very end ends the last one, and begins no further one.
-fn split_lines(text: &str) -> SplitTerminator<'_, char>
-    ensures pattern { split_terminator_pattern result ≡ 10 }
-    ensures text { split_text (split_terminator_parts result) ≡ text.now }
-    ensures has_more { split_has_more (split_terminator_parts result) ≡ true }
-{
-    text.split_terminator('\n')
-}
-
 /// Returns the index of the first bad line, if there is one.
 fn find_bad_line(text: &str) -> Option<usize>
     ensures first { MatchOption result (All IsStated (lines_of text.now))
         (IsFirstBad (lines_of text.now)) }
     ensures room { IfSome result (λ index. index + 1 < 2 ^ 64) }
 {
-    split_lines(text).position(|line| line::parse_command(line).is_none())
+    Lines::new(text).position(|line| line::parse_command(line).is_none())
 }
 
 /// Returns the fault if the commands cannot be allocated: the first bad line, if there is one, and otherwise `Memory`.
@@ -91,10 +81,10 @@ fn parse_commands(alloc: Global, text: &str) -> Result<Vec<Command<'_>>, Fault>
     ensures stated { IfOk result (λ commands. AllZip States commands.items (lines_of text.now)) }
     ensures fault { IfErr result (IsLineFault (lines_of text.now)) }
 {
-    let Ok(mut commands) = Vec::with_capacity(alloc, split_lines(text).count()) else {
+    let Ok(mut commands) = Vec::with_capacity(alloc, Lines::new(text).count()) else {
         return Err(find_line_fault(text));
     };
-    for line in split_lines(text) {
+    for line in Lines::new(text) {
         let Some(command) = line::parse_command(line) else {
             return Err(Fault::BadLine(commands.len() + 1));
         };

@@ -1,5 +1,8 @@
+pub mod Ahead
 pub mod AreNumbered
+pub mod Blocks
 pub mod Counts
 pub mod Parts
 pub mod Recodes
 pub mod Rows
+pub mod Shards

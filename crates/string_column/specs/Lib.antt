@@ -1,4 +1,5 @@
-pub mod Codes
+pub mod Ahead
 pub mod Entries
 pub mod Column
 pub mod Parts
+pub mod Shards

@@ -1,5 +1,5 @@
 -- A column that is made of a dictionary and codes from outside, and what can be wrong with them.
--- Cited by `Column::from_parts`.
+-- Cited by `Column::from_parts` and `Column::from_interner`.
 use Rattle.std.specs.Prelude.{◌≡◌, ℕ, ◌<◌, ◌≤◌, List, [], ◌∷◌, ◌++◌, length, take, slice_get, All, Contains, Some, IsSome, Result, Ok, Err, ⊤}
 use Rattle.string_interner.specs.Text.{Text, IsDistinct, first}
 use Rattle.string_interner.specs.Numbering.{Numbering}
@@ -23,6 +23,13 @@ pub record IsOutside (count : ℕ) (codes : List ℕ) (row : ℕ) : Type 0 where
   pub stands : slice_get codes row ≡ Some code
   pub outside : count ≤ code
   pub within : All (λ c. c < count) (take row codes)
+
+-- what may be wrong with the codes: one is no index of so many entries
+abbrev pub IsCodeFault : ℕ → List ℕ → PartsError → Type 0
+IsCodeFault count codes (NoEntry row) = IsOutside count codes row
+IsCodeFault count codes (Repeated index) = ⊥
+IsCodeFault count codes NoSymbol = ⊥
+IsCodeFault count codes (Memory _) = ⊥
 
 -- What may be wrong with the entries. There is no symbol for one of them, behind some others that are distinct.
 abbrev pub IsEntryFault : {S : Type 0} → Numbering S → List Text → PartsError → Type 0

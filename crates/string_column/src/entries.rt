@@ -1,15 +1,21 @@
 //! The dictionary of a column: distinct texts, each with its index.
 
-ghost use Rattle.std.specs.Prelude.{◌≡◌, ℕ, ◌<◌, List, [], length, slice_get, Some};
-ghost use Rattle.string_interner.specs.Text.{Text};
+ghost use Rattle.std.specs.Prelude.{◌≡◌, ◌≤◌, ◌⊎◌, ℕ, ◌<◌, List, [], ◌∷◌, ◌++◌, All, length, slice_get, Some, IfOk, OnOk, OnErr};
+ghost use Rattle.string_interner.specs.Text.{Text, IsDistinct};
 ghost use Rattle.string_interner.specs.Extend.{texts_of};
+ghost use Rattle.string_column.specs.Ahead.{IsAhead, IsListed, PutsRows, TakesRows};
 ghost use Rattle.string_column.specs.Entries.{FindsIndex, NumbersAscend};
 
-use std::alloc::Global;
+use crate::code_list::Codes;
+use std::alloc::{AllocError, Global};
 use std::marker::Model;
 use string_interner::backend::{Backend, InternError};
 use string_interner::dedup::{TextHasher, TextIndex};
 use string_interner::{StringInterner, Symbol};
+
+/// How many texts a block has at most. Interning looks for 32 of them at a time, or leaves that if it finds few; with more texts
+/// in a block it does so less often, with fewer they stay in the processor's cache.
+pub const BLOCK_LEN: usize = 256;
 
 /// A list of texts that are read by their indexes.
 pub trait TextList {
@@ -77,6 +83,58 @@ fn index_of<S: Symbol>(symbols: &[S], symbol: S) -> usize
     }
 }
 
+/// Returns the index of a symbol, which is of the list, or has a greater number than all of it and is then put last.
+///
+/// Returns `Err`, and changes nothing, only if an allocation fails.
+#[inline(always)]
+fn take_symbol<S: Symbol>(symbols: &mut Vec<S>, symbol: S) -> Result<usize, AllocError>
+    requires ascend { NumbersAscend S.number symbols.old.items }
+    requires known { IsListed symbols.old.items symbol
+        ⊎ All (λ other. S.number other < S.number symbol) symbols.old.items }
+    ensures listed { OnOk result (IsListed symbols.old.items symbol
+        → symbols.new.items ≡ symbols.old.items) }
+    ensures is_new { OnOk result (All (λ other. S.number other < S.number symbol) symbols.old.items
+        → symbols.new.items ≡ symbols.old.items ++ symbol ∷ []) }
+    ensures index { IfOk result (λ index. slice_get symbols.new.items index ≡ Some symbol) }
+    ensures err { OnErr result (symbols.new.items ≡ symbols.old.items) }
+{
+    let count = symbols.len();
+    match symbols.last() {
+        Some(last) if symbol.to_usize() <= last.to_usize() => Ok(index_of(symbols, symbol)),
+        _ => {
+            symbols.push(symbol)?;
+            Ok(count)
+        }
+    }
+}
+
+/// Appends the index of each symbol with these numbers to codes, and each symbol that is new to the list.
+///
+/// Returns `Err` only if an allocation fails. Then this is done for the numbers before one.
+fn take_numbers<B: Backend>(
+    symbols: &mut Vec<B::Symbol>,
+    numbers: &[usize],
+    codes: &mut Codes,
+) -> Result<(), AllocError>
+    requires { (front entries texts : List Text)
+        × IsAhead B.numbering front entries symbols.old.items texts numbers.now }
+    ensures { (front entries texts : List Text)
+        → IsAhead B.numbering front entries symbols.old.items texts numbers.now
+        → TakesRows B.numbering front entries texts codes.old.items result
+        (symbols.new.items, codes.new.items) }
+{
+    for at in 0..numbers.len() {
+        let Some(symbol) = B::Symbol::try_from_usize(numbers[at]) else {
+            unreachable!()
+        };
+        // Before the symbol is stored, so that nothing has to be undone.
+        codes.reserve(symbols.len())?;
+        let index = take_symbol(symbols, symbol)?;
+        codes.push_reserved(index);
+    }
+    Ok(())
+}
+
 impl<B: Backend, H: TextHasher, I: TextIndex<B::Symbol>> Entries<B, H, I> {
     /// Makes an empty dictionary with this hasher. Allocates nothing.
     pub fn with_hasher(alloc: Global, hasher: H) -> Self
@@ -113,12 +171,51 @@ impl<B: Backend, H: TextHasher, I: TextIndex<B::Symbol>> Entries<B, H, I> {
         Ok(index)
     }
 
+    /// Appends the index of each text to codes. Appends the texts that are new. Stops at the first text that `intern` fails for, or
+    /// whose index cannot be stored.
+    ///
+    /// In a large dictionary the texts are looked for together.
+    pub fn intern_block(&mut self, texts: &[&str], codes: &mut Codes) -> Result<(), InternError>
+        requires few { length texts.now ≤ 256 }
+        requires distinct { IsDistinct self.old }
+        ensures { PutsRows B.numbering texts.now (self.old, codes.old.items) result
+            (self.new, codes.new.items) }
+    {
+        let mut numbers = [0; BLOCK_LEN];
+        let mut done = 0;
+        let outcome = self.interner.intern_slice(texts, &mut numbers, &mut done);
+        if let Err(error) = take_numbers::<B>(&mut self.symbols, &numbers[..done], codes) {
+            // The other texts have no code.
+            self.interner.truncate(self.symbols.len());
+            return Err(InternError::Memory(error));
+        }
+        outcome
+    }
+
     /// Drops all entries. Releases no memory.
     pub fn clear(&mut self)
         ensures { self.new ≡ [] }
     {
         self.interner.truncate(0);
         self.symbols.clear();
+    }
+}
+
+impl<B: Backend + Drop, H: TextHasher + Drop, I: TextIndex<B::Symbol> + Drop> Entries<B, H, I> {
+    /// Makes a dictionary of the texts of an interner, in their order.
+    ///
+    /// Returns `Err` only if it cannot allocate the list of their symbols.
+    pub fn from_interner(
+        alloc: Global,
+        interner: StringInterner<B, H, I>,
+    ) -> Result<Self, AllocError>
+        ensures { IfOk result (λ entries. entries ≡ interner.texts) }
+    {
+        let mut symbols = Vec::with_capacity(alloc, interner.len())?;
+        for (symbol, _) in &interner {
+            symbols.push_reserved(symbol);
+        }
+        Ok(Entries { interner, symbols })
     }
 }
 

@@ -3,15 +3,16 @@
 mod append;
 mod iter;
 mod parts;
+mod shards;
 
-ghost use Rattle.std.specs.Prelude.{◌≡◌, ◌↔◌, [], length, slice_get, IfOk, IsTrue};
+ghost use Rattle.std.specs.Prelude.{◌≡◌, ◌↔◌, ◌≤◌, [], length, slice_get, IfOk, IsTrue};
 ghost use Rattle.std.specs.Option.{option_copied};
-ghost use Rattle.std.specs.Iterator.{IsFiniteIterable};
-ghost use Rattle.string_interner.specs.Extend.{YieldedBy};
+ghost use Rattle.string_interner.specs.Extend.{IsFinite, YieldedBy};
+ghost use Rattle.string_interner.specs.InternAll.{Lists};
 ghost use Rattle.string_column.specs.Column.{dictionary_of, counts_of, AreCodes, AppendsRow, AppendsYielded};
 
 use crate::code_list::Codes;
-use crate::entries::{Entries, TextList};
+use crate::entries::{BLOCK_LEN, Entries, TextList};
 pub use iter::Iter;
 pub use parts::PartsError;
 use std::alloc::{AllocError, Global};
@@ -19,6 +20,10 @@ use std::marker::Model;
 use string_interner::StringInterner;
 use string_interner::backend::{Backend, DefaultBackend, InternError};
 use string_interner::dedup::{FoldState, TaggedIndex, TextHasher, TextIndex};
+
+/// A dictionary of fewer texts is taken to fit the processor's cache. There a block takes longer than its texts one by one. It has
+/// more texts than an interner that `is_large`, because the codes of a block take a pass of their own.
+const FEWEST_FOR_BLOCKS: usize = 1 << 16;
 
 /// A list of texts, the rows. It stores equal rows once.
 ///
@@ -75,7 +80,7 @@ impl<B: Backend, H: TextHasher, I: TextIndex<B::Symbol>> Column<B, H, I> {
     /// If strangers choose the texts, take a hasher with secret keys.
     ///
     /// ```
-    /// let mut colors = Column::<BufferBackend, _>::with_hasher(alloc, KeyedHasher::new(KeyedState::new(key0, key1)));
+    /// let mut colors = Column::<BufferBackend, _>::with_hasher(alloc, SeededHasher::new(SeededState::new(key0, key1)));
     /// ```
     pub fn with_hasher(alloc: Global, hasher: H) -> Self
         ensures { result ≡ [] }
@@ -222,6 +227,9 @@ impl<B: Backend, H: TextHasher, I: TextIndex<B::Symbol>> Column<B, H, I> {
     /// Stops at the first text that `push` fails for, and returns that error. The rows before it stay, so the new
     /// length of the column gives their number. Hashes each text once.
     ///
+    /// In a large dictionary many texts are looked for together, which takes less time than one after another. So the iterator
+    /// may have been advanced past the text that fails, by up to 255 texts.
+    ///
     /// ```
     /// colors.encode(["red", "green", "red"].iter().copied())?;
     /// ```
@@ -229,14 +237,37 @@ impl<B: Backend, H: TextHasher, I: TextIndex<B::Symbol>> Column<B, H, I> {
         &mut self,
         texts: T,
     ) -> Result<(), InternError>
-        requires { IsFiniteIterable T.into_iter_gives T.IntoIter.can_next T.IntoIter.remaining
-            texts }
+        requires { IsFinite T.IntoIterator T.IntoIter.Iterator texts }
         ensures { AppendsYielded B.numbering
-            (YieldedBy T.into_iter_gives T.IntoIter.next_gives texts) self.old result self.new }
+            (YieldedBy T.IntoIterator T.IntoIter.Iterator texts) self.old result self.new }
     {
+        let mut block = [""; BLOCK_LEN];
+        let mut len = 0;
         for text in texts {
-            self.push(text)?;
+            // A block that has begun is filled first, so that rows stay in order.
+            if len == 0 && self.distinct() < FEWEST_FOR_BLOCKS {
+                self.push(text)?;
+                continue;
+            }
+            block[len] = text;
+            len += 1;
+            if len == BLOCK_LEN {
+                self.push_block(&block)?;
+                len = 0;
+            }
         }
-        Ok(())
+        if len == 0 {
+            return Ok(());
+        }
+        self.push_block(&block[..len])
+    }
+
+    /// Appends a row for each text of a block. Stops at the first text that `push` fails for.
+    #[inline(never)]
+    fn push_block(&mut self, texts: &[&str]) -> Result<(), InternError>
+        requires { length texts.now ≤ 256 }
+        ensures { AppendsYielded B.numbering (Lists texts.now) self.old result self.new }
+    {
+        self.dictionary.intern_block(texts, &mut self.codes)
     }
 }

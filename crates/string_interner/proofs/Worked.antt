@@ -6,6 +6,7 @@ pub mod Hasher
 pub mod LoadFactor
 pub mod Probing
 pub mod Reading
+pub mod SeededHash
 pub mod Slots
 pub mod Spelling
 pub mod StdHasher

@@ -2,9 +2,11 @@
 -- Cited by `StringInterner::extend`, `from_iter` and `intern_all`, and by `run`.
 use Rattle.std.specs.Prelude.{◌≡◌, ◌+◌, ◌≤◌, List, [], ◌∷◌, ◌++◌, length, map, Option, Some, None, Result, Ok, Err, MatchResult, ⊤}
 use Rattle.std.specs.Borrow.{Bor}
-use Rattle.std.specs.Iterator.{YieldsThen}
+use Rattle.std.specs.Iterator.{IsFiniteIterable, YieldsThen}
 use Rattle.std.specs.List.{sum_by}
 use Rattle.std.specs.Option.{option_map_or}
+use Rattle.std.specs.declared.iter.IntoIterator as iterable
+use Rattle.std.specs.declared.iter.Iterator as iterator
 use Rattle.string_interner.specs.Text.{Text, first}
 use Rattle.string_interner.specs.Numbering.{Numbering}
 use Rattle.string_interner.specs.StandsFor.{KeepsSymbols}
@@ -27,9 +29,14 @@ abbrev pub IsMemory : InternError → Type 0
 IsMemory NoSymbol = ⊥
 IsMemory (Memory _) = ⊤
 
--- The iterator that an iterable becomes yields these items, and then this one, or ends.
-abbrev pub YieldedBy : {I W A : Type 0} → (I → W → Type 0) → (W → Option A → W → Type 0) → I → List A → Option A → Type 0
-YieldedBy {I} {W} becomes steps iter items next = (walk : W) × becomes iter walk × (rest : W) × YieldsThen steps walk items next rest
+module _ {I A W : Type 0} (source : iterable.Ghosts I A W) (walks : iterator.Ghosts W A) where
+  -- The iterator that an iterable becomes ends.
+  abbrev pub IsFinite : I → Type 0
+  IsFinite iter = IsFiniteIterable source.into_iter_gives walks.can_next walks.remaining iter
+
+  -- The iterator that an iterable becomes yields these items, and then this one, or ends.
+  abbrev pub YieldedBy : I → List A → Option A → Type 0
+  YieldedBy iter items next = (walk : W) × source.into_iter_gives iter walk × (rest : W) × YieldsThen walks.next_gives walk items next rest
 
 module _ {S : Type 0} (numbering : Numbering S) where
   -- the texts are interned in order, each with a symbol

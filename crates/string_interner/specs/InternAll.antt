@@ -1,6 +1,6 @@
--- Interning many texts and appending their symbols to a list.
--- Cited by `StringInterner::intern_all`.
-use Rattle.std.specs.Prelude.{◌≡◌, ℕ, ◌<◌, ◌≤◌, ◌⊎◌, List, ◌∷◌, ◌++◌, length, slice_index_or, Option, Some, None, IfSome, IsSome, Result, MatchResult, Vec, vec_capacity}
+-- Interning many texts: appending their symbols to a list, or writing the numbers of these to the front of one.
+-- Cited by `StringInterner::intern_all` and `intern_slice`.
+use Rattle.std.specs.Prelude.{◌≡◌, ℕ, ◌+◌, ◌-◌, ◌<◌, ◌≤◌, ◌⊎◌, List, [], ◌∷◌, ◌++◌, length, map, take, slice_index_or, Option, Some, None, IfSome, IsSome, Result, MatchResult, Vec, vec_capacity}
 use Rattle.std.specs.Borrow.{Bor}
 use Rattle.std.specs.declared.alloc.Global.{Global}
 use Rattle.string_interner.specs.Text.{Text}
@@ -10,6 +10,7 @@ use Rattle.string_interner.specs.Interner.{InternerContents}
 use Rattle.string_interner.specs.StandsFor.{StandsFor, StandInOrder}
 use Rattle.string_interner.specs.Extend.{texts_of, IsMemory, TakesIn, StopsAt}
 use Rattle.string_interner.specs.declared.backend.InternError.{InternError}
+use Rattle.string_interner.specs.declared.interner.intern_slice.Ahead.{Ahead}
 
 -- the list begins with these items, and then has this one or ends
 abbrev pub Lists : {A : Type 0} → List A → List A → Option A → Type 0
@@ -46,6 +47,18 @@ abbrev pub AreKnown : {S : Type 0} → (ℕ → Option S) → Numbering S → Li
 AreKnown symbol_of numbering entries texts known = (k : ℕ) → k < length texts → (text : Bor Text)
     → IsKnown symbol_of numbering entries (slice_index_or texts k text).now (slice_index_or known k None)
 
+-- Of the texts from one index to another, which were looked for together, lists have the codes and what is known. The first of
+-- these indexes is not past `at`.
+pub record LooksAhead {S : Type 0} (code : Text → ℕ) (symbol_of : ℕ → Option S) (numbering : Numbering S) (entries : List Text) (texts : List (Bor Text)) (at : ℕ) (ahead : Ahead) (codes : List ℕ) (known : List (Option ℕ)) : Type 0 where
+  pub begun : ahead.start ≤ at
+  pub within : ahead.end ≤ length texts
+  pub few : ahead.end ≤ ahead.start + 32
+  pub codes_count : length codes ≡ 32
+  pub known_count : length known ≡ 32
+  pub codes_are : (k : ℕ) → ahead.start ≤ k → k < ahead.end → (text : Bor Text) → slice_index_or codes (k - ahead.start) 0 ≡ code (slice_index_or texts k text).now
+  pub known_are : (k : ℕ) → ahead.start ≤ k → k < ahead.end → (text : Bor Text)
+      → IsKnown symbol_of numbering entries (slice_index_or texts k text).now (slice_index_or known (k - ahead.start) None)
+
 -- A list of symbols, which had this capacity, is full, and allocating memory for one more symbol failed. The interner is
 -- unchanged.
 pub record IsFull {S : Type 0} (capacity : ℕ) (symbols : List S) (mid : InternerContents) (error : InternError) (new : InternerContents) : Type 0 where
@@ -72,3 +85,21 @@ module _ {S : Type 0} (numbering : Numbering S) (rule : SlotRule) where
       (λ _. yields items None × (new.0 ≡ mid))
       (λ error. (refused : Bor Text) × yields items (Some refused)
       × (StopsAt numbering rule old.0 (texts_of items) mid refused.now error new.0 ⊎ IsFull (vec_capacity old.1) new.1.items mid error new.0))
+
+  -- The first texts, so many of them, are interned, and a list begins with the numbers of their symbols.
+  pub record InternsFront (old : InternerContents) (texts : List (Bor Text)) (count : ℕ) (new : InternerContents) (numbers : List ℕ) : Type 0 where
+    pub within : count ≤ length texts
+    pub symbols : List S
+    pub appends : AppendsSymbols old [] (texts_of (take count texts)) new symbols
+    pub numbers_are : take count numbers ≡ map numbering.number symbols
+
+  -- The texts are interned, and the numbers of their symbols written to the front of a list: all of them, or those before the
+  -- first that fails, which fails as interning it does. The rest of the list stays.
+  abbrev pub InternsSlice : List (Bor Text) → InternerContents × List ℕ → Result (Unit {0}) InternError → InternerContents × List ℕ × ℕ → Type 0
+  InternsSlice texts (old, before) outcome (new, numbers, done) =
+      (mid : InternerContents) × InternsFront old texts done mid numbers
+      × (length numbers ≡ length before) × ((k : ℕ) → done ≤ k → slice_index_or numbers k 0 ≡ slice_index_or before k 0)
+      × MatchResult outcome
+      (λ _. (done ≡ length texts) × (new ≡ mid))
+      (λ error. (refused : Bor Text) × (rest : List (Bor Text)) × (texts ≡ take done texts ++ refused ∷ rest)
+      × StopsAt numbering rule old (texts_of (take done texts)) mid refused.now error new)

@@ -1,12 +1,12 @@
 -- What holds of every interner: a list of distinct texts, each with its symbol, and interning a text.
 -- Cited by `StringInterner` and by all that stands on it.
-use Rattle.std.specs.Prelude.{◌≡◌, ℕ, ◌+◌, ◌^◌, ◌<◌, ◌≤◌, ◌↔◌, List, [], length, take, Option, Some, IsSome, MatchOption, IfOk, IsOkAnd, IsErrOf, OnErr, Result, option_and_then}
+use Rattle.std.specs.Prelude.{◌≡◌, ℕ, ◌+◌, ◌^◌, ◌<◌, ◌≤◌, ◌↔◌, Bool, List, [], length, take, Option, Some, IsSome, MatchOption, IfOk, IsOkAnd, IsErrOf, OnErr, Result, option_and_then}
 use Rattle.string_interner.specs.Text.{Text, IsDistinct, first}
 use Rattle.string_interner.specs.Numbering.{Numbering}
 use Rattle.string_interner.specs.Backend.{Bucket, IsValidList, Appends, UsesRoom}
 use Rattle.string_interner.specs.Entry.{entry_text}
-use Rattle.string_interner.specs.StandsFor.{StandsFor, KeepsSymbols, FindsSymbol}
-use Rattle.string_interner.specs.SlotRule.{SlotRule, IsLeastSlotCount, GrowsIfFull}
+use Rattle.string_interner.specs.StandsFor.{StandsFor, KeepsSymbols, FindsSymbol, TellsApart, NumbersInOrder}
+use Rattle.string_interner.specs.SlotRule.{SlotRule, IsLoaded, IsLeastSlotCount, GrowsIfFull}
 use Rattle.string_interner.specs.declared.backend.InternError.{InternError}
 use Rattle.string_interner.specs.declared.backend.InternError.TheVariants.{NoSymbol}
 
@@ -70,6 +70,16 @@ module _ {S : Type 0} (numbering : Numbering S) where
   pub record IsInternerList (texts : List Text) : Type 0 where
     pub distinct : IsDistinct texts
     pub valid : IsValidList numbering.symbol_of numbering.place texts
+
+  -- what holds of every interner whose symbols are compared by `eq`, and whose index counts its slots by this rule
+  pub record HoldsOfEvery (eq : S → S → Bool) (rule : SlotRule) (interner : InternerContents) : Type 0 where
+    pub texts : IsInternerList interner.texts
+    -- symbols that stand for texts are equal exactly if the texts are
+    pub equal : TellsApart numbering eq interner.texts
+    -- a later entry has a greater number
+    pub order : NumbersInOrder numbering interner.texts
+    -- the slots are within the load factor
+    pub loaded : IsLoaded rule interner.slot_count (length interner.texts)
 
   -- Looking up a text finds this.
   pub record Finds (texts : List Text) (text : Text) (found : Option S) : Type 0 where

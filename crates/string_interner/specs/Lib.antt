@@ -3,7 +3,7 @@ pub mod SymbolOrder
 pub mod Text
 pub mod Backend
 pub mod Growth
-pub mod Ends
+pub mod NumberList
 pub mod StringBackend
 pub mod BucketBackend
 pub mod BucketEntries
@@ -18,6 +18,7 @@ pub mod EntryLaws
 pub mod StandsFor
 pub mod Given
 pub mod Hasher
+pub mod SeededHash
 pub mod Slots
 pub mod SlotRule
 pub mod LoadFactor

@@ -1,5 +1,5 @@
 -- How texts lie in one string: joined, with a list of their ends.
--- Cited by the models and contracts of `StringBackend` and `Ends`.
+-- Cited by the models and contracts of `StringBackend`, and by the functions over its list of ends.
 use Rattle.std.specs.Prelude.{◌≡◌, ℕ, zero, suc, ◌+◌, ◌-◌, List, [], ◌∷◌, ◌++◌, length, take, drop, slice_index, Option, All, max}
 use Rattle.std.specs.Str.{IsUtf8}
 use Rattle.string_interner.specs.Text.{Text}

@@ -7,7 +7,7 @@
 mod bucket;
 mod buffer;
 mod iter;
-mod reserve;
+pub(crate) mod reserve;
 mod string;
 
 ghost use Rattle.std.specs.Prelude.{◌≡◌, ℕ, ◌+◌, ◌^◌, ◌<◌, ◌≤◌, List, [], ◌∷◌, ◌++◌, length, take, slice_get, Option, Some, IfOk, OnOk};

@@ -1,4 +1,4 @@
-//! Indexes: they find the symbol of a text.
+//! Indexes, which find the symbol of a text, and the hashers that they use.
 //!
 //! An interner looks texts up by the trait [`TextIndex`]. Take one of the two indexes here, or write your own: every
 //! contract of an interner holds for each that keeps the laws of the trait. Both are a hash table, [`Table`], over a layout
@@ -8,6 +8,8 @@
 //! |---|---|---|
 //! | [`Index`], the default | a symbol | three quarters |
 //! | [`TaggedIndex`], the fast one | a symbol, a tag, 32 bits of a code | seven eighths |
+//!
+//! [`TextHasher`] says which hasher to take, and which for texts from strangers.
 
 mod count;
 mod index;
@@ -20,10 +22,10 @@ mod tagged;
 mod text_index;
 
 pub use crate::hash::{
-    DefaultHashBuilder, FixedState, Fnv1a, FoldState, KeyedHasher, KeyedState, StdHasher,
-    TextHasher,
+    DefaultHashBuilder, FixedState, Fnv1a, FoldState, KeyedHasher, KeyedState, SeededHasher,
+    SeededState, StdHasher, TextHasher,
 };
-pub use index::{DefaultIndex, Index, TaggedIndex, WindowIndex};
+pub use index::{DefaultIndex, Index, TaggedIndex};
 pub use looks::Looks;
 pub use table::Table;
 pub use text_index::{CopyIndex, Entry, TextIndex};

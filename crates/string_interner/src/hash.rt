@@ -1,14 +1,17 @@
 //! Hashers: they compute the hash code by which an index finds a text.
 //!
 //! An index is correct under every hasher. The hasher decides how fast look-ups are, and whether someone who chooses the
-//! texts can make them slow: take [`KeyedHasher`] for texts from strangers, and [`FoldState`] for all others.
+//! texts can make them slow: take [`SeededHasher`] for texts from strangers, and [`FoldState`] for all others.
 
 ghost use Rattle.std.specs.Prelude.{◌≡◌, ℕ};
 ghost use Rattle.std.specs.Hash.DefaultHasher.{with_keys};
 ghost use Rattle.string_interner.specs.Text.{Text};
 ghost use Rattle.string_interner.specs.Hasher.{fnv_1a, one_write};
 
+mod seeded;
+
 use core::hash::keyed_hasher;
+pub use seeded::{SeededHash, SeededState};
 use std::fmt;
 use std::fmt::{Debug, Formatter};
 use std::hash::{BuildHasher, BuildHasherDefault, DefaultHasher, FoldHasher, Hasher};
@@ -27,7 +30,8 @@ pub type Fnv1a = FixedState;
 /// |---|---|---|
 /// | [`FoldState`] | the same in each run | you trust where the texts come from: it is the fastest |
 /// | [`Fnv1a`] | the same in each run | the same, and texts are short, or you want the codes of 64-bit FNV-1a |
-/// | [`KeyedHasher`] | those of two keys | an attacker may choose the texts, and you have 128 random bits |
+/// | [`SeededHasher`] | those of two keys | strangers may choose the texts, and you have 128 random bits |
+/// | [`KeyedHasher`] | those of two keys | the same, and they may see codes, or time single calls |
 /// | [`StdHasher`] over `RandomState` | other ones in each run | the same, and you have a `HostRuntime`, which draws the keys |
 pub trait TextHasher {
     /// The code of a text. It depends on the hasher's value and the text alone.
@@ -41,7 +45,7 @@ pub trait TextHasher {
 /// 64-bit FNV-1a over the bytes of the text: fast on short texts, with the same codes in each run.
 ///
 /// Not resistant to collisions: texts can be chosen to have one code. Where they come from someone who may do so, take
-/// [`KeyedHasher`] under random keys.
+/// [`SeededHasher`] under random keys.
 #[derive(Clone, Copy, Debug, Default, PartialEq, Eq)]
 pub struct FixedState;
 
@@ -71,12 +75,14 @@ impl TextHasher for FixedState {
 /// - `BuildHasherDefault<FoldHasher>`, which is [`FoldState`], reads 16 bytes at a time, where the default reads one: it
 ///   is fast on long texts too. Its seed is fixed, so codes are the same in each run, and texts can be chosen to have
 ///   one code.
-/// - [`KeyedState`], which makes [`KeyedHasher`], is SipHash-1-3 under two keys that you hand in. It is slower. As long as
-///   the keys are random and stay secret, no way is known to choose texts that share a code.
-/// - `RandomState` is the same under keys that the system draws.
+/// - [`SeededState`], which makes [`SeededHasher`], is about as fast, under two keys that you hand in. As long as the keys
+///   are random and stay secret, no way is known to choose many texts that share a code.
+/// - [`KeyedState`], which makes [`KeyedHasher`], is SipHash-1-3 under two such keys. It is slower. It was made against
+///   attackers who see codes, too.
+/// - `RandomState` is SipHash-1-3 under keys that the system draws.
 /// - `BuildHasherDefault<DefaultHasher>` is the same under keys that are 0: it protects from nothing.
 ///
-/// An index takes the low bits of a code. These four are made to spread them, which is not proved; a builder of your own
+/// An index takes the low bits of a code. These five are made to spread them, which is not proved; a builder of your own
 /// should, too.
 ///
 /// ```
@@ -93,11 +99,15 @@ pub struct StdHasher<S> {
 /// It protects less than any other against chosen texts. It mixes a block of 16 bytes by one multiplication, by the first
 /// half of the block and what came before it. Where what came before happens to be eight ASCII bytes, a block that begins
 /// with these makes a product of 0, whatever its other eight bytes are. A prefix for which this is so is found in a few
-/// thousand tries, and then any number of texts have one code. Where someone may choose texts, take [`KeyedHasher`].
+/// thousand tries, and then any number of texts have one code. Where someone may choose texts, take [`SeededHasher`].
 pub type FoldState = StdHasher<BuildHasherDefault<FoldHasher>>;
 
 /// SipHash-1-3 under the two keys of a [`KeyedState`]. No way is known to foresee its codes without them.
 pub type KeyedHasher = StdHasher<KeyedState>;
+
+/// The seeded hasher: about as fast as [`FoldState`], under the two keys of a [`SeededState`]. Without the keys no way is
+/// known to choose many texts that share a code.
+pub type SeededHasher = StdHasher<SeededState>;
 
 /// Builds hashers of SipHash-1-3 under two keys of 64 bits.
 ///

@@ -5,20 +5,22 @@ mod coded;
 mod extend;
 mod given;
 mod intern_all;
+mod intern_slice;
+mod touch;
 
-ghost use Rattle.std.specs.Prelude.{◌≡◌, ℕ, ◌≤◌, ◌&&◌, ◌↔◌, List, [], ◌∷◌, length, take, slice_get, Some, IsTrue, IsSome, IfOk};
+ghost use Rattle.std.specs.Prelude.{◌≡◌, ◌≤◌, ◌&&◌, ◌↔◌, List, [], ◌∷◌, length, take, IsTrue, IsSome, IfOk, IfSome, Some};
 ghost use Rattle.std.specs.Option.{option_copied};
 ghost use Rattle.std.specs.Cmp.{partial_equiv_from_equiv, on_equiv};
 ghost use Rattle.string_interner.specs.Text.{Text, first, texts_eq, texts_eq-IsEquivalence};
 ghost use Rattle.string_interner.specs.Iter.{iter_over};
-ghost use Rattle.string_interner.specs.Backend.{BeginsAt, IsPlace};
-ghost use Rattle.string_interner.specs.Interner.{IsInternerList, Finds, HasLeastSlots, InternerContents, InternsInto, IsCopyOf, IsMadeFor, IsNew, KeepsMemory, Resolves};
-ghost use Rattle.string_interner.specs.StandsFor.{TellsApart, NumbersInOrder};
+ghost use Rattle.string_interner.specs.Backend.{IsPlace};
+ghost use Rattle.string_interner.specs.Interner.{IsInternerList, Finds, HasLeastSlots, HoldsOfEvery, InternerContents, InternsInto, IsCopyOf, IsMadeFor, IsNew, KeepsMemory, Resolves};
+ghost use Rattle.string_interner.specs.StandsFor.{StandsFor};
 ghost use Rattle.string_interner.specs.Given.{given_text};
-ghost use Rattle.string_interner.specs.SlotRule.{IsLoaded, IsLeastSlotCount};
 
 use crate::backend::{Backend, CopyBackend, InternError, Iter};
 use crate::dedup::{CopyIndex, DefaultIndex, Entry, TextIndex};
+use crate::equal_texts::texts_are_equal;
 use crate::hash::{DefaultHashBuilder, TextHasher};
 use crate::symbol::Symbol;
 use coded::intern_coded;
@@ -126,15 +128,12 @@ impl<B: Backend, H: TextHasher, I: TextIndex<B::Symbol>> StringInterner<B, H, I>
 
     /// Returns the number of texts.
     ///
-    /// Its other clauses are what holds of every interner: the texts are distinct, symbols that stand for texts are
+    /// Its clause `holds` is what holds of every interner: the texts are distinct, symbols that stand for texts are
     /// equal exactly if the texts are, a later entry has a greater number, and the slots are within the load factor. A
-    /// proof that needs one of them calls `let _ = interner.len();`.
+    /// proof that needs it calls `let _ = interner.len();`.
     pub fn len(&self) -> usize
         ensures value { result ≡ length self.now.texts }
-        ensures texts { IsInternerList B.numbering self.now.texts }
-        ensures equal { TellsApart B.numbering B.Symbol.eq self.now.texts }
-        ensures order { NumbersInOrder B.numbering self.now.texts }
-        ensures loaded { IsLoaded I.rule self.now.slot_count (length self.now.texts) }
+        ensures holds { HoldsOfEvery B.numbering B.Symbol.eq I.rule self.now }
     {
         self.index.len()
     }
@@ -154,6 +153,33 @@ impl<B: Backend, H: TextHasher, I: TextIndex<B::Symbol>> StringInterner<B, H, I>
         match self.index.entry(code, &self.backend, text) {
             Entry::Occupied(symbol) => Some(symbol),
             Entry::Vacant(_vacancy) => None,
+        }
+    }
+
+    /// Returns the symbol of a text if the index's guess is right: `None` does not say that the text is new.
+    ///
+    /// It is for a loop over texts most of which are known: it is inlined, and up to 16 bytes are compared without a call. What
+    /// it does not find, `get` or `get_or_intern` must look for. An index that has no guesses finds nothing. Allocates nothing.
+    ///
+    /// ```
+    /// let symbol = match interner.get_by_guess("red") {
+    ///     Some(symbol) => symbol,
+    ///     None => interner.get_or_intern("red")?,
+    /// };
+    /// ```
+    #[inline(always)]
+    pub fn get_by_guess(&self, text: &str) -> Option<B::Symbol>
+        ensures { IfSome result (λ symbol.
+            Finds B.numbering self.now.texts text.now (Some symbol)) }
+    {
+        let code = self.hasher.hash_text(text);
+        let Some(symbol) = self.index.guess(code, &self.backend) else {
+            return None;
+        };
+        if texts_are_equal(self.backend.resolve_unchecked(symbol), text) {
+            Some(symbol)
+        } else {
+            None
         }
     }
 
@@ -245,10 +271,18 @@ impl<B: Backend, H: TextHasher, I: TextIndex<B::Symbol>> StringInterner<B, H, I>
     /// Returns the text of an entry by its symbol, without checking the symbol: it must be that of an entry.
     pub fn resolve_unchecked(&self, symbol: B::Symbol) -> &str
         requires { IsPlace B.numbering.place self.now.texts (B.numbering.number symbol) }
-        ensures { (i : ℕ) → BeginsAt B.numbering.place self.now.texts (B.numbering.number symbol) i
-            → slice_get self.now.texts i ≡ Some result.now }
+        ensures { StandsFor B.numbering self.now.texts symbol result.now }
     {
         self.backend.resolve_unchecked(symbol)
+    }
+
+    /// Returns the backend, which has the texts, to read what only a backend of its kind has.
+    pub fn backend(&self) -> &B
+        ensures texts { B.texts result.now ≡ self.now.texts }
+        ensures buckets { B.buckets result.now ≡ self.now.buckets }
+        ensures room { B.room result.now ≡ self.now.room }
+    {
+        &self.backend
     }
 
     /// Iterates over the entries in insertion order, each with its symbol.

@@ -44,8 +44,8 @@
 //! Hash under secret random keys, if strangers choose the texts:
 //!
 //! ```
-//! let hasher = KeyedHasher::new(KeyedState::new(key0, key1));
-//! let mut interner = StringInterner::<DefaultBackend, KeyedHasher>::with_hasher(alloc, hasher);
+//! let hasher = SeededHasher::new(SeededState::new(key0, key1));
+//! let mut interner = StringInterner::<DefaultBackend, SeededHasher>::with_hasher(alloc, hasher);
 //! ```
 //!
 //! # What to take
@@ -62,9 +62,9 @@
 //! | Module | What it has |
 //! |---|---|
 //! | [`symbol`] | which numbers symbols may have |
-//! | [`hash`] | hashers, and which of them to take for texts from strangers |
-//! | [`dedup`] | indexes, which find the symbol of a text |
+//! | [`dedup`] | indexes, which find the symbol of a text, and hashers |
 //! | [`json`] | writing an interner to JSON, and reading it back with the same symbols |
+//! | [`number_list`] | numbers that take four bytes each as long as they fit |
 //! | [`scope`] | names in nested scopes |
 //! | [`run`] | a list of commands, with one reply for each |
 //!
@@ -77,9 +77,11 @@
 
 pub mod backend;
 pub mod dedup;
+mod equal_texts;
 pub mod hash;
 mod interner;
 pub mod json;
+pub mod number_list;
 pub mod run;
 pub mod scope;
 pub mod symbol;
@@ -99,7 +101,7 @@ pub type DefaultStringInterner<B = DefaultBackend, H = DefaultHashBuilder> = Str
 /// An interner for speed: its index compares tags before it compares texts, and its hasher reads 16 bytes at a time.
 ///
 /// Its hash codes are the same in each run, and it is easy to choose texts that have one code. If strangers choose the
-/// texts, take `StringInterner<B, KeyedHasher, TaggedIndex<S>>` under random keys, where `S` is the symbol type.
+/// texts, take `StringInterner<B, SeededHasher, TaggedIndex<S>>` under random keys, where `S` is the symbol type.
 pub type FastStringInterner<B = DefaultBackend> = StringInterner<
     B,
     FoldState,

@@ -3,189 +3,329 @@
 
 ghost use Rattle.std.specs.Prelude.{◌≡◌, ◌↔◌, IsTrue, length};
 ghost use Rattle.std.specs.Str.{IsUtf8};
-ghost use Rattle.handles.specs.Any.{IsShrunk, KeepsFirst, ReadsAs, ReadsAsExactly, any_eq, texts_in};
-ghost use Rattle.handles.specs.Calls.{Changes, Copies, CopiesJson, CopiesText, FindsBytes, FindsText, InternsBytes, InternsText, KnowsBytes, MakesNew, MakesRoom, Opens, Queries, ReadsJson, ResolvesNumber, Writes};
-ghost use Rattle.handles.specs.InternAll.{InternsParts, ListsEntries};
+ghost use Rattle.handles.specs.Any.{IsShrunk, KeepsFirst, ReadsAs, ReadsBy, any_eq, texts_in};
+ghost use Rattle.handles.specs.Calls.{Changes, Copies, CopiesJson, CopiesText, FindsBytes, FindsText, InternsBytes, InternsText, KnowsBytes, MakesNew, MakesRoom, Opens, Packs, Queries, ReadsJson, ResolvesSymbol, Writes};
+ghost use Rattle.handles.specs.Entries.{ListsFrom};
+ghost use Rattle.handles.specs.InternAll.{InternsParts, InternsTexts};
+ghost use Rattle.handles.specs.OneKind.{FindsIn, InternsIn, ResolvesIn};
+ghost use Rattle.handles.specs.Joined.{LendsJoinedIn};
+ghost use Rattle.handles.specs.Options.{MakesBy};
 ghost use Rattle.handles.specs.Part.{InternsPart};
+ghost use Rattle.handles.specs.declared.kind.Kind.TheVariants as kind;
 
 use handles::address::{Returned, Slot};
 use handles::calls;
 use handles::handle::Handle;
-use handles::hasher::ChosenHasher;
-use handles::status::{finish, tell};
-use handles::text::{Entry, Text};
+use handles::options::Options;
+use handles::status::{finish, pack, tell};
+use handles::text::{Cursor, Entry, Joined, Text};
 use std::alloc::Global;
 
-/// The number of the interface, `SI_VERSION` in C. A new one means that programs must be compiled again.
-pub const VERSION: u32 = 0;
+/// The number of the interface, `INTERNER_VERSION` in C. A new one means that programs must be compiled again.
+pub const VERSION: u32 = 1;
 
 /// Returns the number of the interface.
 #[unsafe(no_mangle)]
-pub extern "C" fn si_version() -> u32
-    ensures { result ≡ 0 }
+pub extern "C" fn interner_version() -> u32
+    ensures { result ≡ 1 }
 {
     VERSION
 }
 
-/// Makes a handle on an empty interner of a kind, and writes its address.
+/// Makes a handle on an empty interner of a kind, without keys, and writes its address.
 #[unsafe(no_mangle)]
-pub extern "C" fn si_new(alloc: Global, out: &mut Slot, kind: u32) -> u32
-    ensures { Opens (MakesNew kind) out.old out.new result }
+pub extern "C" fn interner_new(alloc: Global, kind: u32, out: &mut Slot) -> u32
+    ensures { Opens (MakesNew kind) out.old result out.new }
 {
-    finish(calls::make(alloc, out, kind, ChosenHasher::fixed()))
+    finish(calls::make(alloc, kind, out))
 }
 
-/// The same as `si_new`, but hashes under these keys.
+/// Makes a handle on an empty interner with these options, and writes its address.
 #[unsafe(no_mangle)]
-pub extern "C" fn si_new_keyed(
-    alloc: Global,
-    out: &mut Slot,
-    kind: u32,
-    key0: u64,
-    key1: u64,
-) -> u32
-    ensures { Opens (MakesNew kind) out.old out.new result }
+pub extern "C" fn interner_new_with(alloc: Global, options: &Options, out: &mut Slot) -> u32
+    ensures { Opens (MakesBy options.now (MakesRoom options.now.kind options.now.capacity))
+        out.old result out.new }
 {
-    finish(calls::make(alloc, out, kind, ChosenHasher::keyed(key0, key1)))
-}
-
-/// The same as `si_new`, with spare capacity for `capacity` texts.
-#[unsafe(no_mangle)]
-pub extern "C" fn si_with_capacity(alloc: Global, out: &mut Slot, kind: u32, capacity: usize) -> u32
-    ensures { Opens (MakesRoom kind capacity) out.old out.new result }
-{
-    finish(calls::make_with_capacity(alloc, out, kind, capacity, ChosenHasher::fixed()))
-}
-
-/// The same as `si_with_capacity`, but hashes under these keys.
-#[unsafe(no_mangle)]
-pub extern "C" fn si_with_capacity_keyed(
-    alloc: Global,
-    out: &mut Slot,
-    kind: u32,
-    capacity: usize,
-    key0: u64,
-    key1: u64,
-) -> u32
-    ensures { Opens (MakesRoom kind capacity) out.old out.new result }
-{
-    finish(calls::make_with_capacity(alloc, out, kind, capacity, ChosenHasher::keyed(key0, key1)))
+    finish(calls::make_with(alloc, options, out))
 }
 
 /// Frees a handle and its interner. Does nothing if the handle is null.
 #[unsafe(no_mangle)]
-pub extern "C" fn si_free(h: Returned) {
+pub extern "C" fn interner_free(h: Returned) {
     drop(h);
 }
 
 /// Returns the number of texts.
 #[unsafe(no_mangle)]
-pub extern "C" fn si_len(h: &mut Handle) -> usize
+pub extern "C" fn interner_len(h: &mut Handle) -> usize
     ensures len { result ≡ length (texts_in h.old.value) }
     ensures same { h.new.value ≡ h.old.value }
 {
     calls::len(h)
 }
 
-/// Writes the number of a text, and appends the text if it is new.
+/// Writes the symbol of a text, and appends the text if it is new.
 #[unsafe(no_mangle)]
-pub extern "C" fn si_get_or_intern(h: &mut Handle, text: &[u8], number: &mut usize) -> u32
-    ensures { Changes (InternsBytes text.now) h.old h.new result number.old number.new }
+pub extern "C" fn interner_get_or_intern(h: &mut Handle, text: &[u8], symbol: &mut u32) -> u32
+    ensures { Changes (InternsBytes text.now) (h.old, symbol.old) result (h.new, symbol.new) }
 {
-    calls::get_or_intern_bytes(h, text, number)
+    calls::get_or_intern_bytes(h, text, symbol)
 }
 
 /// The same, but does not check that the bytes are UTF-8: they must be.
 #[unsafe(no_mangle)]
-pub unsafe extern "C" fn si_get_or_intern_utf8(
+pub unsafe extern "C" fn interner_get_or_intern_utf8(
     h: &mut Handle,
     text: &[u8],
-    number: &mut usize,
+    symbol: &mut u32,
 ) -> u32
     requires { IsUtf8 text.now }
-    ensures { Changes (InternsText text.now) h.old h.new result number.old number.new }
+    ensures { Changes (InternsText text.now) (h.old, symbol.old) result (h.new, symbol.new) }
 {
     let text = unsafe { std::str::from_utf8_unchecked(text) };
-    calls::get_or_intern(h, text, number)
+    calls::get_or_intern(h, text, symbol)
 }
 
-/// The same as `si_get_or_intern`, for bytes that stay where they are, unchanged.
+/// The same as `interner_get_or_intern`, for bytes that stay where they are, unchanged.
 #[unsafe(no_mangle)]
-pub extern "C" fn si_get_or_intern_static(
+pub extern "C" fn interner_get_or_intern_static(
     h: &mut Handle,
     text: &'static [u8],
-    number: &mut usize,
+    symbol: &mut u32,
 ) -> u32
-    ensures { Changes (InternsBytes text.now) h.old h.new result number.old number.new }
+    ensures { Changes (InternsBytes text.now) (h.old, symbol.old) result (h.new, symbol.new) }
 {
-    tell(calls::get_or_intern_static(h, text), number)
+    tell(calls::get_or_intern_static(h, text), symbol)
 }
 
-/// Writes the number of a part of the text at a number, and appends the part if it is new.
+/// Writes the symbol of a part of the text at a symbol, and appends the part if it is new.
 #[unsafe(no_mangle)]
-pub extern "C" fn si_get_or_intern_part(
+pub extern "C" fn interner_get_or_intern_part(
     alloc: Global,
     h: &mut Handle,
-    number: usize,
+    symbol: u32,
     from: usize,
     to: usize,
-    part: &mut usize,
+    part: &mut u32,
 ) -> u32
-    ensures { Changes (InternsPart number from to) h.old h.new result part.old part.new }
+    ensures { Changes (InternsPart symbol from to) (h.old, part.old) result (h.new, part.new) }
 {
-    tell(calls::get_or_intern_part(alloc, h, number, from, to), part)
+    tell(calls::get_or_intern_part(alloc, h, symbol, from, to), part)
 }
 
-/// Writes the number of a known text.
+/// Writes the symbol of a known text.
 #[unsafe(no_mangle)]
-pub extern "C" fn si_get(h: &mut Handle, text: &[u8], number: &mut usize) -> u32
-    ensures found { Queries (FindsBytes text.now) h.old result number.old number.new }
+pub extern "C" fn interner_get(h: &mut Handle, text: &[u8], symbol: &mut u32) -> u32
+    ensures found { Queries (FindsBytes text.now) h.old symbol.old result symbol.new }
     ensures same { h.new.value ≡ h.old.value }
 {
-    tell(calls::get_bytes(h, text), number)
+    tell(calls::get_bytes(h, text), symbol)
 }
 
 /// The same, but does not check that the bytes are UTF-8: they must be.
 #[unsafe(no_mangle)]
-pub unsafe extern "C" fn si_get_utf8(h: &mut Handle, text: &[u8], number: &mut usize) -> u32
+pub unsafe extern "C" fn interner_get_utf8(h: &mut Handle, text: &[u8], symbol: &mut u32) -> u32
     requires { IsUtf8 text.now }
-    ensures found { Queries (FindsText text.now) h.old result number.old number.new }
+    ensures found { Queries (FindsText text.now) h.old symbol.old result symbol.new }
     ensures same { h.new.value ≡ h.old.value }
 {
     let text = unsafe { std::str::from_utf8_unchecked(text) };
-    tell(calls::get(h, text), number)
+    tell(calls::get(h, text), symbol)
 }
 
 /// Reports whether a text is known.
 #[unsafe(no_mangle)]
-pub extern "C" fn si_contains(h: &mut Handle, text: &[u8]) -> bool
-    ensures known { IsTrue result ↔ KnowsBytes h.old.value text.now }
+pub extern "C" fn interner_contains(h: &mut Handle, text: &[u8]) -> bool
+    ensures known { IsTrue result ↔ KnowsBytes text.now h.old.value }
     ensures same { h.new.value ≡ h.old.value }
 {
     calls::contains(h, text)
 }
 
-/// Lends the text at a number.
+/// Lends the text at a symbol.
 #[unsafe(no_mangle)]
-pub extern "C" fn si_resolve<'a>(h: &'a mut Handle, number: usize, text: &mut Text<'a>) -> u32
-    ensures { Queries (ResolvesNumber number) h.old result text.old text.new }
+pub extern "C" fn interner_resolve<'a>(h: &'a mut Handle, symbol: u32, text: &mut Text<'a>) -> u32
+    ensures { Queries (ResolvesSymbol symbol) h.old text.old result text.new }
 {
-    tell(calls::resolve(h, number), text)
+    tell(calls::resolve(h, symbol), text)
 }
 
-/// Copies the text at a number to a buffer, if it fits, and writes its length.
+/// Lends the text at a symbol, if the interner is of the kind `INTERNER_STRING`.
 #[unsafe(no_mangle)]
-pub extern "C" fn si_copy(h: &mut Handle, number: usize, room: &mut [u8], len: &mut usize) -> u32
-    ensures copies { Writes (CopiesText number h.old.value)
-        (room.old, len.old) (room.new, len.new) result }
+pub extern "C" fn interner_string_resolve<'a>(
+    h: &'a mut Handle,
+    symbol: u32,
+    text: &mut Text<'a>,
+) -> u32
+    ensures { Queries (ResolvesIn kind.String symbol) h.old text.old result text.new }
+{
+    tell(h.read().resolve_in_string(symbol), text)
+}
+
+/// Lends all texts joined, with the end of each, if the interner is of the kind `INTERNER_STRING`.
+#[unsafe(no_mangle)]
+pub extern "C" fn interner_string_joined<'a>(h: &'a mut Handle, joined: &mut Joined<'a>) -> u32
+    ensures { Queries LendsJoinedIn h.old joined.old result joined.new }
+{
+    tell(h.read().joined(), joined)
+}
+
+/// Writes the symbol of a known text, if the interner is of the kind `INTERNER_STRING`. The bytes must be UTF-8.
+#[unsafe(no_mangle)]
+pub unsafe extern "C" fn interner_string_get_utf8(
+    h: &mut Handle,
+    text: &[u8],
+    symbol: &mut u32,
+) -> u32
+    requires { IsUtf8 text.now }
+    ensures found { Queries (FindsIn kind.String text.now) h.old symbol.old result symbol.new }
     ensures same { h.new.value ≡ h.old.value }
 {
-    finish(calls::copy(h, number, room, len))
+    let text = unsafe { std::str::from_utf8_unchecked(text) };
+    tell(h.interner().get_in_string(text), symbol)
+}
+
+/// Returns the symbol of a known text, or 2^32 and a status, if the interner is of the kind `INTERNER_STRING`. The bytes must
+/// be UTF-8.
+#[unsafe(no_mangle)]
+pub unsafe extern "C" fn interner_string_find_utf8(h: &mut Handle, text: &[u8]) -> u64
+    requires { IsUtf8 text.now }
+    ensures found { Packs (FindsIn kind.String text.now h.old.value) result }
+    ensures same { h.new.value ≡ h.old.value }
+{
+    let text = unsafe { std::str::from_utf8_unchecked(text) };
+    pack(h.interner().get_in_string(text))
+}
+
+/// The same, but appends a text that is new.
+#[unsafe(no_mangle)]
+pub unsafe extern "C" fn interner_string_intern_utf8(h: &mut Handle, text: &[u8]) -> u64
+    requires { IsUtf8 text.now }
+    ensures { Packs (λ outcome. InternsIn kind.String text.now h.old.value outcome h.new.value)
+        result }
+{
+    let text = unsafe { std::str::from_utf8_unchecked(text) };
+    pack(h.interner().intern_in_string(text))
+}
+
+/// Lends the text at a symbol, if the interner is of the kind `INTERNER_BUCKET`.
+#[unsafe(no_mangle)]
+pub extern "C" fn interner_bucket_resolve<'a>(
+    h: &'a mut Handle,
+    symbol: u32,
+    text: &mut Text<'a>,
+) -> u32
+    ensures { Queries (ResolvesIn kind.Bucket symbol) h.old text.old result text.new }
+{
+    tell(h.read().resolve_in_bucket(symbol), text)
+}
+
+/// Writes the symbol of a known text, if the interner is of the kind `INTERNER_BUCKET`. The bytes must be UTF-8.
+#[unsafe(no_mangle)]
+pub unsafe extern "C" fn interner_bucket_get_utf8(
+    h: &mut Handle,
+    text: &[u8],
+    symbol: &mut u32,
+) -> u32
+    requires { IsUtf8 text.now }
+    ensures found { Queries (FindsIn kind.Bucket text.now) h.old symbol.old result symbol.new }
+    ensures same { h.new.value ≡ h.old.value }
+{
+    let text = unsafe { std::str::from_utf8_unchecked(text) };
+    tell(h.interner().get_in_bucket(text), symbol)
+}
+
+/// Returns the symbol of a known text, or 2^32 and a status, if the interner is of the kind `INTERNER_BUCKET`. The bytes must
+/// be UTF-8.
+#[unsafe(no_mangle)]
+pub unsafe extern "C" fn interner_bucket_find_utf8(h: &mut Handle, text: &[u8]) -> u64
+    requires { IsUtf8 text.now }
+    ensures found { Packs (FindsIn kind.Bucket text.now h.old.value) result }
+    ensures same { h.new.value ≡ h.old.value }
+{
+    let text = unsafe { std::str::from_utf8_unchecked(text) };
+    pack(h.interner().get_in_bucket(text))
+}
+
+/// The same, but appends a text that is new.
+#[unsafe(no_mangle)]
+pub unsafe extern "C" fn interner_bucket_intern_utf8(h: &mut Handle, text: &[u8]) -> u64
+    requires { IsUtf8 text.now }
+    ensures { Packs (λ outcome. InternsIn kind.Bucket text.now h.old.value outcome h.new.value)
+        result }
+{
+    let text = unsafe { std::str::from_utf8_unchecked(text) };
+    pack(h.interner().intern_in_bucket(text))
+}
+
+/// Lends the text at a symbol, if the interner is of the kind `INTERNER_BUFFER`.
+#[unsafe(no_mangle)]
+pub extern "C" fn interner_buffer_resolve<'a>(
+    h: &'a mut Handle,
+    symbol: u32,
+    text: &mut Text<'a>,
+) -> u32
+    ensures { Queries (ResolvesIn kind.Buffer symbol) h.old text.old result text.new }
+{
+    tell(h.read().resolve_in_buffer(symbol), text)
+}
+
+/// Writes the symbol of a known text, if the interner is of the kind `INTERNER_BUFFER`. The bytes must be UTF-8.
+#[unsafe(no_mangle)]
+pub unsafe extern "C" fn interner_buffer_get_utf8(
+    h: &mut Handle,
+    text: &[u8],
+    symbol: &mut u32,
+) -> u32
+    requires { IsUtf8 text.now }
+    ensures found { Queries (FindsIn kind.Buffer text.now) h.old symbol.old result symbol.new }
+    ensures same { h.new.value ≡ h.old.value }
+{
+    let text = unsafe { std::str::from_utf8_unchecked(text) };
+    tell(h.interner().get_in_buffer(text), symbol)
+}
+
+/// Returns the symbol of a known text, or 2^32 and a status, if the interner is of the kind `INTERNER_BUFFER`. The bytes must
+/// be UTF-8.
+#[unsafe(no_mangle)]
+pub unsafe extern "C" fn interner_buffer_find_utf8(h: &mut Handle, text: &[u8]) -> u64
+    requires { IsUtf8 text.now }
+    ensures found { Packs (FindsIn kind.Buffer text.now h.old.value) result }
+    ensures same { h.new.value ≡ h.old.value }
+{
+    let text = unsafe { std::str::from_utf8_unchecked(text) };
+    pack(h.interner().get_in_buffer(text))
+}
+
+/// The same, but appends a text that is new.
+#[unsafe(no_mangle)]
+pub unsafe extern "C" fn interner_buffer_intern_utf8(h: &mut Handle, text: &[u8]) -> u64
+    requires { IsUtf8 text.now }
+    ensures { Packs (λ outcome. InternsIn kind.Buffer text.now h.old.value outcome h.new.value)
+        result }
+{
+    let text = unsafe { std::str::from_utf8_unchecked(text) };
+    pack(h.interner().intern_in_buffer(text))
+}
+
+/// Copies the text at a symbol to a buffer, if it fits, and writes its length.
+#[unsafe(no_mangle)]
+pub extern "C" fn interner_copy_text(
+    h: &mut Handle,
+    symbol: u32,
+    room: &mut [u8],
+    len: &mut usize,
+) -> u32
+    ensures copies { Writes (CopiesText symbol h.old.value)
+        (room.old, len.old) result (room.new, len.new) }
+    ensures same { h.new.value ≡ h.old.value }
+{
+    finish(calls::copy(h, symbol, room, len))
 }
 
 /// Keeps the first `len` texts.
 #[unsafe(no_mangle)]
-pub extern "C" fn si_truncate(h: &mut Handle, len: usize)
+pub extern "C" fn interner_truncate(h: &mut Handle, len: usize)
     ensures { KeepsFirst len h.old.value h.new.value }
 {
     calls::truncate(h, len);
@@ -193,7 +333,7 @@ pub extern "C" fn si_truncate(h: &mut Handle, len: usize)
 
 /// Releases memory that no text needs, if it can.
 #[unsafe(no_mangle)]
-pub extern "C" fn si_shrink(h: &mut Handle)
+pub extern "C" fn interner_shrink(h: &mut Handle)
     ensures { IsShrunk h.old.value h.new.value }
 {
     calls::shrink_to_fit(h);
@@ -201,8 +341,8 @@ pub extern "C" fn si_shrink(h: &mut Handle)
 
 /// Makes a second handle, on a copy of the first one's interner, and writes its address.
 #[unsafe(no_mangle)]
-pub extern "C" fn si_clone(alloc: Global, h: &mut Handle, copy: &mut Slot) -> u32
-    ensures copies { Opens (Copies h.old.value) copy.old copy.new result }
+pub extern "C" fn interner_clone(alloc: Global, h: &mut Handle, copy: &mut Slot) -> u32
+    ensures copies { Opens (Copies h.old.value) copy.old result copy.new }
     ensures same { h.new.value ≡ h.old.value }
 {
     finish(calls::clone(alloc, h, copy))
@@ -210,7 +350,7 @@ pub extern "C" fn si_clone(alloc: Global, h: &mut Handle, copy: &mut Slot) -> u3
 
 /// Reports whether both handles hold interners of one kind with the same texts in the same order.
 #[unsafe(no_mangle)]
-pub extern "C" fn si_equal(h: &mut Handle, other: &mut Handle) -> bool
+pub extern "C" fn interner_equal(h: &mut Handle, other: &mut Handle) -> bool
     ensures equal { result ≡ any_eq h.old.value other.old.value }
     ensures same { h.new.value ≡ h.old.value }
     ensures other_same { other.new.value ≡ other.old.value }
@@ -220,84 +360,80 @@ pub extern "C" fn si_equal(h: &mut Handle, other: &mut Handle) -> bool
 
 /// Copies the JSON array of the texts to a buffer, if it fits, and writes its length.
 #[unsafe(no_mangle)]
-pub extern "C" fn si_to_json(alloc: Global, h: &mut Handle, room: &mut [u8], len: &mut usize) -> u32
+pub extern "C" fn interner_to_json(
+    alloc: Global,
+    h: &mut Handle,
+    room: &mut [u8],
+    len: &mut usize,
+) -> u32
     ensures writes { Writes (CopiesJson h.old.value)
-        (room.old, len.old) (room.new, len.new) result }
+        (room.old, len.old) result (room.new, len.new) }
     ensures same { h.new.value ≡ h.old.value }
 {
     finish(calls::json::to_json(alloc, h, room, len))
 }
 
-/// Makes a handle on an interner of the texts of a JSON array, and writes its address. Repeats add no text.
+/// Makes a handle on an interner of the texts of a JSON array, without keys, and writes its address. Repeats add no text.
 #[unsafe(no_mangle)]
-pub extern "C" fn si_from_json(alloc: Global, out: &mut Slot, kind: u32, json: &[u8]) -> u32
-    ensures { Opens (ReadsJson ReadsAs kind json.now) out.old out.new result }
+pub extern "C" fn interner_from_json(alloc: Global, kind: u32, json: &[u8], out: &mut Slot) -> u32
+    ensures { Opens (ReadsJson ReadsAs kind json.now) out.old result out.new }
 {
-    finish(calls::json::from_json(alloc, out, kind, json, ChosenHasher::fixed()))
+    finish(calls::json::from_json(alloc, kind, json, out))
 }
 
-/// The same as `si_from_json`, but hashes under these keys.
+/// The same with these options. If it is `exact`, all texts must differ.
 #[unsafe(no_mangle)]
-pub extern "C" fn si_from_json_keyed(
+pub extern "C" fn interner_from_json_with(
     alloc: Global,
-    out: &mut Slot,
-    kind: u32,
+    options: &Options,
     json: &[u8],
-    key0: u64,
-    key1: u64,
-) -> u32
-    ensures { Opens (ReadsJson ReadsAs kind json.now) out.old out.new result }
-{
-    finish(calls::json::from_json(alloc, out, kind, json, ChosenHasher::keyed(key0, key1)))
-}
-
-/// The same as `si_from_json`, for an array in which all texts differ.
-#[unsafe(no_mangle)]
-pub extern "C" fn si_from_json_exact(alloc: Global, out: &mut Slot, kind: u32, json: &[u8]) -> u32
-    ensures { Opens (ReadsJson ReadsAsExactly kind json.now) out.old out.new result }
-{
-    finish(calls::json::from_json_exact(alloc, out, kind, json, ChosenHasher::fixed()))
-}
-
-/// The same as `si_from_json_exact`, but hashes under these keys.
-#[unsafe(no_mangle)]
-pub extern "C" fn si_from_json_exact_keyed(
-    alloc: Global,
+    exact: bool,
     out: &mut Slot,
-    kind: u32,
-    json: &[u8],
-    key0: u64,
-    key1: u64,
 ) -> u32
-    ensures { Opens (ReadsJson ReadsAsExactly kind json.now) out.old out.new result }
+    ensures { Opens (MakesBy options.now (ReadsJson (ReadsBy exact) options.now.kind json.now))
+        out.old result out.new }
 {
-    finish(calls::json::from_json_exact(alloc, out, kind, json, ChosenHasher::keyed(key0, key1)))
+    finish(calls::json::from_json_with(alloc, options, json, exact, out))
 }
 
-/// Interns many texts, which are end to end in the bytes, and writes their numbers.
+/// Interns many texts, which are end to end in the bytes, and writes their symbols.
 #[unsafe(no_mangle)]
-pub extern "C" fn si_intern_all(
+pub extern "C" fn interner_intern_joined(
     h: &mut Handle,
     bytes: &[u8],
     ends: &[usize],
-    numbers: &mut [usize],
+    symbols: &mut [u32],
     done: &mut usize,
 ) -> u32
     ensures { Writes (InternsParts bytes.now ends.now)
-        (h.old.value, numbers.old, done.old) (h.new.value, numbers.new, done.new) result }
+        (h.old.value, symbols.old, done.old) result (h.new.value, symbols.new, done.new) }
 {
-    finish(calls::intern_all(h, bytes, ends, numbers, done))
+    finish(calls::intern_all(h, bytes, ends, symbols, done))
 }
 
-/// Lends all texts, each with its number.
+/// Interns many texts, and writes their symbols.
 #[unsafe(no_mangle)]
-pub extern "C" fn si_entries<'a>(
-    h: &'a mut Handle,
-    entries: &mut [Entry<'a>],
-    count: &mut usize,
+pub extern "C" fn interner_intern_list(
+    h: &mut Handle,
+    texts: &[Text],
+    symbols: &mut [u32],
+    done: &mut usize,
 ) -> u32
-    ensures { Writes (ListsEntries h.old.value)
-        (entries.old, count.old) (entries.new, count.new) result }
+    ensures { Writes (InternsTexts texts.now)
+        (h.old.value, symbols.old, done.old) result (h.new.value, symbols.new, done.new) }
 {
-    finish(calls::entries(h, entries, count))
+    finish(calls::intern_texts(h, texts, symbols, done))
+}
+
+/// Lends the texts from a cursor on, each with its symbol, as many as there are and fit, and returns how many.
+#[unsafe(no_mangle)]
+pub extern "C" fn interner_entries<'a>(
+    h: &'a mut Handle,
+    cursor: &mut Cursor,
+    entries: &mut [Entry<'a>],
+) -> usize
+    ensures { ListsFrom h.old.value
+        (entries.old, cursor.old) result (entries.new, cursor.new) }
+{
+    calls::entries(h, cursor, entries)
 }

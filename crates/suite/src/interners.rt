@@ -127,6 +127,41 @@ fn tell_symbols<S: Symbol>(rt: &HostRuntime, symbols: &[S]) -> Told {
     Ok(())
 }
 
+/// The texts of a call.
+fn collect_texts<'t>(alloc: Global, call: Call<'t>) -> Result<Vec<&'t str>, Failure> {
+    let mut texts = Vec::with_capacity(alloc, call.texts().count())?;
+    for text in call.texts() {
+        texts.reserve(1)?;
+        texts.push_reserved(text);
+    }
+    Ok(texts)
+}
+
+/// Calls `intern_slice` with the texts of a call, and prints the number of the symbol of each that was interned.
+fn intern_slice<B: Backend, H: TextHasher, I: TextIndex<B::Symbol>>(
+    rt: &HostRuntime,
+    interner: &mut StringInterner<B, H, I>,
+    call: Call<'_>,
+) -> Told {
+    let texts = collect_texts(rt.alloc(), call)?;
+    let mut numbers = vec![in rt.alloc(); 0_usize; texts.len()]?;
+    let mut done: usize = 0;
+    let outcome = mark_partly(interner.intern_slice(&texts, &mut numbers, &mut done));
+    if !is_refused(&outcome) {
+        tell_numbers(rt, &numbers, done)?;
+    }
+    outcome?;
+    tell_done(rt)
+}
+
+/// Prints the first numbers of a list.
+fn tell_numbers(rt: &HostRuntime, numbers: &[usize], count: usize) -> Told {
+    for number in numbers.iter().take(count) {
+        println!(rt; "  number {number}")?;
+    }
+    Ok(())
+}
+
 /// Reads an interner from a value by the call that is named.
 fn read_by<B: Backend + Drop, H: TextHasher + Default + Drop, I: TextIndex<B::Symbol> + Drop>(
     alloc: Global,
@@ -200,6 +235,7 @@ impl<B: SuiteBackend, H: SuiteHasher, I: CopyIndex<B::Symbol> + Drop> Interners<
             }
             "extend" | "extend_numbers" => self.extend(rt, call),
             "intern_all" | "intern_all_numbers" => self.intern_all(rt, call),
+            "intern_slice" => intern_slice(rt, &mut self.one, call),
             "with_hasher" => self.begin(rt),
             "with_capacity_and_hasher" => self.begin_with_capacity(rt, call.number),
             "clone" => put(rt, &mut self.other, self.one.clone()),

@@ -1,56 +1,102 @@
-//! All texts in a list.
+//! All texts, a list of some of them at a time.
 
-ghost use Rattle.std.specs.Prelude.{◌≡◌, ◌≤◌, [], length, map, take, drop, Some};
-ghost use Rattle.string_interner.specs.Iter.{entries};
-ghost use Rattle.handles.specs.InternAll.{ListsEntries, number_and_text};
+ghost use Rattle.std.specs.Prelude.{◌≡◌, ◌+◌, ◌<◌, ◌^◌};
+ghost use Rattle.string_interner.specs.Spelling.{digits};
+ghost use Rattle.handles.specs.Any.{any_of};
+ghost use Rattle.handles.specs.Entries.{IsEntryAt, ListsFrom, step_of};
+ghost use Rattle.handles.specs.Kind.{numbering_in};
 
-use super::AnyInterner;
-use crate::status::Status;
-use crate::text::{Entry, Text};
-use string_interner::backend::{Backend, Iter};
-use string_interner::symbol::{Symbol, SymbolU32};
+use super::{AnyInterner, HashedInterner, resolve_in};
+use crate::kind::Kind;
+use crate::text::{Cursor, Entry, Text};
+use string_interner::backend::Backend;
+use string_interner::symbol::SymbolU32;
 
-/// Returns the entry of a text and its symbol.
-fn entry_of<'a>(symbol: SymbolU32, text: &'a str) -> Entry<'a>
-    ensures { number_and_text result ≡ (Some symbol, text.now) }
+/// Returns how many digits a length has in front of a text of the kind `Buffer`.
+#[inline(always)]
+fn digit_count(mut number: usize) -> usize
+    ensures { result ≡ digits number }
 {
-    Entry {
-        number: symbol.to_usize(),
-        text: Text {
-            bytes: text.as_bytes(),
-        },
+    let mut count = 1;
+    while number >= 128 {
+        number /= 128;
+        count += 1;
+    }
+    count
+}
+
+/// Returns the place behind an entry whose text has this length, in an interner of this kind, if it fits a `usize`.
+#[inline(always)]
+fn place_after(kind: Kind, place: usize, len: usize) -> usize
+    ensures { place + step_of kind len < 2 ^ 64 → result ≡ place + step_of kind len }
+{
+    match kind {
+        Kind::Buffer => place.saturating_add(digit_count(len)).saturating_add(len),
+        _ => place.saturating_add(1),
     }
 }
 
-/// Writes each entry to the front of a buffer that is long enough.
-fn list<'a, B: Backend<Symbol = SymbolU32>>(walk: Iter<'a, B>, room: &mut [Entry<'a>])
-    requires { (walk.behind ≡ []) × (length walk.ahead ≤ length room.old) }
-    ensures front { map number_and_text (take (length walk.entry.ahead) room.new)
-        ≡ entries B.numbering [] walk.entry.ahead }
-    ensures rest { drop (length walk.entry.ahead) room.new
-        ≡ drop (length walk.entry.ahead) room.old }
+/// Returns the entry at a place, if something is read there.
+#[inline(always)]
+fn entry_at<'a, B: Backend<Symbol = SymbolU32>>(
+    interner: &'a HashedInterner<B>,
+    kind: Kind,
+    place: usize,
+) -> Option<Entry<'a>>
+    requires { numbering_in kind ≡ B.numbering }
+    ensures { IsEntryAt (any_of kind interner.now) place result }
 {
-    let mut index = 0;
-    for entry in walk {
-        room[index] = entry_of(entry.0, entry.1);
-        index += 1;
+    if place > u32::MAX as usize {
+        return None;
     }
+    let symbol = place as u32;
+    match resolve_in(interner, symbol) {
+        Some(text) => Some(Entry {
+            symbol,
+            text: Text {
+                bytes: text.as_bytes(),
+            },
+        }),
+        None => None,
+    }
+}
+
+/// Lists entries of an interner of this kind, as `entries` does. Inlined, so that the kind is chosen once.
+#[inline(always)]
+fn entries_in<'a, B: Backend<Symbol = SymbolU32>>(
+    interner: &'a HashedInterner<B>,
+    kind: Kind,
+    cursor: &mut Cursor,
+    room: &mut [Entry<'a>],
+) -> usize
+    requires { numbering_in kind ≡ B.numbering }
+    ensures { ListsFrom (any_of kind interner.now)
+        (room.old, cursor.old) result (room.new, cursor.new) }
+{
+    let many = room.len().min(interner.len().saturating_sub(cursor.index));
+    for index in 0..many {
+        match entry_at(interner, kind, cursor.place) {
+            Some(entry) => {
+                room[index] = entry;
+                cursor.place = place_after(kind, cursor.place, entry.text.bytes.len());
+                cursor.index += 1;
+            }
+            None => return index,
+        }
+    }
+    many
 }
 
 impl AnyInterner {
-    /// Writes all texts, each with its number, to the front of a buffer, if it is long enough. Returns how many there are.
-    pub fn entries<'a>(&'a self, room: &mut [Entry<'a>], count: &mut usize) -> Result<(), Status>
-        ensures { ListsEntries self.now (room.old, count.old) result (room.new, count.new) }
+    /// Writes the entries from a cursor on to the front of a buffer, as many as there are and fit. Moves the cursor behind them,
+    /// and returns how many they are.
+    pub fn entries<'a>(&'a self, cursor: &mut Cursor, room: &mut [Entry<'a>]) -> usize
+        ensures { ListsFrom self.now (room.old, cursor.old) result (room.new, cursor.new) }
     {
-        *count = self.len();
-        if room.len() < *count {
-            return Err(Status::NoRoom);
-        }
         match self {
-            AnyInterner::String(interner) => list(interner.iter(), room),
-            AnyInterner::Bucket(interner) => list(interner.iter(), room),
-            AnyInterner::Buffer(interner) => list(interner.iter(), room),
+            AnyInterner::String(interner) => entries_in(interner, Kind::String, cursor, room),
+            AnyInterner::Bucket(interner) => entries_in(interner, Kind::Bucket, cursor, room),
+            AnyInterner::Buffer(interner) => entries_in(interner, Kind::Buffer, cursor, room),
         }
-        Ok(())
     }
 }

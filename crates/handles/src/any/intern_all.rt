@@ -1,13 +1,20 @@
-//! Many texts in one call.
+//! Many texts in one call, end to end.
 
-ghost use Rattle.std.specs.Prelude.{◌<◌};
+ghost use Rattle.std.specs.Prelude.{◌≡◌, ◌<◌};
+ghost use Rattle.handles.specs.Any.{any_of};
 ghost use Rattle.handles.specs.InternAll.{InternsParts, IsTextBetween};
+ghost use Rattle.handles.specs.Kind.{numbering_in};
+ghost use Rattle.handles.specs.declared.kind.Kind.{Kind};
 
-use super::AnyInterner;
+use super::guessed::{intern_one, is_found};
+use super::{AnyInterner, HashedInterner, to_u32};
 use crate::status::Status;
 use crate::text::text_of;
+use string_interner::backend::Backend;
+use string_interner::symbol::SymbolU32;
 
 /// Returns the bytes between these two ends as a text.
+#[inline(always)]
 fn text_between(bytes: &[u8], from: usize, end: usize) -> Result<&str, Status>
     ensures { IsTextBetween bytes.now from end result }
 {
@@ -17,31 +24,88 @@ fn text_between(bytes: &[u8], from: usize, end: usize) -> Result<&str, Status>
     }
 }
 
+/// Interns texts, as `intern_all` does. With `guesses` it is fastest if most texts are known, and without if most are new.
+///
+/// Inlined, so that there is a loop for each kind, with guesses and without.
+#[inline(always)]
+fn intern_all_in<B: Backend<Symbol = SymbolU32>>(
+    interner: &mut HashedInterner<B>,
+    bytes: &[u8],
+    ends: &[usize],
+    symbols: &mut [u32],
+    done: &mut usize,
+    guesses: bool,
+) -> Result<(), Status>
+    ensures { (kind : Kind) → numbering_in kind ≡ B.numbering → InternsParts bytes.now ends.now
+        (any_of kind interner.old, symbols.old, done.old) result
+        (any_of kind interner.new, symbols.new, done.new) }
+{
+    *done = 0;
+    if symbols.len() < ends.len() {
+        return Err(Status::NoRoom);
+    }
+    let mut from = 0;
+    for &end in ends {
+        let text = text_between(bytes, from, end)?;
+        let symbol = intern_one(interner, text, guesses)?;
+        symbols[*done] = to_u32(symbol);
+        *done += 1;
+        from = end;
+    }
+    Ok(())
+}
+
+/// Reports whether most of the texts between these ends are likely to be known, by the first text and one in the middle.
+fn are_likely_known<B: Backend<Symbol = SymbolU32>>(
+    interner: &HashedInterner<B>,
+    bytes: &[u8],
+    ends: &[usize],
+) -> bool {
+    let middle = ends.len() / 2;
+    match (ends.first(), ends.get(middle), ends.get(middle + 1)) {
+        (Some(first), Some(from), Some(end)) => {
+            is_found(interner, text_between(bytes, 0, *first))
+                && is_found(interner, text_between(bytes, *from, *end))
+        }
+        _ => false,
+    }
+}
+
 impl AnyInterner {
-    /// Interns the texts that are end to end in the bytes, each up to its end, and writes their numbers. Stops at the first
+    /// Interns the texts that are end to end in the bytes, each up to its end, and writes their symbols. Stops at the first
     /// that fails, and returns how many were interned before it.
     pub fn intern_all(
         &mut self,
         bytes: &[u8],
         ends: &[usize],
-        numbers: &mut [usize],
+        symbols: &mut [u32],
         done: &mut usize,
     ) -> Result<(), Status>
         ensures { InternsParts bytes.now ends.now
-            (self.old, numbers.old, done.old) result (self.new, numbers.new, done.new) }
+            (self.old, symbols.old, done.old) result (self.new, symbols.new, done.new) }
     {
-        *done = 0;
-        if numbers.len() < ends.len() {
-            return Err(Status::NoRoom);
+        match self {
+            AnyInterner::String(interner) => {
+                if are_likely_known(interner, bytes, ends) {
+                    intern_all_in(interner, bytes, ends, symbols, done, true)
+                } else {
+                    intern_all_in(interner, bytes, ends, symbols, done, false)
+                }
+            }
+            AnyInterner::Bucket(interner) => {
+                if are_likely_known(interner, bytes, ends) {
+                    intern_all_in(interner, bytes, ends, symbols, done, true)
+                } else {
+                    intern_all_in(interner, bytes, ends, symbols, done, false)
+                }
+            }
+            AnyInterner::Buffer(interner) => {
+                if are_likely_known(interner, bytes, ends) {
+                    intern_all_in(interner, bytes, ends, symbols, done, true)
+                } else {
+                    intern_all_in(interner, bytes, ends, symbols, done, false)
+                }
+            }
         }
-        let mut from = 0;
-        for &end in ends {
-            let text = text_between(bytes, from, end)?;
-            let number = self.get_or_intern(text)?;
-            numbers[*done] = number;
-            *done += 1;
-            from = end;
-        }
-        Ok(())
     }
 }

@@ -8,19 +8,19 @@ use crate::text::text_of;
 use std::alloc::Global;
 
 impl AnyInterner {
-    /// Returns the number of a part of the text at a number: the bytes between two offsets. Appends a new part.
+    /// Returns the symbol of a part of the text at a symbol: the bytes between two offsets. Appends a new part.
     ///
     /// The part is copied first, because its bytes may move if the interner grows.
     pub fn get_or_intern_part(
         &mut self,
         alloc: Global,
-        number: usize,
+        symbol: u32,
         from: usize,
         to: usize,
-    ) -> Result<usize, Status>
-        ensures { InternsPart number from to self.old result self.new }
+    ) -> Result<u32, Status>
+        ensures { InternsPart symbol from to self.old result self.new }
     {
-        let Some(text) = self.resolve(number) else {
+        let Some(text) = self.resolve(symbol) else {
             return Err(Status::Nothing);
         };
         let Some(part) = text.as_bytes().get(from..to) else {

@@ -1,8 +1,10 @@
 //! JSON: the array of the texts, and an interner of such an array.
 
 ghost use Rattle.std.specs.Prelude.{◌≡◌, Result};
-ghost use Rattle.handles.specs.Any.{ReadsAs, ReadsAsExactly};
-ghost use Rattle.handles.specs.Calls.{Fills, IsJsonOf, IsValueOf, ReadsJson, CopiesJson};
+ghost use Rattle.serde_json.specs.View.{view};
+ghost use Rattle.handles.specs.Any.{ReadsAs, ReadsBy};
+ghost use Rattle.handles.specs.Calls.{Fills, IsJsonOf, IsValueOf, ReadsJson, ReadsValue, CopiesJson};
+ghost use Rattle.handles.specs.Options.{MakesBy};
 
 use super::{copy_out, fill};
 use crate::address::Slot;
@@ -10,6 +12,7 @@ use crate::any::AnyInterner;
 use crate::handle::Handle;
 use crate::hasher::ChosenHasher;
 use crate::kind::Kind;
+use crate::options::Options;
 use crate::status::Status;
 use serde_json::Value;
 use std::alloc::Global;
@@ -58,53 +61,77 @@ fn value_of(alloc: Global, bytes: &[u8]) -> Result<Value, Status>
     }
 }
 
-/// Makes an interner of the kind with this code, with this hasher, from a JSON array of strings.
-#[tactic(auto, using(crate::proofs::Lemmas::Json::refuses_kind, crate::proofs::Lemmas::Json::refuses_value))]
-fn read(alloc: Global, kind: u32, bytes: &[u8], hasher: ChosenHasher) -> Result<AnyInterner, Status>
-    ensures { ReadsJson ReadsAs kind bytes.now result }
+/// Makes an interner of this kind with this hasher of a JSON array of strings. If it is `exact`, all strings must differ.
+fn read_value(
+    alloc: Global,
+    kind: Kind,
+    value: &Value,
+    hasher: ChosenHasher,
+    exact: bool,
+) -> Result<AnyInterner, Status>
+    ensures { ReadsValue (ReadsBy exact kind (view value.now)) result }
 {
-    let kind = Kind::from_code(kind)?;
-    let value = value_of(alloc, bytes)?;
-    Ok(AnyInterner::from_json(alloc, kind, &value, hasher)?)
+    if exact {
+        Ok(AnyInterner::from_json_exact(alloc, kind, value, hasher)?)
+    } else {
+        Ok(AnyInterner::from_json(alloc, kind, value, hasher)?)
+    }
 }
 
-/// Makes a handle on an interner of the texts of a JSON array, with this hasher. Repeats add no text.
-pub fn from_json(
+/// Makes an interner of the kind with this code, with this hasher, from a JSON array of strings. If it is `exact`, all strings
+/// must differ.
+#[tactic(auto, using(crate::proofs::Lemmas::Json::refuses_kind, crate::proofs::Lemmas::Json::reads_bytes))]
+fn read(
     alloc: Global,
-    slot: &mut Slot,
     kind: u32,
     bytes: &[u8],
     hasher: ChosenHasher,
-) -> Result<(), Status>
+    exact: bool,
+) -> Result<AnyInterner, Status>
+    ensures { ReadsJson (ReadsBy exact) kind bytes.now result }
+{
+    let kind = Kind::from_code(kind)?;
+    let value = value_of(alloc, bytes)?;
+    read_value(alloc, kind, &value, hasher, exact)
+}
+
+/// Makes an interner with these options from a JSON array of strings. If it is `exact`, all strings must differ.
+fn read_with(
+    alloc: Global,
+    options: &Options,
+    bytes: &[u8],
+    exact: bool,
+) -> Result<AnyInterner, Status>
+    ensures { MakesBy options.now (ReadsJson (ReadsBy exact) options.now.kind bytes.now) result }
+{
+    let Some(hasher) = options.choose_hasher() else {
+        return Err(Status::BadHasher);
+    };
+    read(alloc, options.kind, bytes, hasher, exact)
+}
+
+/// Makes a handle on an interner of the texts of a JSON array, without keys. Repeats add no text.
+pub fn from_json(alloc: Global, kind: u32, bytes: &[u8], slot: &mut Slot) -> Result<(), Status>
     ensures { Fills (ReadsJson ReadsAs kind bytes.now) slot.old result slot.new }
 {
-    fill(alloc, slot, read(alloc, kind, bytes, hasher))
+    fill(
+        alloc,
+        read(alloc, kind, bytes, ChosenHasher::fixed(), false),
+        slot,
+    )
 }
 
-/// Makes an interner of the kind with this code, with this hasher, from a JSON array of strings that all differ.
-#[tactic(auto, using(crate::proofs::Lemmas::Json::refuses_kind, crate::proofs::Lemmas::Json::refuses_value))]
-fn read_exact(
+/// Makes a handle on an interner of the texts of a JSON array, with these options. Repeats add no text, and if it is `exact`,
+/// there must be none.
+pub fn from_json_with(
     alloc: Global,
-    kind: u32,
+    options: &Options,
     bytes: &[u8],
-    hasher: ChosenHasher,
-) -> Result<AnyInterner, Status>
-    ensures { ReadsJson ReadsAsExactly kind bytes.now result }
-{
-    let kind = Kind::from_code(kind)?;
-    let value = value_of(alloc, bytes)?;
-    Ok(AnyInterner::from_json_exact(alloc, kind, &value, hasher)?)
-}
-
-/// The same of an array in which all texts differ.
-pub fn from_json_exact(
-    alloc: Global,
+    exact: bool,
     slot: &mut Slot,
-    kind: u32,
-    bytes: &[u8],
-    hasher: ChosenHasher,
 ) -> Result<(), Status>
-    ensures { Fills (ReadsJson ReadsAsExactly kind bytes.now) slot.old result slot.new }
+    ensures { Fills (MakesBy options.now (ReadsJson (ReadsBy exact) options.now.kind bytes.now))
+        slot.old result slot.new }
 {
-    fill(alloc, slot, read_exact(alloc, kind, bytes, hasher))
+    fill(alloc, read_with(alloc, options, bytes, exact), slot)
 }

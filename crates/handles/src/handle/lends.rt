@@ -2,7 +2,7 @@
 
 ghost use Rattle.std.specs.Prelude.{◌≡◌};
 ghost use types.Logic.{sem};
-ghost use Rattle.handles.specs.Follows.{handle_follows};
+ghost use Rattle.handles.specs.Follows.{IsKept, handle_follows};
 
 use super::Handle;
 use crate::any::AnyInterner;
@@ -14,5 +14,13 @@ impl Handle {
         ensures value { result.now ≡ self.old.value }
     {
         unsafe { &mut *(self.at as *mut AnyInterner) }
+    }
+
+    /// Lends the interner of a handle to be read. Once it comes back, the handle holds what it held.
+    pub fn read(&mut self) -> &AnyInterner
+        ensures* same { sem 𝓛 (IsKept self.entry) }
+        ensures value { result.now ≡ self.old.value }
+    {
+        self.interner()
     }
 }

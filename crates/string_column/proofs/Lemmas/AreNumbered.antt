@@ -1,5 +1,5 @@
 -- The symbols of the entries, by their indexes: where each entry begins, which text a symbol has, and one entry more.
-use Rattle.std.proofs.Common.{◌≡◌, ℕ, ◌<◌, ◌≤◌, List, [], ◌∷◌, ◌++◌, length, get_or, zero, suc, Option, Some, None, Ok, sym, ap, subst, ◌∙◌, refl, inl, inr, arith, true, false, ltb, ltb-true, ltb-false}
+use Rattle.std.proofs.Common.{◌≡◌, ℕ, ◌-◌, ◌<◌, ◌≤◌, List, [], ◌∷◌, ◌++◌, length, get_or, zero, suc, Option, Some, None, Ok, sym, ap, subst, ◌∙◌, refl, inl, inr, arith, true, false, ltb, ltb-true, ltb-false}
 use Rattle.std.specs.Prelude.{◌^◌, ◌≢◌, slice_get, MatchOption}
 use Rattle.std.specs.List.Sorted.{IsNonDecreasingBy, IsPartitionPoint}
 use Rattle.std.proofs.lemmas.Bool.{cases_lt}
@@ -10,6 +10,8 @@ use Rattle.string_interner.specs.Backend.{BeginsAt, Appends}
 use Rattle.string_interner.specs.Interner.{Interns, entry_symbol}
 use Rattle.string_interner.specs.StandsFor.{StandsFor, NumbersInOrder}
 use Rattle.string_interner.specs.Numbering.{Numbering}
+use Rattle.string_interner.specs.Iter.{entries}
+use Rattle.string_interner.proofs.Lemmas.Backend.Entries.{first_entry}
 use Rattle.string_interner.proofs.Lemmas.Interner.StandsFor.{same_or_pushed}
 use Rattle.string_column.specs.Entries.{AreNumbered, NumbersAscend}
 
@@ -45,6 +47,25 @@ parted-at {S} number symbols symbol i at up is parts =
         | inr not_above ↦ (let same : i ≡ at = omega arith in subst (λ k. slice_get symbols k ≡ Some symbol) same is)
       ]
     ]
+
+-- no symbol of the list has a greater number than the last
+pub last-greatest : {S : Type 0} (number : S → ℕ) (symbols : List S) (symbol last : S) (i : ℕ) → NumbersAscend number symbols → slice_get symbols i ≡ Some symbol
+    → Some last ≡ slice_get symbols (length symbols - 1) → number symbol ≤ number last
+last-greatest number symbols symbol last i up is at_end =
+    let within = slice_get_within symbols i symbol is in
+    let here : get_or symbols i symbol ≡ symbol = get_or_from_slice_get symbols i symbol symbol is in
+    let there : get_or symbols (length symbols - 1) symbol ≡ last = get_or_from_slice_get symbols (length symbols - 1) last symbol (sym at_end) in
+    elim (cases_lt i (length symbols - 1)) [
+      | inl below ↦ let less = up i (length symbols - 1) symbol below (omega arith) in omega (arith, ap number here, ap number there)
+      | inr not_below ↦ (let one : i ≡ length symbols - 1 = omega arith in
+          omega (arith, ap number (sym here ∙ ap (λ (k : ℕ). get_or symbols k symbol) one ∙ there)))
+    ]
+
+-- where there is no last one, there is none
+pub none-listed : {S : Type 0} (symbols : List S) (symbol : S) (i : ℕ) → slice_get symbols i ≡ Some symbol → None ≡ slice_get symbols (length symbols - 1) → ⊥
+none-listed symbols symbol i is at_end =
+    let within = slice_get_within symbols i symbol is in
+    let there = slice_get-get_or symbols (length symbols - 1) symbol (omega arith) in cc
 
 module _ {S : Type 0} (numbering : Numbering S) where
   -- a symbol of the list is the entry's at its index
@@ -114,6 +135,20 @@ module _ {S : Type 0} (numbering : Numbering S) where
               ∙ sym (ap (λ front. numbering.symbol_of (numbering.place front)) (take_at texts (text ∷ []) (length texts) refl) ∙ next)))
         ];
       }
+
+  -- one entry more of a walk, with its symbol put last
+  pub numbered-walked : (front behind ahead behind' ahead' : List Text) (symbols longer : List S) (symbol : S) (text : Text) → AreNumbered numbering front symbols
+      → entries numbering behind ahead ≡ entries numbering front ahead → entries numbering behind ahead ≡ (Some symbol, text) ∷ entries numbering behind' ahead'
+      → longer ≡ symbols ++ symbol ∷ []
+      → AreNumbered numbering (front ++ text ∷ []) longer × (ahead ≡ text ∷ ahead') × (entries numbering behind' ahead' ≡ entries numbering (front ++ text ∷ []) ahead')
+  numbered-walked front behind ahead behind' ahead' symbols longer symbol text are same step put =
+      let first_is = first_entry numbering behind ahead behind' ahead' (Some symbol) text step in
+      let both : (numbering.symbol_of (numbering.place front), text) ∷ entries numbering (front ++ text ∷ []) ahead' ≡ (Some symbol, text) ∷ entries numbering behind' ahead' =
+      sym (ap (entries numbering front) first_is) ∙ sym same ∙ step in
+      let rest : entries numbering behind' ahead' ≡ entries numbering (front ++ text ∷ []) ahead' = cc in
+      let pair : (numbering.symbol_of (numbering.place front), text) ≡ (Some symbol, text) = cc in
+      let next : numbering.symbol_of (numbering.place front) ≡ Some symbol = ap (λ (e : Option S × Text). e.0) pair in
+      (subst (AreNumbered numbering (front ++ text ∷ [])) (sym put) (numbered-push front text symbols symbol are next), first_is, rest)
 
   module _ (numbered : (i : ℕ) (s : S) → numbering.symbol_of i ≡ Some s → (numbering.number s ≡ i) × (i < 2 ^ 64)) where
     -- the entry of a symbol of the list begins at the symbol's number

@@ -10,7 +10,7 @@ use Rattle.string_interner.specs.Text.{Text, first}
 use Rattle.string_interner.specs.Extend.{fresh}
 use Rattle.string_interner.proofs.Lemmas.Interner.Extends.{fresh-append}
 use Rattle.string_interner.proofs.Lemmas.Texts.First.{first_none}
-use Rattle.string_column.specs.Codes.{CodeList}
+use Rattle.string_interner.specs.NumberList.{NumberListContents}
 use Rattle.string_column.specs.Column.{AreCodes, IsColumn, dictionary_of, rows_of}
 use Rattle.string_column.proofs.Lemmas.AreNumbered.{slice_get-append}
 
@@ -97,7 +97,7 @@ code-pushed dictionary codes longer rows code row is put at =
     let all = column-pushed dictionary dictionary codes longer rows code row is put at (sym (append-nil dictionary) ∙ ap (λ more. dictionary ++ more) (sym (known-fresh dictionary code row at))) in (all.0, all.2)
 
 -- or it is refused
-pub code-outcome : {E : Type 0} (outcome : Result (Unit {0}) E) (dictionary : List Text) (old new : CodeList) (rows : List Text) (code : ℕ) → IsColumn dictionary old.items rows → code < length dictionary
+pub code-outcome : {E : Type 0} (outcome : Result (Unit {0}) E) (dictionary : List Text) (old new : NumberListContents) (rows : List Text) (code : ℕ) → IsColumn dictionary old.items rows → code < length dictionary
     → OnOk outcome (new.items ≡ old.items ++ code ∷ []) → OnErr outcome (new ≡ old)
     → IsColumn dictionary new.items (rows_of dictionary new.items) × ((row : Text) → slice_get dictionary code ≡ Some row → OnOk outcome (rows_of dictionary new.items ≡ rows ++ row ∷ []))
 code-outcome (Ok done) dictionary old new rows code is within ok err =

@@ -4,13 +4,14 @@ ghost use Rattle.std.specs.Prelude.{◌≡◌, ◌<◌, [], All, List, length, I
 ghost use Rattle.string_interner.specs.Text.{Text, IsDistinct};
 ghost use Rattle.string_interner.specs.Extend.{texts_of};
 ghost use Rattle.string_column.specs.Column.{dictionary_of, rows_of};
-ghost use Rattle.string_column.specs.Parts.{IsEntryFault, IsMadeOf, IsOutside, refused};
+ghost use Rattle.string_column.specs.Parts.{IsCodeFault, IsEntryFault, IsMadeOf, refused};
 
 use super::Column;
 use crate::code_list::Codes;
-use crate::entries::Entries;
+use crate::entries::{Entries, TextList};
 use std::alloc::{AllocError, Global};
 use std::fmt;
+use string_interner::StringInterner;
 use string_interner::backend::{Backend, InternError};
 use string_interner::dedup::{TextHasher, TextIndex};
 
@@ -56,20 +57,20 @@ impl fmt::Display for PartsError {
 
 /// Reports whether so many entries stand in the order in which the rows first have them, and each has a row.
 ///
-/// Returns `Err` with the first row whose code is not the index of an entry.
-fn check_codes(codes: &Codes, count: usize) -> Result<bool, usize>
+/// Returns `NoEntry` with the first row whose code is not the index of an entry.
+fn check_codes(codes: &Codes, count: usize) -> Result<bool, PartsError>
     ensures indexes { OnOk result (All (λ code. code < count) codes.now.items) }
     ensures order { IfOk result (λ is_in_order. IsTrue is_in_order → (entries : List Text)
         → IsDistinct entries → length entries ≡ count
         → dictionary_of (rows_of entries codes.now.items) ≡ entries) }
-    ensures err { IfErr result (IsOutside count codes.now.items) }
+    ensures err { IfErr result (IsCodeFault count codes.now.items) }
 {
     let mut is_in_order = true;
     let mut next = 0;
     for row in 0..codes.len() {
         let code = codes.at(row);
         if code >= count {
-            return Err(row);
+            return Err(PartsError::NoEntry { row });
         }
         is_in_order &= code <= next;
         if code == next {
@@ -124,22 +125,65 @@ impl<B: Backend + Drop, H: TextHasher + Drop, I: TextIndex<B::Symbol> + Drop> Co
     {
         let mut entries = Entries::with_hasher(alloc, hasher);
         intern_entries(&mut entries, dictionary)?;
-        let is_in_order = match check_codes(&codes, dictionary.len()) {
-            Ok(is_in_order) => is_in_order,
-            Err(row) => return Err(PartsError::NoEntry { row }),
-        };
-        if is_in_order {
+        if check_codes(&codes, dictionary.len())? {
             return Ok(Column {
                 dictionary: entries,
                 codes,
             });
         }
         entries.clear();
+        Column::encode_codes(alloc, entries, &dictionary, &codes)
+    }
+
+    /// Makes a column of the texts of an interner and a code for each row, as `from_parts` does of a dictionary and codes. The
+    /// column keeps the interner, so that no text is hashed again.
+    ///
+    /// If it encodes the rows again, it does so in an interner with this hasher, hashes each text that has a row once, uses 16
+    /// bytes for each text while it runs, and then drops the interner that you gave. Returns `NoEntry`, `NoSymbol` and `Memory`
+    /// as `from_parts` does.
+    ///
+    /// Allocates a list of the symbols.
+    ///
+    /// ```
+    /// let colors = <Column>::from_interner(alloc, FoldState::default(), interner, codes)?;
+    /// ```
+    pub fn from_interner(
+        alloc: Global,
+        hasher: H,
+        interner: StringInterner<B, H, I>,
+        codes: Codes,
+    ) -> Result<Self, PartsError>
+        ensures { IsMadeOf B.numbering interner.texts codes.items result }
+    {
+        // For the proof: states that the texts are distinct.
+        let _ = interner.len();
+        let entries = Entries::from_interner(alloc, interner).map_err(PartsError::Memory)?;
+        if check_codes(&codes, entries.len())? {
+            return Ok(Column {
+                dictionary: entries,
+                codes,
+            });
+        }
+        Column::encode_codes(alloc, Entries::with_hasher(alloc, hasher), &entries, &codes)
+    }
+
+    /// Makes a column of a row for each code, the index of a text, in a dictionary without entries.
+    fn encode_codes<T: TextList>(
+        alloc: Global,
+        dictionary: Entries<B, H, I>,
+        texts: &T,
+        codes: &Codes,
+    ) -> Result<Self, PartsError>
+        requires empty { dictionary ≡ [] }
+        requires distinct { IsDistinct (T.texts texts.now) }
+        requires indexes { All (λ code. code < length (T.texts texts.now)) codes.now.items }
+        ensures { IsMadeOf B.numbering (T.texts texts.now) codes.now.items result }
+    {
         let mut column = Column {
-            dictionary: entries,
+            dictionary,
             codes: Codes::new(alloc),
         };
-        column.append_codes(&dictionary, &codes, 0, codes.len())?;
+        column.append_codes(texts, codes, 0, codes.len())?;
         Ok(column)
     }
 }

@@ -154,8 +154,8 @@ impl<S: Symbol> Backend for BucketBackend<S> {
         // Asks for the symbol and allocates before it stores anything, so that nothing changes on `Err`.
         let symbol = self.next_symbol().ok_or(InternError::NoSymbol)?;
         let is_long = is_long(text.len());
-        self.entries.reserve(is_long).map_err(InternError::Memory)?;
-        let interned = store(&mut self.full, &mut self.head, text).map_err(InternError::Memory)?;
+        self.entries.reserve(is_long)?;
+        let interned = store(&mut self.full, &mut self.head, text)?;
         self.entries.push_reserved(interned);
         Ok(symbol)
     }
@@ -169,9 +169,7 @@ impl<S: Symbol> Backend for BucketBackend<S> {
         ensures err { OnErr result (self.new ≡ record self.old { room = self.new.room }) }
     {
         let symbol = self.next_symbol().ok_or(InternError::NoSymbol)?;
-        self.entries
-            .push(InternedStr::Static(text.as_bytes()))
-            .map_err(InternError::Memory)?;
+        self.entries.push(InternedStr::Static(text.as_bytes()))?;
         Ok(symbol)
     }
 

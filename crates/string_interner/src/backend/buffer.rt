@@ -163,9 +163,9 @@ impl<S: Symbol> Backend for BufferBackend<S> {
         let symbol = self.next_symbol().ok_or(InternError::NoSymbol)?;
         let len = digit_count(text.len())
             .checked_add(text.len())
-            .ok_or(InternError::Memory(AllocError))?;
+            .ok_or(AllocError)?;
         // Allocates before it stores anything, so that nothing changes on `Err`.
-        reserve_items(&mut self.bytes, len).map_err(InternError::Memory)?;
+        reserve_items(&mut self.bytes, len)?;
         push_number(&mut self.bytes, text.len());
         self.bytes.extend_from_slice(text.as_bytes()).unwrap();
         self.count += 1;

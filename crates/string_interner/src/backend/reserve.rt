@@ -1,5 +1,5 @@
-//! How the lists of a backend grow: they double until they take 1 MiB, and then grow by a quarter, which leaves at most a
-//! fifth of a list spare. The last doubling, to nearly 2 MiB, can leave half of it spare.
+//! How the lists of a backend, and lists of numbers, grow: they double until they take 1 MiB, and then grow by a quarter, which
+//! leaves at most a fifth of a list spare. The last doubling, to nearly 2 MiB, can leave half of it spare.
 //!
 //! What grows a list is never inlined, so that it stays out of the hot path of its callers.
 

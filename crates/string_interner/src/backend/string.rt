@@ -9,13 +9,14 @@ ghost use Rattle.std.proofs.Common.{rules};
 ghost use Rattle.string_interner.specs.Backend.{Contents, IsValidList, Shrinks};
 ghost use Rattle.string_interner.specs.Text.{texts_eq, texts_eq-IsEquivalence};
 ghost use Rattle.string_interner.specs.Iter.{iter_over};
-ghost use Rattle.string_interner.specs.StringBackend.{string_numbering};
+ghost use Rattle.string_interner.specs.StringBackend.{IsCut, string_numbering};
 ghost use Rattle.string_interner.specs.ByIndexLaws.{length_grows, reads_at_length};
 
 use crate::backend::reserve::grow_bytes;
 use crate::backend::{Backend, CopyBackend, InternError, Iter};
+use crate::number_list::NumberList;
 use crate::symbol::{DefaultSymbol, Symbol};
-use ends::Ends;
+use ends::{find_span, span, start_of};
 use std::alloc::{AllocError, Global};
 use std::marker::{Model, PhantomData};
 
@@ -28,7 +29,7 @@ use std::marker::{Model, PhantomData};
 #[derive(Drop)]
 pub struct StringBackend<S: Symbol = DefaultSymbol> {
     joined: String,
-    ends: Ends,
+    ends: NumberList,
     symbols: PhantomData<S>,
 }
 
@@ -53,6 +54,18 @@ impl<S: Symbol> Model for StringBackend<S> {
 }
 
 impl<S: Symbol> StringBackend<S> {
+    /// Returns all texts joined, and the end of each in bytes: a text begins where the one before it ends. Takes constant time.
+    ///
+    /// ```
+    /// let (joined, ends) = names.backend().as_parts();
+    /// let second = &joined[ends.at(0)..ends.at(1)];
+    /// ```
+    pub fn as_parts(&self) -> (&str, &NumberList)
+        ensures { IsCut result.0.now result.1.now.items self.now.texts }
+    {
+        (&self.joined, &self.ends)
+    }
+
     /// Returns the text of entry `index`.
     #[inline(always)]
     fn text_at(&self, index: usize) -> &str
@@ -60,7 +73,7 @@ impl<S: Symbol> StringBackend<S> {
         ensures text { slice_get self.now.texts index ≡ Some result.now }
         ensures valid { IsValidList S.symbol_of length self.now.texts }
     {
-        let (start, end) = self.ends.span(index);
+        let (start, end) = span(&self.ends, index);
         &self.joined[start..end]
     }
 
@@ -69,7 +82,7 @@ impl<S: Symbol> StringBackend<S> {
     fn find_text(&self, index: usize) -> Option<&str>
         ensures { option_copied result ≡ slice_get self.now.texts index }
     {
-        match self.ends.span_at(index) {
+        match find_span(&self.ends, index) {
             Some((start, end)) => Some(&self.joined[start..end]),
             None => None,
         }
@@ -91,7 +104,7 @@ impl<S: Symbol> Backend for StringBackend<S> {
     fn new(alloc: Global) -> Self {
         StringBackend {
             joined: String::new(alloc),
-            ends: Ends::new(alloc),
+            ends: NumberList::new(alloc),
             symbols: PhantomData,
         }
     }
@@ -107,7 +120,7 @@ impl<S: Symbol> Backend for StringBackend<S> {
         let bytes = capacity.checked_mul(5).ok_or(AllocError)?;
         Ok(StringBackend {
             joined: String::with_capacity(alloc, bytes)?,
-            ends: Ends::with_capacity(alloc, capacity, bytes)?,
+            ends: NumberList::with_capacity(alloc, capacity, bytes)?,
             symbols: PhantomData,
         })
     }
@@ -125,10 +138,10 @@ impl<S: Symbol> Backend for StringBackend<S> {
         let symbol = self.next_symbol().ok_or(InternError::NoSymbol)?;
         // Allocates before it stores anything, so that nothing changes on `Err`.
         if text.len() > self.joined.capacity() - self.joined.len() {
-            grow_bytes(&mut self.joined, text.len()).map_err(InternError::Memory)?;
+            grow_bytes(&mut self.joined, text.len())?;
         }
         let end = self.joined.len() + text.len();
-        self.ends.reserve(end).map_err(InternError::Memory)?;
+        self.ends.reserve(end)?;
         self.joined.push_str(text).unwrap();
         self.ends.push_reserved(end);
         Ok(symbol)
@@ -157,7 +170,7 @@ impl<S: Symbol> Backend for StringBackend<S> {
 
     fn truncate(&mut self, len: usize) {
         if len < self.ends.len() {
-            self.joined.truncate(self.ends.start_at(len));
+            self.joined.truncate(start_of(&self.ends, len));
             self.ends.truncate(len);
         }
     }

@@ -38,8 +38,5 @@ pub type Index<S> = Table<S, Slots<S>>;
 /// ```
 pub type TaggedIndex<S> = Table<S, TaggedSlots<S>>;
 
-/// The former name of [`TaggedIndex`], for callers that use it.
-pub type WindowIndex<S> = TaggedIndex<S>;
-
 /// The index that an interner has if no other is named.
 pub type DefaultIndex<S> = Index<S>;

@@ -16,12 +16,51 @@ use crate::dedup::TextIndex;
 use crate::hash::TextHasher;
 use crate::symbol::Symbol;
 
+/// An interner of fewer texts is taken to fit the processor's cache. There a block takes longer than its texts one by one.
+pub const FEWEST_FOR_BLOCKS: usize = 1 << 15;
+
 /// How many texts a block has at most.
 pub const BLOCK_LEN: usize = 32;
 
+/// A block in which fewer texts are found takes longer than its texts one by one, since the others are then looked up again.
+const FEWEST_FOUND: usize = BLOCK_LEN / 4;
+
+/// So many texts after such a block are interned one by one, which makes the cost of trying blocks small.
+pub const TEXTS_ALONE: usize = 15 * BLOCK_LEN;
+
+/// Looks for the texts of a block: stores their codes and the numbers of the symbols that it finds, so that they wait for memory
+/// together. A text may be known although no number is stored.
+///
+/// Returns how many texts are best interned one by one before the next block.
+#[inline(always)]
+pub fn look_for<B: Backend, H: TextHasher, I: TextIndex<B::Symbol>>(
+    backend: &B,
+    hasher: &H,
+    index: &I,
+    texts: &[&str],
+    codes: &mut [u64],
+    known: &mut [Option<usize>],
+) -> usize
+    requires sound { IsSoundIndex B.numbering I.indexes (H.code hasher.now) I.entries
+        index.now (B.texts backend.now) }
+    requires few { length texts.now ≤ 32 }
+    requires codes_count { length codes.old ≡ length texts.now }
+    requires known_count { length known.old ≡ length texts.now }
+    ensures codes_count { length codes.new ≡ length codes.old }
+    ensures codes { AreCodes (H.code hasher.now) texts.now codes.new }
+    ensures known_count { length known.new ≡ length known.old }
+    ensures known { AreKnown B.Symbol.symbol_of B.numbering (B.texts backend.now) texts.now
+        known.new }
+{
+    hash_each(hasher, texts, codes);
+    guess_each(index, backend, codes, known);
+    check_each(backend, texts, known);
+    texts_alone(known)
+}
+
 /// Stores the code of each text.
 #[inline(always)]
-pub fn hash_each<H: TextHasher>(hasher: &H, texts: &[&str], codes: &mut [u64])
+fn hash_each<H: TextHasher>(hasher: &H, texts: &[&str], codes: &mut [u64])
     requires { length codes.old ≡ length texts.now }
     ensures count { length codes.new ≡ length codes.old }
     ensures codes { AreCodes (H.code hasher.now) texts.now codes.new }
@@ -35,7 +74,7 @@ pub fn hash_each<H: TextHasher>(hasher: &H, texts: &[&str], codes: &mut [u64])
 ///
 /// It stores numbers, because an array of a symbol type would have a size that only the caller knows.
 #[inline(always)]
-pub fn guess_each<B: Backend, I: TextIndex<B::Symbol>>(
+fn guess_each<B: Backend, I: TextIndex<B::Symbol>>(
     index: &I,
     backend: &B,
     codes: &[u64],
@@ -51,6 +90,13 @@ pub fn guess_each<B: Backend, I: TextIndex<B::Symbol>>(
     for (at, code) in codes.iter().enumerate() {
         guesses[at] = guess_number(index, backend, *code);
     }
+}
+
+/// Returns how many texts are interned one by one after a block of which this is known.
+#[inline(always)]
+fn texts_alone(known: &[Option<usize>]) -> usize {
+    let found = known.iter().filter(|number| number.is_some()).count();
+    if found < FEWEST_FOUND { TEXTS_ALONE } else { 0 }
 }
 
 /// Returns the number of the symbol that the index guesses for a code.
@@ -74,7 +120,7 @@ fn guess_number<B: Backend, I: TextIndex<B::Symbol>>(
 ///
 /// All guesses are resolved before the first text is compared, because a text can be read only once its address is loaded.
 #[inline(always)]
-pub fn check_each<B: Backend>(backend: &B, texts: &[&str], guesses: &mut [Option<usize>])
+fn check_each<B: Backend>(backend: &B, texts: &[&str], guesses: &mut [Option<usize>])
     requires few { length texts.now ≤ 32 }
     requires count { length guesses.old ≡ length texts.now }
     requires texts { IsInternerList B.numbering (B.texts backend.now) }
@@ -127,7 +173,7 @@ fn resolve_guess<B: Backend>(backend: &B, guess: Option<usize>) -> &str
 
 /// Returns the symbol with this number, if any.
 #[inline(always)]
-fn symbol_with<S: Symbol>(number: Option<usize>) -> Option<S>
+pub fn symbol_with<S: Symbol>(number: Option<usize>) -> Option<S>
     ensures { result ≡ option_and_then S.symbol_of number }
 {
     match number {

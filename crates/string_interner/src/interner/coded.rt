@@ -45,9 +45,7 @@ pub fn intern_coded<B: Backend, H: TextHasher, I: TextIndex<B::Symbol>>(
     if backend.next_symbol().is_none() {
         return Err(InternError::NoSymbol);
     }
-    if let Err(error) = index.reserve_one(hasher, backend) {
-        return Err(InternError::Memory(error));
-    }
+    index.reserve_one(hasher, backend)?;
     let symbol = given.store_in(backend)?;
     index.insert_at(vacancy, symbol);
     Ok(symbol)

@@ -1,7 +1,6 @@
 //! Interning the texts of an iterator.
 
-ghost use Rattle.std.specs.Iterator.{IsFiniteIterable};
-ghost use Rattle.string_interner.specs.Extend.{Extends, Collects, YieldedBy};
+ghost use Rattle.string_interner.specs.Extend.{Extends, Collects, IsFinite, YieldedBy};
 
 use super::StringInterner;
 use crate::backend::{Backend, InternError};
@@ -12,7 +11,8 @@ use std::alloc::Global;
 impl<B: Backend, H: TextHasher, I: TextIndex<B::Symbol>> StringInterner<B, H, I> {
     /// Interns the texts of a finite iterator in order, and stops at the first that fails.
     ///
-    /// The texts before it stay, and the iterator is not advanced after it. It fails as in `get_or_intern`; so none
+    /// The texts before it stay, and the iterator is not advanced after it; so texts are looked for one by one, and in a
+    /// large interner `intern_slice` may be faster. It fails as in `get_or_intern`; so none
     /// fails for memory if the new texts fit the spare capacity of the backend and of the index. If all texts are
     /// known, nothing changes. On `Ok` the slot count is unchanged if the load factor allows all texts, and else the
     /// least that it allows. So it is for the texts before one that fails; `NoSymbol` leaves it there, and `Memory` may
@@ -21,10 +21,9 @@ impl<B: Backend, H: TextHasher, I: TextIndex<B::Symbol>> StringInterner<B, H, I>
         &mut self,
         iter: T,
     ) -> Result<(), InternError>
-        requires { IsFiniteIterable T.into_iter_gives T.IntoIter.can_next
-            T.IntoIter.remaining iter }
-        ensures { Extends B.numbering I.rule
-            (YieldedBy T.into_iter_gives T.IntoIter.next_gives iter) self.old result self.new }
+        requires { IsFinite T.IntoIterator T.IntoIter.Iterator iter }
+        ensures { Extends B.numbering I.rule (YieldedBy T.IntoIterator T.IntoIter.Iterator iter)
+            self.old result self.new }
     {
         // For the proof: states the load factor before the first text.
         let _ = self.len();
@@ -49,10 +48,9 @@ impl<
         alloc: Global,
         iter: T,
     ) -> Result<Self, InternError>
-        requires { IsFiniteIterable T.into_iter_gives T.IntoIter.can_next
-            T.IntoIter.remaining iter }
-        ensures { Collects B.numbering I.rule
-            (YieldedBy T.into_iter_gives T.IntoIter.next_gives iter) result }
+        requires { IsFinite T.IntoIterator T.IntoIter.Iterator iter }
+        ensures { Collects B.numbering I.rule (YieldedBy T.IntoIterator T.IntoIter.Iterator iter)
+            result }
     {
         let mut interner = StringInterner::new(alloc);
         interner.extend(iter)?;

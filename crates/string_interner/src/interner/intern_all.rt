@@ -1,18 +1,14 @@
 //! Interning the texts of an iterator into a list of their symbols.
 
 ghost use Rattle.std.specs.Prelude.{◌≤◌, [], ◌∷◌, length, vec_capacity};
-ghost use Rattle.std.specs.Iterator.{IsFiniteIterable};
-ghost use Rattle.string_interner.specs.Extend.{YieldedBy};
+ghost use Rattle.string_interner.specs.Extend.{IsFinite, YieldedBy};
 ghost use Rattle.string_interner.specs.InternAll.{InternsEach, Lists};
 
 use super::StringInterner;
-use super::block::{BLOCK_LEN, check_each, guess_each, hash_each, intern_each};
+use super::block::{BLOCK_LEN, FEWEST_FOR_BLOCKS, intern_each, look_for};
 use crate::backend::{Backend, InternError};
 use crate::dedup::TextIndex;
 use crate::hash::TextHasher;
-
-/// An interner of fewer texts is taken to fit the processor's cache. There a block takes longer than its texts one by one.
-const FEWEST_FOR_BLOCKS: usize = 1 << 15;
 
 impl<B: Backend, H: TextHasher, I: TextIndex<B::Symbol>> StringInterner<B, H, I> {
     /// Interns the texts of a finite iterator in order, as `extend` does, and appends the symbol of each to a list: a
@@ -23,8 +19,8 @@ impl<B: Backend, H: TextHasher, I: TextIndex<B::Symbol>> StringInterner<B, H, I>
     /// that no text is interned whose symbol is lost. Beyond what `extend` returns `Err` for, this returns `Memory` if the
     /// list is full and cannot grow: never, if it has spare capacity for all texts.
     ///
-    /// In a large interner 32 texts are looked for together, which takes less time than one after another. So the iterator
-    /// may have been advanced past the text that fails, by up to 31 texts.
+    /// In a large interner 32 texts are looked for together, which takes less time than one after another if many of them are
+    /// known. So the iterator may have been advanced past the text that fails, by up to 31 texts.
     ///
     /// ```
     /// let mut symbols = Vec::new(alloc);
@@ -35,33 +31,36 @@ impl<B: Backend, H: TextHasher, I: TextIndex<B::Symbol>> StringInterner<B, H, I>
         texts: T,
         symbols: &mut Vec<B::Symbol>,
     ) -> Result<(), InternError>
-        requires { IsFiniteIterable T.into_iter_gives T.IntoIter.can_next
-            T.IntoIter.remaining texts }
+        requires { IsFinite T.IntoIterator T.IntoIter.Iterator texts }
         ensures { InternsEach B.numbering I.rule
-            (YieldedBy T.into_iter_gives T.IntoIter.next_gives texts)
+            (YieldedBy T.IntoIterator T.IntoIter.Iterator texts)
             (self.old, symbols.old) result (self.new, symbols.new) }
     {
         // For the proof: states the load factor before the first text.
         let _ = self.len();
         let mut block = [""; BLOCK_LEN];
         let mut len = 0;
+        // How many texts are still interned one by one.
+        let mut alone: usize = 0;
         for text in texts {
             // A block that has begun is filled first, so that texts stay in order.
-            if len == 0 && self.len() < FEWEST_FOR_BLOCKS {
+            let is_alone = len == 0 && (alone > 0 || self.len() < FEWEST_FOR_BLOCKS);
+            if is_alone {
                 self.intern_next(text, symbols)?;
+                alone = alone.saturating_sub(1);
                 continue;
             }
             block[len] = text;
             len += 1;
             if len == BLOCK_LEN {
-                self.intern_block(&block, symbols)?;
+                self.intern_block(&block, symbols, &mut alone)?;
                 len = 0;
             }
         }
         if len == 0 {
             return Ok(());
         }
-        self.intern_block(&block[..len], symbols)
+        self.intern_block(&block[..len], symbols, &mut alone)
     }
 
     /// Interns a text, and appends its symbol to a list.
@@ -82,11 +81,14 @@ impl<B: Backend, H: TextHasher, I: TextIndex<B::Symbol>> StringInterner<B, H, I>
 
     /// Interns the texts of a block in order, and appends the symbol of each to a list. Stops at the first text that fails.
     ///
-    /// Hashes each text once. A text whose guess was wrong or missing is then looked up by itself.
+    /// Hashes each text once. A text whose guess was wrong or missing is then looked up by itself. Stores in `alone` how
+    /// many texts are best interned one by one before the next block.
+    #[inline(never)]
     fn intern_block(
         &mut self,
         texts: &[&str],
         symbols: &mut Vec<B::Symbol>,
+        alone: &mut usize,
     ) -> Result<(), InternError>
         requires { length texts.now ≤ 32 }
         ensures interns { InternsEach B.numbering I.rule (Lists texts.now)
@@ -95,11 +97,16 @@ impl<B: Backend, H: TextHasher, I: TextIndex<B::Symbol>> StringInterner<B, H, I>
     {
         let mut codes = [0; BLOCK_LEN];
         let codes = &mut codes[..texts.len()];
-        hash_each(&self.hasher, texts, codes);
         let mut known = [None; BLOCK_LEN];
         let known = &mut known[..texts.len()];
-        guess_each(&self.index, &self.backend, codes, known);
-        check_each(&self.backend, texts, known);
+        *alone = look_for(
+            &self.backend,
+            &self.hasher,
+            &self.index,
+            texts,
+            codes,
+            known,
+        );
         intern_each(
             &mut self.backend,
             &self.hasher,

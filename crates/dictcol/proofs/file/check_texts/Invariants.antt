@@ -5,4 +5,4 @@ use Rattle.dictcol.proofs.file.check_texts.Given as goal
 
 -- a newline is only in the texts ahead
 abbrev pub invariant-loop-text : goal.invariant-loop-text
-invariant-loop-text l = list_any has_newline l.text-iterator.ahead ≡ list_any has_newline l.dictionary.texts
+invariant-loop-text g l = list_any has_newline l.text-iterator.ahead ≡ list_any has_newline l.dictionary.texts

@@ -4,4 +4,4 @@ use Rattle.dictcol.proofs.HoldsLines.{reads-as}
 use Rattle.dictcol.proofs.file.read.Goals as goal
 
 pub returns-clause-err : goal.returns-clause-err
-returns-clause-err c = IfErr-weaker c.read_value.result _ _ (λ fault not damage text. reads-as c.args.file.now text (view c.in_ok-value.value) c.in_ok-value.ensures.ok (not damage text)) c.read_value.ensures.err
+returns-clause-err g c = IfErr-weaker c.read_value.result _ _ (λ fault not damage text. reads-as c.args.file.now text (view c.in_ok-value.value) c.in_ok-value.ensures.ok (not damage text)) c.read_value.ensures.err

@@ -7,13 +7,13 @@ use Rattle.dictcol.proofs.Rows.{no-entry, one-entry}
 use Rattle.dictcol.proofs.file.read_codes.Goals as goal
 
 pub returns-then-index-len-clause-err : goal.returns-then-index-len-clause-err
-returns-then-index-len-clause-err c =
+returns-then-index-len-clause-err g c =
     let is : option_and_then as_u64 (as_number (view c.number-item.result)) ≡ Some c.in_ok-index.index = search rules in
     let outside : length c.args.dictionary.now.texts ≤ c.in_ok-index.index = search rules in
     λ damage. no-entry c.args.dictionary.now.texts _ _ _ _ c.loop-number.codes.items c.loop-number.invariant.so_far (next_element _ _ _ c.loop-number-test.true c.number-item.is) c.in_ok-index.index is outside
 
 pub loop-number-preserved : goal.loop-number-preserved
-loop-number-preserved c =
+loop-number-preserved g c =
     let is : option_and_then as_u64 (as_number (view c.number-item.result)) ≡ Some c.in_ok-index.index = search rules in
     let within : c.in_ok-index.index < length c.args.dictionary.now.texts = search rules in
     let pushed : c.push.new.self.items ≡ c.loop-number.codes.items ++ c.in_ok-index.index ∷ [] = search rules in

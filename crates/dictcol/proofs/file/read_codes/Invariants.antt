@@ -6,7 +6,7 @@ use Rattle.dictcol.proofs.file.read_codes.Given as goal
 
 -- the rows of the codes so far and those of the numbers ahead are all
 abbrev pub invariant-loop-number : goal.invariant-loop-number
-invariant-loop-number l = record {
+invariant-loop-number g l = record {
   so_far : indexed_texts l.dictionary.texts (items_view l.numbers)
       ≡ option_map (λ rest. rows_of l.dictionary.texts l.codes.items ++ rest) (indexed_texts l.dictionary.texts (items_view (drop l.number-index l.numbers)));
   within : All (λ code. code < length l.dictionary.texts) l.codes.items;

@@ -9,13 +9,13 @@ use Rattle.dictcol.proofs.HoldsLines.{more-than-a-line, no-index}
 use Rattle.dictcol.proofs.file.read_value.Goals as goal
 
 pub returns-in_err-check_texts-clause-err : goal.returns-in_err-check_texts-clause-err
-returns-in_err-check_texts-clause-err c =
+returns-in_err-check_texts-clause-err g c =
     let dictionary = c.in_ok-dictionary.dictionary.texts in
     let has : IfErr c.from_residual-in_err-check_texts.result (λ fault. list_any has_newline c.in_ok-dictionary.dictionary.texts ≡ true) = search rules in
     IfErr-weaker c.from_residual-in_err-check_texts.result _ _ (λ fault has_it damage. more-than-a-line (view c.args.file.now) dictionary c.in_ok-dictionary.ensures.ok has_it) has
 
 pub returns-in_err-codes-clause-err : goal.returns-in_err-codes-clause-err
-returns-in_err-codes-clause-err c =
+returns-in_err-codes-clause-err g c =
     let dictionary = c.in_ok-dictionary.dictionary.texts in
     let numbers = items_view c.in_ok-find_numbers.field-0.now.items in
     let none : IfErr c.from_residual-in_err-codes.result (λ fault. IsDamage fault → indexed_texts c.in_ok-dictionary.dictionary.texts (items_view c.in_ok-find_numbers.field-0.now.items) ≡ None) = search rules in

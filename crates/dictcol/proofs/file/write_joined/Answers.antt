@@ -10,4 +10,4 @@ loop-row-preserved g c =
     let within : c.at.result < length c.args.texts.now = rw c.at.ensures (c.requires c.loop-row.row 0 inside) in
     let none : Bor Text = record { ref_ptr = (0, 0); now = [] } in
     let text = rows-more c.args.texts.now c.args.codes.now.items c.loop-row.row c.at.result none inside c.at.ensures within in
-    rw text (Appends-trans _ _ _ _ _ c.loop-row.invariant c.in_ok-write_line.ensures.written)
+    rw text (Appends-trans _ _ _ _ _ c.loop-row.invariant c.in_ok-write_line.ensures)

@@ -6,10 +6,10 @@ use Rattle.dictcol.proofs.stream.read_texts.Given as goal
 
 -- the texts so far were read, and none has a newline
 abbrev pub invariant-texts : goal.invariant-texts
-invariant-texts l = record {
+invariant-texts g l = record {
   so_far : l.initial.reader ≡ map string l.dictionary.texts ++ l.reader;
   plain : list_any has_newline l.dictionary.texts ≡ false;
 }
 
 abbrev pub decreases-texts : goal.decreases-texts
-decreases-texts l = length l.reader
+decreases-texts g l = length l.reader

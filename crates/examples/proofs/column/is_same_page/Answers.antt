@@ -37,7 +37,7 @@ same_row dictionary distinct (Some c) (Some d) x y at_x at_y = (
 
 pub returns : goal.returns
 returns c =
-    let distinct = rw c.dictionary.ensures at c.len.ensures.texts.distinct in
+    let distinct = rw c.dictionary.ensures at c.len.ensures.holds.texts.distinct in
     let dictionary = dictionary_of c.args.visits.now in
     let codes = c.codes-codes.result.now.items in
     let row = has_row dictionary codes c.args.visits.now c.codes-codes.ensures in

@@ -25,4 +25,4 @@ seen numbering eq outer entered inner told text symbol found enters stands keeps
 
 pub returns : goal.returns
 returns c =
-    c.eq-seen.ensures ∙ seen _ _ c.declare.new.self c.enter.new.self c.declare-2.new.self _ _ _ _ c.in_ok-enter.ensures.layers c.in_ok-width.ensures.interns.stands c.in_ok-declare.ensures.interns.keeps c.interner.ensures c.len.ensures.equal c.find.ensures.stands
+    c.eq-seen.ensures ∙ seen _ _ c.declare.new.self c.enter.new.self c.declare-2.new.self _ _ _ _ c.in_ok-enter.ensures.layers c.in_ok-width.ensures.interns.stands c.in_ok-declare.ensures.interns.keeps c.interner.ensures c.len.ensures.holds.equal c.find.ensures.stands

@@ -12,11 +12,15 @@ use Rattle.string_interner.specs.Backend.{Appends}
 use Rattle.string_interner.specs.SlotRule.{SlotRule, IsLoaded, IsLeastSlotCount, GrowsFor, IsSlotRule}
 use Rattle.string_interner.specs.Interner.{InternerContents, IsNew, Interns, InternsInto, entry_symbol}
 use Rattle.string_interner.proofs.Lemmas.Index.SlotRule.{GrowsFor-room, least-grown}
-use Rattle.string_interner.specs.Extend.{texts_of, fresh, IsMemory, InternsAll, TakesIn, StopsAt, Extends, Collects, InternsInOrder, YieldedBy}
+use Rattle.string_interner.specs.Extend.{texts_of, fresh, IsMemory, InternsAll, TakesIn, StopsAt, Extends, Collects, InternsInOrder}
 use Rattle.string_interner.proofs.Laws.{refused-keeps}
 use Rattle.string_interner.specs.declared.backend.InternError.{InternError}
 use Rattle.string_interner.specs.declared.backend.InternError.TheVariants.{NoSymbol, Memory}
 use Rattle.string_interner.specs.Numbering.{Numbering}
+
+-- what `YieldedBy` says, of the members of its records: those of known types are found by unification, and records are not
+abbrev pub YieldedFrom : {I W A : Type 0} → (I → W → Type 0) → (W → Option A → W → Type 0) → I → List A → Option A → Type 0
+YieldedFrom {I} {W} becomes steps iter items next = (walk : W) × becomes iter walk × (rest : W) × YieldsThen steps walk items next rest
 
 -- two lists that make none together are empty
 append-empty : (xs ys : List Text) → xs ++ ys ≡ [] → (xs ≡ []) × (ys ≡ [])
@@ -171,7 +175,7 @@ module _ {S : Type 0} (numbering : Numbering S) where
     -- an extension that a refused item ended
     pub extends-refused : (rule : SlotRule) (laws : IsSlotRule rule) {I W : Type 0} (becomes : I → W → Type 0) (steps : W → Option (Bor Text) → W → Type 0) (iter : I) (walk rest : W) (items : List (Bor Text)) (item : Bor Text) (old mid new : InternerContents) (error : InternError) (outcome : Result (Unit {0}) InternError)
         → becomes iter walk → YieldsThen steps walk items (Some item) rest → outcome ≡ Err error → TakesIn numbering old (texts_of items) mid → InternsInto numbering rule mid item.now (Err error) new
-        → GrowsFor rule (length mid.texts) old.slot_count mid.slot_count → Extends numbering rule (YieldedBy becomes steps iter) old outcome new
+        → GrowsFor rule (length mid.texts) old.slot_count mid.slot_count → Extends numbering rule (YieldedFrom becomes steps iter) old outcome new
     extends-refused rule laws becomes steps iter walk rest items item old mid new error outcome b y e taken call grown = rw e (
       items,
       mid,
@@ -186,7 +190,7 @@ module _ {S : Type 0} (numbering : Numbering S) where
     collects-refused rule yields empty front error outcome is_new e extends = rw e (empty, is_new, (front, extends))
 
 -- an iteration that is drained yields its items and ends
-pub drained-by : {I W A : Type 0} (becomes : I → W → Type 0) (steps : W → Option A → W → Type 0) (iter : I) (walk : W) (items : List A) → becomes iter walk → Drains steps walk items → YieldedBy becomes steps iter items None
+pub drained-by : {I W A : Type 0} (becomes : I → W → Type 0) (steps : W → Option A → W → Type 0) (iter : I) (walk : W) (items : List A) → becomes iter walk → Drains steps walk items → YieldedFrom becomes steps iter items None
 drained-by becomes steps iter walk items b drains = (walk, b, drains.0, drains.1)
 
 -- an iteration goes on to one more item
@@ -201,7 +205,7 @@ yields-front steps (z ∷ zs) x after s u (j, sj, more) = let r = yields-front s
 
 -- so it yields each front of what waits behind other items
 pub yielded-front : {I W A : Type 0} (becomes : I → W → Type 0) (steps : W → Option A → W → Type 0) (iter : I) (walk u : W) (done block all : List A) → becomes iter walk → all ≡ done ++ block → Yields steps walk all u
-    → (front : List A) (x : A) (rest : List A) → block ≡ front ++ x ∷ rest → YieldedBy becomes steps iter (done ++ front) (Some x)
+    → (front : List A) (x : A) (rest : List A) → block ≡ front ++ x ∷ rest → YieldedFrom becomes steps iter (done ++ front) (Some x)
 yielded-front {A = A} becomes steps iter walk u done block all b e y front x rest is =
     let f = yields-front steps (done ++ front) x rest walk u (subst (λ (xs : List A). Yields steps walk xs u) (e ∙ ap (λ zs. done ++ zs) is ∙ sym (append_assoc done front (x ∷ rest))) y) in
     (walk, b, f.0, f.1)
@@ -222,7 +226,7 @@ fronted steps (z ∷ zs) s t u x (y ∷ ys) (j, sj, more) st always = let m = al
 
 -- an interner that is extended by what yields a list interns its texts in order
 pub in-order : {S : Type 0} (numbering : Numbering S) (rule : SlotRule) {I W : Type 0} (becomes : I → W → Type 0) (steps : W → Option (Bor Text) → W → Type 0) (iter : I) (old new : InternerContents) (outcome : Result (Unit {0}) InternError) (all : List (Bor Text))
-    → Extends numbering rule (YieldedBy becomes steps iter) old outcome new → ((walk : W) → becomes iter walk → YieldsList steps (λ x. x) walk all) → InternsInOrder numbering old.texts (texts_of all) outcome new.texts
+    → Extends numbering rule (YieldedFrom becomes steps iter) old outcome new → ((walk : W) → becomes iter walk → YieldsList steps (λ x. x) walk all) → InternsInOrder numbering old.texts (texts_of all) outcome new.texts
 in-order numbering rule becomes steps iter old new (Ok done) all (items, mid, taken, grown, ((walk, b, rest, y), same)) lists =
     rw (ap (λ (i : InternerContents). i.texts) same, drained steps items walk y.0 rest all y.1 y.2 (lists walk b).runs) taken.interned
 in-order numbering rule becomes steps iter old new (Err error) all (items, mid, taken, grown, (item, (walk, b, left, yields), stops)) lists =
@@ -238,7 +242,7 @@ in-order numbering rule becomes steps iter old new (Err error) all (items, mid, 
 
 -- an extension whose texts are all known changes nothing
 pub known-unchanged : {S : Type 0} (numbering : Numbering S) (rule : SlotRule) {I W : Type 0} (becomes : I → W → Type 0) (steps : W → Option (Bor Text) → W → Type 0) (iter : I) (old new : InternerContents) (outcome : Result (Unit {0}) InternError) (all : List (Bor Text))
-    → Extends numbering rule (YieldedBy becomes steps iter) old outcome new → ((walk : W) → becomes iter walk → YieldsList steps (λ x. x) walk all) → fresh old.texts (texts_of all) ≡ [] → new ≡ old
+    → Extends numbering rule (YieldedFrom becomes steps iter) old outcome new → ((walk : W) → becomes iter walk → YieldsList steps (λ x. x) walk all) → fresh old.texts (texts_of all) ≡ [] → new ≡ old
 known-unchanged numbering rule becomes steps iter old new (Ok done) all (items, mid, taken, grown, ((walk, b, rest, y), same)) lists none =
     let is = drained steps items walk y.0 rest all y.1 y.2 (lists walk b).runs in
     same ∙ taken.known (ap (λ (xs : List (Bor Text)). fresh old.texts (texts_of xs)) (sym is) ∙ none)

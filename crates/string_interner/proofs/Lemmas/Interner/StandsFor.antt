@@ -7,9 +7,10 @@ use Rattle.std.proofs.lemmas.List.{length-append, get_or_append_left, take_at, t
 use Rattle.std.proofs.Math.Seq.{get_or-append_seam}
 use Rattle.std.proofs.lemmas.List.Quantifiers.{all_pairs_push}
 use Rattle.string_interner.specs.Text.{Text, IsDistinct, first}
-use Rattle.string_interner.specs.Backend.{IsValidList, Appends}
+use Rattle.string_interner.specs.Backend.{BeginsAt, IsPlace, IsValidList, Appends}
 use Rattle.string_interner.specs.Interner.{Interns, entry_symbol, known_symbol}
 use Rattle.string_interner.specs.StandsFor.{StandsFor, KeepsSymbols, FindsSymbol, TellsApart, NumbersInOrder}
+use Rattle.string_interner.specs.EntryLaws.{entry_text-at}
 use Rattle.string_interner.specs.declared.backend.InternError.{InternError}
 use Rattle.string_interner.specs.declared.backend.InternError.TheVariants.{NoSymbol, Memory}
 use Rattle.string_interner.proofs.Lemmas.Texts.First.{first_within, first_is, first_none}
@@ -117,7 +118,27 @@ module _ {S : Type 0} (numbering : Numbering S) where
     stands-read reads texts symbol text kept stands =
         rw ((numbered (numbering.place (take stands.index texts)) symbol stands.symbol_is).0) (reads texts stands.index kept (slice_get_within texts stands.index text stands.entry) ∙ stands.entry)
 
+    -- a symbol at whose number an entry begins stands for that entry's text
+    pub stands-placed : ((a b : S) → numbering.number a ≡ numbering.number b → a ≡ b) → (texts : List Text) (symbol : S) (text : Text) → IsValidList numbering.symbol_of numbering.place texts
+        → IsPlace numbering.place texts (numbering.number symbol) → ((i : ℕ) → BeginsAt numbering.place texts (numbering.number symbol) i → slice_get texts i ≡ Some text) → StandsFor numbering texts symbol text
+    stands-placed injective texts symbol text kept place each = record {
+      index = place.0;
+      entry = each place.0 place.1;
+      symbol_is = of (entry_symbol numbering texts place.0) (kept.has_symbols place.0 place.1.within) refl;
+    }
+      where
+        of : (o : Option S) → IsSome o → entry_symbol numbering texts place.0 ≡ o → o ≡ Some symbol
+        of None some is = absurd (let no : false ≡ true = some in cc)
+        of (Some other) some is = ap Some (injective other symbol ((numbered (numbering.place (take place.0 texts)) other is).0 ∙ place.1.begins))
+
     module _ (grows : (texts : List Text) (text : Text) → numbering.place texts < numbering.place (texts ++ text ∷ [])) where
+      -- the entry that begins at a symbol's number is the text that the symbol stands for
+      pub stands-at : (texts : List Text) (symbol : S) (text : Text) (i : ℕ) → StandsFor numbering texts symbol text → BeginsAt numbering.place texts (numbering.number symbol) i → slice_get texts i ≡ Some text
+      stands-at texts symbol text i stands begins =
+          let here = entry_text-at numbering grows texts symbol i begins.within (sym begins.begins) in
+          let there = entry_text-at numbering grows texts symbol stands.index (slice_get_within texts stands.index text stands.entry) ((numbered (numbering.place (take stands.index texts)) symbol stands.symbol_is).0) in
+          sym here ∙ there ∙ stands.entry
+
       one_more : (texts : List Text) (j : ℕ) → j < length texts → numbering.place (take j texts) < numbering.place (take (suc j) texts)
       one_more texts j within =
           let longer : take (suc j) texts ≡ take j texts ++ get_or texts j [] ∷ [] = ap (λ (n : ℕ). take n texts) (sym (add-one j)) ∙ take_more texts j [] within in

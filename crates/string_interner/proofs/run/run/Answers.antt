@@ -22,5 +22,5 @@ loop-command-preserved g c = record {
 }
 
 pub returns-clause-as_a_list : goal.returns-clause-as_a_list
-returns-clause-as_a_list g c = Run-tells g.B.Backend.numbering (numbered g.B.Backend.numbering g.met.B.Backend.symbols g.met.B.Symbol.Symbol.numbered) g.met.B.Backend.grows g.met.B.Backend.reads _ _ _ _ c.len.ensures.texts.valid
+returns-clause-as_a_list g c = Run-tells g.B.Backend.numbering (numbered g.B.Backend.numbering g.met.B.Backend.symbols g.met.B.Symbol.Symbol.numbered) g.met.B.Backend.grows g.met.B.Backend.reads _ _ _ _ c.len.ensures.holds.texts.valid
     (rw (take_all c.loop-command.command-index c.args.commands.now c.loop-command-test.false) at c.loop-command.invariant.ran)

@@ -13,7 +13,7 @@ index_of-requires-clause-ascend g c =
     let new = c.get_or_intern.new.self.texts in
     let interned : Interns numbering old c.args.text.now (Ok c.in_ok-symbol.symbol) new = rw c.in_ok-symbol.was at c.get_or_intern.ensures.interns in
     let same : new ≡ old = known-same numbering old c.args.text.now c.in_ok-symbol.symbol new interned (omega (arith, c.self.invariant.count)) in
-    rw (c.deref.ensures.value, c.in_ok-reserve.ensures.items, ← g.met.B.Backend.symbols.1) (ascend numbering old c.self.inside.symbols.items (rw same at c.len.ensures.order) c.self.invariant)
+    rw (c.deref.ensures.value, c.in_ok-reserve.ensures.items, ← g.met.B.Backend.symbols.1) (ascend numbering old c.self.inside.symbols.items (rw same at c.len.ensures.holds.order) c.self.invariant)
 
 pub returns-then-len-index : goal.returns-then-len-index
 returns-then-len-index g c =
@@ -24,7 +24,7 @@ returns-then-len-index g c =
     let stands : StandsFor numbering new c.in_ok-symbol.symbol c.args.text.now = rw c.in_ok-symbol.was at c.get_or_intern.ensures.stands in
     let same : new ≡ old = known-same numbering old c.args.text.now c.in_ok-symbol.symbol new interned (omega (arith, c.self.invariant.count)) in
     let is = rw (c.deref.ensures.value, c.in_ok-reserve.ensures.items) at c.index_of.ensures in (
-      text-is numbering new c.self.inside.symbols.items c.len.ensures.order (rw same c.self.invariant) c.in_ok-symbol.symbol c.args.text.now c.index_of.result stands is,
+      text-is numbering new c.self.inside.symbols.items c.len.ensures.holds.order (rw same c.self.invariant) c.in_ok-symbol.symbol c.args.text.now c.index_of.result stands is,
       rw (← c.self.view_is) (interned-fresh numbering old c.args.text.now c.in_ok-symbol.symbol new interned),
     )
 

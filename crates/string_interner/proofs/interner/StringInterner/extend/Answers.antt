@@ -8,9 +8,9 @@ pub loop-text-preserved : goal.loop-text-preserved
 loop-text-preserved g c =
     let mid = c.loop-text.invariant in let call = c.in_ok-get_or_intern.ensures in record {
       taken = item-taken g.B.Backend.numbering g.I.TextIndex.rule _ _ _ _ _ _ mid.taken call;
-      grown = interned-slots g.B.Backend.numbering g.I.TextIndex.rule (λ len count. GrowsFor g.I.TextIndex.rule len c.args.self.now.slot_count count) _ _ _ _ call c.len-in-loop-text.ensures.loaded
+      grown = interned-slots g.B.Backend.numbering g.I.TextIndex.rule (λ len count. GrowsFor g.I.TextIndex.rule len c.args.self.now.slot_count count) _ _ _ _ call c.len-in-loop-text.ensures.holds.loaded
           (grown-more g.I.TextIndex.rule g.met.I.TextIndex.rule_laws _ _ _ _ mid.loaded.allowed mid.grown call.slots) mid.grown;
-      loaded = c.len-in-loop-text.ensures.loaded;
+      loaded = c.len-in-loop-text.ensures.holds.loaded;
     }
 
 pub returns-in_err-get_or_intern : goal.returns-in_err-get_or_intern

@@ -10,7 +10,7 @@ loop-index-preserved g c =
     let new = lengthened g.B.Backend.numbering _ _ _ _ c.in_ok-get_or_intern.ensures.interns (λ same. c.if-len-known.false (c.len.ensures.value ∙ same ∙ sym c.len-known.ensures.value)) in
     let call = c.in_ok-get_or_intern.ensures in record {
       reads = λ outcome more. c.loop-index.invariant.reads outcome (exact_more g.B.Backend.numbering _ _ _ _ _ _ (next_element _ _ _ c.loop-index-test.true c.index-elements-index.is) _ (search rules) _ _ new more);
-      slots = λ before. interned-least g.B.Backend.numbering g.I.TextIndex.rule g.met.I.TextIndex.rule_laws _ _ _ _ call c.len.ensures.loaded (c.loop-index.invariant.slots before);
+      slots = λ before. interned-least g.B.Backend.numbering g.I.TextIndex.rule g.met.I.TextIndex.rule_laws _ _ _ _ call c.len.ensures.holds.loaded (c.loop-index.invariant.slots before);
     }
 
 pub returns-in_default-clause-reads : goal.returns-in_default-clause-reads

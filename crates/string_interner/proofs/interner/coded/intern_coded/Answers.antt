@@ -2,6 +2,7 @@ use Rattle.std.proofs.Common.{◌≡◌, ℕ, ◌+◌, length, refl, sym, ap, su
 use Rattle.std.specs.Prelude.{OnErr}
 use Rattle.string_interner.specs.Text.{first}
 use Rattle.string_interner.specs.Given.{given_text}
+use Rattle.string_interner.specs.declared.backend.InternError.TheVariants.{Memory}
 use Rattle.string_interner.specs.SlotRule.{GrowsIfFull}
 use Rattle.string_interner.proofs.Lemmas.Backend.Numbering.{numbered, injective}
 use Rattle.string_interner.proofs.Lemmas.Index.SlotRule.{GrowsIfFull-reserved}
@@ -26,9 +27,11 @@ is_new g c = rw (← c.text.ensures) (new-text g.B.Backend.numbering (numbered g
 pub returns-then-is_none-clause-interns : goal.returns-then-is_none-clause-interns
 returns-then-is_none-clause-interns g c = (into-unnamed g.B.Backend.numbering g.I.TextIndex.rule _ _ c.requires.sound.texts (is_new g (goal.at.returns-then-is_none-clause-interns g c).In-Vacant) (search rules))
 
-pub returns-in-Err-clause-interns : goal.returns-in-Err-clause-interns
-returns-in-Err-clause-interns g c = (into-refused g.B.Backend.numbering g.I.TextIndex.rule _ _ _ _ c.requires.sound.texts (is_new g (goal.at.returns-in-Err-clause-interns g c).In-Vacant) (search rules, refl)
-    (λ some h. let e = (c.in-Err.ensures.had_room (subst (λ n. g.I.TextIndex.rule.holds (g.I.TextIndex.slots c.args.index.now) (n + 1)) (sym c.requires.sound.count) h)).0 in cc) (ap g.I.TextIndex.slots c.in-Err.ensures.err))
+pub returns-in_err-reserve_one-clause-interns : goal.returns-in_err-reserve_one-clause-interns
+returns-in_err-reserve_one-clause-interns g c =
+    let error = Memory c.in_err-reserve_one.field-0.0 in let is : c.from_residual.result ≡ Err error = search rules in
+    rw is (into-refused g.B.Backend.numbering g.I.TextIndex.rule _ _ _ error c.requires.sound.texts (is_new g (goal.at.returns-in_err-reserve_one-clause-interns g c).In-Vacant) (search rules, refl)
+    (λ some h. let e = (c.in_err-reserve_one.ensures.had_room (subst (λ n. g.I.TextIndex.rule.holds (g.I.TextIndex.slots c.args.index.now) (n + 1)) (sym c.requires.sound.count) h)).0 in cc) (ap g.I.TextIndex.slots c.in_err-reserve_one.ensures.err))
 
 -- a refusal leaves the slots
 unchanged : {T E I : Type 0} (slots : I → ℕ) (old new : I) (outcome : Result T E) → OnErr outcome (new ≡ old) → OnErr outcome (slots new ≡ slots old)

@@ -6,18 +6,18 @@ use Rattle.string_interner.proofs.Lemmas.BucketBackend.IsInBuckets.{stored-puts}
 use Rattle.string_interner.proofs.Lemmas.BucketBackend.AreCopies.{spent-puts}
 use Rattle.string_interner.proofs.Lemmas.BucketBackend.IsEntry.{last_span, last_packs-unless}
 use Rattle.string_interner.proofs.Lemmas.BucketBackend.Stays.{Stays-puts, Stays-same}
-use Rattle.string_interner.proofs.Lemmas.Results.{OnOk-passed, OnErr-failed, OnErr-always}
+use Rattle.string_interner.proofs.Lemmas.Results.{OnErr-always}
 use Rattle.string_interner.proofs.backend.bucket.BucketBackendBackend.intern.Goals as goal
 use Rattle.string_interner.proofs.backend.bucket.BucketBackendBackend.intern.Goals.{After-push_reserved, After-from_residual-in_err-interned}
 use Rattle.string_interner.proofs.backend.bucket.BucketBackendBackend.intern.Given.{Over}
 
 -- the text is put into the buckets
 puts : (g : Over) (c : After-push_reserved g) → Puts c.args.text.now c.self.inside.full.items c.self.inside.head c.store.new.full.items c.store.new.head
-puts g c = OnOk-passed c.store.result _ c.in_ok-interned.ensures.variant c.store.ensures.puts
+puts g c = c.in_ok-interned.ensures.puts
 
 -- on `Err` the buckets are unchanged
 same : (g : Over) (c : After-from_residual-in_err-interned g) → (c.store.new.full.items ≡ c.self.inside.full.items) × (c.store.new.head ≡ c.self.inside.head)
-same g c = OnErr-failed c.store.result _ c.in_err-interned.ensures.variant c.store.ensures.err
+same g c = c.in_err-interned.ensures.err
 
 -- the entry is the text at the end of the head, and comes last
 last : (g : Over) (c : After-push_reserved g) → IsLast c.args.text.now c.store.new.full.items c.store.new.head c.in_ok-interned.interned
@@ -36,7 +36,7 @@ push_reserved-requires-clause-span g c = last_span c.args.text.now c.store.new.f
 pub push_reserved-requires-clause-long : goal.push_reserved-requires-clause-long
 push_reserved-requires-clause-long g c =
     let last : IsLast c.args.text.now c.store.new.full.items c.store.new.head c.in_ok-interned.interned = search rules in
-    let room : c.is_long-is_long.result ≡ true → 0 < c.reserve.new.self.long_spare = OnOk-passed c.reserve.result _ c.in_ok-map_err.ensures.variant c.reserve.ensures.long in
+    let room : c.is_long-is_long.result ≡ true → 0 < c.reserve.new.self.long_spare = c.in_ok-reserve.ensures.long in
     last_packs-unless c.is_long-is_long.result _ c.args.text.now c.store.new.full.items c.store.new.head _ (λ short. omega (arith, c.is_long-is_long.ensures.short short)) room last
 
 pub returns-in_err-interned-clause-appends : goal.returns-in_err-interned-clause-appends

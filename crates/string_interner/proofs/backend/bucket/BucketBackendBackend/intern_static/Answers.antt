@@ -4,19 +4,18 @@ use Rattle.string_interner.specs.declared.backend.bucket.interned_str.InternedSt
 use Rattle.string_interner.specs.BucketBackend.{BucketContents, buckets_of, interned_text, IsInBuckets}
 use Rattle.string_interner.specs.Text.{Text}
 use Rattle.string_interner.proofs.Lemmas.BucketBackend.IsInBuckets.{stored-static}
-use Rattle.string_interner.proofs.Lemmas.Results.{OnOk-passed}
 use Rattle.string_interner.proofs.backend.bucket.BucketBackendBackend.intern_static.Goals as goal
-use Rattle.string_interner.proofs.backend.bucket.BucketBackendBackend.intern_static.Goals.{In_ok-map_err}
+use Rattle.string_interner.proofs.backend.bucket.BucketBackendBackend.intern_static.Goals.{In_ok-push}
 use Rattle.string_interner.proofs.backend.bucket.BucketBackendBackend.intern_static.Given.{Over}
 
 -- the entry comes last
-more : (g : Over) (c : In_ok-map_err g) → c.push.new.self.items ≡ c.self.inside.entries.items ++ Static c.as_bytes.result ∷ []
-more g c = OnOk-passed c.push.result _ c.in_ok-map_err.ensures.variant c.push.ensures.items
+more : (g : Over) (c : In_ok-push g) → c.push.new.self.items ≡ c.self.inside.entries.items ++ Static c.as_bytes.result ∷ []
+more g c = c.in_ok-push.ensures.items
 
 -- the text is stored
-stored : (g : Over) (c : In_ok-map_err g) → IsInBuckets g.S.Symbol.symbol_of c.self.inside.full.items c.self.inside.head c.push.new.self.items
+stored : (g : Over) (c : In_ok-push g) → IsInBuckets g.S.Symbol.symbol_of c.self.inside.full.items c.self.inside.head c.push.new.self.items
 stored g c =
-    let small : length c.push.new.self.items < 2 ^ 64 = OnOk-passed c.push.result _ c.in_ok-map_err.ensures.variant c.push.ensures.fits in
+    let small : length c.push.new.self.items < 2 ^ 64 = c.in_ok-push.ensures.fits in
     stored-static g.S.Symbol.symbol_of c.as_bytes.result _ _ _ _ c.self.invariant c.as_bytes.ensures.utf8 (rw (ap (λ (b : BucketContents). b.texts) c.self.view_is) (search rules)) (omega (arith, small, ap length (more g c), length_push c.self.inside.entries.items (Static c.as_bytes.result))) (more g c)
 
 pub invariant_of-self-2 : goal.invariant_of-self-2

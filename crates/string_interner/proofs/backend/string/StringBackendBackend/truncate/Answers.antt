@@ -11,11 +11,11 @@ use Rattle.string_interner.proofs.backend.string.StringBackendBackend.truncate.G
 pub truncate-requires : goal.truncate-requires
 truncate-requires g c = λ _.
     let b = start_boundary _ _ _ c.self.invariant.parts c.args.len (omega (arith, c.if-len.true, c.len.ensures, cut_length 0 (string_bytes c.self.inside.joined) c.self.inside.ends.items)) in
-    rw c.start_at.ensures (b.0, λ _. b.1)
+    rw c.start_of.ensures (b.0, λ _. b.1)
 
 -- the first texts stay
 stored : (g : Over) (c : After-truncate-then-len g) → (cut 0 (string_bytes c.truncate.new.self) c.truncate-then-len.new.self.items ≡ take c.args.len (cut 0 (string_bytes c.self.inside.joined) c.self.inside.ends.items)) × IsJoined g.S.Symbol.symbol_of (string_bytes c.truncate.new.self) c.truncate-then-len.new.self.items (cut 0 (string_bytes c.truncate.new.self) c.truncate-then-len.new.self.items)
-stored g c = stored-take g.S.Symbol.symbol_of _ _ _ _ c.args.len c.self.invariant (omega (arith, c.if-len.true, c.len.ensures)) (rw (← c.start_at.ensures) c.truncate.ensures.bytes) c.truncate-then-len.ensures.items
+stored g c = stored-take g.S.Symbol.symbol_of _ _ _ _ c.args.len c.self.invariant (omega (arith, c.if-len.true, c.len.ensures)) (rw (← c.start_of.ensures) c.truncate.ensures.bytes) c.truncate-then-len.ensures.items
 
 pub invariant_of-self : goal.invariant_of-self
 invariant_of-self g c = (stored g c).1

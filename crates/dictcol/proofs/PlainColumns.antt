@@ -1,0 +1,431 @@
+-- Plain columns: the dictionary that a file is, the numbers that a file is, and the text that both hold.
+use Rattle.std.proofs.Common.{◌≡◌, ◌≢◌, ℕ, zero, suc, ◌+◌, ◌-◌, ◌*◌, ◌/◌, ◌%◌, ◌^◌, ◌<◌, ◌≤◌, nat_lt, Bool, true, false, not, ◌&&◌, cond, eqb, List, [], ◌∷◌, ◌++◌, length, take, drop, get_or, replicate, codes, decimal, Option, Some, None, w32, refl, sym, ap, ap₂, subst, ◌∙◌, arith}
+use Rattle.std.specs.Prelude.{All, slice_get, slice_index_or, IfSome, Result, Ok, Err, OnOk}
+use Rattle.std.specs.Int.{from_le_bytes}
+use Rattle.std.specs.Io.KnownBytes.{Appends, Keeps}
+use Rattle.std.specs.List.{flat_map, join_with_byte, onto_first, IsSplitAt}
+use Rattle.std.specs.Option.{option_map_or}
+use Rattle.std.proofs.Math.Seq.{take-append_seam, drop-append_seam, get_or-append_seam}
+use Rattle.std.proofs.lemmas.Bool.{lt-ltb}
+use Rattle.std.proofs.lemmas.Bool.Decides.{nat_tests}
+use Rattle.std.proofs.lemmas.Fmt.{length-decimal-le}
+use Rattle.std.proofs.lemmas.Grind.{flat_map-append}
+use Rattle.std.proofs.lemmas.List.Elements.{All-push}
+use Rattle.std.proofs.lemmas.List.{append_assoc, append-nil, length-append, length-map, length-replicate, take_all, get_or-take, length-take, take-append-drop}
+use Rattle.std.proofs.lemmas.Slice.Zip.{AllZip-long}
+use Rattle.std.proofs.lemmas.Nat.{from_le_bytes-to_le_bytes_4, le_bytes_4}
+use Rattle.string_interner.specs.Text.{Text, IsDistinct, first}
+use Rattle.string_interner.specs.Extend.{fresh}
+use Rattle.string_interner.proofs.Lemmas.Interner.Extends.{fresh-append}
+use Rattle.string_interner.proofs.Lemmas.Json.Reads.{new_text}
+use Rattle.string_column.specs.Column.{AreCodes, dictionary_of, rows_of}
+use Rattle.string_column.proofs.Lemmas.Counts.{fresh-distinct, dictionary-distinct}
+use Rattle.string_column.proofs.Lemmas.Rows.{rows-are}
+use Rattle.dictcol.specs.Blocks.{IsTextOf}
+use Rattle.dictcol.specs.Fault.{IsDamage, IsRightFault}
+use Rattle.dictcol.specs.File.{HaveEntries}
+use Rattle.dictcol.specs.declared.fault.Fault.{Fault}
+use Rattle.dictcol.specs.Lines.{has_newline, text_of_ended, text_of_lines, lines_of, AreLines}
+use Rattle.dictcol.specs.Plain.{plain_text, IsDictionary, IsDictionaryFault, code_bytes, npy_start, npy_header, IsNpy, IsOnto, IsPlain, HoldPlain}
+use Rattle.dictcol.proofs.Lines.{text-of-lines, lines-plain, fresh-plain}
+use Rattle.dictcol.proofs.Merged.{are-ended, are-rest, ended-first, ended-lines, both-plain, one-ended, more-rest}
+
+-- ---- distinct lines
+
+distinct-fresh : (old texts : List Text) → IsDistinct (old ++ texts) → fresh old texts ≡ texts
+distinct-fresh old [] distinct = refl
+distinct-fresh old (text ∷ texts) distinct =
+    let more = distinct-fresh (old ++ text ∷ []) texts (subst IsDistinct (sym (append_assoc old (text ∷ []) texts)) distinct) in
+    rw (new_text old text texts distinct, more) refl
+
+-- distinct lines are their dictionary
+pub distinct-dictionary : (lines : List Text) → IsDistinct lines → dictionary_of lines ≡ lines
+distinct-dictionary lines distinct = distinct-fresh [] lines distinct
+
+no-more-fresh : (old texts : List Text) → length (fresh old texts) ≤ length texts
+no-more-fresh old [] = omega arith
+no-more-fresh old (text ∷ texts) = of (first old text) (no-more-fresh old texts) (no-more-fresh (old ++ text ∷ []) texts)
+  where
+    of : (o : Option ℕ) → length (fresh old texts) ≤ length texts → length (fresh (old ++ text ∷ []) texts) ≤ length texts
+        → length (option_map_or (λ _. fresh old texts) o (text ∷ fresh (old ++ text ∷ []) texts)) ≤ length (text ∷ texts)
+    of (Some i) same more = omega (arith, same)
+    of None same more = omega (arith, more)
+
+all-fresh : (old texts : List Text) → length texts ≤ length (fresh old texts) → fresh old texts ≡ texts
+all-fresh old [] many = refl
+all-fresh old (text ∷ texts) many = of (first old text) (no-more-fresh old texts) (all-fresh (old ++ text ∷ []) texts) many
+  where
+    of : (o : Option ℕ) → length (fresh old texts) ≤ length texts
+        → (length texts ≤ length (fresh (old ++ text ∷ []) texts) → fresh (old ++ text ∷ []) texts ≡ texts)
+        → length (text ∷ texts) ≤ length (option_map_or (λ _. fresh old texts) o (text ∷ fresh (old ++ text ∷ []) texts))
+        → option_map_or (λ _. fresh old texts) o (text ∷ fresh (old ++ text ∷ []) texts) ≡ text ∷ texts
+    of (Some i) few more many = absurd (omega (arith, few, many))
+    of None few more many = ap (λ ts. text ∷ ts) (more (omega (arith, many)))
+
+-- lines of which each is in the dictionary once are distinct
+pub as-many : (lines : List Text) → length lines ≤ length (dictionary_of lines) → IsDistinct lines
+as-many lines many = subst IsDistinct (all-fresh [] lines many) (dictionary-distinct lines)
+
+-- ---- the dictionary that a file is
+
+onto-some : (b : ℕ) (lines : List Text) → onto_first b lines ≢ []
+onto-some b [] e = cc
+onto-some b (line ∷ lines) e = cc
+
+no-lines : (text : Text) → lines_of text ≡ [] → text ≡ []
+no-lines [] none = refl
+no-lines (b ∷ bs) none = of (eqb b 10) none
+  where
+    of : (t : Bool) → cond t ([] ∷ lines_of bs) (onto_first b (lines_of bs)) ≡ [] → (b ∷ bs) ≡ []
+    of true e = absurd (cc)
+    of false e = absurd (onto-some b (lines_of bs) e)
+
+-- the lines of a dictionary's file
+pub dictionary-lines : (lines : List Text) (file : Text) → IsDictionary lines file → lines_of file ≡ lines
+dictionary-lines lines file is = ap lines_of is.text ∙ ended-first lines [] is.each_a_line ∙ append-nil lines
+
+-- it ends in a newline if it has a line
+pub dictionary-ended : (lines read : List Text) (file : Text) (is_ended : Bool) → AreLines file read is_ended → is_ended ≡ false → read ≢ [] → ¬ (IsDictionary lines file)
+dictionary-ended lines read file is_ended are unended some is = of lines refl
+  where
+    of : (ls : List Text) → lines ≡ ls → ⊥
+    of [] e = some (are.lines_are ∙ dictionary-lines lines file is ∙ e)
+    of (l ∷ ls) e =
+        let none : (l ∷ ls) ≢ [] = λ e. cc in
+        let text : file ≡ text_of_lines lines true = is.text ∙ ap (λ x. text_of_ended x []) e ∙ ended-lines (l ∷ ls) [] none refl ∙ sym (ap (λ x. text_of_lines x true) e) in
+        let told = are.end _ text in absurd (cc)
+
+pub dictionary-repeats : (lines read : List Text) (file : Text) (is_ended : Bool) → AreLines file read is_ended → length (dictionary_of read) < length read → ¬ (IsDictionary lines file)
+dictionary-repeats lines read file is_ended are fewer is =
+    let same : read ≡ lines = are.lines_are ∙ dictionary-lines lines file is in
+    let count = ap length (ap dictionary_of same ∙ distinct-dictionary lines is.distinct ∙ sym same) in omega (arith, count, fewer)
+
+pub is-dictionary : (lines : List Text) (file : Text) (is_ended : Bool) → AreLines file lines is_ended → (is_ended ≡ false → lines ≡ []) → length lines ≤ length (dictionary_of lines)
+    → IsDictionary lines file
+is-dictionary lines file is_ended are unended many = record {
+  text = of lines is_ended refl refl;
+  each_a_line = lines-plain file lines is_ended are;
+  distinct = as-many lines many;
+}
+  where
+    of : (ls : List Text) (b : Bool) → lines ≡ ls → is_ended ≡ b → file ≡ text_of_ended lines []
+    of [] b e t = no-lines file (sym are.lines_are ∙ e) ∙ sym (ap (λ x. text_of_ended x []) e)
+    of (l ∷ ls) false e t = let none : (l ∷ ls) ≡ [] = sym e ∙ unended t in absurd (cc)
+    of (l ∷ ls) true e t =
+        let none : (l ∷ ls) ≢ [] = λ e. cc in
+        sym (text-of-lines file lines is_ended are) ∙ ap₂ text_of_lines e t ∙ sym (ended-lines (l ∷ ls) [] none refl) ∙ sym (ap (λ x. text_of_ended x []) e)
+
+-- ---- the numbers that a file is
+
+four : (n : ℕ) → length (code_bytes n) ≡ 4
+four n = refl
+
+pub numbers-long : (numbers : List ℕ) → length (flat_map code_bytes numbers) ≡ 4 * length numbers
+numbers-long [] = refl
+numbers-long (n ∷ ns) = let more = numbers-long ns in omega (arith, more, length-append (code_bytes n) (flat_map code_bytes ns), four n)
+
+same-code : (m n : ℕ) (a b : Text) → m < 2 ^ 32 → n < 2 ^ 32 → code_bytes m ++ a ≡ code_bytes n ++ b → (m ≡ n) × (a ≡ b)
+same-code m n a b small fits e = (
+  sym (from_le_bytes-to_le_bytes_4 m small) ∙ ap (from_le_bytes w32) (sym (take-append_seam (code_bytes m) a) ∙ ap (take 4) e ∙ take-append_seam (code_bytes n) b) ∙ from_le_bytes-to_le_bytes_4 n fits,
+  sym (drop-append_seam (code_bytes m) a) ∙ ap (drop 4) e ∙ drop-append_seam (code_bytes n) b,
+)
+
+-- bytes of one number more
+pub numbers-push : (front : List ℕ) (number : ℕ) (rest : Text) → flat_map code_bytes (front ++ number ∷ []) ++ rest ≡ flat_map code_bytes front ++ (code_bytes number ++ rest)
+numbers-push front number rest =
+    ap (λ text. text ++ rest) (flat_map-append code_bytes front (number ∷ []) ∙ ap (λ one. flat_map code_bytes front ++ one) (append-nil (code_bytes number)))
+    ∙ append_assoc (flat_map code_bytes front) (code_bytes number) rest
+
+small-behind : (front rest : Text) → ((i : ℕ) → get_or (front ++ rest) i 0 < 256) → (i : ℕ) → get_or rest i 0 < 256
+small-behind [] rest small i = small i
+small-behind (x ∷ xs) rest small i = small-behind xs rest (λ k. small (suc k)) i
+
+small-front : (n : ℕ) (bytes : Text) → ((i : ℕ) → get_or bytes i 0 < 256) → (i : ℕ) → get_or (take n bytes) i 0 < 256
+small-front zero bytes small i = omega arith
+small-front (suc n) [] small i = omega arith
+small-front (suc n) (x ∷ xs) small zero = small zero
+small-front (suc n) (x ∷ xs) small (suc i) = small-front n xs (λ k. small (suc k)) i
+
+-- the number that the next four bytes are
+pub next-number : (bytes rest first behind : Text) (front : List ℕ) (number : ℕ) → ((i : ℕ) → get_or bytes i 0 < 256) → bytes ≡ flat_map code_bytes front ++ rest → 4 ≤ length rest
+    → first ≡ take 4 rest → behind ≡ drop 4 rest → number ≡ from_le_bytes w32 first → (code_bytes number ≡ first) × (bytes ≡ flat_map code_bytes front ++ (first ++ behind))
+next-number bytes rest first behind front number small so_far enough first-is behind-is is =
+    let below = small-behind (flat_map code_bytes front) rest (subst (λ text. (i : ℕ) → get_or text i 0 < 256) so_far small) in
+    let four : length first ≡ 4 = omega (arith, ap length first-is, length-take 4 rest, enough) in
+    let low : (i : ℕ) → get_or first i 0 < 256 = subst (λ text. (i : ℕ) → get_or text i 0 < 256) (sym first-is) (small-front 4 rest below) in (
+      le_bytes_4 first number four low is,
+      so_far ∙ ap (λ text. flat_map code_bytes front ++ text) (sym (take-append-drop 4 rest) ∙ sym (ap₂ (λ a b. a ++ b) first-is behind-is)),
+    )
+
+abbrev pub AreSmall : List ℕ → Type 0
+AreSmall numbers = All (λ n. n < 2 ^ 32) numbers
+
+small-rest : (n : ℕ) (ns : List ℕ) → AreSmall (n ∷ ns) → (n < 2 ^ 32) × AreSmall ns
+small-rest n ns small = (small 0 0 (omega arith), λ i d inside. small (suc i) d (omega (arith, inside)))
+
+-- bytes are the numbers that they begin with, and more
+pub numbers-begin : (front numbers : List ℕ) (rest : Text) → AreSmall front → AreSmall numbers → flat_map code_bytes front ++ rest ≡ flat_map code_bytes numbers
+    → (length rest ≡ 4 * (length numbers - length front)) × (take (length front) numbers ≡ front) × (length front ≤ length numbers)
+numbers-begin [] numbers rest small fits e =
+    let total : length rest ≡ length (flat_map code_bytes numbers) = ap length e in
+    (omega (arith, total, numbers-long numbers), refl, omega arith)
+numbers-begin (n ∷ ns) [] rest small fits e =
+    let none = ap length e in absurd (omega (arith, none, length-append (flat_map code_bytes (n ∷ ns)) rest, numbers-long (n ∷ ns)))
+numbers-begin (n ∷ ns) (m ∷ ms) rest small fits e =
+    let a = small-rest n ns small in
+    let b = small-rest m ms fits in
+    let same = same-code n m (flat_map code_bytes ns ++ rest) (flat_map code_bytes ms) a.0 b.0 (sym (append_assoc (code_bytes n) (flat_map code_bytes ns) rest) ∙ e) in
+    let more = numbers-begin ns ms rest a.1 b.1 same.1 in
+    (omega (arith, more.0, more.2), rw (more.1, same.0) refl, omega (arith, more.2))
+
+start-long : (count : ℕ) → length (npy_start count) ≡ 66 + length (decimal count)
+start-long count = omega (arith, length-append (decimal count) (codes ",), }"))
+
+pub header-long : (count : ℕ) → count < 2 ^ 64 → length (npy_header count) ≡ 128
+header-long count fits =
+    let short = length-decimal-le 20 count (omega arith) (omega (arith, fits)) fits in
+    let blanks = 127 - length (npy_start count) in
+    let blank : ℕ = 32 in
+    let end = length-append (npy_start count ++ replicate blanks blank) (10 ∷ []) in
+    let front = length-append (npy_start count) (replicate blanks blank) in
+    omega (arith, short, start-long count, end, front, length-replicate blanks blank)
+
+-- a header is filled up with blanks
+pub header-filled : (count : ℕ) → count < 2 ^ 64 → (take 127 (npy_start count) ++ replicate (127 - length (npy_start count)) 32) ++ 10 ∷ [] ≡ npy_header count
+header-filled count fits =
+    let short = length-decimal-le 20 count (omega arith) (omega (arith, fits)) fits in
+    let start : take 127 (npy_start count) ≡ npy_start count = take_all 127 (npy_start count) (omega (arith, short, start-long count)) in
+    ap (λ text. (text ++ replicate (127 - length (npy_start count)) 32) ++ 10 ∷ []) start
+
+-- the header and the bytes behind it, of a file of numbers
+pub npy-parts : (numbers : List ℕ) (file header bytes : Text) → IsNpy numbers file → IsSplitAt file 128 header bytes
+    → (header ≡ npy_header (length numbers)) × (bytes ≡ flat_map code_bytes numbers)
+npy-parts numbers file header bytes is split =
+    let head = npy_header (length numbers) in
+    let tail = flat_map code_bytes numbers in
+    let long = header-long (length numbers) is.count_fits in (
+      split.1 ∙ ap (take 128) is.bytes ∙ ap (λ n. take n (head ++ tail)) (sym long) ∙ take-append_seam head tail,
+      split.2 ∙ ap (drop 128) is.bytes ∙ ap (λ n. drop n (head ++ tail)) (sym long) ∙ drop-append_seam head tail,
+    )
+
+-- such a file is no shorter than its header
+pub npy-long : (numbers : List ℕ) (file : Text) → IsNpy numbers file → 128 ≤ length file
+npy-long numbers file is =
+    let total = ap length is.bytes ∙ length-append (npy_header (length numbers)) (flat_map code_bytes numbers) in
+    omega (arith, total, header-long (length numbers) is.count_fits)
+
+-- a file with another header than that of as many numbers as it has is none
+pub other-header : (numbers : List ℕ) (file header bytes right : Text) → IsSplitAt file 128 header bytes → right ≡ npy_header (length bytes / 4) → (length bytes % 4 ≡ 0 → header ≢ right)
+    → ¬ (IsNpy numbers file)
+other-header numbers file header bytes right split made other is =
+    let parts = npy-parts numbers file header bytes is split in
+    let long : length bytes ≡ 4 * length numbers = ap length parts.1 ∙ numbers-long numbers in
+    let count : length bytes / 4 ≡ length numbers = omega (arith, long) in
+    let none : length bytes % 4 ≡ 0 = omega (arith, long) in
+    other none (parts.0 ∙ ap npy_header (sym count) ∙ sym made)
+
+-- the bytes behind a header of as many numbers
+pub npy-bytes : (numbers : List ℕ) (file bytes : Text) (count : ℕ) → IsNpy numbers file → file ≡ npy_header count ++ bytes → length bytes ≡ 4 * count → count < 2 ^ 64 → bytes ≡ flat_map code_bytes numbers
+npy-bytes numbers file bytes count is file-is long fits =
+    let one = header-long count fits in
+    let other = header-long (length numbers) is.count_fits in
+    sym (drop-append_seam (npy_header count) bytes) ∙ ap₂ drop (one ∙ sym other) (sym file-is ∙ is.bytes) ∙ drop-append_seam (npy_header (length numbers)) (flat_map code_bytes numbers)
+
+-- bytes of whole numbers behind their header are a file of them
+pub is-npy : (numbers : List ℕ) (file bytes rest : Text) (count : ℕ) → count < 2 ^ 64 → file ≡ npy_header count ++ bytes → length bytes ≡ 4 * count → length rest < 4
+    → bytes ≡ flat_map code_bytes numbers ++ rest → AreSmall numbers → IsNpy numbers file
+is-npy numbers file bytes rest count fits file-is long short bytes-are small =
+    let total = ap length bytes-are ∙ length-append (flat_map code_bytes numbers) rest in
+    let many = numbers-long numbers in
+    let same : count ≡ length numbers = omega (arith, total, many, long, short) in
+    let none : length rest ≡ 0 = omega (arith, total, many, long, same) in record {
+      bytes = file-is ∙ ap₂ (λ n bs. npy_header n ++ bs) same (bytes-are ∙ ap (λ r. flat_map code_bytes numbers ++ r) (empty rest none) ∙ append-nil (flat_map code_bytes numbers));
+      count_fits = omega (arith, same, fits);
+      each_fits = small;
+    }
+  where
+    empty : (xs : Text) → length xs ≡ 0 → xs ≡ []
+    empty [] none = refl
+    empty (x ∷ xs) none = absurd (cc)
+
+small-at : (numbers : List ℕ) → ((i : ℕ) → get_or numbers i 0 < 2 ^ 32) → (i d : ℕ) → i < length numbers → get_or numbers i d < 2 ^ 32
+small-at [] small i d inside = absurd (omega (arith, inside))
+small-at (n ∷ ns) small zero d inside = small 0
+small-at (n ∷ ns) small (suc i) d inside = small-at ns (λ k. small (suc k)) i d (omega (arith, inside))
+
+-- numbers behind their header
+pub npy-written : (numbers : List ℕ) (header : Text) → header ≡ npy_header (length numbers) → length numbers < 2 ^ 64 → ((i : ℕ) → get_or numbers i 0 < 2 ^ 32)
+    → IsNpy numbers (header ++ flat_map code_bytes numbers)
+npy-written numbers header is fits small = record { bytes = ap (λ text. text ++ flat_map code_bytes numbers) is; count_fits = fits; each_fits = small-at numbers small }
+
+-- a number that is not below a limit is none of numbers that are
+pub not-below : (limit number : ℕ) (front numbers : List ℕ) (bytes first rest : Text) → bytes ≡ flat_map code_bytes front ++ (first ++ rest) → code_bytes number ≡ first
+    → number < 2 ^ 32 → limit ≤ number → AreSmall front → AreSmall numbers → All (λ n. n < limit) numbers → bytes ≢ flat_map code_bytes numbers
+not-below limit number front numbers bytes first rest so_far is fits above small all-small below e =
+    let longer : flat_map code_bytes (front ++ number ∷ []) ++ rest ≡ flat_map code_bytes numbers =
+    numbers-push front number rest ∙ ap (λ text. flat_map code_bytes front ++ (text ++ rest)) is ∙ sym so_far ∙ e in
+    let begin = numbers-begin (front ++ number ∷ []) numbers rest (All-push (λ n. n < 2 ^ 32) front number small fits) all-small longer in
+    let count = length-append front (number ∷ []) in
+    let at : get_or numbers (length front) 0 ≡ number =
+    sym (get_or-take (length (front ++ number ∷ [])) numbers (length front) 0 (omega (arith, count))) ∙ ap (λ xs. get_or xs (length front) 0) begin.1 ∙ get_or-append_seam front number [] 0 in
+    let one = below (length front) 0 (omega (arith, count, begin.2)) in
+    omega (arith, at, one, above)
+
+-- ---- the text that both hold
+
+-- what is written of the rows is their text
+pub plain-written : (rows : List Text) (is_cut : Bool) → text_of_lines rows (not is_cut && nat_lt 0 (length rows)) ≡ plain_text rows is_cut
+plain-written rows true = append-nil (join_with_byte 10 rows)
+plain-written [] false = refl
+plain-written (row ∷ rows) false =
+    let some : nat_lt 0 (length (row ∷ rows)) ≡ true = lt-ltb 0 (length (row ∷ rows)) (omega arith) in
+    let none : (row ∷ rows) ≢ [] = λ e. cc in
+    ap (text_of_lines (row ∷ rows)) some ∙ sym (ended-lines (row ∷ rows) [] none refl)
+
+-- the text of a text's lines
+pub plain-lines : (text : Text) (lines : List Text) (is_ended : Bool) → AreLines text lines is_ended → plain_text lines (not is_ended && nat_lt 0 (length lines)) ≡ text
+plain-lines text [] true are = sym (no-lines text (sym are.lines_are))
+plain-lines text [] false are = sym (no-lines text (sym are.lines_are))
+plain-lines text (line ∷ lines) true are =
+    let none : (line ∷ lines) ≢ [] = λ e. cc in ended-lines (line ∷ lines) [] none refl ∙ text-of-lines text (line ∷ lines) true are
+plain-lines text (line ∷ lines) false are =
+    let some : nat_lt 0 (length (line ∷ lines)) ≡ true = lt-ltb 0 (length (line ∷ lines)) (omega arith) in
+    ap (plain_text (line ∷ lines)) some ∙ sym (append-nil (join_with_byte 10 (line ∷ lines))) ∙ text-of-lines text (line ∷ lines) false are
+
+-- a file is of one list of numbers
+pub same-numbers : (numbers others : List ℕ) (file : Text) → IsNpy numbers file → IsNpy others file → numbers ≡ others
+same-numbers numbers others file is too =
+    let one = header-long (length numbers) is.count_fits in
+    let other = header-long (length others) too.count_fits in
+    let total = sym is.bytes ∙ too.bytes in
+    let bytes : flat_map code_bytes numbers ≡ flat_map code_bytes others =
+    sym (drop-append_seam (npy_header (length numbers)) (flat_map code_bytes numbers)) ∙ ap₂ drop (one ∙ sym other) total ∙ drop-append_seam (npy_header (length others)) (flat_map code_bytes others) in
+    let begin = numbers-begin numbers others [] is.each_fits too.each_fits (append-nil (flat_map code_bytes numbers) ∙ bytes) in
+    sym begin.1 ∙ take_all (length numbers) others (omega (arith, begin.0))
+
+codes-behind : (dictionary : List Text) (k : ℕ) (codes : List ℕ) (rows : List Text) → AreCodes dictionary codes rows → AreCodes dictionary (drop k codes) (drop k rows)
+codes-behind dictionary zero codes rows are = are
+codes-behind dictionary (suc k) [] [] are = tt
+codes-behind dictionary (suc k) [] (row ∷ rows) are = absurd are
+codes-behind dictionary (suc k) (code ∷ codes) [] are = absurd are
+codes-behind dictionary (suc k) (code ∷ codes) (row ∷ rows) are = codes-behind dictionary k codes rows are.1
+
+-- the files of rows that are the lines of a dictionary from before and those of a text
+pub onto-plain : (before text numbers : Text) (rows : List Text) (count : ℕ) (is_cut : Bool) (codes : List ℕ) → IsOnto before text rows count is_cut
+    → AreCodes (dictionary_of rows) codes rows → IsNpy (drop count codes) numbers → IsPlain before text (text_of_ended (dictionary_of rows) []) numbers is_cut
+onto-plain before text numbers rows count is_cut codes onto are npy =
+    let known = onto.known in
+    let lines = onto.lines in
+    let distinct = onto.before_is.distinct in
+    let entries : dictionary_of rows ≡ known ++ fresh known lines =
+    ap dictionary_of onto.rows_are ∙ fresh-append [] known lines ∙ ap (λ d. d ++ fresh d lines) (distinct-dictionary known distinct) in
+    let behind : drop count rows ≡ lines = ap₂ drop onto.count_is onto.rows_are ∙ drop-append_seam known lines in
+    let codes-are = codes-behind (dictionary_of rows) count codes rows are in record {
+      known = known;
+      before_is = onto.before_is;
+      lines = lines;
+      is_ended = onto.is_ended;
+      lines_are = onto.lines_are;
+      is_cut_is = onto.is_cut_is;
+      dictionary_is = record {
+        text = ap (λ d. text_of_ended d []) entries;
+        each_a_line = both-plain known (fresh known lines) onto.before_is.each_a_line (fresh-plain has_newline known lines (lines-plain text lines onto.is_ended onto.lines_are));
+        distinct = fresh-distinct known lines distinct;
+      };
+      numbers_are = (drop count codes, rw (entries, behind) at codes-are, npy);
+    }
+
+-- one line more, and its newline
+pub ended-more : (lines : List Text) (line : Text) → text_of_ended (lines ++ line ∷ []) [] ≡ (text_of_ended lines [] ++ line) ++ 10 ∷ []
+ended-more lines line = one-ended lines line ∙ ap (λ text. text ++ 10 ∷ []) (more-rest lines [] line)
+
+no-items : (xs : List ℕ) → length xs ≡ 0 → xs ≡ []
+no-items [] none = refl
+no-items (x ∷ xs) none = absurd (cc)
+
+-- where no code is wide, the codes are the narrow ones, which are as many as the rows
+pub narrow-codes : (codes narrow wide : List ℕ) → codes ≡ narrow ++ wide → length wide ≡ 0 → codes ≡ narrow
+narrow-codes codes narrow wide parts none = parts ∙ ap (λ xs. narrow ++ xs) (no-items wide none) ∙ append-nil narrow
+
+pub narrow-rows : (dictionary rows : List Text) (codes narrow : List ℕ) (known : ℕ) → AreCodes dictionary codes rows → codes ≡ narrow → known ≤ length rows → known ≤ length narrow
+narrow-rows dictionary rows codes narrow known are same within =
+    let long = AllZip-long (λ code row. slice_get dictionary code ≡ Some row) codes rows are in omega (arith, long, ap length same, within)
+
+-- ---- what is written
+
+-- known bytes that grew, and are flushed
+pub appends-kept : (a b c : Option (List ℕ)) (bs : List ℕ) → Appends a b bs → Keeps b c → Appends a c bs
+appends-kept None b c bs p q = tt
+appends-kept (Some x) None c bs p q = absurd p
+appends-kept (Some x) (Some y) None bs p q = absurd q
+appends-kept (Some x) (Some y) (Some z) bs p q = q ∙ p
+
+pub in-any-case : {T E P : Type 0} (r : Result T E) → P → OnOk r P
+in-any-case (Ok x) p = p
+in-any-case (Err e) p = tt
+
+-- ---- what inputs yield
+
+module _ {A : Type 0} (P Q : A → Type 0) where
+  pub some-weaker : (o : Option A) → ((a : A) → P a → Q a) → IfSome o P → IfSome o Q
+  some-weaker None weaker p = tt
+  some-weaker (Some a) weaker p = weaker a p
+
+-- the lines of an input that ends in a newline or yields nothing, and of another one
+pub ended-input : (input : Option Text) (lines seen : List Text) (rest : Text) → lines ≡ seen → IsTextOf input seen rest → length rest ≡ 0
+    → IfSome input (λ text. AreLines text lines (nat_lt 0 (length lines)))
+ended-input None lines seen rest same is none = tt
+ended-input (Some text) lines seen rest same is none =
+    subst (λ t. AreLines t lines (nat_lt 0 (length lines))) (sym is.whole) (rw same (are-ended seen rest is.plain none))
+
+pub cut-input : (input : Option Text) (lines seen new : List Text) (rest : Text) → lines ≡ seen → IsTextOf input seen rest → rest ≢ [] → new ≡ lines ++ rest ∷ []
+    → IfSome input (λ text. AreLines text new false)
+cut-input None lines seen new rest same is some put = tt
+cut-input (Some text) lines seen new rest same is some put =
+    subst (λ t. AreLines t new false) (sym is.whole) (are-rest seen new rest is.plain is.rest_plain some (put ∙ ap (λ ls. ls ++ rest ∷ []) same))
+
+some-more : (known more rows : List Text) → rows ≡ known ++ more → nat_lt (length known) (length rows) ≡ nat_lt 0 (length more)
+some-more known more rows are =
+    let count : length rows ≡ length known + length more = ap length are ∙ length-append known more in grind (arith, nat_tests)
+
+-- the lines that two inputs yield, one behind the other
+pub onto-inputs : (before input : Option Text) (known more rows : List Text) (is_ended is_cut : Bool) (count : ℕ) → IfSome before (IsDictionary known) → rows ≡ known ++ more
+    → IfSome input (λ text. AreLines text more is_ended) → count ≡ length known → is_cut ≡ (not is_ended && nat_lt count (length rows))
+    → IfSome before (λ old. IfSome input (λ text. IsOnto old text rows count is_cut))
+onto-inputs None input known more rows is_ended is_cut count is rows-are are count-is cut = tt
+onto-inputs (Some old) None known more rows is_ended is_cut count is rows-are are count-is cut = tt
+onto-inputs (Some old) (Some text) known more rows is_ended is_cut count is rows-are are count-is cut = record {
+  known = known;
+  before_is = is;
+  lines = more;
+  is_ended = is_ended;
+  lines_are = are;
+  is_cut_is = cut ∙ ap (λ n. not is_ended && nat_lt n (length rows)) count-is ∙ ap (λ t. not is_ended && t) (some-more known more rows rows-are);
+  rows_are = rows-are;
+  count_is = count-is;
+}
+
+-- what is written of a dictionary and the numbers of its lines
+pub plain-decoded : (lines : List Text) (numbers : List ℕ) (dictionary file : Text) (is_cut : Bool) → IsDictionary lines dictionary → IsNpy numbers file → HaveEntries lines numbers
+    → HoldPlain dictionary file is_cut (text_of_lines (rows_of lines numbers) (not is_cut && nat_lt 0 (length numbers)))
+plain-decoded lines numbers dictionary file is_cut is npy entries = record {
+  lines = lines;
+  dictionary_is = is;
+  codes_are = numbers;
+  numbers_are = npy;
+  within = entries;
+  text_is = ap (λ n. text_of_lines (rows_of lines numbers) (not is_cut && nat_lt 0 n)) (sym (length-map numbers (λ code. slice_index_or lines code [])))
+      ∙ plain-written (rows_of lines numbers) is_cut;
+}
+
+-- files of which one is none hold no text
+pub no-dictionary : (file : Option Text) (numbers : Text) (is_cut : Bool) (fault : Fault) → IsDictionaryFault file fault → IfSome file (λ dictionary. IsRightFault (HoldPlain dictionary numbers is_cut) fault)
+no-dictionary None numbers is_cut fault not = tt
+no-dictionary (Some dictionary) numbers is_cut fault not = λ damage text holds. not damage holds.lines holds.dictionary_is
+
+pub no-numbers : (lines : List Text) (limit : ℕ) (numbers : Text) (is_cut : Bool) (fault : Fault) → limit ≡ length lines
+    → (IsDamage fault → (codes : List ℕ) → All (λ code. code < limit) codes → ¬ (IsNpy codes numbers)) → (dictionary : Text) → IsDictionary lines dictionary
+    → IsRightFault (HoldPlain dictionary numbers is_cut) fault
+no-numbers lines limit numbers is_cut fault count not dictionary is = λ damage text holds.
+    let same : length holds.lines ≡ limit = ap length (sym (dictionary-lines holds.lines dictionary holds.dictionary_is) ∙ dictionary-lines lines dictionary is) ∙ sym count in
+    not damage holds.codes_are (subst (λ n. All (λ code. code < n) holds.codes_are) same holds.within) holds.numbers_are

@@ -1,0 +1,18 @@
+use Rattle.std.proofs.Common.{◌≡◌, ◌≢◌, ◌++◌, ◌∷◌, [], length, string_bytes, ap, ◌∙◌, rules}
+use Rattle.dictcol.specs.Lines.{lines_of}
+use Rattle.dictcol.proofs.Merged.{are-ended, are-rest}
+use Rattle.dictcol.proofs.merge.Merged.write_counts.Goals as goal
+
+pub returns-then-is_empty-clause-written : goal.returns-then-is_empty-clause-written
+returns-then-is_empty-clause-written g c =
+    let none : length (string_bytes c.self.inside.rest) ≡ 0 = search rules in
+    let are : c.self.inside.lines ≡ lines_of c.args.self.now = (are-ended c.self.inside.lines (string_bytes c.self.inside.rest) c.self.invariant.0 none).lines_are ∙ ap lines_of c.self.view_is in
+    rw (← are) c.write_column_counts.ensures.written
+
+pub returns-in-Ok-clause-written : goal.returns-in-Ok-clause-written
+returns-in-Ok-clause-written g c =
+    let some : string_bytes c.self.inside.rest ≢ [] = λ e. search rules in
+    let pushed : c.push.new.self ≡ c.self.inside.lines ++ string_bytes c.self.inside.rest ∷ [] = search rules in
+    let are : c.push.new.self ≡ lines_of c.args.self.now =
+    (are-rest c.self.inside.lines c.push.new.self (string_bytes c.self.inside.rest) c.self.invariant.0 c.self.invariant.1 some pushed).lines_are ∙ ap lines_of c.self.view_is in
+    rw (← are) c.write_column_counts-in-Ok.ensures.written

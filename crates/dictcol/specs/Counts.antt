@@ -1,0 +1,59 @@
+-- How often each line occurs, and what is written of it.
+-- Cited by `count`, `merge` and `answer`.
+use Rattle.std.specs.Prelude.{◌≡◌, ℕ, List, [], ◌∷◌, ◌++◌, Bool, true, false, length, map, decimal, nat_lt}
+use Rattle.std.specs.Borrow.{Bor}
+use Rattle.std.specs.List.{count_by, flat_map}
+use Rattle.std.specs.List.Sorted.{IsPermutation, IsSortedBy, IsStableBy}
+use Rattle.std.specs.Str.{bytes_eq}
+use Rattle.string_interner.specs.Text.{Text}
+use Rattle.string_column.specs.Column.{counts_of, dictionary_of}
+
+-- what contracts see of counts
+pub record CountsContents : Type 0 where
+  -- the distinct lines
+  pub entries : List Text
+  -- how often each occurs
+  pub counts : List ℕ
+  -- how many lines there are
+  pub total : ℕ
+
+-- what contracts see of counts, by their parts
+abbrev pub contents_of : List Text → List ℕ → ℕ → CountsContents
+contents_of entries counts total = record { entries = entries; counts = counts; total = total }
+
+-- the counts are those of these lines
+pub record HasCounted (contents : CountsContents) (lines : List Text) : Type 0 where
+  pub entries_are : contents.entries ≡ dictionary_of lines
+  pub counts_are : contents.counts ≡ counts_of lines
+  pub total_is : contents.total ≡ length lines
+
+-- each distinct line behind how often it occurs, in the order of first appearance
+abbrev pub counted : List Text → List (ℕ × Text)
+counted lines = map (λ entry. (count_by (λ line. bytes_eq line entry) lines, entry)) (dictionary_of lines)
+
+-- the count, a space, and the line
+abbrev pub count_line : ℕ × Text → Text
+count_line row = decimal row.0 ++ 32 ∷ (row.1 ++ 10 ∷ [])
+
+-- the first row is the more frequent one
+abbrev pub is_more : ℕ × Text → ℕ × Text → Bool
+is_more a b = nat_lt b.0 a.0
+
+-- The same rows, the most frequent first, and equally frequent ones in the order that they had.
+pub record AreSorted (rows sorted : List (ℕ × Text)) : Type 0 where
+  pub same : IsPermutation rows sorted
+  pub ordered : IsSortedBy is_more sorted
+  pub stable : IsStableBy is_more rows sorted
+
+-- the rows that are written: the counted lines, sorted if it says so
+abbrev pub AreRows : Bool → List Text → List (ℕ × Text) → Type 0
+AreRows false lines rows = rows ≡ counted lines
+AreRows true lines rows = AreSorted (counted lines) rows
+
+-- the text says how often each line occurs
+abbrev pub IsCountsText : Bool → List Text → Text → Type 0
+IsCountsText is_sorted lines text = (rows : List (ℕ × Text)) × AreRows is_sorted lines rows × (text ≡ flat_map count_line rows)
+
+-- the row that a pair with a borrowed text is
+abbrev pub row_of : ℕ × Bor Text → ℕ × Text
+row_of pair = (pair.0, pair.1.now)

@@ -1,0 +1,87 @@
+-- Plain columns: the file `dict.txt` has the distinct lines, and `codes.npy` the number of its line there for each line.
+-- Cited by `plain`.
+use Rattle.std.specs.Prelude.{◌≡◌, ℕ, ◌-◌, ◌^◌, ◌<◌, List, [], ◌∷◌, ◌++◌, All, length, replicate, Bool, false, not, ◌&&◌, if◌then◌else◌, nat_lt, codes, decimal, Option, IfSome}
+use Rattle.std.specs.Int.{w32, to_le_bytes}
+use Rattle.std.specs.Io.KnownBytes.{Appends}
+use Rattle.std.specs.List.{list_any, flat_map, join_with_byte}
+use Rattle.string_interner.specs.Text.{Text, IsDistinct}
+use Rattle.string_interner.specs.Extend.{fresh}
+use Rattle.string_column.specs.Column.{AreCodes, rows_of}
+use Rattle.dictcol.specs.declared.fault.Fault.{Fault}
+use Rattle.dictcol.specs.Fault.{IsDamage}
+use Rattle.dictcol.specs.File.{HaveEntries}
+use Rattle.dictcol.specs.Lines.{has_newline, text_of_ended, AreLines}
+
+-- the text of lines that a newline ends each, the last one unless it is cut
+abbrev pub plain_text : List Text → Bool → Text
+plain_text lines is_cut = if is_cut then join_with_byte 10 lines else text_of_ended lines []
+
+-- the file is `dict.txt` of these lines: distinct ones, each ended
+pub record IsDictionary (lines : List Text) (file : Text) : Type 0 where
+  pub text : file ≡ text_of_ended lines []
+  pub each_a_line : list_any has_newline lines ≡ false
+  pub distinct : IsDistinct lines
+
+-- if the fault says that a file of these bytes is damaged, it is no dictionary
+abbrev pub IsDictionaryFault : Option Text → Fault → Type 0
+IsDictionaryFault file fault = IsDamage fault → IfSome file (λ text. (lines : List Text) → ¬ (IsDictionary lines text))
+
+-- four bytes, the lowest first
+abbrev pub code_bytes : ℕ → Text
+code_bytes code = to_le_bytes w32 code
+
+-- what stands before the numbers of an array in NumPy's format 1.0: 128 bytes, of which the last is a newline
+abbrev pub array_type : ℕ → Text
+array_type count = codes "{'descr': '<u4', 'fortran_order': False, 'shape': (" ++ decimal count ++ codes ",), }"
+
+abbrev pub npy_start : ℕ → Text
+npy_start count = 147 ∷ codes "NUMPY" ++ 1 ∷ 0 ∷ 118 ∷ 0 ∷ array_type count
+
+abbrev pub npy_header : ℕ → Text
+npy_header count = npy_start count ++ replicate (127 - length (npy_start count)) 32 ++ 10 ∷ []
+
+-- the file is `codes.npy` of these numbers
+pub record IsNpy (numbers : List ℕ) (file : Text) : Type 0 where
+  pub bytes : file ≡ npy_header (length numbers) ++ flat_map code_bytes numbers
+  pub count_fits : length numbers < 2 ^ 64
+  pub each_fits : All (λ number. number < 2 ^ 32) numbers
+
+-- the file is `codes.npy` of the numbers of these rows in the dictionary
+abbrev pub IsCodesFile : List Text → List Text → Text → Type 0
+IsCodesFile dictionary rows file = (numbers : List ℕ) × AreCodes dictionary numbers rows × IsNpy numbers file
+
+-- The files are the plain columns of a text, onto a dictionary from before: its lines stay first, and what is new comes behind.
+pub record IsPlain (before text dictionary numbers : Text) (is_cut : Bool) : Type 0 where
+  pub known : List Text
+  pub before_is : IsDictionary known before
+  pub lines : List Text
+  pub is_ended : Bool
+  pub lines_are : AreLines text lines is_ended
+  pub is_cut_is : is_cut ≡ (not is_ended && nat_lt 0 (length lines))
+  pub dictionary_is : IsDictionary (known ++ fresh known lines) dictionary
+  pub numbers_are : IsCodesFile (known ++ fresh known lines) lines numbers
+
+-- These rows are the lines of a dictionary from before, as many as `count`, and those of a text behind them.
+pub record IsOnto (before text : Text) (rows : List Text) (count : ℕ) (is_cut : Bool) : Type 0 where
+  pub known : List Text
+  pub before_is : IsDictionary known before
+  pub lines : List Text
+  pub is_ended : Bool
+  pub lines_are : AreLines text lines is_ended
+  pub is_cut_is : is_cut ≡ (not is_ended && nat_lt 0 (length lines))
+  pub rows_are : rows ≡ known ++ lines
+  pub count_is : count ≡ length known
+
+-- the known bytes of two outputs grow by the plain columns of the text
+abbrev pub WritesPlain : Text → Text → Bool → Option (List ℕ) → Option (List ℕ) → Option (List ℕ) → Option (List ℕ) → Type 0
+WritesPlain before text is_cut old new old_numbers new_numbers =
+    (dictionary : Text) × (numbers : Text) × IsPlain before text dictionary numbers is_cut × Appends old new dictionary × Appends old_numbers new_numbers numbers
+
+-- the files hold the text
+pub record HoldPlain (dictionary numbers : Text) (is_cut : Bool) (text : Text) : Type 0 where
+  pub lines : List Text
+  pub dictionary_is : IsDictionary lines dictionary
+  pub codes_are : List ℕ
+  pub numbers_are : IsNpy codes_are numbers
+  pub within : HaveEntries lines codes_are
+  pub text_is : text ≡ plain_text (rows_of lines codes_are) is_cut

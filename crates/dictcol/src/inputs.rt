@@ -1,0 +1,197 @@
+//! The input: files that are read one after another, as `cat` writes them.
+
+ghost use Rattle.std.specs.Prelude.{◌≤◌, length, IfOk};
+
+use crate::arguments::Source;
+use crate::fault::Fault;
+use crate::zero::exchange_ends;
+use std::fs::File;
+use std::io;
+use std::io::{ErrorKind, IsTerminal, Read};
+
+/// With what a file begins that `encode` wrote.
+const ENCODED: &[u8] = b"{\"dictionary\":[";
+
+/// Input of this many bytes is long: progress is reported on a terminal.
+const LONG: usize = 1 << 24;
+
+/// Reports on a terminal how far the work on a long input is.
+pub fn report_progress(rt: &HostRuntime, bytes: usize, what: &str) {
+    if bytes >= LONG && rt.stderr().is_terminal() {
+        // Nothing is lost if standard error is closed.
+        let _ = eprintln!(rt; "dictcol: {} MiB {what}", bytes >> 20);
+    }
+}
+
+/// Where a file begins in the input.
+#[derive(Clone, Copy)]
+struct Begin<'a> {
+    source: Source<'a>,
+    /// How many newlines come before it.
+    newlines: usize,
+}
+
+/// Reads some files one after another, or standard input if there are none. If a file does not end in a newline, its last line
+/// and the first of the next file are one.
+#[derive(Drop)]
+pub struct Inputs<'a> {
+    rt: &'a HostRuntime,
+    sources: &'a [Source<'a>],
+    /// Whether newlines and zero bytes are exchanged.
+    is_exchanged: bool,
+    /// The index of the file that is read.
+    at: usize,
+    /// This file, if it is open and not standard input.
+    file: Option<File>,
+    /// Whether it gave bytes so far.
+    has_bytes: bool,
+    /// How many bytes were read.
+    length: usize,
+    is_ended: bool,
+    /// How many newlines were read.
+    newlines: usize,
+    /// Of several files those that gave bytes so far.
+    begins: Vec<Begin<'a>>,
+    /// The first of them that looks like one that `encode` wrote.
+    encoded: Option<Source<'a>>,
+}
+
+impl<'a> Inputs<'a> {
+    /// Returns the input of these files, none of which is open yet, in which newlines and zero bytes are exchanged or not.
+    pub fn new(rt: &'a HostRuntime, sources: &'a [Source<'a>], is_exchanged: bool) -> Inputs<'a> {
+        Inputs {
+            rt,
+            sources,
+            is_exchanged,
+            at: 0,
+            file: None,
+            has_bytes: false,
+            length: 0,
+            is_ended: false,
+            newlines: 0,
+            begins: Vec::new(rt.alloc()),
+            encoded: None,
+        }
+    }
+
+    /// Reads from a file, which is opened first if none is open.
+    fn read_source(&mut self, source: Source<'a>, buf: &mut [u8]) -> io::Result<usize>
+        ensures { IfOk result (λ count. count ≤ length buf.new) }
+    {
+        let Source::File(path) = source else {
+            return self.rt.stdin().read(buf);
+        };
+        if let Some(file) = &mut self.file {
+            return file.read(buf);
+        }
+        let mut file = File::open(self.rt, path)?;
+        let outcome = file.read(buf);
+        self.file = Some(file);
+        outcome
+    }
+
+    /// Notes the first bytes of a file.
+    fn note_begin(&mut self, bytes: &[u8]) -> io::Result<()> {
+        let source = self.current();
+        if self.encoded.is_none() && bytes.starts_with(ENCODED) {
+            self.encoded = Some(source);
+        }
+        let begin = Begin {
+            source,
+            newlines: self.newlines,
+        };
+        self.has_bytes = true;
+        if self.sources.len() > 1 && self.begins.push(begin).is_err() {
+            return Err(io::Error::from(ErrorKind::OutOfMemory));
+        }
+        Ok(())
+    }
+
+    /// Counts the newlines of several files, so that the file of a line can be found.
+    fn count_newlines(&mut self, bytes: &[u8]) {
+        if self.sources.len() > 1 {
+            let newlines = bytes.iter().filter(|byte| **byte == b'\n').count();
+            self.newlines = self.newlines.saturating_add(newlines);
+        }
+    }
+
+    /// Notes how many bytes were read at once, which are none at the end of the input.
+    fn note_length(&mut self, count: usize) {
+        self.length = self.length.saturating_add(count);
+        if count == 0 && !self.is_ended {
+            self.is_ended = true;
+            report_progress(self.rt, self.length, "read");
+        }
+    }
+
+    /// Returns how many bytes were read.
+    pub fn length(&self) -> usize {
+        self.length
+    }
+
+    /// Returns the first file that looks like one that `encode` wrote.
+    pub fn find_encoded(&self) -> Option<Source<'a>> {
+        self.encoded
+    }
+
+    /// Returns the file that is read, or the only one. Behind the last of several it is standard input, which has no name to tell.
+    fn current(&self) -> Source<'a> {
+        let at = if self.sources.len() == 1 { 0 } else { self.at };
+        match self.sources.get(at) {
+            Some(source) => *source,
+            None => Source::StandardInput,
+        }
+    }
+
+    /// Returns the file that a fault is about, if it is about one, and the fault as one of this file: lines are counted from its
+    /// own first one, and a line of two files is one of the later.
+    pub fn locate(&self, fault: Fault) -> (Source<'a>, Fault) {
+        let Fault::NotUtf8(line) = fault else {
+            return (self.current(), fault);
+        };
+        for begin in self.begins.iter().rev() {
+            if begin.newlines < line {
+                return (begin.source, Fault::NotUtf8(line - begin.newlines));
+            }
+        }
+        (self.current(), fault)
+    }
+}
+
+impl Inputs<'_> {
+    /// Reads bytes as they are.
+    fn read_plain(&mut self, buf: &mut [u8]) -> io::Result<usize>
+        ensures { IfOk result (λ count. count ≤ length buf.new) }
+    {
+        if self.sources.is_empty() {
+            return self.rt.stdin().read(buf);
+        }
+        let sources = self.sources;
+        for index in self.at..sources.len() {
+            let count = self.read_source(sources[index], buf)?;
+            if count > 0 || buf.is_empty() {
+                return Ok(count);
+            }
+            self.at = index + 1;
+            self.file = None;
+            self.has_bytes = false;
+        }
+        Ok(0)
+    }
+}
+
+impl Read for Inputs<'_> {
+    fn read(&mut self, buf: &mut [u8]) -> io::Result<usize> {
+        let count = self.read_plain(buf)?;
+        self.note_length(count);
+        let bytes = &mut buf[..count];
+        if self.is_exchanged {
+            exchange_ends(bytes);
+        }
+        if !self.has_bytes && !bytes.is_empty() {
+            self.note_begin(bytes)?;
+        }
+        self.count_newlines(bytes);
+        Ok(count)
+    }
+}

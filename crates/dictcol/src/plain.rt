@@ -1,0 +1,162 @@
+//! Plain columns: `dict.txt` has the distinct lines, and `codes.npy` the number of its line there for each line.
+
+mod dictionary;
+pub mod folder;
+mod npy;
+
+ghost use Rattle.std.specs.Prelude.{◌≡◌, ◌≤◌, ◌++◌, List, length, IfOk, IfErr, IfSome, OnOk};
+ghost use Rattle.string_interner.specs.Text.{Text};
+ghost use Rattle.dictcol.specs.Fault.{IsNoDamage, IsRightFault, WritesLast};
+ghost use Rattle.dictcol.specs.Lines.{AreLines};
+ghost use Rattle.dictcol.specs.Plain.{HoldPlain, IsDictionaryFault, IsOnto, WritesPlain};
+ghost use Rattle.dictcol.specs.Writes.{Writes};
+
+use crate::fault::Fault;
+use crate::hasher::LineHasher;
+use crate::{blocks, file};
+use std::alloc::Global;
+use std::io::{Read, Write};
+use string_column::Column;
+use string_interner::backend::{Backend, DefaultBackend};
+
+/// The lines of a dictionary from before, and those of a text behind them.
+#[derive(Drop)]
+pub struct Plain<B: Backend> {
+    lines: Column<B, LineHasher>,
+    /// How many lines are of the dictionary from before.
+    known: usize,
+    /// Whether the last line of the text has no newline.
+    is_cut: bool,
+    ghost within: { known ≤ length lines },
+}
+
+/// Reads the lines that are all that an input yields, and whether the last one ends in a newline.
+fn read_lines<B: Backend + Drop, R: Read>(
+    alloc: Global,
+    hasher: LineHasher,
+    input: &mut R,
+) -> Result<(Column<B, LineHasher>, bool), Fault>
+    ensures ok { IfOk result (λ lines.
+        IfSome (R.remaining input.old) (λ text. AreLines text lines.0 lines.1)) }
+    ensures fault { IfErr result IsNoDamage }
+{
+    let mut lines = Column::with_hasher(alloc, hasher);
+    let rest = blocks::read_lines(alloc, input, &mut lines)?;
+    if rest.is_empty() {
+        let is_ended = lines.len() > 0;
+        return Ok((lines, is_ended));
+    }
+    match lines.push(&rest) {
+        Ok(_) => Ok((lines, false)),
+        Err(error) => Err(Fault::of_intern(error)),
+    }
+}
+
+/// Appends the lines that an input yields, and returns whether the last one ends in a newline.
+fn append_lines<B: Backend + Drop, R: Read>(
+    alloc: Global,
+    hasher: LineHasher,
+    lines: &mut Column<B, LineHasher>,
+    input: &mut R,
+) -> Result<bool, Fault>
+    ensures ok { IfOk result (λ is_ended. (more : List Text) × (lines.new ≡ lines.old ++ more)
+        × IfSome (R.remaining input.old) (λ text. AreLines text more is_ended)) }
+    ensures fault { IfErr result IsNoDamage }
+{
+    let (more, is_ended) = read_lines::<B, R>(alloc, hasher, input)?;
+    if lines.is_empty() {
+        *lines = more;
+        return Ok(is_ended);
+    }
+    match lines.append(&more) {
+        Ok(()) => Ok(is_ended),
+        Err(error) => Err(Fault::of_intern(error)),
+    }
+}
+
+impl<B: Backend + Drop> Plain<B> {
+    /// Reads a file `dict.txt` from before, which may be empty, and a text.
+    pub fn read<D: Read, R: Read>(
+        alloc: Global,
+        hasher: LineHasher,
+        before: &mut D,
+        input: &mut R,
+    ) -> Result<Self, Fault>
+        ensures ok { IfOk result (λ plain.
+            IfSome (D.remaining before.old) (λ known. IfSome (R.remaining input.old) (λ text.
+            IsOnto known text plain.lines plain.known plain.is_cut))) }
+
+        // The file is called damaged only if it is.
+        ensures err { IfErr result (IsDictionaryFault (D.remaining before.old)) }
+    {
+        let mut lines = dictionary::read::<B, D>(alloc, hasher, before)?;
+        let known = lines.len();
+        let is_ended = append_lines(alloc, hasher, &mut lines, input)?;
+        let is_cut = !is_ended && known < lines.len();
+        Ok(Plain {
+            lines,
+            known,
+            is_cut,
+        })
+    }
+
+    /// Returns whether the last line of the text has no newline.
+    pub fn is_cut(&self) -> bool
+        ensures { result ≡ self.now.is_cut }
+    {
+        self.is_cut
+    }
+
+    /// Writes the files of the text: the distinct lines, and the numbers of its lines.
+    pub fn write<D: Write, N: Write>(
+        &self,
+        alloc: Global,
+        dictionary: &mut D,
+        numbers: &mut N,
+    ) -> Result<(), Fault>
+        ensures written { (before text : Text)
+            → IsOnto before text self.now.lines self.now.known self.now.is_cut
+            → OnOk result (WritesPlain before text self.now.is_cut
+            (D.contents dictionary.old) (D.contents dictionary.new)
+            (N.contents numbers.old) (N.contents numbers.new)) }
+        ensures silent { WritesLast result dictionary.old dictionary.new }
+        ensures fault { IfErr result IsNoDamage }
+    {
+        let (narrow, wide) = self.lines.codes().as_slices();
+        if !wide.is_empty() {
+            return Err(Fault::TooMany);
+        }
+        let (_, codes) = narrow.split_at(self.known);
+        let Ok(header) = npy::format_header(alloc, codes.len()) else {
+            return Err(Fault::Memory);
+        };
+        dictionary::write_file(dictionary, self.lines.dictionary())?;
+        npy::write_file(numbers, &header, codes)
+    }
+}
+
+/// Writes the text that the two files hold, line by line, or finds where they are damaged. Nothing is written of damaged files.
+pub fn decode<D: Read, W: Write>(
+    alloc: Global,
+    hasher: LineHasher,
+    dictionary: &mut D,
+    numbers: &[u8],
+    is_cut: bool,
+    output: &mut W,
+) -> Result<(), Fault>
+    ensures written { OnOk result (IfSome (D.remaining dictionary.old) (λ file.
+        Writes (HoldPlain file numbers.now is_cut)
+        (W.contents output.old) (W.contents output.new))) }
+
+    // Files that hold a text are never called damaged.
+    ensures err { IfErr result (λ fault. IfSome (D.remaining dictionary.old) (λ file.
+        IsRightFault (HoldPlain file numbers.now is_cut) fault)) }
+
+    // Unless all went well or a write failed, the output was not touched.
+    ensures silent { WritesLast result output.old output.new }
+{
+    let lines = dictionary::read::<DefaultBackend, D>(alloc, hasher, dictionary)?;
+    let codes = npy::read(alloc, numbers, lines.len())?;
+    let texts = file::list_texts(alloc, lines.dictionary())?;
+    file::write_lines(output, &texts, &codes, !is_cut && codes.len() > 0)
+}

@@ -1,0 +1,134 @@
+//! The file `codes.npy`: an array of numbers of four bytes in NumPy's format 1.0.
+
+ghost use Rattle.std.specs.Prelude.{◌≡◌, ◌≢◌, ℕ, ◌*◌, ◌^◌, ◌<◌, ◌++◌, List, All, length, IfOk, IfErr, OnOk};
+ghost use Rattle.std.specs.Io.KnownBytes.{Appends};
+ghost use Rattle.std.specs.List.{flat_map};
+ghost use Rattle.dictcol.specs.Fault.{IsDamage, IsWriteFault};
+ghost use Rattle.string_interner.specs.Text.{Text};
+ghost use Rattle.dictcol.specs.Plain.{code_bytes, npy_header, IsNpy};
+ghost use Rattle.dictcol.specs.Writes.{Writes};
+
+use crate::fault::Fault;
+use crate::file::write;
+use itoa::Buffer;
+use memchr::memmem;
+use std::alloc::{AllocError, Global};
+use std::io::Write;
+use string_column::Codes;
+
+/// How many bytes stand before the numbers.
+const HEADER: usize = 128;
+
+/// Returns what stands before so many numbers.
+pub fn format_header(alloc: Global, count: usize) -> Result<Vec<u8>, AllocError>
+    ensures { IfOk result (λ header. header.items ≡ npy_header count) }
+{
+    let mut digits = Buffer::new();
+    let mut header = Vec::with_capacity(alloc, HEADER)?;
+    header.extend_from_slice(b"\x93NUMPY\x01\x00v\x00")?;
+    header.extend_from_slice(b"{'descr': '<u4', 'fortran_order': False, 'shape': (")?;
+    header.extend_from_slice(digits.format(count).as_bytes())?;
+    header.extend_from_slice(b",), }")?;
+    header.resize(HEADER - 1, b' ')?;
+    header.push(b'\n')?;
+    Ok(header)
+}
+
+/// Writes numbers.
+fn write_numbers<W: Write>(output: &mut W, numbers: &[u32]) -> Result<(), Fault>
+    ensures written { OnOk result (Appends (W.contents output.old) (W.contents output.new)
+        (flat_map code_bytes numbers.now)) }
+    ensures fault { IfErr result IsWriteFault }
+{
+    for number in numbers {
+        write(output, &number.to_le_bytes())?;
+    }
+    Ok(())
+}
+
+/// Writes a file of numbers: its header, and the numbers.
+pub fn write_file<W: Write>(output: &mut W, header: &[u8], numbers: &[u32]) -> Result<(), Fault>
+    requires { header.now ≡ npy_header (length numbers.now) }
+    ensures written { OnOk result
+        (Writes (IsNpy numbers.now) (W.contents output.old) (W.contents output.new)) }
+    ensures fault { IfErr result IsWriteFault }
+{
+    write(output, header)?;
+    write_numbers(output, numbers)?;
+    output.flush().map_err(Fault::of_write)
+}
+
+/// Returns what is wrong with a header.
+fn find_fault(header: &[u8]) -> Fault
+    ensures { IsDamage result }
+{
+    if !header.starts_with(b"\x93NUMPY\x01\x00") {
+        return Fault::NotNpy;
+    }
+    if memmem::find(header, b"'descr': '<u4',").is_none() {
+        return Fault::OtherType;
+    }
+    if memmem::find(header, b"'fortran_order': False,").is_none() {
+        return Fault::OtherOrder;
+    }
+    if memmem::find(header, b",), }").is_none() {
+        return Fault::OtherShape;
+    }
+    Fault::OtherLength
+}
+
+/// Returns what stands behind the header of a file, or finds what is wrong with the header.
+fn split_header(alloc: Global, file: &[u8]) -> Result<&[u8], Fault>
+    ensures ok { IfOk result (λ numbers. (count : ℕ) × (file.now ≡ npy_header count ++ numbers.now)
+        × (length numbers.now ≡ 4 * count) × (count < 2 ^ 64)) }
+    ensures err { IfErr result (λ fault. IsDamage fault → (numbers : List ℕ)
+        → ¬ (IsNpy numbers file.now)) }
+{
+    let Some((header, numbers)) = file.split_at_checked(HEADER) else {
+        return Err(Fault::NotNpy);
+    };
+    let count = numbers.len() / 4;
+    let Ok(right) = format_header(alloc, count) else {
+        return Err(Fault::Memory);
+    };
+    if numbers.len() % 4 != 0 || header != right.as_slice() {
+        return Err(find_fault(header));
+    }
+    Ok(numbers)
+}
+
+/// Returns the numbers that bytes are, each of which must be below `limit`.
+fn read_numbers(alloc: Global, bytes: &[u8], limit: usize) -> Result<Codes, Fault>
+    ensures ok { IfOk result (λ numbers. (rest : Text) × (length rest < 4)
+        × (bytes.now ≡ flat_map code_bytes numbers.items ++ rest)) }
+    ensures fits { IfOk result (λ numbers. All (λ number. number < 2 ^ 32) numbers.items) }
+    ensures within { IfOk result (λ numbers. All (λ number. number < limit) numbers.items) }
+    ensures err { IfErr result (λ fault. IsDamage fault → (numbers : List ℕ)
+        → All (λ number. number < 2 ^ 32) numbers → All (λ number. number < limit) numbers
+        → bytes.now ≢ flat_map code_bytes numbers) }
+{
+    let mut numbers = Codes::with_capacity(alloc, bytes.len() / 4, u32::MAX as usize).map_err(
+        |_| Fault::Memory,
+    )?;
+    let mut rest = bytes;
+    'numbers: while let Some((first, behind)) = rest.split_first_chunk::<4>() {
+        let number = u32::from_le_bytes(*first) as usize;
+        if number >= limit {
+            return Err(Fault::NotALine(numbers.len()));
+        }
+        numbers.push(number).map_err(|_| Fault::Memory)?;
+        rest = behind;
+    }
+    Ok(numbers)
+}
+
+/// Returns the codes that a file has, each of which must be below `limit`.
+pub fn read(alloc: Global, file: &[u8], limit: usize) -> Result<Codes, Fault>
+    ensures ok { IfOk result (λ codes. IsNpy codes.items file.now) }
+    ensures within { IfOk result (λ codes. All (λ code. code < limit) codes.items) }
+    ensures err { IfErr result (λ fault. IsDamage fault → (codes : List ℕ)
+        → All (λ code. code < limit) codes → ¬ (IsNpy codes file.now)) }
+{
+    let bytes = split_header(alloc, file)?;
+    read_numbers(alloc, bytes, limit)
+}

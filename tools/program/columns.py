@@ -1,0 +1,237 @@
+"""What is tried of plain columns: of the files that `dictcol encode --plain` writes and `dictcol decode` reads."""
+
+import errno
+import itertools
+import os
+import random
+import struct
+import subprocess
+import tempfile
+from pathlib import Path
+
+from needs import python_with
+
+BACKENDS = (b"string", b"bucket", b"buffer")
+OK = 0, b"", b""
+
+
+def failed(status, message):
+    return status, b"", b"dictcol: %s\n" % message
+
+
+def told(error):
+    return b"%s (os error %d)" % (os.strerror(error).encode(), error)
+
+
+def array(kind, order, shape):
+    """What the start of an array says, in the words of NumPy's documentation of its format."""
+    return b"{'descr': '%s', 'fortran_order': %s, 'shape': %s, }" % (kind, order, shape)
+
+
+def npy(codes, said=None):
+    """A file in NumPy's format 1.0: the header ends in a newline, and what is behind it is aligned to 64 bytes."""
+    said = said or array(b"<u4", b"False", b"(%d,)" % len(codes))
+    said += b" " * (-(len(said) + 11) % 64) + b"\n"
+    return b"\x93NUMPY\1\0" + struct.pack("<H", len(said)) + said + struct.pack(f"<{len(codes)}I", *codes)
+
+
+def columns_of(data, before=()):
+    """The files of a text, by name, onto the lines of a dictionary from before."""
+    lines = data.removesuffix(b"\n").split(b"\n") if data else []
+    index = {line: number for number, line in enumerate(dict.fromkeys([*before, *lines]))}
+    files = {"dict.txt": b"".join(line + b"\n" for line in index), "codes.npy": npy([index[line] for line in lines])}
+    return files | ({"no_final_newline": b""} if data and not data.endswith(b"\n") else {})
+
+
+def files_in(folder):
+    return {path.name: path.read_bytes() for path in Path(folder).iterdir()}
+
+
+def write_files(folder, files):
+    Path(folder).mkdir()
+    for name, content in files.items():
+        Path(folder, name).write_bytes(content)
+
+
+TEXTS = (b"", b"\n", b"\n\n", b"a", b"a\n", b"\na", b"a\n\n", b"a\n\na", b"red\ngreen\nred", b"red\ngreen\nred\n", b"a\r\n\0\n",
+         "é\n日本\né".encode(), b"x" * 70000 + b"\ny\n", b"".join(b"%d\n" % (number % 300) for number in range(3000)))
+
+
+def try_text(program, data):
+    """A text becomes its files over each backend, and comes back. The file is the input or named."""
+    with tempfile.TemporaryDirectory() as folder:
+        for backend in BACKENDS:
+            words = [b"encode", b"--plain", b"new/" + backend, b"--backend", backend]
+            yield f"{data[:40]} over {backend}", program.run(words, data, folder=folder), OK
+            yield f"{data[:40]}, files of {backend}", files_in(f"{folder}/new/{backend.decode()}"), columns_of(data)
+        yield f"{data[:40]}, decoded", program.run([b"decode", b"new/string"], folder=folder), (0, data, b"")
+        Path(folder, "text").write_bytes(data)
+        yield f"{data[:40]}, again", program.run(b"encode --plain=new/string text".split(), b"\xff", folder=folder), OK
+        yield f"{data[:40]}, files again", files_in(f"{folder}/new/string"), columns_of(data)
+
+
+def try_texts_in_turn(program):
+    """A folder has the files of the text that was written last, and no file of one before."""
+    with tempfile.TemporaryDirectory() as folder:
+        for data in (*TEXTS, *reversed(TEXTS)):
+            yield f"{data[:40]}, in turn", program.run([b"encode", b"--plain", b"it"], data, folder=folder), OK
+            yield f"{data[:40]}, files in turn", files_in(f"{folder}/it"), columns_of(data)
+
+
+def try_onto(program, first, second):
+    """Lines keep their codes, what is new comes behind, and the files from before stay as they are."""
+    with tempfile.TemporaryDirectory() as folder:
+        before = columns_of(first)
+        write_files(f"{folder}/old", before)
+        known = before["dict.txt"].split(b"\n")[:-1]
+        name = f"{second[:40]} onto {first[:40]}"
+        for backend in BACKENDS:
+            words = [b"encode", b"--onto", b"old", b"--plain=" + backend, b"--backend", backend]
+            yield f"{name} over {backend}", program.run(words, second, folder=folder), OK
+            yield f"{name}, files of {backend}", files_in(f"{folder}/{backend.decode()}"), columns_of(second, known)
+        yield f"{name}, decoded", program.run([b"decode", b"string"], folder=folder), (0, second, b"")
+        yield f"{name}, files from before", files_in(f"{folder}/old"), before
+        words = b"encode --onto old --plain old".split()
+        yield f"{name}, in place", program.run(words, second, folder=folder), OK
+        yield f"{name}, files in place", files_in(f"{folder}/old"), columns_of(second, known)
+
+
+LINES = b"red\ngreen\n"
+# Files that are damaged, and the message.
+DAMAGED = (
+    (b"red\nred\n", npy([0]), b"dict.txt: line 2 repeats an earlier line"),
+    (b"a\nb\nc\nb\na\n", npy([0]), b"dict.txt: line 4 repeats an earlier line"),
+    (b"\n\n", npy([]), b"dict.txt: line 2 repeats an earlier line"),
+    (b"red\ngreen", npy([0]), b"dict.txt does not end in a newline"),
+    (b"a\n\xff\n", npy([0]), b"dict.txt: line 2 is not UTF-8"),
+    (LINES, npy([0, 1, 2]), b"codes[2] is not the number of a line of dict.txt"),
+    (LINES, npy([2**32 - 1, 5]), b"codes[0] is not the number of a line of dict.txt"),
+    (b"", npy([0]), b"codes[0] is not the number of a line of dict.txt"),
+    (LINES, b"", b"codes.npy is not in NumPy's format 1.0"),
+    (LINES, npy([0, 1])[:127], b"codes.npy is not in NumPy's format 1.0"),
+    (LINES, b"\x93NUMPY\2" + npy([0, 1])[7:], b"codes.npy is not in NumPy's format 1.0"),
+    (LINES, b" " + npy([0, 1])[1:], b"codes.npy is not in NumPy's format 1.0"),
+    (LINES, npy([0, 1], array(b"<i4", b"False", b"(2,)")), b"codes.npy has another type than '<u4'"),
+    (LINES, npy([0, 0], array(b"<i8", b"False", b"(1,)")), b"codes.npy has another type than '<u4'"),
+    (LINES, npy([0, 1], array(b">u4", b"False", b"(2,)")), b"codes.npy has another type than '<u4'"),
+    (LINES, npy([0, 1], array(b"<u4", b"True", b"(2,)")), b"codes.npy is in Fortran's order"),
+    (LINES, npy([0, 1], array(b"<u4", b"False", b"(2, 1)")), b"codes.npy has another shape than a list"),
+    (LINES, npy([0], array(b"<u4", b"False", b"()")), b"codes.npy has another shape than a list"),
+    (LINES, npy([0, 1], array(b"<u4", b"False", b"(3,)")), b"codes.npy has another length than its header says"),
+    (LINES, npy([0, 1])[:-1], b"codes.npy has another length than its header says"),
+    (LINES, npy([0, 1])[:-4], b"codes.npy has another length than its header says"),
+    (LINES, npy([0, 1]) + b"\0" * 4, b"codes.npy has another length than its header says"),
+)
+
+
+def try_damaged(program, lines, numbers, message):
+    """Nothing is written of damaged files. Without its numbers a dictionary is still one to write onto."""
+    with tempfile.TemporaryDirectory() as folder:
+        write_files(f"{folder}/it", {"dict.txt": lines, "codes.npy": numbers})
+        yield f"{message!r}", program.run([b"decode", b"it"], folder=folder), failed(2, b"it: " + message)
+        ended = program.run(b"encode --onto it --plain new".split(), b"a\n", folder=folder)
+        is_of_lines = message.startswith(b"dict.txt")
+        yield f"{message!r}, written onto", ended, failed(2, b"it: " + message) if is_of_lines else OK
+        yield f"{message!r}, what was written", Path(folder, "new").exists(), not is_of_lines
+
+
+def try_missing(program):
+    """Files that are not there, and folders that cannot be written."""
+    with tempfile.TemporaryDirectory() as folder:
+        files = columns_of(LINES)
+        for name in files:
+            write_files(f"{folder}/without {name}", {it: content for it, content in files.items() if it != name})
+            ended = program.run([b"decode", f"without {name}".encode()], folder=folder)
+            message = b"without %s: cannot read %s: %s" % (name.encode(), name.encode(), told(errno.ENOENT))
+            yield f"without {name}", ended, failed(1, message)
+        ended = program.run(b"encode --onto nowhere --plain new".split(), LINES, folder=folder)
+        yield "onto nothing", ended, failed(1, b"nowhere: cannot read dict.txt: " + told(errno.ENOENT))
+        Path(folder, "file").write_bytes(b"")
+        for words, error in ((b"encode --plain file", errno.EEXIST), (b"encode --plain file/new", errno.ENOTDIR)):
+            message = b"%s: cannot write columns: %s" % (words.split()[-1], told(error))
+            yield f"{words}", program.run(words.split(), LINES, folder=folder), failed(1, message)
+        ended = program.run(b"encode --plain bytes".split(), b"a\n\xff", folder=folder)
+        yield "bytes that are not UTF-8", ended, failed(2, b"line 2 is not UTF-8 (see --invalid)")
+        yield "no folder of them", Path(folder, "bytes").exists(), False
+
+
+def try_refused(program):
+    """Each request for memory is refused in turn: the folder has the files from before, those of the run, or no numbers."""
+    with tempfile.TemporaryDirectory() as folder:
+        old, new = columns_of(LINES), columns_of(b"blue\ngreen")
+        for words in (b"encode --plain it".split(), b"encode --onto it --plain it".split(), b"decode it".split()):
+            wanted = new if b"--onto" not in words else columns_of(b"blue\ngreen", LINES.split(b"\n")[:-1])
+            for number in itertools.count(1):
+                for path in Path(folder).glob("it/*"):
+                    path.unlink()
+                Path(folder, "it").mkdir(exist_ok=True)
+                for name, content in old.items():
+                    Path(folder, "it", name).write_bytes(content)
+                ended, asks = program.run_with_asks(words, b"blue\ngreen", number, folder=folder)
+                if len(asks) < number:
+                    break
+                found = files_in(f"{folder}/it")
+                name = f"{words}, request {number} of {asks[number - 1]} bytes refused"
+                if ended.status:
+                    yield name, (ended.status, ended.output), (1, b"")
+                    yield f"{name}, files", found, old
+                else:
+                    yield f"{name}, files", found, old if b"decode" in words else wanted
+
+
+# What NumPy says of the codes, mapped, and that it saves them as they are.
+READ = """
+import pathlib, sys, numpy
+folder = pathlib.Path(sys.argv[1])
+codes = numpy.load(folder / "codes.npy", mmap_mode="r")
+lines = folder.joinpath("dict.txt").read_bytes().split(b"\\n")[:-1]
+numpy.save(folder / "again.npy", codes)
+print(codes.dtype.str, codes.shape, folder.joinpath("again.npy").read_bytes() == folder.joinpath("codes.npy").read_bytes())
+sys.stdout.flush()
+sys.stdout.buffer.write(b"".join(lines[code] + b"\\n" for code in codes))
+"""
+
+
+def try_numpy(program):
+    """NumPy maps what was written, and writes the same file. Left out if no Python has it."""
+    python = python_with("numpy")
+    for data in TEXTS if python else ():
+        with tempfile.TemporaryDirectory() as folder:
+            yield f"{data[:40]}", program.run([b"encode", b"--plain", b"it"], data, folder=folder), OK
+            read = subprocess.run([python, "-c", READ, f"{folder}/it"], capture_output=True, check=False)
+            count = len(data.removesuffix(b"\n").split(b"\n")) if data else 0
+            ended = data + b"\n" * (bool(data) and not data.endswith(b"\n"))
+            yield f"{data[:40]}, read by NumPy", (read.stdout, read.stderr), (b"<u4 (%d,) True\n" % count + ended, b"")
+
+
+def try_random(program, seed):
+    """Random lines onto others; and files with one byte changed give a text that the files hold, or are called damaged."""
+    chance = random.Random(seed)
+    words = ["".join(chance.choices("ab\r é", k=chance.randrange(3))) for _ in range(8)]
+    first, second = ("\n".join(chance.choices(words, k=chance.randrange(20))).encode() + chance.choice([b"", b"\n"]) for _ in "ab")
+    yield from try_onto(program, first, second)
+    files = columns_of(first)
+    name = chance.choice([it for it in ("dict.txt", "codes.npy") if files[it]])
+    damaged = bytearray(files[name])
+    damaged[chance.randrange(len(damaged))] = chance.randrange(256)
+    with tempfile.TemporaryDirectory() as folder:
+        write_files(f"{folder}/it", files | {name: bytes(damaged)})
+        ended = program.run([b"decode", b"it"], folder=folder)
+        if ended.status == 0:
+            yield f"files {seed}, written again", program.run(b"encode --plain new".split(), ended.output, folder=folder), OK
+            yield f"files {seed}, decoded again", program.run([b"decode", b"new"], folder=folder), (0, ended.output, b"")
+        else:
+            yield f"damaged files {seed}, {ended}", (ended.status, ended.output, ended.error.count(b"\n")), (2, b"", 1)
+
+
+def trials():
+    return [
+        *((try_text, data) for data in TEXTS),
+        (try_texts_in_turn,),
+        *((try_onto, *both) for both in itertools.product(TEXTS[:-2], repeat=2)),
+        *((try_damaged, *given) for given in DAMAGED),
+        (try_missing,),
+        (try_refused,),
+        (try_numpy,),
+        *((try_random, seed) for seed in range(100)),
+    ]

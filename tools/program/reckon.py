@@ -1,0 +1,86 @@
+"""How runs of the program `dictcol` must end, as Python's `json` and `Counter` reckon it."""
+
+import errno
+import json
+import os
+import re
+from collections import Counter
+
+USAGE = b"usage: dictcol encode|decode|count|merge [OPTION ..] [FILE ..] (try dictcol --help)\n"
+
+
+def failed(status, message):
+    return status, b"", b"dictcol: %s\n" % message
+
+
+MEMORY = failed(1, b"out of memory")
+
+
+def misused(message):
+    return 2, b"", b"dictcol: %s\n%s" % (message, USAGE)
+
+
+def told(error):
+    return b"%s (os error %d)" % (os.strerror(error).encode(), error)
+
+
+def unreadable(error, name=b""):
+    return b"dictcol: %scannot read input: %s\n" % (name, told(error))
+
+
+def unwritable(error):
+    """If its reader has left it ends silently, with the status that a shell tells of a program that SIGPIPE ended. A writer that
+    takes nothing has no error number."""
+    if error == errno.EPIPE:
+        return 128 + 13, b""
+    return 1, b"dictcol: cannot write output: %s\n" % (told(error) if error else b"failed to write the buffered data")
+
+
+def unwritten(error, front=b""):
+    """How a run ends whose output breaks off by an error behind these bytes."""
+    status, message = unwritable(error)
+    return status, front, message
+
+
+def is_utf8(line):
+    try:
+        return isinstance(line.decode(), str)
+    except UnicodeDecodeError:
+        return False
+
+
+def skip_invalid(data):
+    """The lines that are UTF-8, and how a run tells of the others."""
+    lines = re.findall(rb"[^\n]*\n|[^\n]+", data)
+    good = [line for line in lines if is_utf8(line)]
+    left_out = len(lines) - len(good)
+    return b"".join(good), b"dictcol: lines left out that are not UTF-8: %d\n" % left_out if left_out else b""
+
+
+ENCODED = b'{"dictionary":['
+
+
+def warned(data, name=b""):
+    """What is told of an input that looks like what `encode` writes."""
+    if not data.startswith(ENCODED):
+        return b""
+    return b"dictcol: %swarning: lines were read from what encode wrote (see decode, count --encoded)\n" % name
+
+
+def answer(words, data):
+    """How a run of `encode` or `count` on UTF-8 must end, as Python reckons it. With `--invalid` it need not be UTF-8."""
+    told, warning = b"", warned(data)
+    if b"--invalid=replace" in words:
+        data = data.decode(errors="replace").encode()
+    elif b"--invalid=skip" in words:
+        data, told = skip_invalid(data)
+    end = b"\0" if b"-z" in words else b"\n"
+    lines = data.removesuffix(end).split(end) if data else []
+    counts = Counter(lines)
+    if words[0] == b"encode":
+        index = {line: number for number, line in enumerate(counts)}
+        file = {"dictionary": [line.decode() for line in counts], "final_newline": data.endswith(b"\n"),
+                "lines": [index[line] for line in lines]}
+        return 0, json.dumps(file, ensure_ascii=False, separators=(",", ":")).encode() + b"\n", told + warning
+    ordered = counts.most_common() if b"--sorted" in words else counts.items()
+    return 0, b"".join(b"%d %s%s" % (number, line, end) for line, number in ordered), told + warning

@@ -1,0 +1,350 @@
+"""What is tried of the program `dictcol` as a shell uses it: files by their names, options, terminals."""
+
+import errno
+import os
+import pty
+import random
+import re
+import subprocess
+import tempfile
+import tty
+from itertools import product
+from pathlib import Path
+
+from edits import TOP
+from program.reckon import ENCODED, MEMORY, answer, failed, is_utf8, misused, told, unreadable, unwritten, warned
+
+VERSION = (TOP / "VERSION").read_bytes().strip()
+
+
+# Arguments behind which LINES, the name of a file or `-`, is read.
+COUNTING = ("count LINES", "--sorted count LINES", "count LINES --sorted", "--backend bucket count --sorted LINES",
+            "count --backend=buffer LINES", "count --backend=buffer --backend string -- LINES", "-- count LINES")
+LINES, COUNTS = b"red\ngreen\nred\n", (0, b"2 red\n1 green\n", b"")
+NAMES = (b"lines", b"--sorted", b"-", "é\n".encode())
+
+
+def try_operands(program):
+    """Arguments that name a file, which standard input does not matter to, or `-`."""
+    with tempfile.TemporaryDirectory() as folder:
+        place = folder.encode()
+        for name in NAMES:
+            Path(folder, os.fsdecode(name)).write_bytes(LINES)
+        wanted = {**dict.fromkeys(COUNTING, COUNTS), "encode LINES": answer([b"encode"], LINES),
+                  "count --backend=tree --help": misused(b"unknown backend 'tree'")}
+        for words, name in product(wanted, (b"lines", place + b"/lines", b"./-", NAMES[-1], b"-")):
+            given = [name if word == "LINES" else word for word in words.split()]
+            yield f"{given}", program.run(given, LINES if name == b"-" else b"\xff", folder=folder), wanted[words]
+        Path(folder, "encoded").write_bytes(program.run([b"encode"], LINES).output)
+        Path(folder, "bytes").write_bytes(b"a\n\xff")
+        for words, end in ((b"count -- --sorted", COUNTS), (b"decode encoded", (0, LINES, b"")),
+                           (b"decode lines", failed(2, b"lines: invalid JSON at line 1 column 1")),
+                           (b"count bytes", failed(2, b"bytes: line 2 is not UTF-8 (see --invalid)"))):
+            yield f"{words}", program.run(words.split(), folder=folder), end
+        for name, error in ((b"missing", errno.ENOENT), (place, errno.EISDIR), (b"lines/a", errno.ENOTDIR), (b"", errno.ENOENT),
+                            (b"a" * 256, errno.ENAMETOOLONG)):
+            yield f"the file {name!r}", program.run([b"count", name], folder=folder), (1, b"", unreadable(error, name + b": "))
+        no_keys = failed(1, b"cannot draw random keys: " + told(errno.ENOSYS))
+        yield "no random bytes for a file", program.run([b"count", b"lines"], folder=folder, NO_RANDOM=1), no_keys
+        with open("/dev/full", "wb") as full:
+            ended = program.run([b"count", b"lines"], b"", full, folder=folder)
+        yield "a file on a full disk", ended, unwritten(errno.ENOSPC)
+    for words, number in (([b"count", b"\xff"], 2), ([b"\xff", b"\xff"], 1),
+                          ([b"count", "é".encode(), b"a\xc3", b"a" * 9999], 3)):
+        wanted = failed(2, b"argument %d is not UTF-8 (a file with such a name can be standard input)" % number)
+        yield f"an argument that is not UTF-8: {words}", program.run(words), wanted
+    for words in [b"count", b"\xff" * 5000], [b"count", b"a" * 5000, b"\xff" * 5000]:
+        yield "a long argument that is not UTF-8", program.run(words), failed(2, b"an argument is not UTF-8")
+
+
+def write_files(folder, files):
+    names = [b"%d.json" % number for number in range(len(files))]
+    for name, file in zip(names, files):
+        Path(folder, os.fsdecode(name)).write_bytes(file)
+    return names
+
+
+def try_many_files(program):
+    """A hundred files, of which some end in the midst of a line, a file that is named twice, and a line of 100 kB in two files."""
+    parts = [b"%d\nline\n%s" % (number % 7, b"half" * (number % 3)) for number in range(100)]
+    with tempfile.TemporaryDirectory() as folder:
+        names = write_files(folder, parts)
+        for word in b"encode", b"count":
+            yield f"{word} of 100 files", program.run([word, *names], folder=folder), answer([word], b"".join(parts))
+            yield f"{word} of a file twice", program.run([word, names[1], names[1]], folder=folder), answer([word], parts[1] * 2)
+    with tempfile.TemporaryDirectory() as folder:
+        names = write_files(folder, [answer([b"encode"], part)[1] for part in parts])
+        yield "100 files merged", program.run([b"merge", *names], folder=folder), answer([b"encode"], b"".join(parts))
+        yield "a file merged twice", program.run([b"merge", names[1], names[1]], folder=folder), answer([b"encode"], parts[1] * 2)
+        for backend in b"string", b"bucket", b"buffer":
+            yield from try_refused_files(program, folder, [b"merge", b"--backend", backend, *names[:12]])
+    halves = b"a\n" + b"b" * 60000, b"b" * 40000 + b"\nb\n"
+    with tempfile.TemporaryDirectory() as folder:
+        names = write_files(folder, halves)
+        for word in b"encode", b"count":
+            yield f"{word} of a line in two files", program.run([word, *names], folder=folder), answer([word], b"".join(halves))
+    with tempfile.TemporaryDirectory() as folder:
+        names = write_files(folder, [answer([b"encode"], half)[1] for half in halves])
+        wanted = answer([b"encode"], b"".join(halves))
+        yield "a line in two files, merged", program.run([b"merge", *names], folder=folder), wanted
+
+
+# Lines are mended in blocks of a quarter of so many bytes.
+BLOCK = 1 << 18
+
+
+def try_blocks(program):
+    """Lines and characters at the ends of blocks, a line of several blocks, one line without a newline, and a byte order mark."""
+    inputs = [b"a" * (BLOCK * 3), b"a" * (BLOCK * 3) + b"\nb", b"line", "\ufeffa\na\n\ufeffa\n".encode(), b"a\r\na\n"]
+    for block, shift in product((BLOCK >> 2, BLOCK >> 1, BLOCK), range(-4, 5)):
+        front = b"a" * (block - 2 + shift)
+        inputs += [front + b"\n" + b"b\n", front + b"\n" + front + b"\n", front[:-2] + "😀é\nb".encode(),
+                   b"\n" * (block + shift) + b"b"]
+    for data in inputs:
+        for words in [b"encode"], [b"count"], [b"count", b"--invalid=replace"], [b"encode", b"--invalid=skip"]:
+            yield f"{words} of {len(data)} bytes, {data[-8:]!r}", program.run(words, data), answer(words, data)
+    for words in [b"encode"], [b"count"]:
+        for block, shift in product((BLOCK >> 2, BLOCK >> 1, BLOCK), (-2, -1, 0, 1)):
+            data = b"\n" * (block + shift) + b"\xff\nb"
+            wanted = failed(2, b"line %d is not UTF-8 (see --invalid)" % (block + shift + 1))
+            yield f"{words}, a bad line behind {block + shift} lines", program.run(words, data), wanted
+
+
+def try_many_lines(program):
+    """2^22 lines, of which each second one is new."""
+    data = b"".join(b"%d\nx\n" % number for number in range(1 << 21))
+    encoded = program.run([b"encode"], data)
+    yield "2^22 lines, encoded", encoded, answer([b"encode"], data)
+    yield "2^22 lines, decoded", program.run([b"decode"], encoded.output), (0, data, b"")
+    yield "2^22 lines, counted", program.run([b"count", b"--sorted"], data), answer([b"count", b"--sorted"], data)
+
+
+def read_terminal(program, words, given, **streams):
+    """What a run writes to a terminal, which one or both of its outputs are, and how it ends."""
+    ours, theirs = pty.openpty()
+    tty.setraw(theirs)
+    outputs = {name: theirs if is_terminal else subprocess.DEVNULL for name, is_terminal in streams.items()}
+    with subprocess.Popen([program.path, *words], stdin=given, env={}, **outputs) as started:
+        os.close(theirs)
+        shown = b""
+        try:
+            while piece := os.read(ours, 1 << 16):
+                shown += piece
+        except OSError:  # Nobody has the other end any more.
+            pass
+        os.close(ours)
+    return started.returncode, shown
+
+
+# From this length on progress is told.
+TOLD_FROM = 1 << 24
+
+
+def try_terminal(program):
+    """Progress is told on a terminal that is standard error, of a long input alone; output to a terminal is as elsewhere."""
+    for length, words in product((TOLD_FROM, TOLD_FROM - 1), ([b"encode"], [b"count"], [b"count", b"--invalid=skip"])):
+        data = ((b"a" * 63 + b"\n") * (TOLD_FROM >> 6))[:length]
+        with tempfile.TemporaryFile() as given:
+            given.write(data)
+            given.seek(0)
+            status, shown = read_terminal(program, words, given, stdout=False, stderr=True)
+            progress = b"dictcol: 16 MiB read\ndictcol: 16 MiB done\n" if length == TOLD_FROM else b""
+            yield f"{words}, progress of {length} bytes", (status, shown), (0, progress)
+            given.seek(0)
+            found = read_terminal(program, words, given, stdout=True, stderr=False)
+            yield f"{words} of {length} bytes to a terminal", found, answer(words, data)[:2]
+    for words, data in ([b"encode"], b"a\nb\n"), ([b"count"], b"a\na"), ([b"decode"], answer([b"encode"], b"a\n\nb")[1]):
+        with tempfile.TemporaryFile() as given:
+            given.write(data)
+            given.seek(0)
+            wanted = (0, b"a\n\nb") if words == [b"decode"] else answer(words, data)[:2]
+            yield f"{words} to a terminal", read_terminal(program, words, given, stdout=True, stderr=True), wanted
+
+
+def try_merges(program):
+    """Some files in their order: what is joined, what is empty, and what is wrong with one of them."""
+    parts = b"red\ngreen", b"", b"ish\n\n", b"\n", b"x", b"y", b"red\n"
+    files = [answer([b"encode"], part)[1] for part in parts]
+    wanted = answer([b"encode"], b"".join(parts))
+    with tempfile.TemporaryDirectory() as folder:
+        names = write_files(folder, files)
+        for words in ([b"merge", *names], [b"merge", b"--backend", b"bucket", *names], [*b"-- merge".split(), *names],
+                      [b"merge", *names[:3], b"--backend=buffer", *names[3:]]):
+            yield f"{words}", program.run(words, b"\xff", folder=folder), wanted
+        for taken in range(1, len(names)):
+            words = [b"merge", *names[:taken]]
+            yield f"{words}", program.run(words, folder=folder), answer([b"encode"], b"".join(parts[:taken]))
+        for place in range(len(names)):
+            words = [b"merge", *names[:place], b"-", *names[place + 1:]]
+            yield f"{words}", program.run(words, files[place], folder=folder), wanted
+        yield from try_refused_files(program, folder, [b"merge", *names[:3]])
+        for name, file in (("bad", b"{}"), ("cut", files[0][:9]), ("bytes", b"\xff")):
+            Path(folder, name).write_bytes(file)
+        for name, end in ((b"bad", failed(2, b'bad: no array "dictionary"')),
+                          (b"cut", failed(2, b"cut: JSON ends too early, at line 1 column 10")),
+                          (b"bytes", failed(2, b"bytes: line 1 is not UTF-8")),
+                          (b"missing", (1, b"", unreadable(errno.ENOENT, b"missing: "))),
+                          (b".", (1, b"", unreadable(errno.EISDIR, b".: ")))):
+            for place in range(3):
+                words = [b"merge", *names[:place], name, *names[place:]]
+                yield f"{words}", program.run(words, folder=folder), end
+        with open("/dev/full", "wb") as full:
+            ended = program.run([b"merge", *names], b"", full, folder=folder)
+        yield "files merged to a full disk", ended, unwritten(errno.ENOSPC)
+        no_keys = failed(1, b"cannot draw random keys: " + told(errno.ENOSYS))
+        yield "no random bytes for files", program.run([b"merge", *names], folder=folder, NO_RANDOM=1), no_keys
+
+
+def try_encoded(program):
+    """Lines that look like what `encode` writes are taken as lines, with a warning."""
+    plain, encoded = b"a\n", answer([b"encode"], b"a\n")[1]
+    with tempfile.TemporaryDirectory() as folder:
+        names = write_files(folder, (plain, encoded, encoded, ENCODED[:-1]))
+        for word, given in product((b"encode", b"count"), ((1,), (0, 1), (2, 0, 1), (1, 3), (3,), (3, 0))):
+            words = [word, *(names[it] for it in given)]
+            joined = b"".join((plain, encoded, encoded, ENCODED[:-1])[it] for it in given)
+            looking = [names[it] for it in given if it in (1, 2)]
+            wanted = *answer(words, joined)[:2], warned(encoded, looking[0] + b": ") if looking else b""
+            yield f"{words}", program.run(words, folder=folder), wanted
+        for words in ([b"count"], [b"count", b"--invalid=replace"], [b"encode", b"-"]):
+            yield f"{words}", program.run(words, encoded), answer(words, encoded)
+        wanted = failed(2, b"line 2 is not UTF-8 (see --invalid)")
+        yield "no warning behind a fault", program.run([b"count"], encoded + b"\xff"), wanted
+
+
+# Lines that newlines end become lines that zero bytes end.
+EXCHANGED = bytes.maketrans(b"\n\0", b"\0\n")
+# Some files, and the one that is named for a line that is not UTF-8, with the number of the line there.
+BAD_LINES = (
+    ((b"a\n\xff\n", b"b"), 0, 2), ((b"a", b"\xff\n"), 1, 1), ((b"a\nb\n", b"", b"c\n\xff", b""), 2, 2),
+    ((b"a\n", b"\n\n\xff\n\n"), 1, 3),
+    ((b"\xff", b""), 0, 1), ((b"", b"\xff"), 1, 1), ((b"a\n", b"\xc3", b"x\n"), 2, 1), ((b"a\n", b"\xc3\n", b"\xa9\n"), 1, 1),
+    ((b"a\n" * 300, b"b\n" * 200 + b"\xff"), 1, 201),
+)
+
+
+def try_files(program):
+    """Some files are read as one, in which a line, and a character too, may be in two of them."""
+    parts = b"red\ngreen", b"", b"ish\n\n", b"\n", b"x\xc3", b"\xa9", b"y", b"red\n", b"red"
+    with tempfile.TemporaryDirectory() as folder:
+        names = write_files(folder, parts)
+        for words in ([b"encode"], [b"count"], [b"count", b"--sorted"], [b"encode", b"--backend=buffer"]):
+            for taken in range(1, len(names) + 1):
+                ended = program.run([*words, *names[:taken]], folder=folder)
+                whole = b"".join(parts[:taken])
+                bad = failed(2, names[taken - 1] + b": line 1 is not UTF-8 (see --invalid)")
+                wanted = answer(words, whole) if is_utf8(whole) else bad
+                yield f"{words} of {taken}", ended, wanted
+        for place in range(len(names)):
+            words = [b"count", *names[:place], b"-", *names[place + 1:]]
+            yield f"{words}", program.run(words, parts[place], folder=folder), answer(words, b"".join(parts))
+        yield from try_refused_files(program, folder, [b"encode", *names[:3]])
+        for name, error in ((b"missing", errno.ENOENT), (b".", errno.EISDIR)):
+            words = [b"count", names[0], name, names[2]]
+            yield f"{words}", program.run(words, folder=folder), (1, b"", unreadable(error, name + b": "))
+    for files, place, line in BAD_LINES:
+        with tempfile.TemporaryDirectory() as folder:
+            names = write_files(folder, files)
+            for word in b"encode", b"count":
+                wanted = failed(2, b"%s: line %d is not UTF-8 (see --invalid)" % (names[place], line))
+                yield f"{word} of {files}", program.run([word, *names], folder=folder), wanted
+            for words in [b"encode", b"--invalid=replace"], [b"count", b"--invalid=skip"]:
+                yield f"{words} of {files}", program.run([*words, *names], folder=folder), answer(words, b"".join(files))
+            zero_ended = write_files(folder, [it.translate(EXCHANGED) for it in files])
+            wanted = failed(2, b"%s: line %d is not UTF-8 (see --invalid)" % (zero_ended[place], line))
+            yield f"count -z of {files}", program.run([b"count", b"-z", *zero_ended], folder=folder), wanted
+
+
+def try_counts_of_encoded(program):
+    """The lines of files that `encode` wrote are counted as those of the decoded files are, one after another."""
+    parts = b"red\ngreen", b"", b"ish\n\nred\n", b"\n", b"x", b"y", b"red\n", b"red"
+    with tempfile.TemporaryDirectory() as folder:
+        names = write_files(folder, [answer([b"encode"], part)[1] for part in parts])
+        for words in ([b"count", b"--encoded"], [b"count", b"--encoded", b"--sorted"],
+                      [b"count", b"--backend=bucket", b"--encoded"]):
+            for taken in range(1, len(names) + 1):
+                ended = program.run([*words, *names[:taken]], folder=folder)
+                yield f"{words} of {taken}", ended, answer(words, b"".join(parts[:taken]))
+            for given in [], [b"-"]:
+                ended = program.run([*words, *given], answer([b"encode"], parts[2])[1])
+                yield f"{words} of standard input", ended, answer(words, parts[2])
+        # The dictionary is in another order than the lines, and has a text that is no line.
+        Path(folder, "order").write_bytes(b'{"dictionary":["c","b","a"],"final_newline":true,"lines":[2,0,2,0,2]}')
+        yield "texts out of order", program.run(b"count --encoded order".split(), folder=folder), (0, b"3 a\n2 c\n", b"")
+        Path(folder, "bad").write_bytes(b"{}")
+        for place in range(2):
+            words = [b"count", b"--encoded", *names[:place], b"bad", *names[place:]]
+            yield f"{words}", program.run(words, folder=folder), failed(2, b'bad: no array "dictionary"')
+        yield from try_refused_files(program, folder, [b"count", b"--encoded", b"--sorted", *names[:3]])
+
+
+def try_refused_files(program, folder, words):
+    """Each request for memory is refused, also those that a second file needs. The file is named, if one is being read."""
+    wanted = program.run(words, folder=folder)
+    asks = program.run_with_asks(words, b"", folder=folder)[1]
+    for number, size in enumerate(asks, 1):
+        ended, after = program.run_with_asks(words, b"", number, folder=folder)
+        is_told = ended[:2] == (1, b"") and re.fullmatch(rb"dictcol: (\d+\.json: )?out of memory\n", ended.error)
+        yield f"files, request {number} of {size} bytes refused, {ended}", ended == wanted or bool(is_told), True
+        yield f"files, request {number} of {size} bytes refused: it was only made ahead", ended == wanted, bool(after[number:])
+
+
+def try_help(program):
+    """What is asked for is told whatever the input is."""
+    ended, folder = program.run([b"--help"], b"\xff"), os.open("/", os.O_RDONLY)
+    begin = b"usage: dictcol encode "
+    yield "--help", ended._replace(output=ended.output[:len(begin)]), (0, begin, b"")
+    for words in b"-h", b"count --help", b"encode a -h b c", b"--sorted --backend=string --help", b"--help":
+        yield f"{words}", program.run(words.split(), folder), ended
+    for words in b"--version", b"count --version --sort":
+        yield f"{words}", program.run(words.split(), folder), (0, b"dictcol %s\n" % VERSION, b"")
+    os.close(folder)
+
+
+# Lines that are not UTF-8: in a part, cut off, too long, above U+10FFFF, a surrogate, and with a good character among them.
+BROKEN = (b"\xff", b"a\xc3", b"\xc3\xa9\xc3b", b"\xe2\x82", b"\xe2\x82\xff", b"\xf0\x9f\x98",
+          b"\xf0\x9f\x98\xf0\x9f\x98\x80", b"\xc0\xaf", b"\xed\xa0\x80", b"\xf4\x90\x80\x80", b"\x80\x80", b"\xe0\x9f\xbf")
+
+
+def try_invalid(program):
+    """Lines that are not UTF-8 as a file has them, alone and among others, at its end and across blocks."""
+    long = b"a" * 100000
+    inputs = [b"", b"\n", b"a\nb", *BROKEN, *(line + b"\n" for line in BROKEN), b"\n".join(BROKEN), b"\na\n".join([*BROKEN, b""]),
+              b"\n".join([long, long + b"\xff", long, b"\xff" + long, b""]), b"\xc3\n" * 50000, b"\xe2" * 200000]
+    for data, words in product(inputs, ([b"encode"], [b"count"], [b"count", b"-z"])):
+        for how in b"--invalid=replace", b"--invalid=skip":
+            if how == b"--invalid=replace" or b"-z" not in words:
+                name = f"{words}, {how!r} of {len(data)} bytes, {data[:40]!r}"
+                yield name, program.run([*words, how], data), answer([*words, how], data)
+    for words, wanted in (([b"--invalid", b"skip"], (0, b"1 a\n", b"dictcol: lines left out that are not UTF-8: 1\n")),
+                          ([b"--invalid=skip", b"--invalid=error"], failed(2, b"line 1 is not UTF-8 (see --invalid)"))):
+        yield f"{words}", program.run([b"count", *words], b"\xff\na\n"), wanted
+    words, data = [b"encode", b"--invalid=skip"], b"a\n\xff\nb\n"
+    asks = program.run_with_asks(words, data)[1]
+    for number, size in enumerate(asks, 1):
+        ended, after = program.run_with_asks(words, data, number)
+        yield f"{words}, request {number} of {size} bytes refused", ended == MEMORY or bool(after[number:]), True
+
+
+def try_random_bytes(program, seed):
+    """Random bytes in pieces, of which few are UTF-8, mended."""
+    chance = random.Random(seed)
+    data = b"".join(chance.choices([b"a", b"\n", b"\0", *BROKEN, "é".encode(), "😀".encode()], k=chance.randrange(200)))
+    for words in product((b"encode", b"count"), (b"--invalid=replace", b"--invalid=skip")):
+        yield f"{words} of {data!r}", program.run(words, data), answer(words, data)
+
+
+def try_telling_to_a_full_disk(program):
+    for word in b"--help", b"--version":
+        with open("/dev/full", "wb") as full:
+            yield f"{word}, a full disk", program.run([word], b"", full), unwritten(errno.ENOSPC)
+
+
+def trials():
+    return [(trial,) for trial in (
+        try_telling_to_a_full_disk, try_operands, try_files, try_many_files, try_encoded, try_counts_of_encoded, try_merges,
+        try_invalid, try_blocks, try_help)]
+
+
+def long_trials():
+    return [(try_many_lines,), (try_terminal,)]
