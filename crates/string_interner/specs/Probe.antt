@@ -6,7 +6,7 @@ use Rattle.string_interner.specs.Text.{Text}
 use Rattle.string_interner.specs.Slots.{symbols, filled_run, first_passing, probe_cluster, probed}
 use Rattle.string_interner.specs.LoadFactor.{IsSlotCount}
 use Rattle.string_interner.specs.Index.{Fits}
-use Rattle.string_interner.specs.TextIndex.{IfVacant, found_by}
+use Rattle.string_interner.specs.TextIndex.{IfVacant}
 use Rattle.string_interner.specs.declared.dedup.text_index.Entry.{Entry}
 use Rattle.string_interner.specs.declared.dedup.probe.Vacancy.{Vacancy}
 use Rattle.string_interner.specs.declared.dedup.probe.Step.{Step}
@@ -67,9 +67,9 @@ pub record Rebuilt {S : Type 0} (entry : S → Option Text) (code : Text → ℕ
   pub to : (symbol : S) → Contains old (Some symbol) → Contains new (Some symbol)
   pub from : (symbol : S) → Contains new (Some symbol) → Contains old (Some symbol)
 
--- What a probe for a code found is the first symbol of the code's probe cluster that passes the test.
-abbrev pub FindsFirst : {S V : Type 0} → (S → Bool) → List (Option S) → ℕ → Entry S V → Type 0
-FindsFirst test slots code result = found_by result ≡ first_passing test (probe_cluster slots code)
+-- What a look-up of a code found is the first symbol of the code's probe cluster that passes the test.
+abbrev pub FindsFirst : {S : Type 0} → (S → Bool) → List (Option S) → ℕ → Option S → Type 0
+FindsFirst test slots code found = found ≡ first_passing test (probe_cluster slots code)
 
 -- A probe for a code that found nothing tells where a symbol with that code goes.
 abbrev pub NamesVacancy : {S : Type 0} → List (Option S) → ℕ → Entry S Vacancy → Type 0

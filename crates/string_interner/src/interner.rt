@@ -150,10 +150,7 @@ impl<B: Backend, H: TextHasher, I: TextIndex<B::Symbol>> StringInterner<B, H, I>
         ensures { Finds B.numbering self.now.texts text.now result }
     {
         let code = self.hasher.hash_text(text);
-        match self.index.entry(code, &self.backend, text) {
-            Entry::Occupied(symbol) => Some(symbol),
-            Entry::Vacant(_vacancy) => None,
-        }
+        self.index.find(code, &self.backend, text)
     }
 
     /// Returns the symbol of a text if the index's guess is right: `None` does not say that the text is new.

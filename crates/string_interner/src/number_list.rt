@@ -127,7 +127,7 @@ impl NumberList {
     /// Makes sure that `push_reserved` can store this number or a smaller one. Allocates only if it goes beyond what is spare.
     ///
     /// Returns `Err`, and changes nothing, only if an allocation fails.
-    #[inline]
+    #[inline(always)]
     pub fn reserve(&mut self, number: usize) -> Result<(), AllocError>
         ensures items { self.new.items ≡ self.old.items }
         ensures ok { OnOk result ((0 < self.new.spare) × (number ≤ self.new.limit)) }
@@ -143,7 +143,7 @@ impl NumberList {
     }
 
     /// Appends a number for which `reserve` made sure. Allocates nothing.
-    #[inline]
+    #[inline(always)]
     pub fn push_reserved(&mut self, number: usize)
         requires spare { 0 < self.old.spare }
         requires within { number ≤ self.old.limit }

@@ -16,7 +16,8 @@ use std::alloc::{AllocError, Global};
 /// The slots of a table, each empty or with a symbol, and what is stored beside them.
 ///
 /// A layout decides how full its slots may get, what it stores of a text's code, and, by [`Probe`](super::probe::Probe),
-/// what one step of a search does. All else is written once, in [`Table`](super::table::Table) and beside `Probe`.
+/// what one step of a search does. All else is written once, in [`Table`](super::table::Table) and beside `Probe`, but for a
+/// search for a symbol alone, for which a layout may have code of its own ([`Find`](super::probe::Find)).
 pub trait Layout<S: Symbol>: Drop {
     /// What contracts see of the slots.
     ghost layout: { SlotLayout S Self };

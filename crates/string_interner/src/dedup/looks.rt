@@ -7,7 +7,9 @@ ghost use Rattle.string_interner.specs.Index.{has_text};
 
 use crate::backend::Backend;
 use crate::dedup::count::Count;
+use crate::equal_texts::texts_are_equal;
 use std::marker::Model;
+use std::mem::replace;
 
 /// What a slot holds, which [`Looks::look`] alone gives out, and counts.
 #[derive(Drop)]
@@ -65,6 +67,17 @@ impl<'a, B> Looks<'a, B> {
             count: Count::new(),
         }
     }
+
+    /// Takes the looks out, with their count, and leaves new ones over the same backend.
+    #[inline(always)]
+    pub fn take(&mut self) -> Looks<'a, B>
+        ensures taken { result ≡ self.old }
+        ensures backend { self.new.backend ≡ self.old.backend }
+        ensures count { self.new.count ≡ 0 }
+    {
+        let new = Looks::new(self.backend);
+        replace(self, new)
+    }
 }
 
 /// A filled slot that was read: its symbol, and whether that symbol's text is the one looked for.
@@ -85,7 +98,8 @@ impl<'a, B: Backend> Looks<'a, B> {
         ensures count { self.new.count ≡ self.old.count + 1 }
     {
         self.count.add_one();
-        self.backend.resolve_unchecked(symbol) == text
+        // Who asks for one symbol has a tag of the text, so the texts are nearly always equal.
+        texts_are_equal(self.backend.resolve_unchecked(symbol), text)
     }
 
     /// Reads a slot for a text: its symbol, if any, and whether that symbol's text is this one. That is one look.
@@ -100,11 +114,10 @@ impl<'a, B: Backend> Looks<'a, B> {
         ensures backend { self.new.backend ≡ self.old.backend }
         ensures count { self.new.count ≡ self.old.count + 1 }
     {
-        let Some(symbol) = slot.symbol else {
-            self.count.add_one();
-            return None;
-        };
-        let matches = self.has_text(symbol, text);
+        self.count.add_one();
+        let symbol = slot.symbol?;
+        // Most texts here are others, of other lengths.
+        let matches = self.backend.resolve_unchecked(symbol) == text;
         Some(Seen { symbol, matches })
     }
 }

@@ -9,6 +9,7 @@ ghost use Rattle.string_interner.specs.Index.{has_text};
 ghost use Rattle.string_interner.specs.Layout.{FitsCode};
 ghost use Rattle.string_interner.specs.Probe.{FindsFirst, Follows, HasFreeSlot, NamesVacancy, StepsTo};
 ghost use Rattle.string_interner.specs.declared.dedup.probe.Step.TheVariants.{On};
+ghost use Rattle.string_interner.specs.TextIndex.{found_by};
 
 use crate::backend::Backend;
 use crate::dedup::layout::Layout;
@@ -111,7 +112,7 @@ pub fn probe_for<S: Symbol, L: Probe<S>, B: Backend<Symbol = S>>(
         (entry_text B.numbering (B.texts looks.old.backend)) slots.now code text.now }
     ensures found { FindsFirst
         (has_text (entry_text B.numbering (B.texts looks.old.backend)) text.now)
-        (L.layout.slots slots.now) code result }
+        (L.layout.slots slots.now) code (found_by result) }
     ensures vacant { NamesVacancy (L.layout.slots slots.now) code result }
     ensures backend { looks.new.backend ≡ looks.old.backend }
     ensures counts { looks.old.count ≤ looks.new.count }
@@ -137,7 +138,7 @@ pub fn probe_for<S: Symbol, L: Probe<S>, B: Backend<Symbol = S>>(
 ///
 /// Takes at most as many looks as there are symbols in the probe cluster.
 #[inline(always)]
-fn probe_on<S: Symbol, L: Probe<S>, B: Backend<Symbol = S>>(
+pub(super) fn probe_on<S: Symbol, L: Probe<S>, B: Backend<Symbol = S>>(
     slots: &L,
     from: usize,
     code: u64,
@@ -151,7 +152,7 @@ fn probe_on<S: Symbol, L: Probe<S>, B: Backend<Symbol = S>>(
         (L.layout.slots slots.now) (code % length (L.layout.slots slots.now)) (On from) }
     ensures found { FindsFirst
         (has_text (entry_text B.numbering (B.texts looks.old.backend)) text.now)
-        (L.layout.slots slots.now) code result }
+        (L.layout.slots slots.now) code (found_by result) }
     ensures vacant { NamesVacancy (L.layout.slots slots.now) code result }
     ensures backend { looks.new.backend ≡ looks.old.backend }
     ensures counts { looks.old.count ≤ looks.new.count }
@@ -176,6 +177,31 @@ fn probe_on<S: Symbol, L: Probe<S>, B: Backend<Symbol = S>>(
     Entry::Vacant(Vacancy::by_code(code))
 }
 
+/// A whole search through the slots of a layout, for a symbol alone. It is a trait apart, so that a `find` may call what is
+/// written for every [`Probe`].
+pub trait Find<S: Symbol>: Probe<S> {
+    /// Returns the symbol of a text with this code, if it is there: what [`probe_for`] finds, perhaps faster, since no one asks
+    /// for the place of a new text.
+    ///
+    /// Takes at most one look more than there are symbols in the probe cluster.
+    fn find<B: Backend<Symbol = S>>(
+        &self,
+        code: u64,
+        looks: &mut Looks<'_, B>,
+        text: &str,
+    ) -> Option<S>
+        requires free { HasFreeSlot (Self.layout.slots self.now) }
+        requires fits { FitsCode Self.layout
+            (entry_text B.numbering (B.texts looks.old.backend)) self.now code text.now }
+        ensures found { FindsFirst
+            (has_text (entry_text B.numbering (B.texts looks.old.backend)) text.now)
+            (Self.layout.slots self.now) code result }
+        ensures backend { looks.new.backend ≡ looks.old.backend }
+        ensures counts { looks.old.count ≤ looks.new.count }
+        ensures looks { looks.new.count
+            ≤ looks.old.count + length (probe_cluster (Self.layout.slots self.now) code) + 1 };
+}
+
 impl<S: Symbol> Probe<S> for Slots<S> {
     #[inline(always)]
     fn step<B: Backend<Symbol = S>>(
@@ -190,5 +216,17 @@ impl<S: Symbol> Probe<S> for Slots<S> {
             Some(seen) if seen.matches => Step::Found(seen.symbol),
             Some(_) => Step::On(slot_after(at, self.len())),
         }
+    }
+}
+
+impl<S: Symbol> Find<S> for Slots<S> {
+    #[inline(always)]
+    fn find<B: Backend<Symbol = S>>(
+        &self,
+        code: u64,
+        looks: &mut Looks<'_, B>,
+        text: &str,
+    ) -> Option<S> {
+        probe_for(self, code, looks, text).symbol()
     }
 }

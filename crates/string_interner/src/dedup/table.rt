@@ -16,7 +16,7 @@ ghost use Rattle.string_interner.specs.Table.{CountsLooks, FitsAll, Grows, HasRo
 use crate::backend::Backend;
 use crate::dedup::layout::Layout;
 use crate::dedup::looks::Looks;
-use crate::dedup::probe::{Probe, Vacancy, probe_for};
+use crate::dedup::probe::{Find, Vacancy, probe_for};
 use crate::dedup::text_index::{CopyIndex, Entry, TextIndex};
 use crate::hash::TextHasher;
 use crate::symbol::Symbol;
@@ -62,7 +62,7 @@ impl<S: Symbol, L: Layout<S>> Model for Table<S, L> {
     }) t.len };
 }
 
-impl<S: Symbol, L: Probe<S>> Table<S, L> {
+impl<S: Symbol, L: Find<S>> Table<S, L> {
     /// Makes an index without slots. Takes no memory.
     pub fn new(alloc: Global) -> Self
         ensures slots { L.layout.slots result.slots ≡ [] }
@@ -172,10 +172,11 @@ impl<S: Symbol, L: Probe<S>> Table<S, L> {
         ensures looks { CountsLooks L.layout self.now (H.code hasher.now text.now)
             looks.old looks.new }
     {
-        match Table::entry(self, hasher.hash_text(text), looks, text) {
-            Entry::Occupied(symbol) => Some(symbol),
-            Entry::Vacant(_) => None,
+        let code = hasher.hash_text(text);
+        if self.slots.len() == 0 {
+            return None;
         }
+        self.slots.find(code, looks, text)
     }
 
     /// Makes room for one more entry: does nothing if the load factor allows one more, and else grows from no slots to
@@ -288,7 +289,7 @@ impl<S: Symbol, L: Probe<S>> Table<S, L> {
     }
 }
 
-impl<S: Symbol, L: Probe<S>> TextIndex<S> for Table<S, L> {
+impl<S: Symbol, L: Find<S>> TextIndex<S> for Table<S, L> {
     ghost use Rattle.string_interner.specs.Layout.{IsTable};
     ghost use Rattle.string_interner.specs.LoadFactorLaws.{rule_by-laws};
 
@@ -332,6 +333,14 @@ impl<S: Symbol, L: Probe<S>> TextIndex<S> for Table<S, L> {
     }
 
     #[inline(always)]
+    fn find<B: Backend<Symbol = S>>(&self, code: u64, backend: &B, text: &str) -> Option<S> {
+        if self.slots.len() == 0 {
+            return None;
+        }
+        self.slots.find(code, &mut Looks::new(backend), text)
+    }
+
+    #[inline(always)]
     fn guess<B: Backend<Symbol = S>>(&self, code: u64, backend: &B) -> Option<S> {
         if self.slots.len() == 0 {
             return None;
@@ -360,7 +369,7 @@ impl<S: Symbol, L: Probe<S>> TextIndex<S> for Table<S, L> {
     ghost rule_laws = { rule_by-laws L.layout.holds L.layout_laws.load };
 }
 
-impl<S: Symbol, L: Probe<S>> CopyIndex<S> for Table<S, L> {
+impl<S: Symbol, L: Find<S>> CopyIndex<S> for Table<S, L> {
     fn try_copy(&self) -> Result<Self, AllocError> {
         Ok(Table {
             slots: self.slots.try_copy()?,

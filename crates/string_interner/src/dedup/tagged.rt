@@ -2,13 +2,19 @@
 
 mod tags;
 
-ghost use Rattle.std.specs.Prelude.{◌≡◌, ◌≢◌, ◌+◌, ◌<◌, ◌≤◌, ℕ, length, slice_index_or, replicate, vec_capacity, vec_len, IfNone, IfSome, None, Some};
-ghost use Rattle.string_interner.specs.Tagged.{HasAnotherTag, tag_of};
+ghost use Rattle.std.specs.Prelude.{◌≡◌, ◌≢◌, ◌+◌, ◌<◌, ◌≤◌, ◌%◌, ℕ, length, slice_index_or, replicate, vec_capacity, vec_len, IfNone, IfSome, None, Some};
+ghost use Rattle.string_interner.specs.Entry.{entry_text};
+ghost use Rattle.string_interner.specs.Slots.{probe_cluster};
+ghost use Rattle.string_interner.specs.Index.{has_text};
+ghost use Rattle.string_interner.specs.Layout.{FitsCode};
+ghost use Rattle.string_interner.specs.Probe.{FindsFirst, HasFreeSlot, StepsTo};
+ghost use Rattle.string_interner.specs.Tagged.{HasAnotherTag, symbols_in, tag_of, tagged_layout};
+ghost use Rattle.string_interner.specs.declared.dedup.probe.Step.TheVariants.{On};
 
 use crate::backend::Backend;
 use crate::dedup::layout::Layout;
 use crate::dedup::looks::Looks;
-use crate::dedup::probe::{Probe, Step, home_of, slot_after};
+use crate::dedup::probe::{Find, Probe, Step, home_of, probe_on, slot_after};
 use crate::hash::TextHasher;
 use crate::symbol::Symbol;
 use std::alloc::{AllocError, Global};
@@ -117,6 +123,32 @@ impl<S: Symbol> TaggedSlots<S> {
     {
         at + lanes_passed(&self.tags, at, tag)
     }
+
+    /// Goes on with a search, whose first step led on to slot `from`. Few texts come here, so it is a call.
+    #[cold]
+    #[inline(never)]
+    fn find_on<B: Backend<Symbol = S>>(
+        &self,
+        from: usize,
+        code: u64,
+        looks: &mut Looks<'_, B>,
+        text: &str,
+    ) -> Option<S>
+        requires free { HasFreeSlot (symbols_in self.now) }
+        requires fits { FitsCode tagged_layout
+            (entry_text B.numbering (B.texts looks.old.backend)) self.now code text.now }
+        requires led { StepsTo (has_text (entry_text B.numbering (B.texts looks.old.backend)) text.now)
+            (symbols_in self.now) (code % length (symbols_in self.now)) (On from) }
+        ensures found { FindsFirst
+            (has_text (entry_text B.numbering (B.texts looks.old.backend)) text.now)
+            (symbols_in self.now) code result }
+        ensures backend { looks.new.backend ≡ looks.old.backend }
+        ensures counts { looks.old.count ≤ looks.new.count }
+        ensures looks { looks.new.count
+            ≤ looks.old.count + length (probe_cluster (symbols_in self.now) code) }
+    {
+        probe_on(self, from, code, looks, text).symbol()
+    }
 }
 
 impl<S: Symbol> Layout<S> for TaggedSlots<S> {
@@ -192,7 +224,7 @@ impl<S: Symbol> Layout<S> for TaggedSlots<S> {
         Some(self.item_with(reached, tag)?.symbol)
     }
 
-    #[inline]
+    #[inline(always)]
     fn set(&mut self, at: usize, symbol: S, code: u64) {
         let code = stored_code(code);
         let item = CodedSymbol { symbol, code };
@@ -251,6 +283,34 @@ impl<S: Symbol> Probe<S> for TaggedSlots<S> {
             None if reached == count => Step::On(0),
             None if self.item_at(reached).is_none() => Step::Free(reached),
             None => Step::On(slot_after(reached, count)),
+        }
+    }
+}
+
+impl<S: Symbol> Find<S> for TaggedSlots<S> {
+    /// Nearly all searches end with their first step, and most others by the tags of the next sixteen slots.
+    #[inline(always)]
+    fn find<B: Backend<Symbol = S>>(
+        &self,
+        code: u64,
+        looks: &mut Looks<'_, B>,
+        text: &str,
+    ) -> Option<S> {
+        let count = self.len();
+        match self.step(home_of(code, count), code, looks, text) {
+            Step::Found(symbol) => Some(symbol),
+            Step::Free(_) => None,
+            Step::On(from) => {
+                let stop = self.pass(from, tag_of(stored_code(code)));
+                if stop < count && self.item_at(stop).is_none() {
+                    return None;
+                }
+                // The call has looks of its own, so those of the caller need not lie in memory.
+                let mut own = looks.take();
+                let found = self.find_on(from, code, &mut own, text);
+                *looks = own;
+                found
+            }
         }
     }
 }

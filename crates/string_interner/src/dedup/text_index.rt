@@ -4,7 +4,7 @@ ghost use Rattle.std.specs.Prelude.{◌≡◌, ℕ, ◌+◌, ◌<◌, ◌^◌, l
 ghost use Rattle.string_interner.specs.Text.{Text, IsDistinct};
 ghost use Rattle.string_interner.specs.Entry.{entry_text};
 ghost use Rattle.string_interner.specs.SlotRule.{SlotRule, IsLoaded, IsLeastSlotCount, IsSlotRule};
-ghost use Rattle.string_interner.specs.TextIndex.{AddsEntry, IfOccupied, IfVacant, IsNewText};
+ghost use Rattle.string_interner.specs.TextIndex.{AddsEntry, FindsEntry, HasCode, IfOccupied, IfVacant, IsNewText, found_by};
 
 use crate::backend::Backend;
 use crate::hash::TextHasher;
@@ -18,6 +18,19 @@ pub enum Entry<S, V> {
     Occupied(S),
     /// The text is new, and its symbol goes here.
     Vacant(V),
+}
+
+impl<S, V: Drop> Entry<S, V> {
+    /// Returns the symbol, if the text was found.
+    #[inline(always)]
+    pub fn symbol(self) -> Option<S>
+        ensures { result ≡ found_by self }
+    {
+        match self {
+            Entry::Occupied(symbol) => Some(symbol),
+            Entry::Vacant(_) => None,
+        }
+    }
 }
 
 /// A map from the texts of a backend's entries to their symbols: what an interner asks of its index.
@@ -71,21 +84,32 @@ pub trait TextIndex<S: Symbol> {
         // What holds of every index.
         ensures loaded { IsLoaded rule (slots self.now) (entries self.now) };
 
-    /// Looks a text up, which has this code. Returns its symbol or, if it is new, where its symbol goes.
+    /// Looks a text up, which has this code. Returns its symbol or, if it is new, where its symbol goes, which `insert_at`
+    /// takes. [`TextIndex::find`] returns a symbol alone.
     fn entry<B: Backend<Symbol = S>>(
         &self,
         code: u64,
         backend: &B,
         text: &str,
     ) -> Entry<S, Self::Vacancy>
-        requires { (of : Text → ℕ)
-            × (indexes self.now (entry_text B.numbering (B.texts backend.now)) of
-            × (code ≡ of text.now)) }
+        requires { HasCode (indexes self.now) B.numbering (B.texts backend.now) code text.now }
         ensures occupied { IfOccupied result
             (λ symbol. entry_text B.numbering (B.texts backend.now) symbol ≡ Some text.now) }
         ensures new_text { IfVacant result
             (λ _. IsNewText (entry_text B.numbering (B.texts backend.now)) text.now) }
         ensures vacant { IfVacant result (is_vacant self.now code) };
+
+    /// Looks a text up, which has this code, and returns its symbol: `Some` exactly if an entry has the text.
+    ///
+    /// It is for a text that is not inserted if it is new. A [`TaggedIndex`](super::TaggedIndex) finds it faster than by
+    /// `entry`, since it need not tell where the symbol of a new text goes. By default it asks `entry`.
+    #[inline(always)]
+    fn find<B: Backend<Symbol = S>>(&self, code: u64, backend: &B, text: &str) -> Option<S>
+        requires { HasCode (indexes self.now) B.numbering (B.texts backend.now) code text.now }
+        ensures { FindsEntry (entry_text B.numbering (B.texts backend.now)) text.now result }
+    {
+        self.entry(code, backend, text).symbol()
+    }
 
     /// Returns the symbol that a look-up of a text with this code is likely to find, if any. Reads no text, so the symbol
     /// may have another one; but it is that of an entry.

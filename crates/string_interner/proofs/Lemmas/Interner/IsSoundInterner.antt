@@ -9,7 +9,7 @@ use Rattle.string_interner.specs.Text.{Text, IsDistinct, first}
 use Rattle.string_interner.specs.Backend.{IsValidList, Appends}
 use Rattle.string_interner.specs.Entry.{entry_text}
 use Rattle.string_interner.specs.Slots.{symbols}
-use Rattle.string_interner.specs.TextIndex.{Adds, AddsEntry, IsNewText}
+use Rattle.string_interner.specs.TextIndex.{Adds, AddsEntry, FindsEntry, IsNewText}
 use Rattle.string_interner.specs.Index.{AddsPair, Fits, IsAbsent, SameMap, look_up, text_of}
 use Rattle.string_interner.specs.Interner.{Finds, IsSoundInterner, entry_symbol, known_symbol}
 use Rattle.string_interner.specs.InternAll.{IsKnown, IsResolved}
@@ -120,6 +120,11 @@ module _ {S : Type 0} (numbering : Numbering S)
         | Some j ↦ λ f. absurd (at j f (entry_symbol numbering texts j) (valid.has_symbols j (first_within texts t j f)) refl)
       ] in
       of (first texts t) refl
+
+  -- what a look-up in the entries found is the known symbol
+  pub known-found : (t : Text) (found : Option S) → FindsEntry entry t found → found ≡ known_symbol numbering texts t
+  known-found t None is_new = sym (known-none numbering texts t (new-text t is_new))
+  known-found t (Some s) is = sym (known-entry t s is)
 
   -- a new text that is put last is one entry more
   pub adds-entry : (t : Text) (s : S) (more : List Text) → first texts t ≡ None → Appends numbering.symbol_of numbering.place texts t (Ok s) more → AddsEntry entry (entry_text numbering more) s t

@@ -8,4 +8,4 @@ resolve_unchecked-requires g c = entry_text-IsPlace g.B.Backend.numbering _ c.ar
 
 pub returns-clause-value : goal.returns-clause-value
 returns-clause-value g c = rw (← ap (λ x. x.backend) c.self.view_is)
-    (c.eq.ensures ∙ has_text-resolved g.B.Backend.numbering _ c.args.symbol _ _ (rw (ap (λ x. x.backend) c.self.view_is) c.requires) c.resolve_unchecked.ensures)
+    (c.texts_are_equal.ensures ∙ has_text-resolved g.B.Backend.numbering _ c.args.symbol _ _ (rw (ap (λ x. x.backend) c.self.view_is) c.requires) c.resolve_unchecked.ensures)
