@@ -114,12 +114,10 @@ fn string_entries<'a>(
     };
     for index in 0..many {
         let end = narrow[place + index] as usize;
-        room[index] = Entry {
-            symbol: (place + index) as u32,
-            text: Text {
-                bytes: joined[start..end].as_bytes(),
-            },
-        };
+        // Field by field: a whole entry would be written with the bytes between its fields.
+        let entry = &mut room[index];
+        entry.symbol = (place + index) as u32;
+        entry.text.bytes = joined[start..end].as_bytes();
         start = end;
     }
     cursor.index += many;

@@ -11,8 +11,8 @@ use Rattle.handles.proofs.Lemmas.IsCut.{count_is, start_after, within_texts, fro
 use Rattle.handles.proofs.Lemmas.Entries.{index_fits, reads_text, piece-more, read-more, rest-more}
 use Rattle.handles.proofs.any.entries.string_entries.Goals as goal
 
-pub overflow_cast-room : goal.overflow_cast-room
-overflow_cast-room c =
+pub overflow_cast-entry : goal.overflow_cast-entry
+overflow_cast-entry c =
     let within : c.args.cursor.now.place + c.loop-index.index < length c.as_slices.result.0.now = omega arith in
     let cut = subst (λ (texts : List Text). IsCut c.as_parts.result.0.now c.as_parts.result.1.now.items texts) c.backend.ensures.texts c.as_parts.ensures in
     let fits = index_fits c.args.interner.now c.len.ensures.holds.texts _ (within_texts _ _ _ _ _ cut c.as_slices.ensures _ within) in
@@ -34,13 +34,13 @@ loop-index-preserved c =
     let list = c.len.ensures.holds.texts in
     let i = c.args.cursor.now.place + c.loop-index.index in
     let at : Cursor = record { index = c.args.cursor.now.index + c.loop-index.index; place = i } in
-    let entry : Entry = record { symbol = i; text = record { bytes = c.as_bytes.result } } in
+    let entry : Entry = record { symbol = i; text = record { bytes = c.as_bytes-entry.result } } in
     let within : i < length c.as_slices.result.0.now = omega arith in
     let fits : c.loop-index.index < length c.loop-index.room = omega arith in
     let ahead : c.args.cursor.now.index + c.loop-index.index < length of.texts = omega arith in
     let cut = subst (λ (texts : List Text). IsCut c.as_parts.result.0.now c.as_parts.result.1.now.items texts) c.backend.ensures.texts c.as_parts.ensures in
-    let read : text_at (any_of String of) i ≡ Some c.as_bytes.result.now =
-    reads_text of list i _ (within_texts _ _ _ _ _ cut c.as_slices.ensures i within) (rw (c.as_bytes.ensures.value, c.range.ensures.value, so_far.start) (front_text _ _ _ _ _ cut c.as_slices.ensures i within)) in
+    let read : text_at (any_of String of) i ≡ Some c.as_bytes-entry.result.now =
+    reads_text of list i _ (within_texts _ _ _ _ _ cut c.as_slices.ensures i within) (rw (c.as_bytes-entry.ensures.value, c.range.ensures.value, so_far.start) (front_text _ _ _ _ _ cut c.as_slices.ensures i within)) in
     let is : IsEntryAt (any_of String of) i (Some entry) = (refl, read) in
     record {
       room = rw (length-set c.loop-index.room c.loop-index.index entry) so_far.room;
