@@ -6,3 +6,4 @@ pub mod Texts
 pub mod Entries
 pub mod Json
 pub mod Ascii
+pub mod IsCut

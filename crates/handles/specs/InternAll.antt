@@ -7,9 +7,13 @@ use Rattle.string_interner.specs.Text.{Text}
 use Rattle.string_interner.specs.StandsFor.{StandInOrder}
 use Rattle.string_interner.specs.StringBackend.{start_at}
 use Rattle.string_interner.specs.Extend.{TakesIn}
-use Rattle.handles.specs.Any.{contents, kind_of, numbering_of, texts_in}
+use Rattle.string_interner.specs.Interner.{InternerContents}
+use Rattle.string_interner.specs.Numbering.{Numbering}
+use Rattle.handles.specs.Any.{any_of, contents, kind_of, numbering_of, texts_in}
 use Rattle.handles.specs.Calls.{InternsBytes}
+use Rattle.handles.specs.Kind.{numbering_in}
 use Rattle.handles.specs.declared.any.AnyInterner.{AnyInterner}
+use Rattle.handles.specs.declared.kind.Kind.{Kind}
 use Rattle.handles.specs.declared.text.Text.{Text as LentText}
 use Rattle.handles.specs.declared.status.Status.{Status}
 use Rattle.handles.specs.declared.status.Status.TheVariants.{BadText, NoSymbol, NoMemory, NoRoom, BadEnds}
@@ -89,3 +93,12 @@ InternsTexts texts (old, before, _) (Err BadText) (new, after, done) = RefusesTe
 InternsTexts texts (old, before, _) (Err NoSymbol) (new, after, done) = RefusesText texts (old, before) done NoSymbol (new, after)
 InternsTexts texts (old, before, _) (Err NoMemory) (new, after, done) = RefusesText texts (old, before) done NoMemory (new, after)
 InternsTexts texts (old, before, _) (Err _) (new, after, done) = ⊥
+
+-- What changes as many texts are interned, with the outcome.
+abbrev pub ManyChange : Type 0 → Type 1
+ManyChange I = I × List ℕ × ℕ → Result (Unit {0}) Status → I × List ℕ × ℕ → Type 0
+
+-- Contents change as an interner of each kind that numbers so.
+abbrev pub InKindsOf : Numbering ℕ → ManyChange AnyInterner → ManyChange InternerContents
+InKindsOf numbering change (old, before, was) outcome (new, after, done) =
+    (kind : Kind) → numbering_in kind ≡ numbering → change (any_of kind old, before, was) outcome (any_of kind new, after, done)

@@ -159,7 +159,7 @@ pub extern "C" fn interner_string_resolve<'a>(
 ) -> u32
     ensures { Queries (ResolvesIn kind.String symbol) h.old text.old result text.new }
 {
-    tell(h.read().resolve_in_string(symbol), text)
+    h.read().write_text_in_string(symbol, text)
 }
 
 /// Lends all texts joined, with the end of each, if the interner is of the kind `INTERNER_STRING`.

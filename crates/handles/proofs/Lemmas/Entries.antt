@@ -3,7 +3,7 @@ use Rattle.std.proofs.Common.{◌≡◌, ℕ, ◌+◌, ◌<◌, List, [], ◌∷
 use Rattle.std.specs.Prelude.{◌^◌, ◌-◌, IsSome, slice_get, option_and_then}
 use Rattle.std.proofs.lemmas.Bool.{cases_lt}
 use Rattle.std.proofs.lemmas.Grind.{common_steps, drop_more_same}
-use Rattle.std.proofs.lemmas.List.{append_assoc, map_push, take_more, take_more_set, drop-set-lt, length_push, take_all}
+use Rattle.std.proofs.lemmas.List.{append_assoc, map_push, take_more, take_more_set, drop-set-lt, length_push, take_all, length-take-le}
 use Rattle.std.proofs.lemmas.List.Sums.{sum_by_push}
 use Rattle.std.proofs.lemmas.Option.{get_or_from_slice_get, slice_get-get_or}
 use Rattle.string_interner.specs.Text.{Text}
@@ -55,6 +55,9 @@ module _ (numbering : Numbering ℕ) (of : InternerContents) where
 some_below : (limit n : ℕ) → IsSome (number_below limit n) → number_below limit n ≡ Some n
 some_below limit n some = grind (arith, common_steps)
 
+below_some : (limit n : ℕ) → IsSome (number_below limit n) → n < limit
+below_some limit n some = grind (arith, common_steps)
+
 module _ (kind : Kind) (texts : List Text) (valid : IsValidList symbol_of (numbering_in kind).place texts) (i : ℕ) (text : Text) (within : i < length texts) (at : slice_get texts i ≡ Some text) where
   -- its text is read at its place
   pub reads_there : option_and_then ((numbering_in kind).read texts) (symbol_of ((numbering_in kind).place (take i texts))) ≡ Some text
@@ -73,6 +76,18 @@ module _ (kind : Kind) (texts : List Text) (valid : IsValidList symbol_of (numbe
       of String texts = length_push texts text
       of Bucket texts = length_push texts text
       of Buffer texts = sum_by_push entry_len texts text
+
+-- an interner of the kind `String` reads each text at its index
+pub reads_text : (of : InternerContents) → IsInternerList (numbering_in String) of.texts → (i : ℕ) (text : Text) → i < length of.texts → slice_get of.texts i ≡ Some text → text_at (any_of String of) i ≡ Some text
+reads_text of list i text within at =
+    subst (λ (n : ℕ). option_and_then ((numbering_in String).read of.texts) (symbol_of n) ≡ Some text) (length-take-le i of.texts (omega (arith, within))) (reads_there String of.texts list.valid i text within at)
+
+-- and each index has 32 bits
+pub index_fits : (of : InternerContents) → IsInternerList (numbering_in String) of.texts → (i : ℕ) → i < length of.texts → i < 2 ^ 32
+index_fits of list i within =
+    let n : length (take i of.texts) ≡ i = length-take-le i of.texts (omega (arith, within)) in
+    let some : IsSome (number_below (2 ^ 32 - 1) i) = subst (λ (n : ℕ). IsSome (symbol_of n)) n (list.valid.has_symbols i within) in
+    omega (arith, below_some (2 ^ 32 - 1) i some)
 
 -- one more entry is listed
 pub listed-more : (all ahead rest : List (Option ℕ × Text)) (room after : List Entry) (index : ℕ) (entry : Entry) → map symbol_and_text (take index room) ++ ahead ≡ all → ahead ≡ symbol_and_text entry ∷ rest → index < length room → after ≡ set room index entry

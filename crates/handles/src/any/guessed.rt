@@ -53,10 +53,14 @@ pub fn is_found<B: Backend<Symbol = SymbolU32>>(
     }
 }
 
+/// Fewer texts are interned without guesses.
+pub const FEWEST_FOR_GUESSES: usize = 8;
+
 /// So many texts are looked for together in a large interner: as many as `touch` takes.
 const BLOCK_LEN: usize = 32;
 
-/// Returns the index of the first text that `touch_block` is called for: behind all, if the interner is not large.
+/// Returns the index of the first text for which `touch_block` is called: 0 if the interner is large and guesses are asked for, and
+/// else `usize::MAX`, behind all texts.
 #[inline(always)]
 pub fn first_block<B: Backend<Symbol = SymbolU32>>(
     interner: &HashedInterner<B>,
@@ -80,11 +84,12 @@ pub fn touch_block<B: Backend<Symbol = SymbolU32>>(
     let Some(rest) = texts.get(from..) else {
         return usize::MAX;
     };
+    let count = rest.len().min(BLOCK_LEN);
     let mut block = [""; BLOCK_LEN];
-    for at in 0..rest.len().min(BLOCK_LEN) {
+    for at in 0..count {
         if let Ok(text) = text_of(rest[at].bytes) {
             block[at] = text;
         }
     }
-    from.saturating_add(interner.touch(&block))
+    from.saturating_add(interner.touch(&block[..count]))
 }

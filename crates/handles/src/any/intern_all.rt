@@ -1,12 +1,8 @@
 //! Many texts in one call, end to end.
 
-ghost use Rattle.std.specs.Prelude.{◌≡◌, ◌<◌};
-ghost use Rattle.handles.specs.Any.{any_of};
-ghost use Rattle.handles.specs.InternAll.{InternsParts, IsTextBetween};
-ghost use Rattle.handles.specs.Kind.{numbering_in};
-ghost use Rattle.handles.specs.declared.kind.Kind.{Kind};
+ghost use Rattle.handles.specs.InternAll.{InKindsOf, InternsParts, IsTextBetween};
 
-use super::guessed::{intern_one, is_found};
+use super::guessed::{FEWEST_FOR_GUESSES, intern_one, is_found};
 use super::{AnyInterner, HashedInterner, to_u32};
 use crate::status::Status;
 use crate::text::text_of;
@@ -28,7 +24,7 @@ fn text_between(bytes: &[u8], from: usize, end: usize) -> Result<&str, Status>
 ///
 /// Inlined, so that there is a loop for each kind, with guesses and without.
 #[inline(always)]
-fn intern_all_in<B: Backend<Symbol = SymbolU32>>(
+fn intern_each<B: Backend<Symbol = SymbolU32>>(
     interner: &mut HashedInterner<B>,
     bytes: &[u8],
     ends: &[usize],
@@ -36,9 +32,9 @@ fn intern_all_in<B: Backend<Symbol = SymbolU32>>(
     done: &mut usize,
     guesses: bool,
 ) -> Result<(), Status>
-    ensures { (kind : Kind) → numbering_in kind ≡ B.numbering → InternsParts bytes.now ends.now
-        (any_of kind interner.old, symbols.old, done.old) result
-        (any_of kind interner.new, symbols.new, done.new) }
+    ensures { InKindsOf B.numbering (InternsParts bytes.now ends.now)
+        (interner.old, symbols.old, done.old) result
+        (interner.new, symbols.new, done.new) }
 {
     *done = 0;
     if symbols.len() < ends.len() {
@@ -55,12 +51,16 @@ fn intern_all_in<B: Backend<Symbol = SymbolU32>>(
     Ok(())
 }
 
-/// Reports whether most of the texts between these ends are likely to be known, by the first text and one in the middle.
+/// Reports whether most of the texts between these ends are likely to be known, by the first text and one in the middle. To ask of
+/// few texts takes as long as what it saves.
 fn are_likely_known<B: Backend<Symbol = SymbolU32>>(
     interner: &HashedInterner<B>,
     bytes: &[u8],
     ends: &[usize],
 ) -> bool {
+    if ends.len() < FEWEST_FOR_GUESSES {
+        return false;
+    }
     let middle = ends.len() / 2;
     match (ends.first(), ends.get(middle), ends.get(middle + 1)) {
         (Some(first), Some(from), Some(end)) => {
@@ -68,6 +68,26 @@ fn are_likely_known<B: Backend<Symbol = SymbolU32>>(
                 && is_found(interner, text_between(bytes, *from, *end))
         }
         _ => false,
+    }
+}
+
+/// Interns texts, as `intern_all` does, by the loop that is likely to be fastest.
+#[inline(always)]
+fn intern_all_in<B: Backend<Symbol = SymbolU32>>(
+    interner: &mut HashedInterner<B>,
+    bytes: &[u8],
+    ends: &[usize],
+    symbols: &mut [u32],
+    done: &mut usize,
+) -> Result<(), Status>
+    ensures { InKindsOf B.numbering (InternsParts bytes.now ends.now)
+        (interner.old, symbols.old, done.old) result
+        (interner.new, symbols.new, done.new) }
+{
+    if are_likely_known(interner, bytes, ends) {
+        intern_each(interner, bytes, ends, symbols, done, true)
+    } else {
+        intern_each(interner, bytes, ends, symbols, done, false)
     }
 }
 
@@ -85,27 +105,9 @@ impl AnyInterner {
             (self.old, symbols.old, done.old) result (self.new, symbols.new, done.new) }
     {
         match self {
-            AnyInterner::String(interner) => {
-                if are_likely_known(interner, bytes, ends) {
-                    intern_all_in(interner, bytes, ends, symbols, done, true)
-                } else {
-                    intern_all_in(interner, bytes, ends, symbols, done, false)
-                }
-            }
-            AnyInterner::Bucket(interner) => {
-                if are_likely_known(interner, bytes, ends) {
-                    intern_all_in(interner, bytes, ends, symbols, done, true)
-                } else {
-                    intern_all_in(interner, bytes, ends, symbols, done, false)
-                }
-            }
-            AnyInterner::Buffer(interner) => {
-                if are_likely_known(interner, bytes, ends) {
-                    intern_all_in(interner, bytes, ends, symbols, done, true)
-                } else {
-                    intern_all_in(interner, bytes, ends, symbols, done, false)
-                }
-            }
+            AnyInterner::String(interner) => intern_all_in(interner, bytes, ends, symbols, done),
+            AnyInterner::Bucket(interner) => intern_all_in(interner, bytes, ends, symbols, done),
+            AnyInterner::Buffer(interner) => intern_all_in(interner, bytes, ends, symbols, done),
         }
     }
 }

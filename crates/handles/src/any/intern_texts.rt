@@ -1,12 +1,8 @@
 //! Many texts in one call, in a list.
 
-ghost use Rattle.std.specs.Prelude.{◌≡◌, ◌<◌};
-ghost use Rattle.handles.specs.Any.{any_of};
-ghost use Rattle.handles.specs.InternAll.{InternsTexts};
-ghost use Rattle.handles.specs.Kind.{numbering_in};
-ghost use Rattle.handles.specs.declared.kind.Kind.{Kind};
+ghost use Rattle.handles.specs.InternAll.{InKindsOf, InternsTexts};
 
-use super::guessed::{first_block, intern_one, is_found, touch_block};
+use super::guessed::{FEWEST_FOR_GUESSES, first_block, intern_one, is_found, touch_block};
 use super::{AnyInterner, HashedInterner, to_u32};
 use crate::status::Status;
 use crate::text::{Text, text_of};
@@ -17,16 +13,16 @@ use string_interner::symbol::SymbolU32;
 ///
 /// Inlined, so that there is a loop for each kind, with guesses and without.
 #[inline(always)]
-fn intern_texts_in<B: Backend<Symbol = SymbolU32>>(
+fn intern_each<B: Backend<Symbol = SymbolU32>>(
     interner: &mut HashedInterner<B>,
     texts: &[Text],
     symbols: &mut [u32],
     done: &mut usize,
     guesses: bool,
 ) -> Result<(), Status>
-    ensures { (kind : Kind) → numbering_in kind ≡ B.numbering → InternsTexts texts.now
-        (any_of kind interner.old, symbols.old, done.old) result
-        (any_of kind interner.new, symbols.new, done.new) }
+    ensures { InKindsOf B.numbering (InternsTexts texts.now)
+        (interner.old, symbols.old, done.old) result
+        (interner.new, symbols.new, done.new) }
 {
     *done = 0;
     if symbols.len() < texts.len() {
@@ -45,16 +41,39 @@ fn intern_texts_in<B: Backend<Symbol = SymbolU32>>(
     Ok(())
 }
 
-/// Reports whether most of a list of texts are likely to be known, by its first text and the one in its middle.
+/// Reports whether most of a list of texts are likely to be known, by its first text and the one in its middle. To ask of a short
+/// list takes as long as what it saves.
 fn are_likely_known<B: Backend<Symbol = SymbolU32>>(
     interner: &HashedInterner<B>,
     texts: &[Text],
 ) -> bool {
+    if texts.len() < FEWEST_FOR_GUESSES {
+        return false;
+    }
     match (texts.first(), texts.get(texts.len() / 2)) {
         (Some(first), Some(middle)) => {
             is_found(interner, text_of(first.bytes)) && is_found(interner, text_of(middle.bytes))
         }
         _ => false,
+    }
+}
+
+/// Interns texts, as `intern_texts` does, by the loop that is likely to be fastest.
+#[inline(always)]
+fn intern_texts_in<B: Backend<Symbol = SymbolU32>>(
+    interner: &mut HashedInterner<B>,
+    texts: &[Text],
+    symbols: &mut [u32],
+    done: &mut usize,
+) -> Result<(), Status>
+    ensures { InKindsOf B.numbering (InternsTexts texts.now)
+        (interner.old, symbols.old, done.old) result
+        (interner.new, symbols.new, done.new) }
+{
+    if are_likely_known(interner, texts) {
+        intern_each(interner, texts, symbols, done, true)
+    } else {
+        intern_each(interner, texts, symbols, done, false)
     }
 }
 
@@ -70,27 +89,9 @@ impl AnyInterner {
             (self.old, symbols.old, done.old) result (self.new, symbols.new, done.new) }
     {
         match self {
-            AnyInterner::String(interner) => {
-                if are_likely_known(interner, texts) {
-                    intern_texts_in(interner, texts, symbols, done, true)
-                } else {
-                    intern_texts_in(interner, texts, symbols, done, false)
-                }
-            }
-            AnyInterner::Bucket(interner) => {
-                if are_likely_known(interner, texts) {
-                    intern_texts_in(interner, texts, symbols, done, true)
-                } else {
-                    intern_texts_in(interner, texts, symbols, done, false)
-                }
-            }
-            AnyInterner::Buffer(interner) => {
-                if are_likely_known(interner, texts) {
-                    intern_texts_in(interner, texts, symbols, done, true)
-                } else {
-                    intern_texts_in(interner, texts, symbols, done, false)
-                }
-            }
+            AnyInterner::String(interner) => intern_texts_in(interner, texts, symbols, done),
+            AnyInterner::Bucket(interner) => intern_texts_in(interner, texts, symbols, done),
+            AnyInterner::Buffer(interner) => intern_texts_in(interner, texts, symbols, done),
         }
     }
 }

@@ -1,14 +1,16 @@
 //! Calls on an interner of one kind, which a caller chose when it was compiled.
 
+ghost use Rattle.std.specs.Prelude.{◌≡◌, IfSome, Some};
 ghost use Rattle.string_interner.specs.Interner.{Finds};
-ghost use Rattle.handles.specs.Calls.{TellsFound};
+ghost use Rattle.handles.specs.Any.{any_of, text_at};
+ghost use Rattle.handles.specs.Calls.{Answers, TellsFound};
 ghost use Rattle.handles.specs.OneKind.{FindsIn, InternsIn, ResolvesIn};
 ghost use Rattle.handles.specs.declared.kind.Kind.TheVariants as kind;
 
 use super::{AnyInterner, HashedInterner, status_given, symbol_found};
-use crate::status::Status;
+use crate::status::{OK, Status, tell};
 use crate::text::Text;
-use string_interner::backend::Backend;
+use string_interner::backend::{Backend, StringBackend};
 use string_interner::symbol::SymbolU32;
 
 /// Returns the symbol of a text, if it is known.
@@ -22,7 +24,54 @@ fn get_in<B: Backend<Symbol = SymbolU32>>(
     symbol_found(interner.get(text)).ok_or(Status::Nothing)
 }
 
+/// Returns the text at a symbol, if both ends of it are stored in four bytes, which leaves out the first text. `None` says
+/// nothing: the caller then asks in another way.
+#[inline(always)]
+fn text_by_narrow_ends(
+    interner: &HashedInterner<StringBackend<SymbolU32>>,
+    symbol: u32,
+) -> Option<&str>
+    ensures { IfSome result
+        (λ text. text_at (any_of kind.String interner.now) symbol ≡ Some text.now) }
+{
+    // Each text has a symbol, as the clause `holds` of this call says.
+    let _ = interner.len();
+    let (joined, ends) = interner.backend().as_parts();
+    let (narrow, _) = ends.as_slices();
+    let index = symbol as usize;
+    if index == 0 || index >= narrow.len() {
+        return None;
+    }
+    Some(&joined[narrow[index - 1] as usize..narrow[index] as usize])
+}
+
 impl AnyInterner {
+    /// Writes the text at a symbol of an interner of the kind `String`, and returns the code of the outcome.
+    #[inline(always)]
+    pub fn write_text_in_string<'a>(&'a self, symbol: u32, text: &mut Text<'a>) -> u32
+        ensures { Answers (ResolvesIn kind.String symbol self.now) result text.old text.new }
+    {
+        if let AnyInterner::String(interner) = self {
+            if let Some(found) = text_by_narrow_ends(interner, symbol) {
+                *text = Text {
+                    bytes: found.as_bytes(),
+                };
+                return OK;
+            }
+        }
+        self.write_text_by_lending(symbol, text)
+    }
+
+    /// Writes the text as `write_text_in_string` does, the longer way, which every symbol may take. Not inlined, so that the
+    /// shorter way saves no registers.
+    #[cold]
+    #[inline(never)]
+    fn write_text_by_lending<'a>(&'a self, symbol: u32, text: &mut Text<'a>) -> u32
+        ensures { Answers (ResolvesIn kind.String symbol self.now) result text.old text.new }
+    {
+        tell(self.resolve_in_string(symbol), text)
+    }
+
     /// Returns the text at a symbol of an interner of the kind `String`.
     #[inline(always)]
     pub fn resolve_in_string<'a>(&'a self, symbol: u32) -> Result<Text<'a>, Status>

@@ -4,7 +4,7 @@ use Rattle.handles.specs.Any.{any_of}
 use Rattle.handles.specs.Kind.{numbering_in}
 use Rattle.handles.specs.declared.kind.Kind.{Kind}
 use Rattle.handles.specs.InternAll.{TakesParts}
-use Rattle.handles.proofs.any.intern_all.intern_all_in.Given as goal
+use Rattle.handles.proofs.any.intern_all.intern_each.Given as goal
 
 -- the parts so far went in, and the next one begins where the last of them ends
 abbrev pub invariant-loop-end : goal.invariant-loop-end
