@@ -146,6 +146,7 @@ impl<B: Backend, H: TextHasher, I: TextIndex<B::Symbol>> StringInterner<B, H, I>
     }
 
     /// Returns the symbol of a text: `Some` exactly if the text is known. Allocates nothing.
+    #[inline(always)]
     pub fn get(&self, text: &str) -> Option<B::Symbol>
         ensures { Finds B.numbering self.now.texts text.now result }
     {

@@ -9,7 +9,6 @@ use crate::backend::Backend;
 use crate::dedup::count::Count;
 use crate::equal_texts::texts_are_equal;
 use std::marker::Model;
-use std::mem::replace;
 
 /// What a slot holds, which [`Looks::look`] alone gives out, and counts.
 #[derive(Drop)]
@@ -67,17 +66,6 @@ impl<'a, B> Looks<'a, B> {
             count: Count::new(),
         }
     }
-
-    /// Takes the looks out, with their count, and leaves new ones over the same backend.
-    #[inline(always)]
-    pub fn take(&mut self) -> Looks<'a, B>
-        ensures taken { result ≡ self.old }
-        ensures backend { self.new.backend ≡ self.old.backend }
-        ensures count { self.new.count ≡ 0 }
-    {
-        let new = Looks::new(self.backend);
-        replace(self, new)
-    }
 }
 
 /// A filled slot that was read: its symbol, and whether that symbol's text is the one looked for.
@@ -98,7 +86,7 @@ impl<'a, B: Backend> Looks<'a, B> {
         ensures count { self.new.count ≡ self.old.count + 1 }
     {
         self.count.add_one();
-        // Who asks for one symbol has a tag of the text, so the texts are nearly always equal.
+        // The caller compared tags, so the texts are nearly always equal.
         texts_are_equal(self.backend.resolve_unchecked(symbol), text)
     }
 

@@ -8,6 +8,7 @@ ghost use Rattle.string_interner.specs.Entry.{entry_text};
 ghost use Rattle.string_interner.specs.Slots.{symbols};
 ghost use Rattle.string_interner.specs.SlotRule.{IsLeastSlotCount};
 ghost use Rattle.string_interner.specs.LoadFactor.{GrowsTo, rule_by};
+ghost use Rattle.string_interner.specs.Layout.{FitsCode};
 ghost use Rattle.string_interner.specs.Index.{IsAbsent, SameMap, look_up};
 ghost use Rattle.string_interner.specs.Probe.{IsVacant};
 ghost use Rattle.string_interner.specs.TextIndex.{IfVacant, found_by};
@@ -140,9 +141,8 @@ impl<S: Symbol, L: Find<S>> Table<S, L> {
         looks: &mut Looks<'_, B>,
         text: &str,
     ) -> Entry<S, Vacancy>
-        requires { (of : Text → ℕ)
-            × (L.layout.fits (entry_text B.numbering (B.texts looks.old.backend)) of
-            self.now.slots × (code ≡ of text.now)) }
+        requires { FitsCode L.layout
+            (entry_text B.numbering (B.texts looks.old.backend)) self.now.slots code text.now }
         ensures found { found_by result
             ≡ look_up (entry_text B.numbering (B.texts looks.old.backend))
             (L.layout.slots self.now.slots) text.now }
@@ -153,6 +153,26 @@ impl<S: Symbol, L: Find<S>> Table<S, L> {
             return Entry::Vacant(Vacancy::by_code(code));
         }
         probe_for(&self.slots, code, looks, text)
+    }
+
+    /// Looks for a text with this code, and returns its symbol alone.
+    #[inline(always)]
+    fn symbol_of<B: Backend<Symbol = S>>(
+        &self,
+        code: u64,
+        looks: &mut Looks<'_, B>,
+        text: &str,
+    ) -> Option<S>
+        requires { FitsCode L.layout
+            (entry_text B.numbering (B.texts looks.old.backend)) self.now.slots code text.now }
+        ensures found { result ≡ look_up (entry_text B.numbering (B.texts looks.old.backend))
+            (L.layout.slots self.now.slots) text.now }
+        ensures looks { CountsLooks L.layout self.now code looks.old looks.new }
+    {
+        if self.slots.len() == 0 {
+            return None;
+        }
+        self.slots.find(code, looks, text)
     }
 
     /// Returns the symbol whose text this is, if any. Hashes the text once.
@@ -172,11 +192,7 @@ impl<S: Symbol, L: Find<S>> Table<S, L> {
         ensures looks { CountsLooks L.layout self.now (H.code hasher.now text.now)
             looks.old looks.new }
     {
-        let code = hasher.hash_text(text);
-        if self.slots.len() == 0 {
-            return None;
-        }
-        self.slots.find(code, looks, text)
+        self.symbol_of(hasher.hash_text(text), looks, text)
     }
 
     /// Makes room for one more entry: does nothing if the load factor allows one more, and else grows from no slots to
@@ -334,10 +350,7 @@ impl<S: Symbol, L: Find<S>> TextIndex<S> for Table<S, L> {
 
     #[inline(always)]
     fn find<B: Backend<Symbol = S>>(&self, code: u64, backend: &B, text: &str) -> Option<S> {
-        if self.slots.len() == 0 {
-            return None;
-        }
-        self.slots.find(code, &mut Looks::new(backend), text)
+        self.symbol_of(code, &mut Looks::new(backend), text)
     }
 
     #[inline(always)]

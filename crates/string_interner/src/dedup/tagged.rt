@@ -305,11 +305,7 @@ impl<S: Symbol> Find<S> for TaggedSlots<S> {
                 if stop < count && self.item_at(stop).is_none() {
                     return None;
                 }
-                // The call has looks of its own, so those of the caller need not lie in memory.
-                let mut own = looks.take();
-                let found = self.find_on(from, code, &mut own, text);
-                *looks = own;
-                found
+                self.find_on(from, code, looks, text)
             }
         }
     }

@@ -7,30 +7,29 @@ use Rattle.string_interner.proofs.Lemmas.Index.LookUp.{Fits-find}
 use Rattle.string_interner.proofs.Lemmas.Index.FilledRun.{run-le}
 use Rattle.string_interner.proofs.Lemmas.Table.IsSoundTable.{HasFreeSlot-sound}
 use Rattle.string_interner.proofs.Lemmas.Table.IsTable.{Fits-of}
-use Rattle.string_interner.proofs.dedup.table.Table.find.Goals as goal
+use Rattle.string_interner.proofs.dedup.table.Table.symbol_of.Goals as goal
 
 pub find-requires-clause-free : goal.find-requires-clause-free
 find-requires-clause-free g c = let n = c.len.ensures in HasFreeSlot-sound g.L.Layout.layout g.met.L.Layout.layout_laws.load _ _ c.self.invariant (omega arith)
 
 pub find-requires-clause-fits : goal.find-requires-clause-fits
-find-requires-clause-fits g c = (g.H.TextHasher.code c.args.hasher.now, (rw (ap (λ x. x.slots) c.self.view_is) c.requires, c.hash_text-code.ensures))
+find-requires-clause-fits g c = rw (ap (λ x. x.slots) c.self.view_is) c.requires
 
 pub returns-clause-found : goal.returns-clause-found
 returns-clause-found g c =
     let slots = g.L.Layout.layout.slots c.args.self.now.slots in let test = has_text (entry_text g.B.Backend.numbering (g.B.Backend.texts c.args.looks.now.backend)) c.args.text.now in
-    let code = c.hash_text-code.result in
-    c.find.ensures.found ∙ ap (λ x. first_passing test (filled_run (probed (g.L.Layout.layout.slots x.slots) (code % length (g.L.Layout.layout.slots x.slots))))) c.self.view_is
-    ∙ ap (λ n. first_passing test (filled_run (probed slots (n % length slots)))) c.hash_text-code.ensures
-    ∙ Fits-find _ _ _ (Fits-of g.L.Layout.layout g.met.L.Layout.layout_laws _ _ c.args.self.now.slots c.requires) _
+    c.find.ensures.found ∙ ap (λ x. first_passing test (filled_run (probed (g.L.Layout.layout.slots x.slots) (c.args.code % length (g.L.Layout.layout.slots x.slots))))) c.self.view_is
+    ∙ ap (λ n. first_passing test (filled_run (probed slots (n % length slots)))) c.requires.1.1
+    ∙ Fits-find _ _ _ (Fits-of g.L.Layout.layout g.met.L.Layout.layout_laws _ _ c.args.self.now.slots c.requires.1.0) _
 
 pub returns-clause-looks : goal.returns-clause-looks
 returns-clause-looks g c =
     let slots = g.L.Layout.layout.slots c.self.inside.slots in let n = c.len.ensures in
-    let run = run_within slots (c.hash_text-code.result % length slots) in
-    rw (← c.self.view_is, ← c.hash_text-code.ensures) (record {
+    let run = run_within slots (c.args.code % length slots) in
+    rw (← c.self.view_is) (record {
       backend = search rules;
       counts = search rules;
-      run = λ f r. let le = run-le slots (c.hash_text-code.result % length slots) f (omega arith) r in omega arith;
+      run = λ f r. let le = run-le slots (c.args.code % length slots) f (omega arith) r in omega arith;
       at_most = omega arith;
       no_slots = search rules;
     })
