@@ -5,7 +5,7 @@ use Rattle.std.specs.Prelude.{◌≡◌, ℕ, ◌+◌, ◌*◌, ◌≤◌, ◌%�
 use Rattle.string_interner.specs.Text.{Text}
 use Rattle.string_interner.specs.LoadFactor.{GrowsTo, IsSlotCount}
 use Rattle.string_interner.specs.Slots.{LooksContents, IsFilledRun, symbols}
-use Rattle.string_interner.specs.Index.{AddsPair, IsAbsent, text_of}
+use Rattle.string_interner.specs.Index.{AddsPair, IsAbsent, look_up, text_of}
 use Rattle.string_interner.specs.Layout.{IsTable, SlotLayout}
 
 -- what contracts see of a table
@@ -54,6 +54,11 @@ module _ {S L : Type 0} (layout : SlotLayout S L) where
     pub run : (f : ℕ) → IsFilledRun (layout.slots table.slots) (code % slot_count table) f → new.count ≤ old.count + f + 1
     pub at_most : new.count ≤ old.count + entry_count table + 1
     pub no_slots : slot_count table ≡ 0 → new.count ≡ old.count
+
+  -- A text with this code was looked for, by so few looks, and this is the symbol of an entry that has it, if one has.
+  pub record Seeks {B : Type 0} (entry : S → Option Text) (table : TableContents L) (code : ℕ) (text : Text) (old new : LooksContents B) (found : Option S) : Type 0 where
+    pub found_is : found ≡ look_up entry (layout.slots table.slots) text
+    pub looks : CountsLooks table code old new
 
   -- the slots grow, and all symbols are moved
   pub record Grows (old new : TableContents L) : Type 0 where

@@ -12,7 +12,7 @@ ghost use Rattle.string_interner.specs.Layout.{FitsCode};
 ghost use Rattle.string_interner.specs.Index.{IsAbsent, SameMap, look_up};
 ghost use Rattle.string_interner.specs.Probe.{IsVacant};
 ghost use Rattle.string_interner.specs.TextIndex.{IfVacant, found_by};
-ghost use Rattle.string_interner.specs.Table.{CountsLooks, FitsAll, Grows, HasRoom, Inserts, InsertsByCode, IsBounded, Refills, entry_count, slot_count};
+ghost use Rattle.string_interner.specs.Table.{CountsLooks, FitsAll, Grows, HasRoom, Inserts, InsertsByCode, IsBounded, Refills, Seeks, entry_count, slot_count};
 
 use crate::backend::Backend;
 use crate::dedup::layout::Layout;
@@ -141,8 +141,9 @@ impl<S: Symbol, L: Find<S>> Table<S, L> {
         looks: &mut Looks<'_, B>,
         text: &str,
     ) -> Entry<S, Vacancy>
-        requires { FitsCode L.layout
-            (entry_text B.numbering (B.texts looks.old.backend)) self.now.slots code text.now }
+        requires { (of : Text → ℕ)
+            × (L.layout.fits (entry_text B.numbering (B.texts looks.old.backend)) of
+            self.now.slots × (code ≡ of text.now)) }
         ensures found { found_by result
             ≡ look_up (entry_text B.numbering (B.texts looks.old.backend))
             (L.layout.slots self.now.slots) text.now }
@@ -165,9 +166,8 @@ impl<S: Symbol, L: Find<S>> Table<S, L> {
     ) -> Option<S>
         requires { FitsCode L.layout
             (entry_text B.numbering (B.texts looks.old.backend)) self.now.slots code text.now }
-        ensures found { result ≡ look_up (entry_text B.numbering (B.texts looks.old.backend))
-            (L.layout.slots self.now.slots) text.now }
-        ensures looks { CountsLooks L.layout self.now code looks.old looks.new }
+        ensures { Seeks L.layout (entry_text B.numbering (B.texts looks.old.backend)) self.now
+            code text.now looks.old looks.new result }
     {
         if self.slots.len() == 0 {
             return None;

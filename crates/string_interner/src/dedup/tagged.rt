@@ -137,7 +137,8 @@ impl<S: Symbol> TaggedSlots<S> {
         requires free { HasFreeSlot (symbols_in self.now) }
         requires fits { FitsCode tagged_layout
             (entry_text B.numbering (B.texts looks.old.backend)) self.now code text.now }
-        requires led { StepsTo (has_text (entry_text B.numbering (B.texts looks.old.backend)) text.now)
+        requires led { StepsTo
+            (has_text (entry_text B.numbering (B.texts looks.old.backend)) text.now)
             (symbols_in self.now) (code % length (symbols_in self.now)) (On from) }
         ensures found { FindsFirst
             (has_text (entry_text B.numbering (B.texts looks.old.backend)) text.now)

@@ -15,21 +15,20 @@ find-requires-clause-free g c = let n = c.len.ensures in HasFreeSlot-sound g.L.L
 pub find-requires-clause-fits : goal.find-requires-clause-fits
 find-requires-clause-fits g c = rw (ap (λ x. x.slots) c.self.view_is) c.requires
 
-pub returns-clause-found : goal.returns-clause-found
-returns-clause-found g c =
-    let slots = g.L.Layout.layout.slots c.args.self.now.slots in let test = has_text (entry_text g.B.Backend.numbering (g.B.Backend.texts c.args.looks.now.backend)) c.args.text.now in
-    c.find.ensures.found ∙ ap (λ x. first_passing test (filled_run (probed (g.L.Layout.layout.slots x.slots) (c.args.code % length (g.L.Layout.layout.slots x.slots))))) c.self.view_is
-    ∙ ap (λ n. first_passing test (filled_run (probed slots (n % length slots)))) c.requires.1.1
-    ∙ Fits-find _ _ _ (Fits-of g.L.Layout.layout g.met.L.Layout.layout_laws _ _ c.args.self.now.slots c.requires.1.0) _
-
-pub returns-clause-looks : goal.returns-clause-looks
-returns-clause-looks g c =
-    let slots = g.L.Layout.layout.slots c.self.inside.slots in let n = c.len.ensures in
-    let run = run_within slots (c.args.code % length slots) in
-    rw (← c.self.view_is) (record {
-      backend = search rules;
-      counts = search rules;
-      run = λ f r. let le = run-le slots (c.args.code % length slots) f (omega arith) r in omega arith;
-      at_most = omega arith;
-      no_slots = search rules;
-    })
+pub returns : goal.returns
+returns g c =
+    let layout = g.L.Layout.layout in let slots = layout.slots c.args.self.now.slots in let inside = layout.slots c.self.inside.slots in let n = c.len.ensures in
+    let test = has_text (entry_text g.B.Backend.numbering (g.B.Backend.texts c.args.looks.now.backend)) c.args.text.now in
+    let run = run_within inside (c.args.code % length inside) in
+    record {
+      found_is = c.find.ensures.found ∙ ap (λ x. first_passing test (filled_run (probed (layout.slots x.slots) (c.args.code % length (layout.slots x.slots))))) c.self.view_is
+          ∙ ap (λ n. first_passing test (filled_run (probed slots (n % length slots)))) c.requires.1.1
+          ∙ Fits-find _ _ _ (Fits-of layout g.met.L.Layout.layout_laws _ _ c.args.self.now.slots c.requires.1.0) _;
+      looks = rw (← c.self.view_is) (record {
+        backend = search rules;
+        counts = search rules;
+        run = λ f r. let le = run-le inside (c.args.code % length inside) f (omega arith) r in omega arith;
+        at_most = omega arith;
+        no_slots = search rules;
+      });
+    }
