@@ -3,6 +3,7 @@ pub mod Lines
 pub mod Cut
 pub mod Rows
 pub mod Merged
+pub mod ParseFault
 pub mod Parts
 pub mod HoldsLines
 pub mod Newline

@@ -7,7 +7,7 @@ ghost use Rattle.serde_json.specs.Data.{unsigned};
 ghost use Rattle.serde_json.specs.Read.{number_of};
 ghost use Rattle.string_interner.specs.Text.{Text, IsDistinct};
 ghost use Rattle.string_column.specs.Column.{rows_of};
-ghost use Rattle.dictcol.specs.Fault.{IsNoDamage};
+ghost use Rattle.dictcol.specs.Fault.{IsTakeFault};
 ghost use Rattle.dictcol.specs.File.{AreWithin, FileHolds};
 ghost use Rattle.dictcol.specs.Lines.{has_newline};
 ghost use Rattle.dictcol.specs.StreamTokens.{AreIndexes, stream};
@@ -42,7 +42,7 @@ fn read_texts<B: Backend + Drop>(
         reader.old ≡ map string dictionary.texts ++ end_array ∷ reader.new)) }
     ensures plain { IfOk result (λ found. IfSome found (λ dictionary.
         list_any has_newline dictionary.texts ≡ false)) }
-    ensures fault { IfErr result IsNoDamage }
+    ensures fault { IfErr result IsTakeFault }
 {
     let mut dictionary = Dictionary::<B>::with_hasher(alloc, hasher);
     'texts: while !reader.take_end_array() {
@@ -86,7 +86,7 @@ fn read_indexes(
         × AreIndexes numbers indexes.items)) }
     ensures within { IfOk result (λ found. IfSome found (λ codes.
         All (λ index. index < count) codes.items)) }
-    ensures fault { IfErr result IsNoDamage }
+    ensures fault { IfErr result IsTakeFault }
 {
     let mut codes = Codes::new(alloc);
     'indexes: while !reader.take_end_array() {
@@ -148,7 +148,7 @@ fn read_parts<B: Backend + Drop>(
     ensures plain { IfOk result (λ found. IfSome found (λ parts.
         list_any has_newline parts.dictionary.texts ≡ false)) }
     ensures within { IfOk result (λ found. IfSome found AreWithin) }
-    ensures fault { IfErr result IsNoDamage }
+    ensures fault { IfErr result IsTakeFault }
 {
     if !takes_object(reader) {
         return Ok(None);
@@ -187,7 +187,7 @@ pub fn read_stream<B: Backend + Drop>(
     ensures lines { IfOk result (λ found. IfSome found (λ parts. FileHolds file.now
         (rows_of parts.dictionary.texts parts.codes.items) parts.is_ended)) }
     ensures within { IfOk result (λ found. IfSome found AreWithin) }
-    ensures fault { IfErr result IsNoDamage }
+    ensures fault { IfErr result IsTakeFault }
 {
     let mut scratch = Scratch::new(alloc);
     match Reader::new(file, &mut scratch) {
