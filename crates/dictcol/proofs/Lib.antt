@@ -8,6 +8,7 @@ pub mod Parts
 pub mod HoldsLines
 pub mod Newline
 pub mod PutsValue
+pub mod StringTokens
 pub mod StreamTokens
 pub mod Taken
 pub mod Counted
