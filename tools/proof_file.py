@@ -7,9 +7,9 @@ alone have no answer.
 
 import re
 
-# An answer to a goal, and the variables that it is given.
+# An answer to a goal, and the variables that each goal is given: `g` if its function is generic, and `c`.
 ANSWER = re.compile(r"^pub (\S+) : goal\.\S+\n(?:.+\n)*", re.M)
-VARIABLES = re.compile(r"^pub (\S+) : goal\.\S+\n(?:unfolding.*\n)*\1((?: \w+)*) =", re.M)
+VARIABLES = re.compile(r"^pub (\S+) : goal\.\S+\n(?:unfolding.*\n)*\1((?: [gc])*)(?: \w+)* =", re.M)
 # What brings the names of goals and of states to a proof file.
 GOALS = re.compile(r"^use \S+\.Goals\b.*\n", re.M)
 # What a crate's root says where the prover tries its tactics, and what it says where it does not.

@@ -3,10 +3,12 @@ pub mod Lines
 pub mod Cut
 pub mod Rows
 pub mod Merged
+pub mod ParseFault
 pub mod Parts
 pub mod HoldsLines
 pub mod Newline
 pub mod PutsValue
+pub mod StringTokens
 pub mod StreamTokens
 pub mod Taken
 pub mod Counted

@@ -1,11 +1,15 @@
 -- A file in the form that `encode` writes reads as its dictionary, its end and its numbers.
-use Rattle.std.proofs.Common.{◌≡◌, ℕ, suc, ◌+◌, ◌-◌, ◌^◌, ◌==◌, ◌<◌, ◌≤◌, nat_lt, Bool, true, false, List, [], ◌∷◌, ◌++◌, map, length, get_or, codes, Option, Some, None, Result, Ok, Err, option_and_then, refl, sym, ap, ◌∙◌, arith}
-use Rattle.std.specs.Prelude.{All, IfOk, IfSome, SomeIff, slice_get}
+use Rattle.std.proofs.Common.{◌≡◌, ℕ, suc, ◌+◌, ◌-◌, ◌*◌, ◌^◌, ◌==◌, ◌<◌, ◌≤◌, Bool, false, List, [], ◌∷◌, ◌++◌, map, length, get_or, take, codes, Option, Some, None, Result, Ok, Err, option_and_then, refl, sym, ap, subst, ◌∙◌, ne_eqb, append-nil, arith}
+use Rattle.std.specs.Prelude.{All, IfOk, IfSome}
 use Rattle.std.specs.List.{list_any}
 use Rattle.std.proofs.lemmas.List.{append_assoc, map-append}
-use Rattle.std.proofs.lemmas.Option.{slice_get-get_or, get_or_from_slice_get}
+use Rattle.std.proofs.lemmas.Option.{slice_get-get_or}
 use Rattle.std.proofs.lemmas.Bool.{lt-ltb}
-use Rattle.fast_float.specs.Text.{IsInteger, scan, digits_of}
+use Rattle.std.specs.Char.{digit_value}
+use Rattle.std.specs.Str.Parse.{AllDigits, digits_value}
+use Rattle.std.proofs.lemmas.Int.Digits.{digits_more, digits_value_more}
+use Rattle.fast_float.specs.Text.{scan, Parts as Numeral, IsWellFormed}
+use Rattle.fast_float.proofs.Writing.{scan-text_of}
 use Rattle.json.specs.Token.{Token, end_object, begin_array, end_array, key, string, number, boolean}
 use Rattle.json.specs.Json as json
 use Rattle.json.specs.Json.{Json, Parse, parse_map, items, members, value, if_last}
@@ -137,16 +141,28 @@ stream-holds text dictionary is_ended numbers indexes is are distinct plain with
   stream-read text dictionary is_ended numbers indexes is are,
 )
 
+-- the parts of a numeral without a point and an exponent
+abbrev whole : Text → Numeral
+whole text = record { whole = text; point = false; fraction = []; exponent_negative = false; exponent = []; len = length (text ++ []) }
+
+no-sign : (text : Text) → 0 < length text → AllDigits 10 text → (get_or text 0 0 == 45) ≡ false
+no-sign [] some digits = absurd (omega (arith, some))
+no-sign (byte ∷ text) some digits = ne_eqb byte 45 (λ is. let below = subst (λ b. digit_value b < 10) is digits.0 in omega (arith, below))
+
 -- the number that a text of digits is
-pub number-is : (text : Text) (first index : ℕ) (found : Option ℕ) → slice_get text 0 ≡ Some first → (first == 45) ≡ false
-    → SomeIff found (IsInteger (scan text) × (digits_of (scan text) < 2 ^ 64)) (digits_of (scan text)) → found ≡ Some index → number_of text ≡ Some (unsigned index)
+pub number-is : (text : Text) (index : ℕ) → 0 < length text → AllDigits 10 text → index ≡ digits_value 10 text → index < 2 ^ 64 → number_of text ≡ Some (unsigned index)
 unfolding number_of
-number-is text first index found at plus parsed is =
-    let parts = rw is at parsed in
-    let sign : (get_or text 0 0 == 45) ≡ false = ap (λ b. b == 45) (get_or_from_slice_get text 0 first 0 at) ∙ plus in
-    let some : nat_lt 0 (length (scan text).whole) ≡ true = lt-ltb 0 (length (scan text).whole) parts.0.0.0 in
-    let fits : nat_lt (digits_of (scan text)) (2 ^ 64) ≡ true = lt-ltb (digits_of (scan text)) (2 ^ 64) parts.0.1 in
-    rw (sign, some, parts.0.0.1, parts.0.0.2, fits) (ap (λ n. Some (unsigned n)) (sym parts.1))
+number-is text index some digits is fits =
+    let formed : IsWellFormed (whole text) = record { whole_digits = digits; fraction_digits = tt; exponent_digits = tt; no_point = λ _. refl; no_exponent = λ _. refl; len_is = refl } in
+    let scanned : scan text ≡ whole text = ap scan (sym (append-nil text)) ∙ scan-text_of (whole text) formed in
+    let value : digits_value 10 (text ++ []) ≡ index = ap (digits_value 10) (append-nil text) ∙ sym is in
+    rw (no-sign text some digits, scanned, lt-ltb 0 (length text) some, value, lt-ltb index (2 ^ 64) fits) refl
+
+-- a digit more
+pub digit-more : (bytes : Text) (i index new : ℕ) → i < length bytes → AllDigits 10 (take i bytes) → index ≡ digits_value 10 (take i bytes) → digit_value (get_or bytes i 0) < 10
+    → new ≡ index * 10 + digit_value (get_or bytes i 0) → AllDigits 10 (take (i + 1) bytes) × (new ≡ digits_value 10 (take (i + 1) bytes))
+digit-more bytes i index new inside digits is digit put =
+    (digits_more 10 bytes i inside digits digit, put ∙ ap (λ n. n * 10 + digit_value (get_or bytes i 0)) is ∙ sym (digits_value_more 10 bytes i inside))
 
 -- what was found in the tokens of a file is what it holds
 pub stream-found : {E B S : Type 0} (file : Text) (ts : List Token) (found : Result (Option (Parts B S)) E) → ts ≡ tokens file

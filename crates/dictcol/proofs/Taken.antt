@@ -3,7 +3,6 @@ use Rattle.std.proofs.Common.{◌≡◌, ℕ, zero, suc, ◌+◌, ◌-◌, ◌^�
 use Rattle.std.specs.Prelude.{count_by, IsUtf8, ◌⊎◌, slice_index}
 use Rattle.std.specs.List.{list_any, flat_map, slice_split, join_with_byte}
 use Rattle.std.specs.Str.{IsValidUpTo}
-use Rattle.std.specs.Str.Lossy.{utf8_valid_len}
 use Rattle.std.specs.Io.KnownBytes.{Consumes, IsAtEnd, Keeps}
 use Rattle.std.proofs.KnownBytes.{Consumes-nil, Consumes-trans, Consumes-kept, Consumes-whole}
 use Rattle.std.proofs.lemmas.Option.{same_Some}
@@ -14,11 +13,11 @@ use Rattle.std.proofs.lemmas.List.Sums.{sum_by-append}
 use Rattle.std.proofs.lemmas.List.Folds.{list_any-append}
 use Rattle.memchr.specs.Find.{is_byte, IsLastByte, Nowhere, Passes}
 use Rattle.std.proofs.lemmas.Grind.{flat_map-append}
-use Rattle.std.proofs.lemmas.Str.{IsUtf8-append, IsUtf8-take, IsUtf8-drop, IsUtf8-from_ascii, IsUtf8-nil, IsCharBoundary-before_ascii, IsCharBoundary-from_take, utf8_valid_len-IsValidUpTo}
+use Rattle.std.proofs.lemmas.Str.{IsUtf8-append, IsUtf8-take, IsUtf8-drop, IsUtf8-from_ascii, IsUtf8-nil, IsCharBoundary-before_ascii, IsCharBoundary-from_take}
 use Rattle.string_interner.specs.Text.{Text}
-use Rattle.dictcol.specs.Blocks.{EndsAtNewline, HasRead, IsTextOf, bad_line, IsNotUtf8, IsBadText, IsTextFault, IsLinesFault}
+use Rattle.dictcol.specs.Blocks.{EndsAtNewline, HasRead, IsTextOf, IsTextFault, IsLinesFault}
+use Rattle.dictcol.specs.Fault.{IsBadLine, IsNotUtf8}
 use Rattle.dictcol.specs.declared.fault.Fault.{Fault}
-use Rattle.dictcol.specs.declared.fault.Fault.TheVariants.{NotUtf8}
 use Rattle.dictcol.specs.Lines.{is_newline, has_newline, text_of_ended}
 use Rattle.dictcol.proofs.Lines.{parts-none}
 use Rattle.dictcol.proofs.Merged.{both-plain, ended-joined, ended}
@@ -147,36 +146,35 @@ valid-behind front text rest n utf8 valid ends =
           ];
     }
 
--- So the line where it ceases is that of the whole.
-line-behind : (seen : List Text) (text rest : Text) (n : ℕ) → list_any has_newline seen ≡ false → IsUtf8 (text_of_ended seen []) → IsValidUpTo text n → EndsLine rest
-    → (IsUtf8 (text_of_ended seen (text ++ rest)) → ⊥) × (bad_line (text_of_ended seen (text ++ rest)) ≡ min (length seen + (count_by is_newline (take n text) + 1)) (2 ^ 64 - 1))
-line-behind seen text rest n plain utf8 valid ends =
+-- the newlines before that are the lines and those of the text
+line-behind : (seen : List Text) (text rest : Text) (n : ℕ) → list_any has_newline seen ≡ false → n ≤ length text
+    → count_by is_newline (take (length (flat_map ended seen) + n) (flat_map ended seen ++ (text ++ rest))) ≡ length seen + count_by is_newline (take n text)
+line-behind seen text rest n plain within =
     let front = flat_map ended seen in
-    let good = subst IsUtf8 (append-nil front) utf8 in
-    let is = valid-behind front text rest n good valid ends in
-    let all = front ++ (text ++ rest) in
-    let counted : count_by is_newline (take (utf8_valid_len all) all) ≡ length seen + count_by is_newline (take n text) =
-    ap (λ (k : ℕ). count_by is_newline (take k all)) (utf8_valid_len-IsValidUpTo all (length front + n) is)
-    ∙ ap (count_by is_newline) (take-past front (text ++ rest) (length front + n) (omega arith))
+    ap (count_by is_newline) (take-past front (text ++ rest) (length front + n) (omega arith))
     ∙ count-append front (take (length front + n - length front) (text ++ rest))
     ∙ ap₂ (λ (a b : ℕ). a + b) (sym (ap (count_by is_newline) (append-nil front)) ∙ count-seen seen plain)
-    (ap (λ (k : ℕ). count_by is_newline (take k (text ++ rest))) (omega arith) ∙ ap (count_by is_newline) (take-append-le n text rest (omega (arith, valid.short)))) in
-    (λ whole. is.longest (length all) is.short (subst IsUtf8 (sym (take_all (length all) all (omega arith))) whole), ap (λ (k : ℕ). min (k + 1) (2 ^ 64 - 1)) counted ∙ omega arith)
+    (ap (λ (k : ℕ). count_by is_newline (take k (text ++ rest))) (omega arith) ∙ ap (count_by is_newline) (take-append-le n text rest within))
 
 -- a fault of what is behind the lines is one of the input
 pub bad-behind : (input left : Option Text) (seen : List Text) (text rest : Text) (fault : Fault) → list_any has_newline seen ≡ false → IsUtf8 (text_of_ended seen [])
-    → Consumes input left (text_of_ended seen (text ++ rest)) → ((more : Text) → left ≡ Some more → EndsLine (rest ++ more)) → IsNotUtf8 (length seen) text fault → IsBadText input fault
-bad-behind None left seen text rest fault plain utf8 consumed ends bad = (_, bad.2, tt)
+    → Consumes input left (text_of_ended seen (text ++ rest)) → ((more : Text) → left ≡ Some more → EndsLine (rest ++ more)) → IsNotUtf8 (length seen) (Some text) fault → IsNotUtf8 0 input fault
+bad-behind None left seen text rest fault plain utf8 consumed ends bad = (bad.0, bad.1, tt)
 bad-behind (Some all) None seen text rest fault plain utf8 consumed ends bad = absurd consumed
 bad-behind (Some all) (Some more) seen text rest fault plain utf8 consumed ends bad =
+    let front = flat_map ended seen in
+    let n = bad.2.0 in
+    let valid = bad.2.1 in
     let whole : all ≡ text_of_ended seen (text ++ (rest ++ more)) =
     consumed ∙ append_assoc (flat_map ended seen) (text ++ rest) more ∙ ap (λ t. flat_map ended seen ++ t) (append_assoc text rest more) in
-    let is = line-behind seen text (rest ++ more) bad.0 plain utf8 bad.1 (ends more refl) in
-    (_, bad.2, (λ good. is.0 (subst IsUtf8 whole good), sym is.1 ∙ ap bad_line (sym whole)))
+    let is = valid-behind front text (rest ++ more) n (subst IsUtf8 (append-nil front) utf8) valid (ends more refl) in
+    let counted = line-behind seen text (rest ++ more) n plain (omega (arith, valid.short)) in
+    let line : bad.0 ≡ min (0 + (count_by is_newline (take (length front + n) (text_of_ended seen (text ++ (rest ++ more)))) + 1)) (2 ^ 64 - 1) = omega (arith, counted, bad.2.2) in
+    (bad.0, bad.1, subst (λ t. IsBadLine 0 t bad.0) (sym whole) (length front + n, is, line))
 
 -- the same where the number of lines was cut to what fits
-pub at-most-before : (before n : ℕ) (text : Text) (fault : Fault) → n ≡ min before (2 ^ 64 - 1) → IsNotUtf8 n text fault → IsNotUtf8 before text fault
-at-most-before before n text fault cut bad = (bad.0, bad.1, bad.2 ∙ ap NotUtf8 (omega (arith, cut)))
+pub at-most-before : (before n : ℕ) (text : Text) (fault : Fault) → n ≡ min before (2 ^ 64 - 1) → IsNotUtf8 n (Some text) fault → IsNotUtf8 before (Some text) fault
+at-most-before before n text fault cut bad = (bad.0, bad.1, (bad.2.0, bad.2.1, omega (arith, cut, bad.2.2)))
 
 -- ---- what was read
 
@@ -234,7 +232,7 @@ module _ {L : Type 0} (has_taken : L → List Text → Type 0) where
 
   -- a fault of what is behind the last newline
   pub rest-fault : (input left : Option Text) (lines : L) (rest : Text) (fault : Fault) → IsAtEnd left
-      → (has : HasRead has_taken input left lines rest) → IsNotUtf8 (length has.seen) rest fault → IsLinesFault input fault
+      → (has : HasRead has_taken input left lines rest) → IsNotUtf8 (length has.seen) (Some rest) fault → IsLinesFault input fault
   rest-fault input left lines rest fault end has bad =
       inr (inr (bad-behind input left has.seen rest [] fault has.plain has.utf8
       (subst (λ t. Consumes input left (text_of_ended has.seen t)) (sym (append-nil rest)) has.consumed) (λ more is. inl (at-end left more end is)) bad))

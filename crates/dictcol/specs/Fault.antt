@@ -1,11 +1,14 @@
--- The exit status of each fault, and which faults a step returns. Cited by `Fault`, and by `file`, `stream`, `merge`, `count` and `answer`.
-use Rattle.std.specs.Prelude.{ℕ, ⊤, ◌≡◌, ◌⊎◌, Result, IsOk, IsErrAnd}
+-- The exit status of each fault, and which faults a step returns.
+-- Cited by `Fault`, and by `blocks`, `file`, `stream`, `merge`, `count` and `answer`.
+use Rattle.std.specs.Prelude.{ℕ, ⊤, ◌≡◌, ◌+◌, ◌-◌, ◌^◌, ◌⊎◌, Option, IfSome, Result, IsOk, IsErrAnd, take, min, count_by}
+use Rattle.std.specs.Str.{IsValidUpTo}
 use Rattle.std.specs.declared.io.Error.{Error}
 use Rattle.std.specs.declared.io.ErrorKind.{ErrorKind}
 use Rattle.std.specs.declared.io.ErrorKind.TheVariants.{BrokenPipe, OutOfMemory}
 use Rattle.string_interner.specs.Text.{Text}
 use Rattle.string_interner.specs.declared.backend.InternError.{InternError}
 use Rattle.string_interner.specs.declared.backend.InternError.TheVariants.{NoSymbol, Memory as InternMemory}
+use Rattle.dictcol.specs.Lines.{is_newline}
 use Rattle.dictcol.specs.declared.fault.Fault.{Fault}
 use Rattle.dictcol.specs.declared.fault.Fault.TheVariants.{Argument, Input, NotUtf8, DictionaryNotUtf8, DictionaryFile, NumbersFile, Folder, NoKeys, TooMany, Memory, Output, ClosedOutput}
 
@@ -64,6 +67,14 @@ IsWriteFault _ = ⊥
 abbrev pub IsLinesWriteFault : Fault → Type 0
 IsLinesWriteFault fault = IsTakeFault fault ⊎ IsWriteFault fault
 
+-- the text ceases to be UTF-8 in this line, from 1 on, if so many lines are before it; the greatest `usize` if it is above that
+abbrev pub IsBadLine : ℕ → Text → ℕ → Type 0
+IsBadLine before text line = (n : ℕ) × IsValidUpTo text n × (line ≡ min (before + (count_by is_newline (take n text) + 1)) (2 ^ 64 - 1))
+
+-- the fault tells the line where a text that so many lines are before ceases to be UTF-8
+abbrev pub IsNotUtf8 : ℕ → Option Text → Fault → Type 0
+IsNotUtf8 before known fault = (line : ℕ) × (fault ≡ NotUtf8 line) × IfSome known (λ text. IsBadLine before text line)
+
 -- it writes last: if it fails before that, the output is unchanged
 abbrev pub WritesLast : {T W : Type 0} → Result T Fault → W → W → Type 0
 WritesLast result old new = IsOk result ⊎ (IsErrAnd result IsWriteFault ⊎ (new ≡ old))
@@ -87,6 +98,10 @@ IsDamage _ = ⊤
 -- the fault does not say that the file is damaged
 abbrev pub IsNoDamage : Fault → Type 0
 IsNoDamage fault = ¬ (IsDamage fault)
+
+-- the faults of reading a text as a file: its lines are not taken, or it is damaged, for this reason
+abbrev pub IsParseFault : Type 0 → Fault → Type 0
+IsParseFault Reason fault = IsTakeFault fault ⊎ (IsDamage fault × Reason)
 
 -- if the fault says that the file is damaged, no text is one of these
 abbrev pub IsRightFault : (Text → Type 0) → Fault → Type 0

@@ -1,6 +1,6 @@
 -- The file that `encode` writes and `decode` reads: which value it is, and which lines it holds.
 -- Cited by `file`, `format`, `stream`, `merge` and `answer`.
-use Rattle.std.specs.Prelude.{◌≡◌, ℕ, ◌<◌, List, [], ◌∷◌, ◌++◌, All, length, map, Bool, false, codes, Option, Some, option_map, option_and_then, slice_get}
+use Rattle.std.specs.Prelude.{◌≡◌, ℕ, ◌<◌, List, [], ◌∷◌, ◌++◌, All, length, map, Bool, false, codes, ◌⊎◌, Option, Some, IfSome, option_map, option_and_then, slice_get}
 use Rattle.std.specs.List.{list_any}
 use Rattle.json.specs.Tree.{json_tokens}
 use Rattle.json.specs.Written.{Written}
@@ -12,7 +12,9 @@ use Rattle.serde_json.specs.Written.{outline, compact_text}
 use Rattle.string_interner.specs.Text.{Text, IsDistinct}
 use Rattle.string_interner.specs.Json.{json_of_texts, json_of_number}
 use Rattle.string_column.specs.Column.{AreCodes, dictionary_of}
+use Rattle.dictcol.specs.Fault.{IsNotUtf8, IsParseFault}
 use Rattle.dictcol.specs.Lines.{has_newline, text_of_lines, AreLines}
+use Rattle.dictcol.specs.declared.fault.Fault.{Fault}
 use Rattle.dictcol.specs.declared.file.Parts.{Parts}
 
 -- the object with these texts, numbers and boolean
@@ -74,6 +76,14 @@ FileHolds bytes lines is_ended = (value : Data) × HoldsLines value lines is_end
 -- the bytes are a file, and the text is what it holds
 abbrev pub DecodesFile : Text → Text → Type 0
 DecodesFile bytes text = (value : Data) × HoldsText value text × (read bytes ≡ Some value)
+
+-- the bytes are no file
+abbrev pub IsNoFile : Text → Type 0
+IsNoFile bytes = (text : Text) → ¬ (DecodesFile bytes text)
+
+-- the faults of reading bytes as a file: they are not UTF-8, or those of reading a text as one
+abbrev pub IsFileFault : Option Text → Fault → Type 0
+IsFileFault bytes fault = IsNotUtf8 0 bytes fault ⊎ IsParseFault (IfSome bytes IsNoFile) fault
 
 -- the tokens of a value that has no float are put last, and read as that value
 abbrev pub PutsValue : Data → Written → Written → Type 0

@@ -2,11 +2,11 @@
 
 ghost use Rattle.std.specs.Prelude.{◌≡◌, ◌<◌, ◌++◌, length, List, ℕ, IfOk, IfErr, IfSome, IsTrue, OnOk, string_bytes};
 ghost use Rattle.std.specs.Io.KnownBytes.{Appends, Consumes, IsAtEnd};
-ghost use Rattle.dictcol.specs.Fault.{IsLinesWriteFault, IsReadFault, IsRightFault, IsWriteFault, WritesLast};
+ghost use Rattle.dictcol.specs.Fault.{IsLinesWriteFault, IsReadFault, IsWriteFault, WritesLast};
 ghost use Rattle.dictcol.specs.Lines.{AreLines};
 ghost use Rattle.dictcol.specs.File.{DecodesFile, IsColumnFile};
 ghost use Rattle.dictcol.specs.Writes.{Writes};
-ghost use Rattle.dictcol.specs.Answer.{IsFormOutput, IsLinesTaskFault, IsTaskFault, IsTaskOutput};
+ghost use Rattle.dictcol.specs.Answer.{IsDecodeFault, IsFormOutput, IsLinesTaskFault, IsTaskFault, IsTaskOutput};
 
 use crate::arguments::{Choice, Form, Task};
 use crate::blocks::check_utf8;
@@ -127,8 +127,7 @@ fn decode<R: Read, W: Write>(
     ensures written { OnOk result (IfSome (R.remaining input.old) (λ all.
         Writes (DecodesFile all) (W.contents output.old) (W.contents output.new))) }
     ensures silent { WritesLast result output.old output.new }
-    ensures err { IfErr result (λ fault.
-        IfSome (R.remaining input.old) (λ all. IsRightFault (DecodesFile all) fault)) }
+    ensures err { IfErr result (IsDecodeFault (R.remaining input.old)) }
 {
     let bytes = read(alloc, input)?;
     file::decode(alloc, hasher, check_utf8(0, &bytes)?, output)
@@ -145,7 +144,7 @@ pub fn answer<R: Read, W: Write>(
     ensures answered { OnOk result (IfSome (R.remaining input.old) (λ all.
         Writes (IsTaskOutput task all) (W.contents output.old) (W.contents output.new))) }
 
-    // A file that holds a text is never called damaged, lines never are, and of lines the first is told that is not UTF-8.
+    // A file that holds a text is never called damaged, and lines never are. Where the input ceases to be UTF-8 is told.
     ensures err { IfErr result (IsTaskFault task (R.remaining input.old)) }
 
     // Unless all went well or a write failed, the output was not touched.

@@ -1,12 +1,12 @@
 //! Reading lines from an input, a block at a time: however long the input is, no more of it is held than a block, of 256 KiB or up
 //! to twice the longest line.
 
-ghost use Rattle.std.specs.Prelude.{◌≡◌, ◌+◌, ◌≤◌, List, [], ◌++◌, length, take, drop, min, false, ◌-◌, ◌^◌, Option, IfOk, IfErr, OnOk, IsUtf8, IsTrue, count_by, string_bytes};
+ghost use Rattle.std.specs.Prelude.{◌≡◌, ◌+◌, ◌≤◌, List, [], ◌++◌, length, take, drop, min, false, ◌-◌, ◌^◌, Option, Some, IfOk, IfErr, OnOk, IsUtf8, IsTrue, count_by, string_bytes};
 ghost use Rattle.std.specs.Io.KnownBytes.{IsAtEnd};
 ghost use Rattle.std.specs.List.{slice_split};
 ghost use Rattle.string_interner.specs.Text.{Text};
-ghost use Rattle.dictcol.specs.Blocks.{held, EndsAtNewline, HasRead, HoldsNoNewline, IsLinesFault, IsNotUtf8, IsTextFault, IsTextOf};
-ghost use Rattle.dictcol.specs.Fault.{IsNoDamage, IsTakeFault};
+ghost use Rattle.dictcol.specs.Blocks.{held, EndsAtNewline, HasRead, HoldsNoNewline, IsLinesFault, IsTextFault, IsTextOf};
+ghost use Rattle.dictcol.specs.Fault.{IsNotUtf8, IsTakeFault};
 ghost use Rattle.dictcol.specs.Lines.{has_newline, is_newline};
 
 use crate::block::Block;
@@ -48,8 +48,7 @@ fn count_newlines(bytes: &[u8]) -> usize
 /// Checks that the bytes are UTF-8. `before` lines stand in front of them.
 pub fn check_utf8(before: usize, bytes: &[u8]) -> Result<&str, Fault>
     ensures ok { IfOk result (λ text. text.now ≡ bytes.now) }
-    ensures err { IfErr result (IsNotUtf8 before bytes.now) }
-    ensures sound { IfErr result IsNoDamage }
+    ensures err { IfErr result (IsNotUtf8 before (Some bytes.now)) }
 {
     match simdutf8::compat::from_utf8(bytes) {
         Ok(text) => Ok(text),
@@ -130,7 +129,7 @@ fn read_block<R: Read, L: TakesLines>(
 /// Returns what is held as a text. `before` lines stand in front of it.
 fn end_block(block: Block, before: usize) -> Result<String, Fault>
     ensures ok { IfOk result (λ text. string_bytes text ≡ held block) }
-    ensures fault { IfErr result (IsNotUtf8 before (held block)) }
+    ensures fault { IfErr result (IsNotUtf8 before (Some (held block))) }
 {
     let bytes = block.into_bytes();
     match check_utf8(before, &bytes) {

@@ -1,6 +1,6 @@
 //! The file: a JSON object with the dictionary, a number for each line, and whether the last line ends in a newline.
 
-ghost use Rattle.std.specs.Prelude.{◌≡◌, ◌≢◌, ◌<◌, ◌++◌, List, All, length, Bool, true, false, codes, Some, None, IfOk, IfErr, OnOk};
+ghost use Rattle.std.specs.Prelude.{◌≡◌, ◌≢◌, ◌<◌, ◌++◌, ◌⊎◌, List, All, length, Bool, true, false, codes, Some, None, IfOk, IfErr, OnOk};
 ghost use Rattle.std.specs.Io.KnownBytes.{Appends};
 ghost use Rattle.std.specs.List.{join_with_byte, list_any};
 ghost use Rattle.serde_json.specs.Data.{boolean, array, Items};
@@ -11,8 +11,8 @@ ghost use Rattle.string_interner.specs.Text.{Text, IsDistinct};
 ghost use Rattle.string_interner.specs.Extend.{texts_of};
 ghost use Rattle.string_interner.specs.Json.{json_of_texts};
 ghost use Rattle.string_column.specs.Column.{rows_of};
-ghost use Rattle.dictcol.specs.Fault.{IsDamage, IsNoDamage, IsRightFault, IsWriteFault, WritesLast};
-ghost use Rattle.dictcol.specs.File.{indexed_texts, AreWithin, HaveEntries, HoldsLines, HoldsText, FileHolds, DecodesFile};
+ghost use Rattle.dictcol.specs.Fault.{IsDamage, IsParseFault, IsTakeFault, IsWriteFault, WritesLast};
+ghost use Rattle.dictcol.specs.File.{indexed_texts, AreWithin, HaveEntries, HoldsLines, HoldsText, IsFileFault, IsNoFile, FileHolds, DecodesFile};
 ghost use Rattle.dictcol.specs.Lines.{has_newline, newline_if, text_of_lines};
 ghost use Rattle.dictcol.specs.Writes.{Writes};
 
@@ -53,8 +53,8 @@ fn read_dictionary<B: Backend + Drop>(
 ) -> Result<Dictionary<B>, Fault>
     ensures ok { IfOk result (λ dictionary.
         get (codes "dictionary") (view file.now) ≡ Some (json_of_texts dictionary.texts)) }
-    ensures err { IfErr result (λ fault. IsDamage fault → (texts : List Text) → IsDistinct texts
-        → get (codes "dictionary") (view file.now) ≢ Some (json_of_texts texts)) }
+    ensures err { IfErr result (IsParseFault ((texts : List Text) → IsDistinct texts
+        → get (codes "dictionary") (view file.now) ≢ Some (json_of_texts texts))) }
 {
     let value = file.get("dictionary").ok_or(Fault::NoDictionary)?;
     match Dictionary::<B>::from_json_exact_with_hasher(alloc, value, hasher) {
@@ -71,7 +71,8 @@ fn read_dictionary<B: Backend + Drop>(
 /// Checks that each text of the dictionary is one line.
 fn check_texts<B: Backend>(dictionary: &Dictionary<B>) -> Result<(), Fault>
     ensures ok { OnOk result (list_any has_newline dictionary.now.texts ≡ false) }
-    ensures err { IfErr result (λ fault. list_any has_newline dictionary.now.texts ≡ true) }
+    ensures err { IfErr result (λ fault. IsDamage fault
+        × (list_any has_newline dictionary.now.texts ≡ true)) }
 {
     let mut index = 0_usize;
     for (_, text) in dictionary {
@@ -86,7 +87,7 @@ fn check_texts<B: Backend>(dictionary: &Dictionary<B>) -> Result<(), Fault>
 /// Returns the texts of the dictionary.
 pub fn list_texts(alloc: Global, dictionary: &Dictionary) -> Result<Vec<&str>, Fault>
     ensures ok { IfOk result (λ texts. texts_of texts.items ≡ dictionary.now.texts) }
-    ensures fault { IfErr result IsNoDamage }
+    ensures fault { IfErr result IsTakeFault }
 {
     let mut texts = Vec::with_capacity(alloc, dictionary.len()).map_err(|_| Fault::Memory)?;
     for (_, text) in dictionary {
@@ -104,8 +105,8 @@ fn read_codes<B: Backend>(
     ensures ok { IfOk result (λ codes. indexed_texts dictionary.now.texts (items_view numbers.now)
         ≡ Some (rows_of dictionary.now.texts codes.items)) }
     ensures within { IfOk result (λ codes. HaveEntries dictionary.now.texts codes.items) }
-    ensures err { IfErr result (λ fault. IsDamage fault
-        → indexed_texts dictionary.now.texts (items_view numbers.now) ≡ None) }
+    ensures err { IfErr result (IsParseFault
+        (indexed_texts dictionary.now.texts (items_view numbers.now) ≡ None)) }
 {
     let mut codes = Codes::new(alloc);
     for number in numbers {
@@ -173,8 +174,8 @@ pub fn write_lines<W: Write>(
 fn find_numbers(file: &Value) -> Result<&Vec<Value>, Fault>
     ensures ok { IfOk result (λ numbers.
         get (codes "lines") (view file.now) ≡ Some (array (items_view numbers.now.items))) }
-    ensures err { IfErr result (λ fault. (numbers : Items)
-        → get (codes "lines") (view file.now) ≢ Some (array numbers)) }
+    ensures err { IfErr result (λ fault. IsDamage fault × ((numbers : Items)
+        → get (codes "lines") (view file.now) ≢ Some (array numbers))) }
 {
     file.get("lines")
         .and_then(Value::as_array)
@@ -185,8 +186,8 @@ fn find_numbers(file: &Value) -> Result<&Vec<Value>, Fault>
 fn find_final_newline(file: &Value) -> Result<bool, Fault>
     ensures ok { IfOk result (λ is_ended.
         get (codes "final_newline") (view file.now) ≡ Some (boolean is_ended)) }
-    ensures err { IfErr result (λ fault. (is_ended : Bool)
-        → get (codes "final_newline") (view file.now) ≢ Some (boolean is_ended)) }
+    ensures err { IfErr result (λ fault. IsDamage fault × ((is_ended : Bool)
+        → get (codes "final_newline") (view file.now) ≢ Some (boolean is_ended))) }
 {
     file.get("final_newline")
         .and_then(Value::as_bool)
@@ -202,7 +203,8 @@ fn read_value<B: Backend + Drop>(
     ensures lines { IfOk result (λ parts. HoldsLines (view file.now)
         (rows_of parts.dictionary.texts parts.codes.items) parts.is_ended) }
     ensures within { IfOk result AreWithin }
-    ensures err { IfErr result (IsRightFault (HoldsText (view file.now))) }
+    ensures err { IfErr result
+        (IsParseFault ((text : Text) → ¬ (HoldsText (view file.now) text))) }
 {
     let dictionary = read_dictionary(alloc, hasher, file)?;
     check_texts(&dictionary)?;
@@ -230,7 +232,7 @@ fn locate_early_end(file: &str) -> Fault
 /// Reads the JSON of a file.
 fn parse(alloc: Global, file: &str) -> Result<Value, Fault>
     ensures ok { IfOk result (λ value. read file.now ≡ Some (view value)) }
-    ensures err { IfErr result (λ fault. IsDamage fault → read file.now ≡ None) }
+    ensures err { IfErr result (IsParseFault (read file.now ≡ None)) }
 {
     match Value::from_str(alloc, file) {
         Ok(value) => Ok(value),
@@ -252,7 +254,7 @@ pub fn read<B: Backend + Drop>(
     ensures within { IfOk result AreWithin }
 
     // A file that holds a text is never called damaged.
-    ensures err { IfErr result (IsRightFault (DecodesFile file.now)) }
+    ensures err { IfErr result (IsParseFault (IsNoFile file.now)) }
 {
     // What `encode` writes needs no tree. Of any other file the tree also tells what is wrong.
     if let Some(parts) = stream::read_stream(alloc, hasher, file)? {
@@ -270,8 +272,8 @@ pub fn read_column<B: Backend + Drop>(
 ) -> Result<(Column<B, LineHasher>, bool), Fault>
     ensures lines { IfOk result (λ lines. FileHolds bytes.items lines.0 lines.1) }
 
-    // A file that holds a text is never called damaged.
-    ensures err { IfErr result (IsRightFault (DecodesFile bytes.items)) }
+    // A file is called damaged only if it holds no text, and not UTF-8 only if it is not.
+    ensures err { IfErr result (IsFileFault (Some bytes.items)) }
 {
     let Parts {
         dictionary,
@@ -304,7 +306,8 @@ pub fn decode<W: Write>(
         (Writes (DecodesFile file.now) (W.contents output.old) (W.contents output.new)) }
 
     // A file that holds a text is never called damaged.
-    ensures err { IfErr result (IsRightFault (DecodesFile file.now)) }
+    ensures err { IfErr result (λ fault.
+        IsParseFault (IsNoFile file.now) fault ⊎ IsWriteFault fault) }
 
     // Unless all went well or a write failed, the output was not touched.
     ensures silent { WritesLast result output.old output.new }

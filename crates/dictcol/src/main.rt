@@ -17,6 +17,7 @@ mod inputs;
 mod mend;
 mod merge;
 mod plain;
+mod quoted;
 mod split;
 mod stream;
 mod zero;

@@ -1,12 +1,12 @@
 //! Merging: a text that grows by what each file holds.
 
-ghost use Rattle.std.specs.Prelude.{◌≡◌, [], ◌∷◌, ◌++◌, drop, false, IfOk, IfErr, IfSome, OnOk};
+ghost use Rattle.std.specs.Prelude.{◌≡◌, [], ◌∷◌, ◌++◌, drop, false, Some, IfOk, IfErr, IfSome, OnOk};
 ghost use Rattle.std.specs.List.{flat_map, join_with_byte, list_any};
 ghost use Rattle.string_interner.specs.Text.{Text};
 ghost use Rattle.dictcol.specs.Blocks.{IsLinesFault};
 ghost use Rattle.dictcol.specs.Counts.{IsCountsText};
-ghost use Rattle.dictcol.specs.Fault.{IsLinesWriteFault, IsRightFault, IsTakeFault, WritesLast};
-ghost use Rattle.dictcol.specs.File.{DecodesFile, IsColumnFile};
+ghost use Rattle.dictcol.specs.Fault.{IsLinesWriteFault, IsTakeFault, WritesLast};
+ghost use Rattle.dictcol.specs.File.{DecodesFile, IsColumnFile, IsFileFault};
 ghost use Rattle.dictcol.specs.Writes.{Writes};
 ghost use Rattle.dictcol.specs.Lines.{behind_newline, has_newline, lines_of, text_of_lines};
 
@@ -164,8 +164,8 @@ impl<B: Backend + Drop> Merged<B> {
         ensures ok { OnOk result ((text : Text) × DecodesFile bytes.items text
             × (self.new ≡ self.old ++ text)) }
 
-        // A file that holds a text is never called damaged.
-        ensures err { IfErr result (IsRightFault (DecodesFile bytes.items)) }
+        // A file is called damaged only if it holds no text, and not UTF-8 only if it is not.
+        ensures err { IfErr result (IsFileFault (Some bytes.items)) }
     {
         let (lines, is_ended) = file::read_column(alloc, hasher, bytes)?;
         // The empty text takes ended lines as they are, so that none is hashed again.

@@ -1,7 +1,8 @@
-use Rattle.std.proofs.Common.{◌≡◌, List, length, string_bytes, sym, subst}
+use Rattle.std.proofs.Common.{◌≡◌, List, length, Some, string_bytes, sym, subst}
 use Rattle.std.proofs.lemmas.Result.{IfOk-weaker, IfErr-weaker}
 use Rattle.string_interner.specs.Text.{Text}
-use Rattle.dictcol.specs.Blocks.{held, IsLinesFault, IsNotUtf8, IsTextOf}
+use Rattle.dictcol.specs.Blocks.{held, IsLinesFault, IsTextOf}
+use Rattle.dictcol.specs.Fault.{IsNotUtf8}
 use Rattle.dictcol.proofs.Taken.{all-read, rest-fault, at-most-before}
 use Rattle.dictcol.proofs.blocks.read_lines.Goals as goal
 
@@ -24,6 +25,6 @@ returns-then-branch-clause-fault g c =
     let rest = held c.read_block.new.block in
     let block = c.in_ok-read_block.ensures in
     let read = block.read input c.loop.invariant.read in
-    IfErr-weaker c.end_block.result (IsNotUtf8 c.count_lines.result rest) (IsLinesFault input)
+    IfErr-weaker c.end_block.result (IsNotUtf8 c.count_lines.result (Some rest)) (IsLinesFault input)
     (λ fault bad. rest-fault g.L.TakesLines.has_taken input left lines rest fault (block.end c.if-branch.true) read
     (at-most-before (length read.seen) c.count_lines.result rest fault (c.count_lines.ensures read.seen read.taken) bad)) c.end_block.ensures.fault

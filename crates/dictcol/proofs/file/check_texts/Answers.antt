@@ -8,7 +8,7 @@ pub returns-then-contains-clause-err : goal.returns-then-contains-clause-err
 returns-then-contains-clause-err g c =
     let first = first_entry g.B.Backend.numbering _ _ _ _ _ _ c.in-Some.ensures.steps in
     let has : has_newline c.in-Some.text.now ≡ true = sym (ap has_newline c.as_bytes.ensures.value) ∙ sym c.contains.ensures.value ∙ c.if-contains.true in
-    sym c.loop-text.invariant ∙ ap (list_any has_newline) first ∙ ap (λ b. b || list_any has_newline c.next.new.self.ahead) has
+    (tt, sym c.loop-text.invariant ∙ ap (list_any has_newline) first ∙ ap (λ b. b || list_any has_newline c.next.new.self.ahead) has)
 
 pub loop-text-preserved : goal.loop-text-preserved
 loop-text-preserved g c =

@@ -1,4 +1,4 @@
-use Rattle.std.proofs.Common.{◌≡◌, ◌<◌, ◌≤◌, ◌++◌, ◌∷◌, [], length, Some, option_and_then, rules}
+use Rattle.std.proofs.Common.{◌≡◌, ◌<◌, ◌≤◌, ◌++◌, ◌∷◌, [], length, Some, option_and_then, inr, rules}
 use Rattle.std.proofs.lemmas.List.Elements.{All-push}
 use Rattle.serde_json.specs.Find.{as_number, as_u64}
 use Rattle.serde_json.specs.View.{view}
@@ -10,7 +10,7 @@ pub returns-then-index-len-clause-err : goal.returns-then-index-len-clause-err
 returns-then-index-len-clause-err g c =
     let is : option_and_then as_u64 (as_number (view c.number-item.result)) ≡ Some c.in_ok-index.index = search rules in
     let outside : length c.args.dictionary.now.texts ≤ c.in_ok-index.index = search rules in
-    λ damage. no-entry c.args.dictionary.now.texts _ _ _ _ c.loop-number.codes.items c.loop-number.invariant.so_far (next_element _ _ _ c.loop-number-test.true c.number-item.is) c.in_ok-index.index is outside
+    inr (tt, no-entry c.args.dictionary.now.texts _ _ _ _ c.loop-number.codes.items c.loop-number.invariant.so_far (next_element _ _ _ c.loop-number-test.true c.number-item.is) c.in_ok-index.index is outside)
 
 pub loop-number-preserved : goal.loop-number-preserved
 loop-number-preserved g c =

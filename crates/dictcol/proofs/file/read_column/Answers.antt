@@ -1,4 +1,7 @@
-use Rattle.std.proofs.Common.{◌≡◌, Ok, Err, ap, ◌∙◌, rules}
+use Rattle.std.proofs.Common.{◌≡◌, IfErr, Ok, Err, inr, ap, subst, ◌∙◌, rules}
+use Rattle.std.proofs.lemmas.Result.{IfErr-weaker}
+use Rattle.dictcol.specs.Fault.{IsParseFault}
+use Rattle.dictcol.specs.File.{IsNoFile}
 use Rattle.dictcol.proofs.Parts.{made-rows, no-repeat, no-outside}
 use Rattle.dictcol.proofs.file.read_column.Goals as goal
 
@@ -10,6 +13,12 @@ returns-in-Ok-clause-lines g c =
     let holds = c.in_ok-dictionary.ensures.lines in
     let file : c.in_ok-check_utf8.field-0.now ≡ c.args.bytes.items = search rules in
     rw (← rows, ← file) holds
+
+pub returns-in_err-dictionary-clause-err : goal.returns-in_err-dictionary-clause-err
+returns-in_err-dictionary-clause-err g c =
+    let file : c.in_ok-check_utf8.field-0.now ≡ c.args.bytes.items = search rules in
+    let parse : IfErr c.from_residual-in_err-dictionary.result (IsParseFault (IsNoFile c.in_ok-check_utf8.field-0.now)) = search rules in
+    IfErr-weaker c.from_residual-in_err-dictionary.result _ _ (λ fault why. inr (subst (λ text. IsParseFault (IsNoFile text) fault) file why)) parse
 
 pub unreachable-requires : goal.unreachable-requires
 unreachable-requires g c =

@@ -1,6 +1,23 @@
-use Rattle.dictcol.proofs.StreamTokens.{stream-found}
+use Rattle.std.proofs.Common.{◌≡◌, ◌++◌, codes, ap, sym, subst, ◌∙◌, rules}
+use Rattle.json.specs.Lex.{tokens}
+use Rattle.dictcol.specs.StreamTokens.{StreamHolds, behind_front}
+use Rattle.dictcol.proofs.StreamTokens.{stream-holds}
+use Rattle.dictcol.proofs.StringTokens.{front-tokens}
 use Rattle.dictcol.proofs.stream.read_stream.Goals as goal
+use Rattle.dictcol.proofs.stream.read_stream.Goals.{in-Some+in_ok-rest-in-Some, in-None+in_ok-rest-in-None}
 
-pub returns-in-Ok-clause-lines : goal.returns-in-Ok-clause-lines
-returns-in-Ok-clause-lines g c =
-    stream-found c.args.file.now c.in-Ok.reader c.read_parts.result c.in-Ok.ensures.ok c.read_parts.ensures.stream c.read_parts.ensures.distinct c.read_parts.ensures.plain c.read_parts.ensures.within
+pub returns-in-Some-rest-clause-lines : goal.returns-in-Some-rest-clause-lines
+returns-in-Some-rest-clause-lines g c =
+    let file = c.args.file.now in
+    let texts = c.match-strip_prefix.dictionary.texts in
+    let indexes = c.in-Some-rest.codes.items in
+    let is_ended = c.in-Some-rest.is_ended in
+    let holds : StreamHolds (tokens c.args.file.now) c.match-strip_prefix.dictionary.texts c.in-Some-rest.codes.items c.in-Some-rest.is_ended =
+    elim c.match-strip_prefix.branch [
+      | in-Some+in_ok-rest-in-Some w ↦
+          let whole : c.args.file.now ≡ codes "{\"dictionary\":[" ++ w.in-Some.list.now = search rules in
+          let list : StreamHolds (behind_front (tokens w.in-Some.list.now)) c.match-strip_prefix.dictionary.texts c.in-Some-rest.codes.items c.in-Some-rest.is_ended = search rules in
+          subst (λ ts. StreamHolds ts texts indexes is_ended) (sym (ap tokens whole ∙ front-tokens w.in-Some.list.now)) list
+      | in-None+in_ok-rest-in-None w ↦ search rules
+    ] in
+    stream-holds file texts is_ended holds.numbers indexes holds.tokens_are holds.indexes_are holds.distinct holds.each_a_line holds.within

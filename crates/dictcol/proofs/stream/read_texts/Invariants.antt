@@ -7,7 +7,7 @@ use Rattle.dictcol.proofs.stream.read_texts.Given as goal
 -- the texts so far were read, and none has a newline
 abbrev pub invariant-texts : goal.invariant-texts
 invariant-texts g l = record {
-  so_far : l.initial.reader ≡ map string l.dictionary.texts ++ l.reader;
+  so_far : map string l.initial.dictionary.texts ++ l.initial.reader ≡ map string l.dictionary.texts ++ l.reader;
   plain : list_any has_newline l.dictionary.texts ≡ false;
 }
 
