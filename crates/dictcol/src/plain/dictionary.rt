@@ -1,16 +1,18 @@
 //! The file `dict.txt`: distinct lines, of which each ends in a newline.
 
-ghost use Rattle.std.specs.Prelude.{◌≡◌, [], IfOk, IfErr, IfSome, OnOk};
+ghost use Rattle.std.specs.Prelude.{◌≡◌, List, [], IfOk, IfErr, IfSome, OnOk};
 ghost use Rattle.std.specs.Io.KnownBytes.{Appends};
-ghost use Rattle.string_interner.specs.Text.{IsDistinct};
-ghost use Rattle.dictcol.specs.Fault.{IsWriteFault};
+ghost use Rattle.string_interner.specs.Text.{Text, IsDistinct};
+ghost use Rattle.dictcol.specs.Fault.{IsDamage, IsWriteFault};
 ghost use Rattle.dictcol.specs.Lines.{text_of_ended};
-ghost use Rattle.dictcol.specs.Plain.{IsDictionary, IsDictionaryFault};
+ghost use Rattle.dictcol.specs.Plain.{line_bounds, IsDictionary, IsDictionaryFault, IsLinesFile};
 
 use super::read_lines;
+use crate::blocks::check_utf8;
 use crate::fault::Fault;
 use crate::file::write;
 use crate::hasher::LineHasher;
+use memchr::memchr;
 use std::alloc::Global;
 use std::io::{Read, Write};
 use string_column::{Codes, Column};
@@ -65,4 +67,30 @@ pub fn read<B: Backend + Drop, R: Read>(
         return Err(Fault::RepeatedLine(find_repeat(lines.codes())));
     }
     Ok(lines)
+}
+
+/// Returns where each line of a file begins, and where the last one ends. Lines may be there twice.
+pub fn find_bounds(alloc: Global, file: &[u8]) -> Result<Vec<usize>, Fault>
+    ensures ok { IfOk result (λ bounds. (lines : List Text)
+        × IsLinesFile lines file.now × (bounds.items ≡ line_bounds 0 lines)) }
+    ensures err { IfErr result (λ fault. IsDamage fault → (lines : List Text)
+        → ¬ (IsLinesFile lines file.now)) }
+{
+    if let Err(fault) = check_utf8(0, file) {
+        return Err(Fault::of_dictionary(fault));
+    }
+    let Ok(mut bounds) = vec![in alloc; 0_usize; 1] else {
+        return Err(Fault::Memory);
+    };
+    let mut end = 0;
+    'lines: while let Some(at) = memchr(b'\n', &file[end..]) {
+        end += at + 1;
+        if bounds.push(end).is_err() {
+            return Err(Fault::Memory);
+        }
+    }
+    if end < file.len() {
+        return Err(Fault::NotEnded);
+    }
+    Ok(bounds)
 }
