@@ -359,6 +359,12 @@ onto-plain before text numbers rows count is_cut codes onto are npy =
 pub ended-more : (lines : List Text) (line : Text) → text_of_ended (lines ++ line ∷ []) [] ≡ (text_of_ended lines [] ++ line) ++ 10 ∷ []
 ended-more lines line = one-ended lines line ∙ ap (λ text. text ++ 10 ∷ []) (more-rest lines [] line)
 
+-- a block that has one line more
+pub block-more : (done : List Text) (line front block new : Text) → front ++ block ≡ text_of_ended done [] → new ≡ block ++ (line ++ 10 ∷ []) → front ++ new ≡ text_of_ended (done ++ line ∷ []) []
+block-more done line front block new so_far put =
+    ap (λ text. front ++ text) put ∙ sym (append_assoc front block (line ++ 10 ∷ [])) ∙ ap (λ text. text ++ (line ++ 10 ∷ [])) so_far
+    ∙ sym (append_assoc (text_of_ended done []) line (10 ∷ [])) ∙ sym (ended-more done line)
+
 -- where no code is wide, the codes are the narrow ones, which are as many as the rows
 pub narrow-codes : (codes narrow wide : List ℕ) → codes ≡ narrow ++ wide → length wide ≡ 0 → codes ≡ narrow
 narrow-codes codes narrow wide parts none = parts ∙ ap (λ xs. narrow ++ xs) (no-items wide none) ∙ append-nil narrow

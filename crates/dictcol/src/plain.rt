@@ -131,7 +131,7 @@ impl<B: Backend + Drop> Plain<B> {
         let Ok(header) = npy::format_header(alloc, codes.len()) else {
             return Err(Fault::Memory);
         };
-        dictionary::write_file(dictionary, self.lines.dictionary())?;
+        dictionary::write_file(alloc, dictionary, self.lines.dictionary())?;
         npy::write_file(numbers, &header, codes)
     }
 }

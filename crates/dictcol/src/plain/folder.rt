@@ -4,7 +4,7 @@ use super::Plain;
 use crate::fault::Fault;
 use std::alloc::Global;
 use std::fs::File;
-use std::io::{BufWriter, ErrorKind, Read, Write};
+use std::io::{ErrorKind, Read, Write};
 use std::{fs, io};
 use string_interner::backend::Backend;
 
@@ -16,9 +16,6 @@ const NUMBERS: &str = "codes.npy";
 
 /// This file is there if the last line has no newline.
 const CUT: &str = "no_final_newline";
-
-/// How many bytes are written at once.
-const BUFFER: usize = 1 << 16;
 
 /// The paths of the files.
 #[derive(Drop)]
@@ -90,10 +87,9 @@ pub fn decode<W: Write>(rt: &HostRuntime, folder: &str, output: &mut W) -> Resul
     super::decode(alloc, &dictionary, &numbers, is_cut, output)
 }
 
-/// Creates a file, which is written through a buffer.
-fn create(rt: &HostRuntime, path: &str) -> Result<BufWriter<File>, Fault> {
-    let file = File::create(rt, path).map_err(Fault::Folder)?;
-    BufWriter::with_capacity(rt.alloc(), BUFFER, file).map_err(|_| Fault::Memory)
+/// Creates a file.
+fn create(rt: &HostRuntime, path: &str) -> Result<File, Fault> {
+    File::create(rt, path).map_err(Fault::Folder)
 }
 
 /// Writes the new files.
