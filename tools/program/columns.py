@@ -99,9 +99,6 @@ def try_onto(program, first, second):
 LINES = b"red\ngreen\n"
 # Files that are damaged, and the message.
 DAMAGED = (
-    (b"red\nred\n", npy([0]), b"dict.txt: line 2 repeats an earlier line"),
-    (b"a\nb\nc\nb\na\n", npy([0]), b"dict.txt: line 4 repeats an earlier line"),
-    (b"\n\n", npy([]), b"dict.txt: line 2 repeats an earlier line"),
     (b"red\ngreen", npy([0]), b"dict.txt does not end in a newline"),
     (b"a\n\xff\n", npy([0]), b"dict.txt: line 2 is not UTF-8"),
     (LINES, npy([0, 1, 2]), b"codes[2] is not the number of a line of dict.txt"),
@@ -133,6 +130,25 @@ def try_damaged(program, lines, numbers, message):
         is_of_lines = message.startswith(b"dict.txt")
         yield f"{message!r}, written onto", ended, failed(2, b"it: " + message) if is_of_lines else OK
         yield f"{message!r}, what was written", Path(folder, "new").exists(), not is_of_lines
+
+
+# Files whose lines are there twice, the text, and the first line that is there already.
+REPEATED = (
+    (b"red\nred\n", npy([0]), b"red\n", 2),
+    (b"a\nb\nc\nb\na\n", npy([4, 3, 2, 0, 1, 1]), b"a\nb\nc\na\nb\nb\n", 4),
+    (b"\n\n", npy([1, 0]), b"\n\n", 2),
+    (b"\n\n", npy([]), b"", 2),
+)
+
+
+def try_repeated(program, lines, numbers, text, line):
+    """Lines may be there twice, as if they were masked, unless lines of a text are to get their codes."""
+    with tempfile.TemporaryDirectory() as folder:
+        write_files(f"{folder}/it", {"dict.txt": lines, "codes.npy": numbers})
+        yield f"{lines!r}", program.run([b"decode", b"it"], folder=folder), (0, text, b"")
+        ended = program.run(b"encode --onto it --plain new".split(), b"a\n", folder=folder)
+        yield f"{lines!r}, written onto", ended, failed(2, b"it: dict.txt: line %d repeats an earlier line" % line)
+        yield f"{lines!r}, what was written", Path(folder, "new").exists(), False
 
 
 def try_missing(program):
@@ -230,6 +246,7 @@ def trials():
         (try_texts_in_turn,),
         *((try_onto, *both) for both in itertools.product(TEXTS[:-2], repeat=2)),
         *((try_damaged, *given) for given in DAMAGED),
+        *((try_repeated, *given) for given in REPEATED),
         (try_missing,),
         (try_refused,),
         (try_numpy,),

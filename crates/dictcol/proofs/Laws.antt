@@ -11,7 +11,7 @@ use Rattle.dictcol.specs.Lines.{lines_of}
 use Rattle.dictcol.specs.Plain.{plain_text, IsDictionary, IsPlain, HoldPlain}
 use Rattle.dictcol.specs.File.{HoldsText, IsColumnFile, DecodesFile}
 use Rattle.dictcol.proofs.HoldsLines.{holds-once, comes-back}
-use Rattle.dictcol.proofs.PlainColumns.{dictionary-lines, plain-lines, same-numbers}
+use Rattle.dictcol.proofs.PlainColumns.{file-lines, plain-lines, same-numbers}
 
 -- a file is decoded to one text
 pub decodes-once : (file text other : Text) → DecodesFile file text → DecodesFile file other → text ≡ other
@@ -44,7 +44,7 @@ merged-files-alike a b c ab bc left right text other ab_is left_is bc_is right_i
 pub plain-comes-back : (before text dictionary numbers said : Text) (is_cut : Bool) → IsPlain before text dictionary numbers is_cut → HoldPlain dictionary numbers is_cut said → said ≡ text
 plain-comes-back before text dictionary numbers said is_cut plain holds =
     let lines : holds.lines ≡ plain.known ++ fresh plain.known plain.lines =
-    sym (dictionary-lines holds.lines dictionary holds.dictionary_is) ∙ dictionary-lines _ dictionary plain.dictionary_is in
+    sym (file-lines holds.lines dictionary holds.lines_are) ∙ file-lines _ dictionary plain.dictionary_is.lines_are in
     let codes = same-numbers holds.codes_are plain.numbers_are.0 numbers holds.numbers_are plain.numbers_are.2 in
     let rows : rows_of holds.lines holds.codes_are ≡ plain.lines = ap₂ rows_of lines codes ∙ rows-are _ plain.numbers_are.0 plain.lines plain.numbers_are.1 in
     holds.text_is ∙ ap₂ plain_text rows plain.is_cut_is ∙ plain-lines text plain.lines plain.is_ended plain.lines_are
@@ -54,7 +54,7 @@ pub plain-holds : (before text dictionary numbers : Text) (is_cut : Bool) → Is
 plain-holds before text dictionary numbers is_cut plain =
     let entries = plain.known ++ fresh plain.known plain.lines in record {
       lines = entries;
-      dictionary_is = plain.dictionary_is;
+      lines_are = plain.dictionary_is.lines_are;
       codes_are = plain.numbers_are.0;
       numbers_are = plain.numbers_are.2;
       within = codes-within entries plain.numbers_are.0 plain.lines plain.numbers_are.1;
@@ -71,6 +71,6 @@ codes-longer dictionary more (code ∷ codes) (row ∷ rows) are = (slice_get-ap
 pub old-codes-hold : (before text dictionary numbers : Text) (is_cut : Bool) (lines rows : List Text) (codes : List ℕ) → IsPlain before text dictionary numbers is_cut
     → IsDictionary lines before → AreCodes lines codes rows → AreCodes (lines_of dictionary) codes rows
 old-codes-hold before text dictionary numbers is_cut lines rows codes plain is are =
-    let same : lines ≡ plain.known = sym (dictionary-lines lines before is) ∙ dictionary-lines plain.known before plain.before_is in
-    subst (λ ls. AreCodes ls codes rows) (sym (dictionary-lines _ dictionary plain.dictionary_is))
+    let same : lines ≡ plain.known = sym (file-lines lines before is.lines_are) ∙ file-lines plain.known before plain.before_is.lines_are in
+    subst (λ ls. AreCodes ls codes rows) (sym (file-lines _ dictionary plain.dictionary_is.lines_are))
     (codes-longer plain.known (fresh plain.known plain.lines) codes rows (subst (λ ls. AreCodes ls codes rows) same are))

@@ -14,3 +14,5 @@ pub mod Taken
 pub mod Counted
 pub mod CountRows
 pub mod PlainColumns
+pub mod LineBounds
+pub mod AreRows

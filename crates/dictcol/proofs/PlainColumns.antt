@@ -1,6 +1,6 @@
 -- Plain columns: the dictionary that a file is, the numbers that a file is, and the text that both hold.
 use Rattle.std.proofs.Common.{◌≡◌, ◌≢◌, ℕ, zero, suc, ◌+◌, ◌-◌, ◌*◌, ◌/◌, ◌%◌, ◌^◌, ◌<◌, ◌≤◌, nat_lt, Bool, true, false, not, ◌&&◌, cond, eqb, List, [], ◌∷◌, ◌++◌, length, take, drop, get_or, replicate, codes, decimal, Option, Some, None, w32, refl, sym, ap, ap₂, subst, ◌∙◌, arith}
-use Rattle.std.specs.Prelude.{All, slice_get, slice_index_or, IfSome, Result, Ok, Err, OnOk}
+use Rattle.std.specs.Prelude.{All, slice_get, IfSome, Result, Ok, Err, OnOk}
 use Rattle.std.specs.Int.{from_le_bytes}
 use Rattle.std.specs.Io.KnownBytes.{Appends, Keeps}
 use Rattle.std.specs.List.{flat_map, join_with_byte, onto_first, IsSplitAt}
@@ -11,7 +11,7 @@ use Rattle.std.proofs.lemmas.Bool.Decides.{nat_tests}
 use Rattle.std.proofs.lemmas.Fmt.{length-decimal-le}
 use Rattle.std.proofs.lemmas.Grind.{flat_map-append}
 use Rattle.std.proofs.lemmas.List.Elements.{All-push}
-use Rattle.std.proofs.lemmas.List.{append_assoc, append-nil, length-append, length-map, length-replicate, take_all, get_or-take, length-take, take-append-drop}
+use Rattle.std.proofs.lemmas.List.{append_assoc, append-nil, length-append, length-replicate, take_all, get_or-take, length-take, take-append-drop}
 use Rattle.std.proofs.lemmas.Slice.Zip.{AllZip-long}
 use Rattle.std.proofs.lemmas.Nat.{from_le_bytes-to_le_bytes_4, le_bytes_4}
 use Rattle.string_interner.specs.Text.{Text, IsDistinct, first}
@@ -26,7 +26,7 @@ use Rattle.dictcol.specs.Fault.{IsDamage, IsRightFault}
 use Rattle.dictcol.specs.File.{HaveEntries}
 use Rattle.dictcol.specs.declared.fault.Fault.{Fault}
 use Rattle.dictcol.specs.Lines.{has_newline, text_of_ended, text_of_lines, lines_of, AreLines}
-use Rattle.dictcol.specs.Plain.{plain_text, IsDictionary, IsDictionaryFault, code_bytes, npy_start, npy_header, IsNpy, IsOnto, IsPlain, HoldPlain}
+use Rattle.dictcol.specs.Plain.{plain_text, IsLinesFile, IsDictionary, code_bytes, npy_start, npy_header, AreNumbers, IsNpy, IsOnto, IsPlain, line_bounds, AreRows, HoldPlain}
 use Rattle.dictcol.proofs.Lines.{text-of-lines, lines-plain, fresh-plain}
 use Rattle.dictcol.proofs.Merged.{are-ended, are-rest, ended-first, ended-lines, both-plain, one-ended, more-rest}
 
@@ -80,16 +80,16 @@ no-lines (b ∷ bs) none = of (eqb b 10) none
     of true e = absurd (cc)
     of false e = absurd (onto-some b (lines_of bs) e)
 
--- the lines of a dictionary's file
-pub dictionary-lines : (lines : List Text) (file : Text) → IsDictionary lines file → lines_of file ≡ lines
-dictionary-lines lines file is = ap lines_of is.text ∙ ended-first lines [] is.each_a_line ∙ append-nil lines
+-- the lines of a file of them
+pub file-lines : (lines : List Text) (file : Text) → IsLinesFile lines file → lines_of file ≡ lines
+file-lines lines file is = ap lines_of is.text ∙ ended-first lines [] is.each_a_line ∙ append-nil lines
 
 -- it ends in a newline if it has a line
-pub dictionary-ended : (lines read : List Text) (file : Text) (is_ended : Bool) → AreLines file read is_ended → is_ended ≡ false → read ≢ [] → ¬ (IsDictionary lines file)
-dictionary-ended lines read file is_ended are unended some is = of lines refl
+pub file-ended : (lines read : List Text) (file : Text) (is_ended : Bool) → AreLines file read is_ended → is_ended ≡ false → read ≢ [] → ¬ (IsLinesFile lines file)
+file-ended lines read file is_ended are unended some is = of lines refl
   where
     of : (ls : List Text) → lines ≡ ls → ⊥
-    of [] e = some (are.lines_are ∙ dictionary-lines lines file is ∙ e)
+    of [] e = some (are.lines_are ∙ file-lines lines file is ∙ e)
     of (l ∷ ls) e =
         let none : (l ∷ ls) ≢ [] = λ e. cc in
         let text : file ≡ text_of_lines lines true = is.text ∙ ap (λ x. text_of_ended x []) e ∙ ended-lines (l ∷ ls) [] none refl ∙ sym (ap (λ x. text_of_lines x true) e) in
@@ -97,14 +97,13 @@ dictionary-ended lines read file is_ended are unended some is = of lines refl
 
 pub dictionary-repeats : (lines read : List Text) (file : Text) (is_ended : Bool) → AreLines file read is_ended → length (dictionary_of read) < length read → ¬ (IsDictionary lines file)
 dictionary-repeats lines read file is_ended are fewer is =
-    let same : read ≡ lines = are.lines_are ∙ dictionary-lines lines file is in
+    let same : read ≡ lines = are.lines_are ∙ file-lines lines file is.lines_are in
     let count = ap length (ap dictionary_of same ∙ distinct-dictionary lines is.distinct ∙ sym same) in omega (arith, count, fewer)
 
 pub is-dictionary : (lines : List Text) (file : Text) (is_ended : Bool) → AreLines file lines is_ended → (is_ended ≡ false → lines ≡ []) → length lines ≤ length (dictionary_of lines)
     → IsDictionary lines file
 is-dictionary lines file is_ended are unended many = record {
-  text = of lines is_ended refl refl;
-  each_a_line = lines-plain file lines is_ended are;
+  lines_are = record { text = of lines is_ended refl refl; each_a_line = lines-plain file lines is_ended are };
   distinct = as-many lines many;
 }
   where
@@ -231,22 +230,15 @@ npy-bytes numbers file bytes count is file-is long fits =
     let other = header-long (length numbers) is.count_fits in
     sym (drop-append_seam (npy_header count) bytes) ∙ ap₂ drop (one ∙ sym other) (sym file-is ∙ is.bytes) ∙ drop-append_seam (npy_header (length numbers)) (flat_map code_bytes numbers)
 
--- bytes of whole numbers behind their header are a file of them
-pub is-npy : (numbers : List ℕ) (file bytes rest : Text) (count : ℕ) → count < 2 ^ 64 → file ≡ npy_header count ++ bytes → length bytes ≡ 4 * count → length rest < 4
-    → bytes ≡ flat_map code_bytes numbers ++ rest → AreSmall numbers → IsNpy numbers file
-is-npy numbers file bytes rest count fits file-is long short bytes-are small =
-    let total = ap length bytes-are ∙ length-append (flat_map code_bytes numbers) rest in
-    let many = numbers-long numbers in
-    let same : count ≡ length numbers = omega (arith, total, many, long, short) in
-    let none : length rest ≡ 0 = omega (arith, total, many, long, same) in record {
-      bytes = file-is ∙ ap₂ (λ n bs. npy_header n ++ bs) same (bytes-are ∙ ap (λ r. flat_map code_bytes numbers ++ r) (empty rest none) ∙ append-nil (flat_map code_bytes numbers));
+-- bytes of numbers behind their header are a file of them
+pub is-npy : (limit : ℕ) (numbers : List ℕ) (file bytes : Text) (count : ℕ) → count < 2 ^ 64 → file ≡ npy_header count ++ bytes → length bytes ≡ 4 * count → AreNumbers limit numbers bytes → IsNpy numbers file
+is-npy limit numbers file bytes count fits file-is long are =
+    let total = ap length are.bytes_are ∙ numbers-long numbers in
+    let same : count ≡ length numbers = omega (arith, total, long) in record {
+      bytes = file-is ∙ ap₂ (λ n bs. npy_header n ++ bs) same are.bytes_are;
       count_fits = omega (arith, same, fits);
-      each_fits = small;
+      each_fits = are.each_fits;
     }
-  where
-    empty : (xs : Text) → length xs ≡ 0 → xs ≡ []
-    empty [] none = refl
-    empty (x ∷ xs) none = absurd (cc)
 
 small-at : (numbers : List ℕ) → ((i : ℕ) → get_or numbers i 0 < 2 ^ 32) → (i d : ℕ) → i < length numbers → get_or numbers i d < 2 ^ 32
 small-at [] small i d inside = absurd (omega (arith, inside))
@@ -258,29 +250,55 @@ pub npy-written : (numbers : List ℕ) (header : Text) → header ≡ npy_header
     → IsNpy numbers (header ++ flat_map code_bytes numbers)
 npy-written numbers header is fits small = record { bytes = ap (λ text. text ++ flat_map code_bytes numbers) is; count_fits = fits; each_fits = small-at numbers small }
 
+no-items : (xs : List ℕ) → length xs ≡ 0 → xs ≡ []
+no-items [] none = refl
+no-items (x ∷ xs) none = absurd (cc)
+
+-- The bytes are numbers below a limit, and then the rest.
+pub record AreNumbersTo (limit : ℕ) (bytes rest : Text) : Type 0 where
+  pub numbers : List ℕ
+  pub so_far : bytes ≡ flat_map code_bytes numbers ++ rest
+  pub fits : AreSmall numbers
+  pub within : All (λ n. n < limit) numbers
+
+pub no-numbers-yet : (limit : ℕ) (bytes : Text) → AreNumbersTo limit bytes bytes
+no-numbers-yet limit bytes = record { numbers = []; so_far = refl; fits = λ i d inside. absurd (omega (arith, inside)); within = λ i d inside. absurd (omega (arith, inside)) }
+
+pub one-number : (limit number : ℕ) (bytes rest first behind : Text) (to : AreNumbersTo limit bytes rest) → code_bytes number ≡ first → bytes ≡ flat_map code_bytes to.numbers ++ (first ++ behind)
+    → number < 2 ^ 32 → number < limit → AreNumbersTo limit bytes behind
+one-number limit number bytes rest first behind to is so_far small below = record {
+  numbers = to.numbers ++ number ∷ [];
+  so_far = so_far ∙ ap (λ text. flat_map code_bytes to.numbers ++ (text ++ behind)) (sym is) ∙ sym (numbers-push to.numbers number behind);
+  fits = All-push (λ n. n < 2 ^ 32) to.numbers number to.fits small;
+  within = All-push (λ n. n < limit) to.numbers number to.within below;
+}
+
 -- a number that is not below a limit is none of numbers that are
-pub not-below : (limit number : ℕ) (front numbers : List ℕ) (bytes first rest : Text) → bytes ≡ flat_map code_bytes front ++ (first ++ rest) → code_bytes number ≡ first
-    → number < 2 ^ 32 → limit ≤ number → AreSmall front → AreSmall numbers → All (λ n. n < limit) numbers → bytes ≢ flat_map code_bytes numbers
-not-below limit number front numbers bytes first rest so_far is fits above small all-small below e =
-    let longer : flat_map code_bytes (front ++ number ∷ []) ++ rest ≡ flat_map code_bytes numbers =
-    numbers-push front number rest ∙ ap (λ text. flat_map code_bytes front ++ (text ++ rest)) is ∙ sym so_far ∙ e in
-    let begin = numbers-begin (front ++ number ∷ []) numbers rest (All-push (λ n. n < 2 ^ 32) front number small fits) all-small longer in
+pub not-below : (limit number : ℕ) (numbers : List ℕ) (bytes rest first behind : Text) (to : AreNumbersTo limit bytes rest) → code_bytes number ≡ first
+    → bytes ≡ flat_map code_bytes to.numbers ++ (first ++ behind) → number < 2 ^ 32 → limit ≤ number → ¬ (AreNumbers limit numbers bytes)
+not-below limit number numbers bytes rest first behind to is so_far fits above are =
+    let front = to.numbers in
+    let longer : flat_map code_bytes (front ++ number ∷ []) ++ behind ≡ flat_map code_bytes numbers =
+    numbers-push front number behind ∙ ap (λ text. flat_map code_bytes front ++ (text ++ behind)) is ∙ sym so_far ∙ are.bytes_are in
+    let begin = numbers-begin (front ++ number ∷ []) numbers behind (All-push (λ n. n < 2 ^ 32) front number to.fits fits) are.each_fits longer in
     let count = length-append front (number ∷ []) in
     let at : get_or numbers (length front) 0 ≡ number =
     sym (get_or-take (length (front ++ number ∷ [])) numbers (length front) 0 (omega (arith, count))) ∙ ap (λ xs. get_or xs (length front) 0) begin.1 ∙ get_or-append_seam front number [] 0 in
-    let one = below (length front) 0 (omega (arith, count, begin.2)) in
+    let one = are.within (length front) 0 (omega (arith, count, begin.2)) in
     omega (arith, at, one, above)
 
--- ---- the text that both hold
+-- all numbers
+pub all-numbers : (limit count : ℕ) (bytes rest : Text) (to : AreNumbersTo limit bytes rest) → length bytes ≡ 4 * count → length rest < 4 → AreNumbers limit to.numbers bytes
+all-numbers limit count bytes rest to long short =
+    let total = ap length to.so_far ∙ length-append (flat_map code_bytes to.numbers) rest in
+    let many = numbers-long to.numbers in
+    let none : length rest ≡ 0 = omega (arith, total, many, long, short) in record {
+      bytes_are = to.so_far ∙ ap (λ r. flat_map code_bytes to.numbers ++ r) (no-items rest none) ∙ append-nil (flat_map code_bytes to.numbers);
+      each_fits = to.fits;
+      within = to.within;
+    }
 
--- what is written of the rows is their text
-pub plain-written : (rows : List Text) (is_cut : Bool) → text_of_lines rows (not is_cut && nat_lt 0 (length rows)) ≡ plain_text rows is_cut
-plain-written rows true = append-nil (join_with_byte 10 rows)
-plain-written [] false = refl
-plain-written (row ∷ rows) false =
-    let some : nat_lt 0 (length (row ∷ rows)) ≡ true = lt-ltb 0 (length (row ∷ rows)) (omega arith) in
-    let none : (row ∷ rows) ≢ [] = λ e. cc in
-    ap (text_of_lines (row ∷ rows)) some ∙ sym (ended-lines (row ∷ rows) [] none refl)
+-- ---- the text that both hold
 
 -- the text of a text's lines
 pub plain-lines : (text : Text) (lines : List Text) (is_ended : Bool) → AreLines text lines is_ended → plain_text lines (not is_ended && nat_lt 0 (length lines)) ≡ text
@@ -328,8 +346,10 @@ onto-plain before text numbers rows count is_cut codes onto are npy =
       lines_are = onto.lines_are;
       is_cut_is = onto.is_cut_is;
       dictionary_is = record {
-        text = ap (λ d. text_of_ended d []) entries;
-        each_a_line = both-plain known (fresh known lines) onto.before_is.each_a_line (fresh-plain has_newline known lines (lines-plain text lines onto.is_ended onto.lines_are));
+        lines_are = record {
+          text = ap (λ d. text_of_ended d []) entries;
+          each_a_line = both-plain known (fresh known lines) onto.before_is.lines_are.each_a_line (fresh-plain has_newline known lines (lines-plain text lines onto.is_ended onto.lines_are));
+        };
         distinct = fresh-distinct known lines distinct;
       };
       numbers_are = (drop count codes, rw (entries, behind) at codes-are, npy);
@@ -339,9 +359,11 @@ onto-plain before text numbers rows count is_cut codes onto are npy =
 pub ended-more : (lines : List Text) (line : Text) → text_of_ended (lines ++ line ∷ []) [] ≡ (text_of_ended lines [] ++ line) ++ 10 ∷ []
 ended-more lines line = one-ended lines line ∙ ap (λ text. text ++ 10 ∷ []) (more-rest lines [] line)
 
-no-items : (xs : List ℕ) → length xs ≡ 0 → xs ≡ []
-no-items [] none = refl
-no-items (x ∷ xs) none = absurd (cc)
+-- a block that has one line more
+pub block-more : (done : List Text) (line front block new : Text) → front ++ block ≡ text_of_ended done [] → new ≡ block ++ (line ++ 10 ∷ []) → front ++ new ≡ text_of_ended (done ++ line ∷ []) []
+block-more done line front block new so_far put =
+    ap (λ text. front ++ text) put ∙ sym (append_assoc front block (line ++ 10 ∷ [])) ∙ ap (λ text. text ++ (line ++ 10 ∷ [])) so_far
+    ∙ sym (append_assoc (text_of_ended done []) line (10 ∷ [])) ∙ sym (ended-more done line)
 
 -- where no code is wide, the codes are the narrow ones, which are as many as the rows
 pub narrow-codes : (codes narrow wide : List ℕ) → codes ≡ narrow ++ wide → length wide ≡ 0 → codes ≡ narrow
@@ -405,27 +427,21 @@ onto-inputs (Some old) (Some text) known more rows is_ended is_cut count is rows
   count_is = count-is;
 }
 
--- what is written of a dictionary and the numbers of its lines
-pub plain-decoded : (lines : List Text) (numbers : List ℕ) (dictionary file : Text) (is_cut : Bool) → IsDictionary lines dictionary → IsNpy numbers file → HaveEntries lines numbers
-    → HoldPlain dictionary file is_cut (text_of_lines (rows_of lines numbers) (not is_cut && nat_lt 0 (length numbers)))
-plain-decoded lines numbers dictionary file is_cut is npy entries = record {
-  lines = lines;
-  dictionary_is = is;
-  codes_are = numbers;
-  numbers_are = npy;
-  within = entries;
-  text_is = ap (λ n. text_of_lines (rows_of lines numbers) (not is_cut && nat_lt 0 n)) (sym (length-map numbers (λ code. slice_index_or lines code [])))
-      ∙ plain-written (rows_of lines numbers) is_cut;
-}
+-- the rows that two files hold
+pub rows-held : (lines : List Text) (numbers bounds : List ℕ) (dictionary bytes : Text) → IsLinesFile lines dictionary → bounds ≡ line_bounds 0 lines → AreNumbers (length lines) numbers bytes
+    → AreRows dictionary bounds bytes (rows_of lines numbers)
+rows-held lines numbers bounds dictionary bytes is places are = record { lines = lines; lines_are = is; bounds_are = places; codes_are = numbers; numbers_are = are; rows_are = refl }
+
+pub plain-held : (lines : List Text) (numbers : List ℕ) (dictionary file : Text) (is_cut : Bool) → IsLinesFile lines dictionary → IsNpy numbers file → HaveEntries lines numbers
+    → HoldPlain dictionary file is_cut (plain_text (rows_of lines numbers) is_cut)
+plain-held lines numbers dictionary file is_cut is npy entries = record { lines = lines; lines_are = is; codes_are = numbers; numbers_are = npy; within = entries; text_is = refl }
 
 -- files of which one is none hold no text
-pub no-dictionary : (file : Option Text) (numbers : Text) (is_cut : Bool) (fault : Fault) → IsDictionaryFault file fault → IfSome file (λ dictionary. IsRightFault (HoldPlain dictionary numbers is_cut) fault)
-no-dictionary None numbers is_cut fault not = tt
-no-dictionary (Some dictionary) numbers is_cut fault not = λ damage text holds. not damage holds.lines holds.dictionary_is
+pub no-lines-file : (file numbers : Text) (is_cut : Bool) (fault : Fault) → (IsDamage fault → (lines : List Text) → ¬ (IsLinesFile lines file)) → IsRightFault (HoldPlain file numbers is_cut) fault
+no-lines-file file numbers is_cut fault not damage text holds = not damage holds.lines holds.lines_are
 
-pub no-numbers : (lines : List Text) (limit : ℕ) (numbers : Text) (is_cut : Bool) (fault : Fault) → limit ≡ length lines
-    → (IsDamage fault → (codes : List ℕ) → All (λ code. code < limit) codes → ¬ (IsNpy codes numbers)) → (dictionary : Text) → IsDictionary lines dictionary
-    → IsRightFault (HoldPlain dictionary numbers is_cut) fault
-no-numbers lines limit numbers is_cut fault count not dictionary is = λ damage text holds.
-    let same : length holds.lines ≡ limit = ap length (sym (dictionary-lines holds.lines dictionary holds.dictionary_is) ∙ dictionary-lines lines dictionary is) ∙ sym count in
+pub no-numbers : (lines : List Text) (limit : ℕ) (dictionary numbers : Text) (is_cut : Bool) (fault : Fault) → limit ≡ length lines → IsLinesFile lines dictionary
+    → (IsDamage fault → (codes : List ℕ) → All (λ code. code < limit) codes → ¬ (IsNpy codes numbers)) → IsRightFault (HoldPlain dictionary numbers is_cut) fault
+no-numbers lines limit dictionary numbers is_cut fault count is not damage text holds =
+    let same : length holds.lines ≡ limit = ap length (sym (file-lines holds.lines dictionary holds.lines_are) ∙ file-lines lines dictionary is) ∙ sym count in
     not damage holds.codes_are (subst (λ n. All (λ code. code < n) holds.codes_are) same holds.within) holds.numbers_are

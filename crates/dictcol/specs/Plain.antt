@@ -1,6 +1,6 @@
 -- Plain columns: the file `dict.txt` has the distinct lines, and `codes.npy` the number of its line there for each line.
 -- Cited by `plain`.
-use Rattle.std.specs.Prelude.{◌≡◌, ℕ, ◌-◌, ◌^◌, ◌<◌, List, [], ◌∷◌, ◌++◌, All, length, replicate, Bool, false, not, ◌&&◌, if◌then◌else◌, nat_lt, codes, decimal, Option, IfSome}
+use Rattle.std.specs.Prelude.{◌≡◌, ℕ, ◌+◌, ◌-◌, ◌^◌, ◌<◌, List, [], ◌∷◌, ◌++◌, All, length, replicate, Bool, false, not, ◌&&◌, if◌then◌else◌, nat_lt, codes, decimal, Option, IfSome}
 use Rattle.std.specs.Int.{w32, to_le_bytes}
 use Rattle.std.specs.Io.KnownBytes.{Appends}
 use Rattle.std.specs.List.{list_any, flat_map, join_with_byte}
@@ -16,10 +16,14 @@ use Rattle.dictcol.specs.Lines.{has_newline, text_of_ended, AreLines}
 abbrev pub plain_text : List Text → Bool → Text
 plain_text lines is_cut = if is_cut then join_with_byte 10 lines else text_of_ended lines []
 
--- the file is `dict.txt` of these lines: distinct ones, each ended
-pub record IsDictionary (lines : List Text) (file : Text) : Type 0 where
+-- the file has these lines, a newline behind each
+pub record IsLinesFile (lines : List Text) (file : Text) : Type 0 where
   pub text : file ≡ text_of_ended lines []
   pub each_a_line : list_any has_newline lines ≡ false
+
+-- the file is `dict.txt` of these lines: distinct ones
+pub record IsDictionary (lines : List Text) (file : Text) : Type 0 where
+  pub lines_are : IsLinesFile lines file
   pub distinct : IsDistinct lines
 
 -- if the fault says that a file of these bytes is damaged, it is no dictionary
@@ -45,6 +49,12 @@ pub record IsNpy (numbers : List ℕ) (file : Text) : Type 0 where
   pub bytes : file ≡ npy_header (length numbers) ++ flat_map code_bytes numbers
   pub count_fits : length numbers < 2 ^ 64
   pub each_fits : All (λ number. number < 2 ^ 32) numbers
+
+-- the bytes are these numbers, of which each is below `limit`
+pub record AreNumbers (limit : ℕ) (numbers : List ℕ) (bytes : Text) : Type 0 where
+  pub bytes_are : bytes ≡ flat_map code_bytes numbers
+  pub each_fits : All (λ number. number < 2 ^ 32) numbers
+  pub within : All (λ number. number < limit) numbers
 
 -- the file is `codes.npy` of the numbers of these rows in the dictionary
 abbrev pub IsCodesFile : List Text → List Text → Text → Type 0
@@ -77,10 +87,24 @@ abbrev pub WritesPlain : Text → Text → Bool → Option (List ℕ) → Option
 WritesPlain before text is_cut old new old_numbers new_numbers =
     (dictionary : Text) × (numbers : Text) × IsPlain before text dictionary numbers is_cut × Appends old new dictionary × Appends old_numbers new_numbers numbers
 
--- the files hold the text
+-- where each line of a file begins, if the first begins at `start`, and where the last one ends
+abbrev pub line_bounds : ℕ → List Text → List ℕ
+line_bounds start [] = start ∷ []
+line_bounds start (line ∷ lines) = start ∷ line_bounds (start + length line + 1) lines
+
+-- These bytes are numbers of lines of the file, which have these bounds, and the rows are these lines.
+pub record AreRows (file : Text) (bounds : List ℕ) (numbers : Text) (rows : List Text) : Type 0 where
+  pub lines : List Text
+  pub lines_are : IsLinesFile lines file
+  pub bounds_are : bounds ≡ line_bounds 0 lines
+  pub codes_are : List ℕ
+  pub numbers_are : AreNumbers (length lines) codes_are numbers
+  pub rows_are : rows ≡ rows_of lines codes_are
+
+-- the files hold the text: the lines of the first with these numbers, which may be there twice
 pub record HoldPlain (dictionary numbers : Text) (is_cut : Bool) (text : Text) : Type 0 where
   pub lines : List Text
-  pub dictionary_is : IsDictionary lines dictionary
+  pub lines_are : IsLinesFile lines dictionary
   pub codes_are : List ℕ
   pub numbers_are : IsNpy codes_are numbers
   pub within : HaveEntries lines codes_are

@@ -120,11 +120,10 @@ fn tell_skipped(rt: &HostRuntime, skipped: usize) {
 
 /// Writes the text of a folder of plain columns.
 fn decode_folder(rt: &HostRuntime, path: &str) -> Result<(), Fault> {
-    let hasher = LineHasher::draw(rt)?;
     let mut output = BufWriter::with_capacity(rt.alloc(), BUFFER, rt.stdout()).map_err(
         |_| Fault::Memory,
     )?;
-    folder::decode(rt, hasher, path, &mut output)
+    folder::decode(rt, path, &mut output)
 }
 
 /// Does a task on the files. Returns how it ended, and the file where it ended, if it was at one.

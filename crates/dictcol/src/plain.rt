@@ -3,6 +3,7 @@
 mod dictionary;
 pub mod folder;
 mod npy;
+mod rows;
 
 ghost use Rattle.std.specs.Prelude.{◌≡◌, ◌≤◌, ◌++◌, List, length, IfOk, IfErr, IfSome, OnOk};
 ghost use Rattle.string_interner.specs.Text.{Text};
@@ -11,13 +12,13 @@ ghost use Rattle.dictcol.specs.Lines.{AreLines};
 ghost use Rattle.dictcol.specs.Plain.{HoldPlain, IsDictionaryFault, IsOnto, WritesPlain};
 ghost use Rattle.dictcol.specs.Writes.{Writes};
 
+use crate::blocks;
 use crate::fault::Fault;
 use crate::hasher::LineHasher;
-use crate::{blocks, file};
 use std::alloc::Global;
 use std::io::{Read, Write};
 use string_column::Column;
-use string_interner::backend::{Backend, DefaultBackend};
+use string_interner::backend::Backend;
 
 /// The lines of a dictionary from before, and those of a text behind them.
 #[derive(Drop)]
@@ -130,33 +131,29 @@ impl<B: Backend + Drop> Plain<B> {
         let Ok(header) = npy::format_header(alloc, codes.len()) else {
             return Err(Fault::Memory);
         };
-        dictionary::write_file(dictionary, self.lines.dictionary())?;
+        dictionary::write_file(alloc, dictionary, self.lines.dictionary())?;
         npy::write_file(numbers, &header, codes)
     }
 }
 
-/// Writes the text that the two files hold, line by line, or finds where they are damaged. Nothing is written of damaged files.
-pub fn decode<D: Read, W: Write>(
+/// Writes the text that the two files hold, or finds where they are damaged. Nothing is written of damaged files.
+pub fn decode<W: Write>(
     alloc: Global,
-    hasher: LineHasher,
-    dictionary: &mut D,
+    dictionary: &[u8],
     numbers: &[u8],
     is_cut: bool,
     output: &mut W,
 ) -> Result<(), Fault>
-    ensures written { OnOk result (IfSome (D.remaining dictionary.old) (λ file.
-        Writes (HoldPlain file numbers.now is_cut)
-        (W.contents output.old) (W.contents output.new))) }
+    ensures written { OnOk result (Writes (HoldPlain dictionary.now numbers.now is_cut)
+        (W.contents output.old) (W.contents output.new)) }
 
     // Files that hold a text are never called damaged.
-    ensures err { IfErr result (λ fault. IfSome (D.remaining dictionary.old) (λ file.
-        IsRightFault (HoldPlain file numbers.now is_cut) fault)) }
+    ensures err { IfErr result (IsRightFault (HoldPlain dictionary.now numbers.now is_cut)) }
 
     // Unless all went well or a write failed, the output was not touched.
     ensures silent { WritesLast result output.old output.new }
 {
-    let lines = dictionary::read::<DefaultBackend, D>(alloc, hasher, dictionary)?;
-    let codes = npy::read(alloc, numbers, lines.len())?;
-    let texts = file::list_texts(alloc, lines.dictionary())?;
-    file::write_lines(output, &texts, &codes, !is_cut && codes.len() > 0)
+    let bounds = dictionary::find_bounds(alloc, dictionary)?;
+    let codes = npy::read(alloc, numbers, bounds.len() - 1)?;
+    rows::write_rows(output, dictionary, &bounds, codes, is_cut)
 }

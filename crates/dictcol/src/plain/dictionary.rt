@@ -1,36 +1,93 @@
 //! The file `dict.txt`: distinct lines, of which each ends in a newline.
 
-ghost use Rattle.std.specs.Prelude.{◌≡◌, [], IfOk, IfErr, IfSome, OnOk};
+ghost use Rattle.std.specs.Prelude.{◌≡◌, ◌+◌, ◌<◌, List, [], ◌∷◌, ◌++◌, length, IfOk, IfErr, IfSome, OnOk, vec_len, vec_capacity};
 ghost use Rattle.std.specs.Io.KnownBytes.{Appends};
-ghost use Rattle.string_interner.specs.Text.{IsDistinct};
-ghost use Rattle.dictcol.specs.Fault.{IsWriteFault};
+ghost use Rattle.string_interner.specs.Text.{Text, IsDistinct};
+ghost use Rattle.dictcol.specs.Fault.{IsDamage, IsNoDamage, WritesLast};
 ghost use Rattle.dictcol.specs.Lines.{text_of_ended};
-ghost use Rattle.dictcol.specs.Plain.{IsDictionary, IsDictionaryFault};
+ghost use Rattle.dictcol.specs.Plain.{line_bounds, IsDictionary, IsDictionaryFault, IsLinesFile};
 
 use super::read_lines;
+use crate::blocks::check_utf8;
 use crate::fault::Fault;
-use crate::file::write;
 use crate::hasher::LineHasher;
+use memchr::memchr;
 use std::alloc::Global;
+use std::io;
 use std::io::{Read, Write};
 use string_column::{Codes, Column};
 use string_interner::StringInterner;
 use string_interner::backend::Backend;
 use string_interner::dedup::TaggedIndex;
 
+/// How many bytes are written at once.
+const BLOCK: usize = 1 << 16;
+
+/// Appends a line and a newline to a block, which has room for them.
+#[inline(always)]
+fn put_line(block: &mut Vec<u8>, line: &str)
+    requires { vec_len block.old + length line.now < vec_capacity block.old }
+    ensures { block.new.items ≡ block.old.items ++ (line.now ++ 10 ∷ []) }
+{
+    let Ok(()) = block.extend_from_slice(line.as_bytes()) else {
+        unreachable!()
+    };
+    block.push_reserved(b'\n');
+}
+
+/// Writes a block, which then has the line and its newline. These are written, too, if they are longer than a block.
+#[cold]
+#[inline(never)]
+fn write_block<W: Write>(output: &mut W, block: &mut Vec<u8>, line: &str) -> io::Result<()>
+    ensures { OnOk result ((text : Text)
+        × (text ++ block.new.items ≡ block.old.items ++ (line.now ++ 10 ∷ []))
+        × Appends (W.contents output.old) (W.contents output.new) text) }
+{
+    output.write_all(block)?;
+    block.clear();
+    if line.len() < block.capacity() {
+        put_line(block, line);
+        return Ok(());
+    }
+    output.write_all(line.as_bytes())?;
+    output.write_all(b"\n")
+}
+
+/// Writes each text, and a newline, through an empty block.
+fn write_lines<B: Backend, W: Write>(
+    output: &mut W,
+    block: &mut Vec<u8>,
+    texts: &StringInterner<B, LineHasher, TaggedIndex<B::Symbol>>,
+) -> io::Result<()>
+    requires { block.old.items ≡ [] }
+    ensures { OnOk result (Appends (W.contents output.old) (W.contents output.new)
+        (text_of_ended texts.now.texts [])) }
+{
+    for (_, text) in texts {
+        if text.len() < block.capacity() - block.len() {
+            put_line(block, text);
+        } else {
+            write_block(output, block, text)?;
+        }
+    }
+    output.write_all(block)
+}
+
 /// Writes a file of texts of one line each: each text, and a newline.
 pub fn write_file<B: Backend, W: Write>(
+    alloc: Global,
     output: &mut W,
     texts: &StringInterner<B, LineHasher, TaggedIndex<B::Symbol>>,
 ) -> Result<(), Fault>
     ensures written { OnOk result (Appends (W.contents output.old) (W.contents output.new)
         (text_of_ended texts.now.texts [])) }
-    ensures fault { IfErr result IsWriteFault }
+    ensures silent { WritesLast result output.old output.new }
+    ensures fault { IfErr result IsNoDamage }
 {
-    for (_, text) in texts {
-        write(output, text.as_bytes())?;
-        write(output, b"\n")?;
-    }
+    let Ok(mut block) = Vec::with_capacity(alloc, BLOCK) else {
+        return Err(Fault::Memory);
+    };
+    write_lines(output, &mut block, texts).map_err(Fault::of_write)?;
     output.flush().map_err(Fault::of_write)
 }
 
@@ -65,4 +122,30 @@ pub fn read<B: Backend + Drop, R: Read>(
         return Err(Fault::RepeatedLine(find_repeat(lines.codes())));
     }
     Ok(lines)
+}
+
+/// Returns where each line of a file begins, and where the last one ends. Lines may be there twice.
+pub fn find_bounds(alloc: Global, file: &[u8]) -> Result<Vec<usize>, Fault>
+    ensures ok { IfOk result (λ bounds. (lines : List Text)
+        × IsLinesFile lines file.now × (bounds.items ≡ line_bounds 0 lines)) }
+    ensures err { IfErr result (λ fault. IsDamage fault → (lines : List Text)
+        → ¬ (IsLinesFile lines file.now)) }
+{
+    if let Err(fault) = check_utf8(0, file) {
+        return Err(Fault::of_dictionary(fault));
+    }
+    let Ok(mut bounds) = vec![in alloc; 0_usize; 1] else {
+        return Err(Fault::Memory);
+    };
+    let mut end = 0;
+    'lines: while let Some(at) = memchr(b'\n', &file[end..]) {
+        end += at + 1;
+        if bounds.push(end).is_err() {
+            return Err(Fault::Memory);
+        }
+    }
+    if end < file.len() {
+        return Err(Fault::NotEnded);
+    }
+    Ok(bounds)
 }

@@ -1,12 +1,10 @@
 //! The folder of plain columns.
 
 use super::Plain;
-use crate::answer;
 use crate::fault::Fault;
-use crate::hasher::LineHasher;
 use std::alloc::Global;
 use std::fs::File;
-use std::io::{BufWriter, ErrorKind, Write};
+use std::io::{ErrorKind, Read, Write};
 use std::{fs, io};
 use string_interner::backend::Backend;
 
@@ -18,9 +16,6 @@ const NUMBERS: &str = "codes.npy";
 
 /// This file is there if the last line has no newline.
 const CUT: &str = "no_final_newline";
-
-/// How many bytes are written at once.
-const BUFFER: usize = 1 << 16;
 
 /// The paths of the files.
 #[derive(Drop)]
@@ -70,31 +65,31 @@ pub fn open_dictionary(rt: &HostRuntime, folder: &str) -> Result<File, Fault> {
     open(rt, folder, DICTIONARY).map_err(Fault::of_dictionary)
 }
 
-/// Reads the numbers of a folder.
-fn read_numbers(rt: &HostRuntime, folder: &str) -> Result<Vec<u8>, Fault> {
-    let mut file = open(rt, folder, NUMBERS).map_err(Fault::of_numbers)?;
-    answer::read(rt.alloc(), &mut file).map_err(Fault::of_numbers)
+/// Reads a file of a folder.
+fn read(rt: &HostRuntime, folder: &str, name: &str) -> Result<Vec<u8>, Fault> {
+    let mut file = open(rt, folder, name)?;
+    let length = file.metadata().map_err(Fault::of_read)?.len() as usize;
+    // While a byte is free at its end, `read_to_end` allocates nothing.
+    let mut bytes = Vec::with_capacity(rt.alloc(), length.saturating_add(1)).map_err(
+        |_| Fault::Memory,
+    )?;
+    let _ = file.read_to_end(&mut bytes).map_err(Fault::of_read)?;
+    Ok(bytes)
 }
 
 /// Writes the text of a folder.
-pub fn decode<W: Write>(
-    rt: &HostRuntime,
-    hasher: LineHasher,
-    folder: &str,
-    output: &mut W,
-) -> Result<(), Fault> {
+pub fn decode<W: Write>(rt: &HostRuntime, folder: &str, output: &mut W) -> Result<(), Fault> {
     let alloc = rt.alloc();
-    let mut dictionary = open_dictionary(rt, folder)?;
-    let numbers = read_numbers(rt, folder)?;
+    let dictionary = read(rt, folder, DICTIONARY).map_err(Fault::of_dictionary)?;
+    let numbers = read(rt, folder, NUMBERS).map_err(Fault::of_numbers)?;
     let cut = join(alloc, folder, CUT)?;
     let is_cut = fs::exists(rt, cut.as_str()).map_err(Fault::of_read)?;
-    super::decode(alloc, hasher, &mut dictionary, &numbers, is_cut, output)
+    super::decode(alloc, &dictionary, &numbers, is_cut, output)
 }
 
-/// Creates a file, which is written through a buffer.
-fn create(rt: &HostRuntime, path: &str) -> Result<BufWriter<File>, Fault> {
-    let file = File::create(rt, path).map_err(Fault::Folder)?;
-    BufWriter::with_capacity(rt.alloc(), BUFFER, file).map_err(|_| Fault::Memory)
+/// Creates a file.
+fn create(rt: &HostRuntime, path: &str) -> Result<File, Fault> {
+    File::create(rt, path).map_err(Fault::Folder)
 }
 
 /// Writes the new files.

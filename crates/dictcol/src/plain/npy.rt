@@ -1,11 +1,11 @@
 //! The file `codes.npy`: an array of numbers of four bytes in NumPy's format 1.0.
 
-ghost use Rattle.std.specs.Prelude.{◌≡◌, ◌≢◌, ℕ, ◌*◌, ◌^◌, ◌<◌, ◌++◌, List, All, length, IfOk, IfErr, OnOk};
+ghost use Rattle.std.specs.Prelude.{◌≡◌, ℕ, ◌*◌, ◌^◌, ◌<◌, ◌≤◌, ◌++◌, List, All, length, take, IfOk, IfErr, OnOk};
 ghost use Rattle.std.specs.Io.KnownBytes.{Appends};
 ghost use Rattle.std.specs.List.{flat_map};
 ghost use Rattle.dictcol.specs.Fault.{IsDamage, IsWriteFault};
 ghost use Rattle.string_interner.specs.Text.{Text};
-ghost use Rattle.dictcol.specs.Plain.{code_bytes, npy_header, IsNpy};
+ghost use Rattle.dictcol.specs.Plain.{code_bytes, npy_header, AreNumbers, IsNpy};
 ghost use Rattle.dictcol.specs.Writes.{Writes};
 
 use crate::fault::Fault;
@@ -13,11 +13,14 @@ use crate::file::write;
 use itoa::Buffer;
 use memchr::memmem;
 use std::alloc::{AllocError, Global};
+use std::io;
 use std::io::Write;
-use string_column::Codes;
 
 /// How many bytes stand before the numbers.
 const HEADER: usize = 128;
+
+/// How many numbers are written at once.
+const BLOCK: usize = 1 << 12;
 
 /// Returns what stands before so many numbers.
 pub fn format_header(alloc: Global, count: usize) -> Result<Vec<u8>, AllocError>
@@ -34,14 +37,31 @@ pub fn format_header(alloc: Global, count: usize) -> Result<Vec<u8>, AllocError>
     Ok(header)
 }
 
-/// Writes numbers.
-fn write_numbers<W: Write>(output: &mut W, numbers: &[u32]) -> Result<(), Fault>
-    ensures written { OnOk result (Appends (W.contents output.old) (W.contents output.new)
-        (flat_map code_bytes numbers.now)) }
-    ensures fault { IfErr result IsWriteFault }
+/// Puts the bytes of numbers to the front of a block.
+fn put_numbers(block: &mut [[u8; 4]], numbers: &[u32])
+    requires { length numbers.now ≤ length block.old }
+    ensures len { length block.new ≡ length block.old }
+    ensures front { flat_map (λ bytes. bytes) (take (length numbers.now) block.new)
+        ≡ flat_map code_bytes numbers.now }
 {
-    for number in numbers {
-        write(output, &number.to_le_bytes())?;
+    for index in 0..numbers.len() {
+        block[index] = numbers[index].to_le_bytes();
+    }
+}
+
+/// Writes numbers.
+fn write_numbers<W: Write>(output: &mut W, numbers: &[u32]) -> io::Result<()>
+    ensures { OnOk result (Appends (W.contents output.old) (W.contents output.new)
+        (flat_map code_bytes numbers.now)) }
+{
+    let mut block = [[0; 4]; BLOCK];
+    let mut rest = numbers;
+    'numbers: while !rest.is_empty() {
+        let count = rest.len().min(BLOCK);
+        let (front, behind) = rest.split_at(count);
+        put_numbers(&mut block, front);
+        output.write_all(block[..count].as_flattened())?;
+        rest = behind;
     }
     Ok(())
 }
@@ -54,7 +74,7 @@ pub fn write_file<W: Write>(output: &mut W, header: &[u8], numbers: &[u32]) -> R
     ensures fault { IfErr result IsWriteFault }
 {
     write(output, header)?;
-    write_numbers(output, numbers)?;
+    write_numbers(output, numbers).map_err(Fault::of_write)?;
     output.flush().map_err(Fault::of_write)
 }
 
@@ -97,38 +117,31 @@ fn split_header(alloc: Global, file: &[u8]) -> Result<&[u8], Fault>
     Ok(numbers)
 }
 
-/// Returns the numbers that bytes are, each of which must be below `limit`.
-fn read_numbers(alloc: Global, bytes: &[u8], limit: usize) -> Result<Codes, Fault>
-    ensures ok { IfOk result (λ numbers. (rest : Text) × (length rest < 4)
-        × (bytes.now ≡ flat_map code_bytes numbers.items ++ rest)) }
-    ensures fits { IfOk result (λ numbers. All (λ number. number < 2 ^ 32) numbers.items) }
-    ensures within { IfOk result (λ numbers. All (λ number. number < limit) numbers.items) }
-    ensures err { IfErr result (λ fault. IsDamage fault → (numbers : List ℕ)
-        → All (λ number. number < 2 ^ 32) numbers → All (λ number. number < limit) numbers
-        → bytes.now ≢ flat_map code_bytes numbers) }
+/// Checks that each of the numbers that bytes are is below `limit`.
+fn check_numbers(bytes: &[u8], limit: usize) -> Result<(), Fault>
+    requires { (count : ℕ) × (length bytes.now ≡ 4 * count) }
+    ensures ok { OnOk result ((numbers : List ℕ) × AreNumbers limit numbers bytes.now) }
+    ensures err { IfErr result (λ fault. (numbers : List ℕ)
+        → ¬ (AreNumbers limit numbers bytes.now)) }
 {
-    let mut numbers = Codes::with_capacity(alloc, bytes.len() / 4, u32::MAX as usize).map_err(
-        |_| Fault::Memory,
-    )?;
     let mut rest = bytes;
     'numbers: while let Some((first, behind)) = rest.split_first_chunk::<4>() {
-        let number = u32::from_le_bytes(*first) as usize;
-        if number >= limit {
-            return Err(Fault::NotALine(numbers.len()));
+        if u32::from_le_bytes(*first) as usize >= limit {
+            return Err(Fault::NotALine((bytes.len() - rest.len()) / 4));
         }
-        numbers.push(number).map_err(|_| Fault::Memory)?;
         rest = behind;
     }
-    Ok(numbers)
+    Ok(())
 }
 
-/// Returns the codes that a file has, each of which must be below `limit`.
-pub fn read(alloc: Global, file: &[u8], limit: usize) -> Result<Codes, Fault>
-    ensures ok { IfOk result (λ codes. IsNpy codes.items file.now) }
-    ensures within { IfOk result (λ codes. All (λ code. code < limit) codes.items) }
+/// Returns the bytes of the numbers that a file has, each of which must be below `limit`.
+pub fn read(alloc: Global, file: &[u8], limit: usize) -> Result<&[u8], Fault>
+    ensures ok { IfOk result (λ bytes. (codes : List ℕ)
+        × AreNumbers limit codes bytes.now × IsNpy codes file.now) }
     ensures err { IfErr result (λ fault. IsDamage fault → (codes : List ℕ)
         → All (λ code. code < limit) codes → ¬ (IsNpy codes file.now)) }
 {
     let bytes = split_header(alloc, file)?;
-    read_numbers(alloc, bytes, limit)
+    check_numbers(bytes, limit)?;
+    Ok(bytes)
 }

@@ -1,6 +1,6 @@
 use Rattle.std.proofs.Common.{◌≡◌, ◌≢◌, ◌≤◌, ◌<◌, [], false, length, rules}
 use Rattle.string_column.specs.Column.{dictionary_of}
-use Rattle.dictcol.proofs.PlainColumns.{some-weaker, as-many, dictionary-ended, dictionary-repeats, is-dictionary}
+use Rattle.dictcol.proofs.PlainColumns.{some-weaker, as-many, file-ended, dictionary-repeats, is-dictionary}
 use Rattle.dictcol.proofs.plain.dictionary.read.Goals as goal
 
 pub returns-in-Err-clause-err : goal.returns-in-Err-clause-err
@@ -12,7 +12,7 @@ returns-then-not-is_empty-clause-err g c =
     let is_ended = c.in-Ok.read.1 in
     let unended : c.in-Ok.read.1 ≡ false = search rules in
     let some : c.in-Ok.read.0 ≢ [] = λ e. search rules in
-    λ damage. some-weaker _ _ (g.R.Read.remaining c.args.file.now) (λ text are others. dictionary-ended others lines text is_ended are unended some) c.in-Ok.ensures.ok
+    λ damage. some-weaker _ _ (g.R.Read.remaining c.args.file.now) (λ text are others is. file-ended others lines text is_ended are unended some is.lines_are) c.in-Ok.ensures.ok
 
 pub returns-then-distinct-len-clause-err : goal.returns-then-distinct-len-clause-err
 returns-then-distinct-len-clause-err g c =
