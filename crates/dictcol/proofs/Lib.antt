@@ -6,7 +6,8 @@ pub mod Merged
 pub mod Parts
 pub mod HoldsLines
 pub mod Newline
-pub mod PutsValue
+pub mod Puts
+pub mod IsFileText
 pub mod StreamTokens
 pub mod Taken
 pub mod Counted

@@ -1,4 +1,4 @@
--- The exit status of each fault, and which faults a step returns. Cited by `Fault`, and by `file`, `stream`, `merge`, `count` and `answer`.
+-- The exit status of each fault, and which faults a step returns. Cited by `Fault`, and by `file`, `format`, `stream`, `merge`, `count` and `answer`.
 use Rattle.std.specs.Prelude.{ℕ, ⊤, ◌≡◌, ◌⊎◌, Result, IsOk, IsErrAnd}
 use Rattle.std.specs.declared.io.Error.{Error}
 use Rattle.std.specs.declared.io.ErrorKind.{ErrorKind}

@@ -2,13 +2,11 @@
 -- Cited by `file`, `format`, `stream`, `merge` and `answer`.
 use Rattle.std.specs.Prelude.{◌≡◌, ℕ, ◌<◌, List, [], ◌∷◌, ◌++◌, All, length, map, Bool, false, codes, Option, Some, option_map, option_and_then, slice_get}
 use Rattle.std.specs.List.{list_any}
-use Rattle.json.specs.Tree.{json_tokens}
-use Rattle.json.specs.Written.{Written}
 use Rattle.serde_json.specs.Data.{Data, boolean, array, object, Items, no_items, item, member, no_members}
 use Rattle.serde_json.specs.Find.{get, as_number, as_u64}
-use Rattle.serde_json.specs.Read.{of_json, read}
+use Rattle.serde_json.specs.Read.{read}
 use Rattle.serde_json.specs.View.{items_of}
-use Rattle.serde_json.specs.Written.{outline, compact_text}
+use Rattle.serde_json.specs.Written.{compact_text}
 use Rattle.string_interner.specs.Text.{Text, IsDistinct}
 use Rattle.string_interner.specs.Json.{json_of_texts, json_of_number}
 use Rattle.string_column.specs.Column.{AreCodes, dictionary_of}
@@ -74,7 +72,3 @@ FileHolds bytes lines is_ended = (value : Data) × HoldsLines value lines is_end
 -- the bytes are a file, and the text is what it holds
 abbrev pub DecodesFile : Text → Text → Type 0
 DecodesFile bytes text = (value : Data) × HoldsText value text × (read bytes ≡ Some value)
-
--- the tokens of a value that has no float are put last, and read as that value
-abbrev pub PutsValue : Data → Written → Written → Type 0
-PutsValue value old new = (new.before ≡ old.before) × (new.tokens ≡ old.tokens ++ json_tokens (outline value)) × (of_json (outline value) ≡ Some value)
