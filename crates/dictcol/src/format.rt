@@ -1,10 +1,9 @@
 //! Writing a file. Bytes are held until they are a block, in memory that is asked for before the first is written.
 
+mod escapes;
+
 ghost use Rattle.std.specs.Prelude.{◌≡◌, ℕ, ◌+◌, ◌*◌, ◌^◌, ◌<◌, ◌≤◌, List, [], ◌++◌, All, length, map, IfOk, IfErr, OnOk};
-ghost use Rattle.std.specs.Bool.{OnTrue};
-ghost use Rattle.std.specs.Char.{digit_char};
-ghost use Rattle.json.specs.Print.{escape, escape_byte, escape_letter};
-ghost use Rattle.json.specs.Written.{PlainBetween};
+ghost use Rattle.json.specs.Print.{escape, escape_byte};
 ghost use Rattle.serde_json.specs.Data.{array};
 ghost use Rattle.serde_json.specs.View.{items_of};
 ghost use Rattle.serde_json.specs.Written.{comma_if, compact_text};
@@ -16,12 +15,12 @@ ghost use Rattle.dictcol.specs.Writes.{Puts, Writes};
 
 use crate::fault::Fault;
 use crate::hasher::LineHasher;
+use escapes::{digit_of, is_plain, letter_of};
 use itoa::Buffer;
 use std::alloc::{AllocError, Global};
 use std::io;
 use std::io::Write;
 use std::marker::Model;
-use std::simd::prelude::*;
 use string_column::{Codes, Column};
 use string_interner::StringInterner;
 use string_interner::backend::Backend;
@@ -35,9 +34,6 @@ const ROOM: usize = 1 << 17;
 
 /// How many bytes of a text are put at once, at most. In a string of JSON each takes up to six.
 const PIECE: usize = 1 << 13;
-
-/// How many bytes are compared at once.
-const LANES: usize = 16;
 
 /// Bytes that are held for an output.
 #[derive(Drop)]
@@ -55,87 +51,6 @@ impl Model for Held {
     ghost view = { λ h. h.bytes.items };
 
     ghost invariant = { λ h. 2 ^ 17 ≤ vec_capacity h.bytes };
-}
-
-/// Returns whether a string of JSON has some bytes as they are.
-#[inline(always)]
-fn are_plain(bytes: &[u8], at: usize) -> bool
-    requires { at + 16 ≤ length bytes.now }
-    ensures { OnTrue result (PlainBetween bytes.now at (at + 16)) }
-{
-    let lanes = u8x16::from_slice(&bytes[at..]);
-    (lanes.simd_eq(u8x16::splat(b'"'))
-        | lanes.simd_eq(u8x16::splat(b'\\'))
-        | lanes.simd_lt(u8x16::splat(b' '))).to_bitmask()
-        == 0
-}
-
-/// Does what `is_plain` does for a few bytes.
-#[inline(always)]
-fn is_plain_alone(bytes: &[u8]) -> bool
-    ensures { OnTrue result (PlainBetween bytes.now 0 (length bytes.now)) }
-{
-    for byte in bytes {
-        if *byte < b' ' || *byte == b'"' || *byte == b'\\' {
-            return false;
-        }
-    }
-    true
-}
-
-/// Does what `is_plain` does for many bytes. The last ones are compared with some before them.
-#[inline(always)]
-fn is_plain_by_lanes(bytes: &[u8]) -> bool
-    requires { 16 ≤ length bytes.now }
-    ensures { OnTrue result (PlainBetween bytes.now 0 (length bytes.now)) }
-{
-    let mut at = 0;
-    while bytes.len() - at > LANES {
-        if !are_plain(bytes, at) {
-            return false;
-        }
-        at += LANES;
-    }
-    are_plain(bytes, bytes.len() - LANES)
-}
-
-/// Returns whether a string of JSON has bytes as they are.
-#[inline(always)]
-fn is_plain(bytes: &[u8]) -> bool
-    ensures { OnTrue result (escape bytes.now ≡ bytes.now) }
-{
-    if bytes.len() < LANES {
-        is_plain_alone(bytes)
-    } else {
-        is_plain_by_lanes(bytes)
-    }
-}
-
-/// Returns the letter that stands behind a backslash for a byte, or 0 if none does.
-fn letter_of(byte: u8) -> u8
-    ensures { result ≡ escape_letter byte }
-{
-    match byte {
-        b'"' | b'\\' => byte,
-        8 => b'b',
-        b'\t' => b't',
-        b'\n' => b'n',
-        12 => b'f',
-        b'\r' => b'r',
-        _ => 0,
-    }
-}
-
-/// Returns the hexadecimal digit of a number.
-fn digit_of(number: u8) -> u8
-    requires { number < 16 }
-    ensures { result ≡ digit_char number }
-{
-    if number < 10 {
-        b'0' + number
-    } else {
-        b'a' + (number - 10)
-    }
 }
 
 impl Held {

@@ -1,6 +1,6 @@
 use Rattle.std.proofs.Common.{◌-◌, ◌≤◌, length}
 use Rattle.json.specs.Written.{PlainBetween}
-use Rattle.dictcol.proofs.format.is_plain_by_lanes.Given as goal
+use Rattle.dictcol.proofs.format.escapes.is_plain_by_lanes.Given as goal
 
 -- the bytes so far are plain
 abbrev pub invariant-loop-at : goal.invariant-loop-at

@@ -1,5 +1,5 @@
 use Rattle.json.specs.Written.{PlainBetween}
-use Rattle.dictcol.proofs.format.is_plain_alone.Given as goal
+use Rattle.dictcol.proofs.format.escapes.is_plain_alone.Given as goal
 
 -- the bytes so far are plain
 abbrev pub invariant-loop-byte : goal.invariant-loop-byte
