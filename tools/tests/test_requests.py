@@ -3,14 +3,13 @@
 import unittest
 
 import small  # brings the tools into reach
-from program.requests import Text, asks_of_lines
-from rooms import Memory
+from program.requests import asks_of_lines
 
 
 class RequestsTest(unittest.TestCase):
     def test_a_file(self):
         asked = asks_of_lines([b"encode"], b"red\ngreen\nred\n", b"string")
-        self.assertEqual(asked, ([65536, 262144], [16, 16, 64, 24, 8, 16], [6, 15, 30, 60, 120]))
+        self.assertEqual(asked, ([65536, 262144], [16, 16, 64, 24, 8, 16], [131072]))
 
     def test_counts(self):
         asked = asks_of_lines([b"count"], b"a\na\nb\n", b"bucket")
@@ -28,15 +27,6 @@ class RequestsTest(unittest.TestCase):
             with self.subTest(longest):
                 asked = asks_of_lines([b"count"], b"b\n" + b"a" * longest, b"string")
                 self.assertEqual(asked[1][: len(grown) + 1], [*grown, 16])
-
-    def test_strings(self):
-        for text, size, asks in ((b"a", 3, [8]), (b'a"b', 6, [8]), (b"\x01\n", 10, [8, 16]), (b"a" * 20, 22, [23]),
-                                 (b"\t" + b"a" * 20, 24, [8, 23, 46])):
-            with self.subTest(text):
-                memory = Memory()
-                written = Text(memory, 1)
-                written.write_string(text, has_comma=False)
-                self.assertEqual((written.length, memory.asks), (size, asks))
 
 
 if __name__ == "__main__":

@@ -7,8 +7,9 @@ pub mod ParseFault
 pub mod Parts
 pub mod HoldsLines
 pub mod Newline
-pub mod PutsValue
+pub mod Puts
 pub mod StringTokens
+pub mod IsFileText
 pub mod StreamTokens
 pub mod Taken
 pub mod Counted

@@ -2,13 +2,11 @@
 -- Cited by `file`, `format`, `stream`, `merge` and `answer`.
 use Rattle.std.specs.Prelude.{◌≡◌, ℕ, ◌<◌, List, [], ◌∷◌, ◌++◌, All, length, map, Bool, false, codes, ◌⊎◌, Option, Some, IfSome, option_map, option_and_then, slice_get}
 use Rattle.std.specs.List.{list_any}
-use Rattle.json.specs.Tree.{json_tokens}
-use Rattle.json.specs.Written.{Written}
 use Rattle.serde_json.specs.Data.{Data, boolean, array, object, Items, no_items, item, member, no_members}
 use Rattle.serde_json.specs.Find.{get, as_number, as_u64}
-use Rattle.serde_json.specs.Read.{of_json, read}
+use Rattle.serde_json.specs.Read.{read}
 use Rattle.serde_json.specs.View.{items_of}
-use Rattle.serde_json.specs.Written.{outline, compact_text}
+use Rattle.serde_json.specs.Written.{compact_text}
 use Rattle.string_interner.specs.Text.{Text, IsDistinct}
 use Rattle.string_interner.specs.Json.{json_of_texts, json_of_number}
 use Rattle.string_column.specs.Column.{AreCodes, dictionary_of}
@@ -84,7 +82,3 @@ IsNoFile bytes = (text : Text) → ¬ (DecodesFile bytes text)
 -- the faults of reading bytes as a file: they are not UTF-8, or those of reading a text as one
 abbrev pub IsFileFault : Option Text → Fault → Type 0
 IsFileFault bytes fault = IsNotUtf8 0 bytes fault ⊎ IsParseFault (IfSome bytes IsNoFile) fault
-
--- the tokens of a value that has no float are put last, and read as that value
-abbrev pub PutsValue : Data → Written → Written → Type 0
-PutsValue value old new = (new.before ≡ old.before) × (new.tokens ≡ old.tokens ++ json_tokens (outline value)) × (of_json (outline value) ≡ Some value)

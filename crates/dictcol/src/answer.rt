@@ -1,10 +1,9 @@
 //! From the input to the output.
 
-ghost use Rattle.std.specs.Prelude.{◌≡◌, ◌<◌, ◌++◌, length, List, ℕ, IfOk, IfErr, IfSome, IsTrue, OnOk, string_bytes};
-ghost use Rattle.std.specs.Io.KnownBytes.{Appends, Consumes, IsAtEnd};
-ghost use Rattle.dictcol.specs.Fault.{IsLinesWriteFault, IsReadFault, IsWriteFault, WritesLast};
-ghost use Rattle.dictcol.specs.Lines.{AreLines};
-ghost use Rattle.dictcol.specs.File.{DecodesFile, IsColumnFile};
+ghost use Rattle.std.specs.Prelude.{◌≡◌, ◌<◌, ◌++◌, length, List, ℕ, IfOk, IfErr, IfSome, IsTrue, OnOk};
+ghost use Rattle.std.specs.Io.KnownBytes.{Consumes, IsAtEnd};
+ghost use Rattle.dictcol.specs.Fault.{IsReadFault, WritesLast};
+ghost use Rattle.dictcol.specs.File.{DecodesFile};
 ghost use Rattle.dictcol.specs.Writes.{Writes};
 ghost use Rattle.dictcol.specs.Answer.{IsDecodeFault, IsFormOutput, IsLinesTaskFault, IsTaskFault, IsTaskOutput};
 
@@ -13,11 +12,10 @@ use crate::blocks::check_utf8;
 use crate::fault::Fault;
 use crate::hasher::LineHasher;
 use crate::merge::Merged;
-use crate::{count, file, format};
+use crate::{count, file};
 use std::alloc::Global;
 use std::io;
 use std::io::{ErrorKind, Read, Write};
-use string_column::Column;
 use string_interner::backend::{Backend, BucketBackend, BufferBackend, StringBackend};
 
 /// How many bytes are read at once.
@@ -64,34 +62,6 @@ pub fn read<R: Read>(alloc: Global, input: &mut R) -> Result<Vec<u8>, Fault>
         }
     }
     Err(Fault::of_read(io::Error::from(ErrorKind::Interrupted)))
-}
-
-/// Writes a text.
-fn write_text<W: Write>(output: &mut W, text: String) -> Result<(), Fault>
-    ensures written { OnOk result
-        (Appends (W.contents output.old) (W.contents output.new) (string_bytes text)) }
-    ensures fault { IfErr result IsWriteFault }
-{
-    output.write_all(text.as_bytes()).map_err(Fault::of_write)?;
-    output.flush().map_err(Fault::of_write)
-}
-
-/// Writes the file of the lines.
-pub fn write_file<B: Backend, W: Write>(
-    alloc: Global,
-    lines: &Column<B, LineHasher>,
-    is_ended: bool,
-    output: &mut W,
-) -> Result<(), Fault>
-    ensures written { (bytes : List ℕ) → AreLines bytes lines.now is_ended → OnOk result
-        (Writes (IsColumnFile bytes) (W.contents output.old) (W.contents output.new)) }
-    ensures silent { WritesLast result output.old output.new }
-    ensures fault { IfErr result IsLinesWriteFault }
-{
-    match format::format_file(alloc, lines, is_ended) {
-        Ok(text) => write_text(output, text),
-        Err(_) => Err(Fault::Memory),
-    }
 }
 
 /// Writes what is asked for of the lines of the input, which are stored in the backend `B`.

@@ -14,7 +14,7 @@ use crate::blocks::TakesLines;
 use crate::fault::Fault;
 use crate::hasher::LineHasher;
 use crate::split::Lines;
-use crate::{answer, blocks, count, file};
+use crate::{blocks, count, file, format};
 use std::alloc::Global;
 use std::io::{Read, Write};
 use std::marker::Model;
@@ -214,12 +214,12 @@ impl<B: Backend + Drop> Merged<B> {
     {
         if self.rest.is_empty() {
             let is_ended = self.lines.len() > 0;
-            return answer::write_file(alloc, &self.lines, is_ended, output);
+            return format::write_file(alloc, &self.lines, is_ended, output);
         }
         match self.lines.push(&self.rest) {
             Ok(_) => {
                 self.rest.clear();
-                answer::write_file(alloc, &self.lines, false, output)
+                format::write_file(alloc, &self.lines, false, output)
             }
             Err(error) => Err(Fault::of_intern(error)),
         }
