@@ -12,3 +12,4 @@ pub mod Taken
 pub mod Counted
 pub mod CountRows
 pub mod PlainColumns
+pub mod Sharded

@@ -25,7 +25,7 @@ ended line = line ++ 10 ∷ []
 pub more-rest : (lines : List Text) (rest text : Text) → text_of_ended lines (rest ++ text) ≡ text_of_ended lines rest ++ text
 more-rest lines rest text = sym (append_assoc (flat_map ended lines) rest text)
 
-ended-push : (lines : List Text) (line : Text) → flat_map ended (lines ++ line ∷ []) ≡ flat_map ended lines ++ (line ++ 10 ∷ [])
+pub ended-push : (lines : List Text) (line : Text) → flat_map ended (lines ++ line ∷ []) ≡ flat_map ended lines ++ (line ++ 10 ∷ [])
 ended-push lines line = flat_map-append ended lines (line ∷ []) ∙ ap (λ one. flat_map ended lines ++ one) (append-nil (line ++ 10 ∷ []))
 
 pub one-ended : (lines : List Text) (rest : Text) → text_of_ended (lines ++ rest ∷ []) [] ≡ text_of_ended lines rest ++ 10 ∷ []

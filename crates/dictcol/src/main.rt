@@ -17,6 +17,7 @@ mod inputs;
 mod mend;
 mod merge;
 mod plain;
+mod shards;
 mod split;
 mod stream;
 mod zero;
@@ -282,6 +283,15 @@ fn main(rt: HostRuntime) -> ExitCode {
         Ok(Request::WriteColumns(choice, columns, reading, files)) => {
             let (source, outcome) = columns::write(&rt, choice, columns, reading, &files);
             end_task(&rt, Task::Write(Form::File, choice), source, outcome)
+        }
+        Ok(Request::WriteShards(parts, reading, files)) => {
+            let (source, outcome) = shards::folder::write(&rt, parts, reading, &files);
+            end_task(
+                &rt,
+                Task::Write(Form::File, Choice::String),
+                source,
+                outcome,
+            )
         }
         Ok(Request::Merge(form, choice, files)) => {
             let (source, outcome) = merge_files(&rt, form, choice, &files);
