@@ -25,7 +25,7 @@ use Rattle.dictcol.proofs.Merged.{ended-first}
 abbrev IsNoEntry : List Text → Text → Type 0
 IsNoEntry entries text = (k : ℕ) → slice_get entries k ≡ Some text → ⊥
 
-differs : (t text : Text) → t ≢ text → (b : Bool) → bytes_eq t text ≡ b → b ≡ false
+pub differs : (t text : Text) → t ≢ text → (b : Bool) → bytes_eq t text ≡ b → b ≡ false
 differs t text other true e = absurd (other ((bytes_eq-Decides t text).0 e))
 differs t text other false e = refl
 

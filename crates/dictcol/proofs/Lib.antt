@@ -13,3 +13,4 @@ pub mod Counted
 pub mod CountRows
 pub mod PlainColumns
 pub mod Sharded
+pub mod ShardCounts

@@ -1,4 +1,4 @@
-use Rattle.std.proofs.Common.{◌≡◌, map, rules}
+use Rattle.std.proofs.Common.{◌≡◌, ap, map, rules}
 use Rattle.std.specs.List.{zip}
 use Rattle.dictcol.specs.Counts.{IsCountsText, row_of}
 use Rattle.dictcol.specs.Writes.{Writes}
