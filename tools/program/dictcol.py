@@ -43,8 +43,9 @@ def operands(words):
 
 
 def lists_files(words):
-    """Whether a run asks for a list of files: it does once it reads the name of one."""
-    return len(operands(words)) > 1
+    """Whether a run asks for a list of files: it does once it reads the name of one, which `shard` has a number and a folder before."""
+    found = operands(words)
+    return len(found) > (3 if found[:1] == [b"shard"] else 1)
 
 
 def count_asks_of_words(asks):

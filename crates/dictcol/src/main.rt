@@ -1,5 +1,5 @@
 //! The program `dictcol`: writes lines as a dictionary with a number for each line, reads them back, merges such files, and
-//! counts lines.
+//! counts and splits lines.
 #![tactic(auto)]
 
 mod answer;
