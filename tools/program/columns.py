@@ -164,7 +164,7 @@ def try_missing(program):
         yield "onto nothing", ended, failed(1, b"nowhere: cannot read dict.txt: " + told(errno.ENOENT))
         Path(folder, "file").write_bytes(b"")
         for words, error in ((b"encode --plain file", errno.EEXIST), (b"encode --plain file/new", errno.ENOTDIR)):
-            message = b"%s: cannot write columns: %s" % (words.split()[-1], told(error))
+            message = b"%s: cannot write files: %s" % (words.split()[-1], told(error))
             yield f"{words}", program.run(words.split(), LINES, folder=folder), failed(1, message)
         ended = program.run(b"encode --plain bytes".split(), b"a\n\xff", folder=folder)
         yield "bytes that are not UTF-8", ended, failed(2, b"line 2 is not UTF-8 (see --invalid)")

@@ -13,10 +13,11 @@ import time
 from itertools import count, product
 from pathlib import Path
 
-from program import columns, shell
+from program import columns, shards, shell
 from program.cases import MANY, MEBIBYTE, Case, cases, rows
 from program.reckon import MEMORY, answer, failed, misused, unreadable, unwritable, warned
 from program.requests import OUTPUT_BUFFER, asks_of_lines
+from program.shards import MULTIPLIER, START, mixed
 from program.streams import Streams
 
 CASES = "crates/dictcol/cases"
@@ -42,8 +43,9 @@ def operands(words):
 
 
 def lists_files(words):
-    """Whether a run asks for a list of files: it does once it reads the name of one."""
-    return len(operands(words)) > 1
+    """Whether a run asks for a list of files: it does once it reads the name of one, which `shard` has a number and a folder before."""
+    found = operands(words)
+    return len(found) > (3 if found[:1] == [b"shard"] else 1)
 
 
 def count_asks_of_words(asks):
@@ -239,12 +241,6 @@ def try_large(program, name):
             yield f"{name}, counted", all(map(operator.eq, counts, wanted)) and counts.read() == b"", True
 
 
-def mixed(one, other):
-    """The product of two numbers of 64 bits, its halves put together by exclusive or: how these hashers mix."""
-    product = one * other
-    return (product ^ product >> 64) & (1 << 64) - 1
-
-
 def chosen_lines(length, start, key):
     """Lines of 32 letters that all have one code under a hasher that multiplies 16 bytes at a time: the first eight with its
     state, and the others with a key. Where its state is eight letters and the next eight are these, the product is 0 whatever
@@ -259,7 +255,7 @@ def chosen_lines(length, start, key):
 
 CHOSEN, FLOODED = 80000, 3
 # From what the hashers start with a text of 32 bytes, and what they multiply by: FoldHasher, and SeededHasher under keys 0.
-KNOWN = ((0x243F6A8885A308D3 + 32, 0x9E3779B97F4A7C15), (0, 0))
+KNOWN = ((START + 32, MULTIPLIER), (0, 0))
 
 
 def try_chosen_lines(program):
@@ -305,6 +301,7 @@ def parts():
         "tables": rows(CASES, TABLES),
         "streams": [*STREAMS.trials(), *shell.trials()],
         "columns": columns.trials(),
+        "shards": shards.trials(),
         "random": [(trial, seed) for trial in (try_random_lines, shell.try_random_bytes) for seed in range(200)],
         "scale": [
             *((try_both_ways, *given) for given in large_inputs()),

@@ -6,7 +6,7 @@ import os
 import re
 from collections import Counter
 
-USAGE = b"usage: dictcol encode|decode|count|merge [OPTION ..] [FILE ..] (try dictcol --help)\n"
+USAGE = b"usage: dictcol encode|decode|count|merge|shard [OPTION ..] [FILE ..] (try dictcol --help)\n"
 
 
 def failed(status, message):

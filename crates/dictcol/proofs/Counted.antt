@@ -25,7 +25,7 @@ use Rattle.dictcol.proofs.Merged.{ended-first}
 abbrev IsNoEntry : List Text → Text → Type 0
 IsNoEntry entries text = (k : ℕ) → slice_get entries k ≡ Some text → ⊥
 
-differs : (t text : Text) → t ≢ text → (b : Bool) → bytes_eq t text ≡ b → b ≡ false
+pub differs : (t text : Text) → t ≢ text → (b : Bool) → bytes_eq t text ≡ b → b ≡ false
 differs t text other true e = absurd (other ((bytes_eq-Decides t text).0 e))
 differs t text other false e = refl
 
@@ -132,13 +132,13 @@ new-unknown {S} numbering old text symbol new interns pushed = of (first old tex
     of (Some i) is known = let longer = ap length (sym pushed ∙ known.1) in absurd (omega (arith, longer, length_push old text))
 
 -- one line more of those that are walked over
-pub counted-on : (old mid new : CountsContents) (all ahead rest : List Text) (line : Text) → ahead ≡ line ∷ rest
-    → (front : List Text) × ((lines : List Text) → HasCounted old lines → HasCounted mid (lines ++ front)) × (front ++ ahead ≡ all)
-    → ((lines : List Text) → HasCounted mid lines → HasCounted new (lines ++ line ∷ []))
-    → (front : List Text) × ((lines : List Text) → HasCounted old lines → HasCounted new (lines ++ front)) × (front ++ rest ≡ all)
-counted-on old mid new all ahead rest line first (front, so_far, whole) one = (
+pub taken-on : {S : Type 0} (has_taken : S → List Text → Type 0) (old mid new : S) (all ahead rest : List Text) (line : Text) → ahead ≡ line ∷ rest
+    → (front : List Text) × ((lines : List Text) → has_taken old lines → has_taken mid (lines ++ front)) × (front ++ ahead ≡ all)
+    → ((lines : List Text) → has_taken mid lines → has_taken new (lines ++ line ∷ []))
+    → (front : List Text) × ((lines : List Text) → has_taken old lines → has_taken new (lines ++ front)) × (front ++ rest ≡ all)
+taken-on has_taken old mid new all ahead rest line first (front, so_far, whole) one = (
   front ++ line ∷ [],
-  λ lines has. subst (HasCounted new) (append_assoc lines front (line ∷ [])) (one (lines ++ front) (so_far lines has)),
+  λ lines has. subst (has_taken new) (append_assoc lines front (line ∷ [])) (one (lines ++ front) (so_far lines has)),
   append_assoc front (line ∷ []) rest ∙ ap (λ more. front ++ more) (sym first) ∙ whole,
 )
 

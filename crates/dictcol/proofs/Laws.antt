@@ -1,16 +1,21 @@
 -- Laws of files, for whoever doubts the definitions.
-use Rattle.std.proofs.Common.{◌≡◌, ℕ, Bool, List, [], ◌∷◌, ◌++◌, sym, ap, ap₂, subst, ◌∙◌}
+use Rattle.std.proofs.Common.{◌≡◌, ◌==◌, ℕ, Bool, List, [], ◌∷◌, ◌++◌, sym, ap, ap₂, subst, ◌∙◌}
+use Rattle.std.specs.List.{filter}
 use Rattle.std.proofs.lemmas.List.{append_assoc}
 use Rattle.std.proofs.lemmas.Option.{same_Some}
 use Rattle.string_interner.specs.Text.{Text}
 use Rattle.string_interner.specs.Extend.{fresh}
 use Rattle.string_column.specs.Column.{AreCodes, rows_of}
+use Rattle.string_column.specs.Shards.{shard_of}
 use Rattle.string_column.proofs.Lemmas.AreNumbered.{slice_get-append}
 use Rattle.string_column.proofs.Lemmas.Rows.{codes-within, rows-are}
+use Rattle.dictcol.specs.Counts.{counted}
 use Rattle.dictcol.specs.Lines.{lines_of}
 use Rattle.dictcol.specs.Plain.{plain_text, IsDictionary, IsPlain, HoldPlain}
 use Rattle.dictcol.specs.File.{HoldsText, IsColumnFile, DecodesFile}
+use Rattle.dictcol.specs.Shards.{shard_lines}
 use Rattle.dictcol.proofs.HoldsLines.{holds-once, comes-back}
+use Rattle.dictcol.proofs.ShardCounts.{counted-passed}
 use Rattle.dictcol.proofs.PlainColumns.{file-lines, plain-lines, same-numbers}
 
 -- a file is decoded to one text
@@ -74,3 +79,7 @@ old-codes-hold before text dictionary numbers is_cut lines rows codes plain is a
     let same : lines ≡ plain.known = sym (file-lines lines before is.lines_are) ∙ file-lines plain.known before plain.before_is.lines_are in
     subst (λ ls. AreCodes ls codes rows) (sym (file-lines _ dictionary plain.dictionary_is.lines_are))
     (codes-longer plain.known (fresh plain.known plain.lines) codes rows (subst (λ ls. AreCodes ls codes rows) same are))
+
+-- What is counted of a shard is what is counted of the whole, the lines of the shard alone.
+pub shard-counts : (code : Text → ℕ) (count shard : ℕ) (lines : List Text) → counted (shard_lines code count shard lines) ≡ filter (λ row. shard_of code count row.1 == shard) (counted lines)
+shard-counts code count shard lines = counted-passed (λ line. shard_of code count line == shard) lines

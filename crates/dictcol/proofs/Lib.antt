@@ -17,3 +17,5 @@ pub mod CountRows
 pub mod PlainColumns
 pub mod LineBounds
 pub mod AreRows
+pub mod Sharded
+pub mod ShardCounts

@@ -209,6 +209,17 @@ module _ {L : Type 0} (has_taken : L → List Text → Type 0) where
     consumed = subst (λ t. Consumes input now (text_of_ended has.seen t)) (sym same) (Consumes-kept input left now (text_of_ended has.seen held) has.consumed kept);
   }
 
+  -- what took the lines changed, and has taken the same
+  pub taken-kept : (input left : Option Text) (old new : L) (held : Text) → ((lines : List Text) → has_taken old lines → has_taken new lines)
+      → HasRead has_taken input left old held → HasRead has_taken input left new held
+  taken-kept input left old new held same has = record {
+    seen = has.seen;
+    taken = same has.seen has.taken;
+    plain = has.plain;
+    utf8 = has.utf8;
+    consumed = has.consumed;
+  }
+
   -- the input is at its end
   pub all-read : (input left : Option Text) (lines : L) (rest : Text) → IsAtEnd left → has_newline rest ≡ false → HasRead has_taken input left lines rest
       → (seen : List Text) × has_taken lines seen × IsTextOf input seen rest

@@ -6,5 +6,6 @@ pub mod File
 pub mod Hasher
 pub mod Lines
 pub mod Plain
+pub mod Shards
 pub mod StreamTokens
 pub mod Writes

@@ -2,6 +2,7 @@
 
 use crate::mend::Mending;
 use std::alloc::Global;
+use std::num::NonZeroUsize;
 use thiserror::Error;
 
 /// Which backend the texts are stored in.
@@ -50,6 +51,15 @@ pub struct Columns<'a> {
     pub onto: Option<&'a str>,
 }
 
+/// Where shards are written.
+#[derive(Clone, Copy)]
+pub struct Parts<'a> {
+    /// How many there are.
+    pub count: NonZeroUsize,
+    /// The folder.
+    pub folder: &'a str,
+}
+
 /// Where the input comes from.
 #[derive(Clone, Copy)]
 pub enum Source<'a> {
@@ -67,6 +77,8 @@ pub enum Request<'a> {
     Do(Task, Reading, Vec<Source<'a>>),
     /// Their lines are written as plain columns.
     WriteColumns(Choice, Columns<'a>, Reading, Vec<Source<'a>>),
+    /// Their lines are written in shards.
+    WriteShards(Parts<'a>, Reading, Vec<Source<'a>>),
     /// The files, which `encode` wrote, are merged in this order, and this is written of the lines.
     Merge(Form, Choice, Vec<Source<'a>>),
 }
@@ -98,6 +110,10 @@ pub enum Misuse<'a> {
     Excluded(&'static str, &'static str),
     #[error("merge needs a FILE")]
     NoFile,
+    #[error("shard needs a number and a DIR")]
+    NoParts,
+    #[error("shard takes a number of files, and not '{0}'")]
+    NoCount(&'a str),
     #[error("standard input is named twice")]
     InputTwice,
     /// An allocation failed, which is no fault of the arguments.
@@ -111,6 +127,7 @@ enum Command {
     Decode,
     Count,
     Merge,
+    Shard,
 }
 
 impl Command {
@@ -120,6 +137,7 @@ impl Command {
             Command::Decode => "decode",
             Command::Count => "count",
             Command::Merge => "merge",
+            Command::Shard => "shard",
         }
     }
 
@@ -135,6 +153,7 @@ impl Command {
             Command::Decode => false,
             Command::Count => option != "--plain" && option != "--onto",
             Command::Merge => option == "--backend",
+            Command::Shard => is_of_lines(option),
         }
     }
 }
@@ -172,6 +191,10 @@ struct Given<'a> {
     folder: Option<&'a str>,
     /// What `--onto` says.
     onto: Option<&'a str>,
+    /// How many shards `shard` writes.
+    count: Option<NonZeroUsize>,
+    /// Where it writes them.
+    parts: Option<Parts<'a>>,
 }
 
 impl<'a> Given<'a> {
@@ -216,8 +239,21 @@ impl<'a> Given<'a> {
             "decode" => Command::Decode,
             "count" => Command::Count,
             "merge" => Command::Merge,
+            "shard" => Command::Shard,
             _ => return Err(Misuse::UnknownCommand(word)),
         });
+        Ok(())
+    }
+
+    /// Takes how many shards are written, or where.
+    fn take_parts(&mut self, word: &'a str) -> Result<(), Misuse<'a>> {
+        match self.count {
+            Some(count) => {
+                let folder = word;
+                self.parts = Some(Parts { count, folder });
+            }
+            None => self.count = Some(word.parse().map_err(|_| Misuse::NoCount(word))?),
+        }
         Ok(())
     }
 
@@ -236,11 +272,12 @@ impl<'a> Given<'a> {
         self.files.push(file).map_err(|_| Misuse::Memory)
     }
 
-    /// Takes the command, or a file behind it.
+    /// Takes the command, or what stands behind it.
     fn take_operand(&mut self, word: &'a str) -> Result<(), Misuse<'a>> {
         match self.command {
             None => self.take_command(word),
             Some(Command::Decode) if !self.files.is_empty() => Err(Misuse::ExtraOperand(word)),
+            Some(Command::Shard) if self.parts.is_none() => self.take_parts(word),
             Some(_) => self.take_file(word),
         }
     }
@@ -319,6 +356,14 @@ impl<'a> Given<'a> {
         Ok(Next::OptionOrOperand)
     }
 
+    /// Returns how lines are read.
+    fn reading(&self) -> Reading {
+        Reading {
+            mending: self.mending.flatten(),
+            is_zero_ended: self.is_zero_ended,
+        }
+    }
+
     /// Returns what all the words ask for.
     fn decide(mut self) -> Result<Request<'a>, Misuse<'a>> {
         let command = self.command.ok_or(Misuse::NoCommand)?;
@@ -331,6 +376,10 @@ impl<'a> Given<'a> {
             Command::Decode => Task::Decode,
             Command::Merge if self.files.is_empty() => return Err(Misuse::NoFile),
             Command::Merge => return Ok(Request::Merge(Form::File, choice, self.files)),
+            Command::Shard => {
+                let parts = self.parts.ok_or(Misuse::NoParts)?;
+                return Ok(Request::WriteShards(parts, self.reading(), self.files));
+            }
         };
         if let (true, Task::Write(form, _)) = (self.is_encoded, task) {
             if self.files.is_empty() {
@@ -338,10 +387,7 @@ impl<'a> Given<'a> {
             }
             return Ok(Request::Merge(form, choice, self.files));
         }
-        let reading = Reading {
-            mending: self.mending.flatten(),
-            is_zero_ended: self.is_zero_ended,
-        };
+        let reading = self.reading();
         match self.folder {
             Some(folder) => {
                 let onto = self.onto;
@@ -388,6 +434,8 @@ pub fn parse_arguments(alloc: Global, arguments: &[String]) -> Result<Request<'_
         is_encoded: false,
         folder: None,
         onto: None,
+        count: None,
+        parts: None,
     };
     let mut next = Next::OptionOrOperand;
     for argument in arguments {

@@ -98,7 +98,7 @@ fn take_whole_lines<L: TakesLines>(
 }
 
 /// Reads once, and takes the lines that are whole then. Returns whether the input ended.
-fn read_block<R: Read, L: TakesLines>(
+pub fn read_block<R: Read, L: TakesLines>(
     block: &mut Block,
     input: &mut R,
     lines: &mut L,
@@ -127,7 +127,7 @@ fn read_block<R: Read, L: TakesLines>(
 }
 
 /// Returns what is held as a text. `before` lines stand in front of it.
-fn end_block(block: Block, before: usize) -> Result<String, Fault>
+pub fn end_block(block: Block, before: usize) -> Result<String, Fault>
     ensures ok { IfOk result (λ text. string_bytes text ≡ held block) }
     ensures fault { IfErr result (IsNotUtf8 before (Some (held block))) }
 {

@@ -85,7 +85,7 @@ pub enum Fault {
     #[error("cannot read codes.npy: {0}")]
     NumbersFile(io::Error),
     /// A folder or its files cannot be written.
-    #[error("cannot write columns: {0}")]
+    #[error("cannot write files: {0}")]
     Folder(io::Error),
     /// The system gave no random keys.
     #[error("cannot draw random keys: {0}")]

@@ -1,5 +1,5 @@
 //! The program `dictcol`: writes lines as a dictionary with a number for each line, reads them back, merges such files, and
-//! counts lines.
+//! counts and splits lines.
 #![tactic(auto)]
 
 mod answer;
@@ -18,6 +18,7 @@ mod mend;
 mod merge;
 mod plain;
 mod quoted;
+mod shards;
 mod split;
 mod stream;
 mod zero;
@@ -282,6 +283,15 @@ fn main(rt: HostRuntime) -> ExitCode {
         Ok(Request::WriteColumns(choice, columns, reading, files)) => {
             let (source, outcome) = columns::write(&rt, choice, columns, reading, &files);
             end_task(&rt, Task::Write(Form::File, choice), source, outcome)
+        }
+        Ok(Request::WriteShards(parts, reading, files)) => {
+            let (source, outcome) = shards::folder::write(&rt, parts, reading, &files);
+            end_task(
+                &rt,
+                Task::Write(Form::File, Choice::String),
+                source,
+                outcome,
+            )
         }
         Ok(Request::Merge(form, choice, files)) => {
             let (source, outcome) = merge_files(&rt, form, choice, &files);

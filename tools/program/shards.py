@@ -1,0 +1,197 @@
+"""What is tried of `dictcol shard`: its files have the lines that Python groups by their codes under FoldHasher."""
+
+import errno
+import itertools
+import os
+import random
+import resource
+import signal
+import subprocess
+import tempfile
+from collections import Counter
+from pathlib import Path
+
+from edits import TOP
+from program.columns import OK, columns_of, failed, files_in, npy, told
+from program.reckon import skip_invalid, warned
+
+MULTIPLIER, START = 0x9E3779B97F4A7C15, 0x243F6A8885A308D3
+
+
+def mixed(one, other):
+    """The product of two numbers of 64 bits, its halves put together by exclusive or: how these hashers mix."""
+    product = one * other
+    return (product ^ product >> 64) & (1 << 64) - 1
+
+
+def number_at(line, start):
+    return int.from_bytes(line[start:start + 8], "little")
+
+
+def code_of(line):
+    """The code of a line under FoldHasher, which mixes 16 bytes at a time."""
+    length = len(line)
+    if length <= 8:
+        short = bytes([line[0], line[length // 2], line[-1]]) if 0 < length < 4 else line[:4] + line[-4:]
+        return mixed(START ^ int.from_bytes(short, "little"), MULTIPLIER ^ 2 * length)
+    state = START + length
+    for start in range(0, length - 16, 16):
+        state = mixed(number_at(line, start) ^ state, number_at(line, start + 8) ^ MULTIPLIER)
+    return mixed(number_at(line, max(length - 16, 0)) ^ state, number_at(line, length - 8) ^ MULTIPLIER)
+
+
+def lines_of(data):
+    return data.removesuffix(b"\n").split(b"\n") if data else []
+
+
+def shards_of(data, count):
+    """The files of a text, by name."""
+    files = {str(shard): b"" for shard in range(count)} | {"order": b""}
+    for line in lines_of(data):
+        shard = code_of(line) % count
+        files[str(shard)] += line + b"\n"
+        files["order"] += b"%d\n" % shard
+    return files
+
+
+LONG = b"".join(b"%d\n" % (number * 7919 % 30011) for number in range(60000))
+TEXTS = (b"", b"\n", b"\n\n", b"a", b"a\n", b"\na", b"red\ngreen\nred", b"red\ngreen\nred\n", b"a\r\n\0\n", "é\n日本\né".encode(),
+         b"x" * 600000 + b"\ny\n", b"\n".join(b"abcdefghijklmnopqrstuvwxyz"[:length] * 2 for length in range(27)), LONG)
+
+
+def try_text(program, data, count):
+    """Each line is in one file, equal ones in the same, and `order` tells in which."""
+    name = f"{data[:40]} in {count} shards"
+    with tempfile.TemporaryDirectory() as folder:
+        yield name, program.run([b"shard", b"%d" % count, b"it"], data, folder=folder), OK
+        files = files_in(f"{folder}/it")
+        yield f"{name}, files", files, shards_of(data, count)
+        counts = b"".join(program.run([b"count", f"it/{shard}".encode()], folder=folder).output for shard in range(count))
+        wanted = [b"%d %s" % (number, line) for line, number in Counter(lines_of(data)).items()]
+        yield f"{name}, counted", sorted(lines_of(counts)), sorted(wanted)
+        words = b"encode --plain %d it/%d"
+        ends = [program.run((words % (shard, shard)).split(), folder=folder) for shard in range(count)]
+        yield f"{name}, encoded", ends, [OK] * count
+        # The first line with a code of its shard has the next code of the whole.
+        codes, whole = [columns_codes(f"{folder}/{shard}/codes.npy") for shard in range(count)], {}
+        found = [whole.setdefault((shard, next(codes[shard])), len(whole)) for shard in map(int, files["order"].split())]
+        yield f"{name}, the codes of the whole", npy(found), columns_of(data)["codes.npy"]
+
+
+def columns_codes(path):
+    return iter(memoryview(Path(path).read_bytes()[128:]).cast("I"))
+
+
+def try_reading(program):
+    """Several files, lines that zero bytes end, and lines that are not UTF-8."""
+    broken, exchanged = b"a\n\xff\nb\0\nc\xc3\xa9\n", bytes.maketrans(b"\n\0", b"\0\n")
+    with tempfile.TemporaryDirectory() as folder:
+        names = []
+        for part in b"red\ngreen", b"", b"ish\nred\n", b"red":
+            names.append(b"%d" % len(names))
+            Path(folder, names[-1].decode()).write_bytes(part)
+        yield "several files", program.run([b"shard", b"--", b"3", b"files", *names], b"\xff", folder=folder), OK
+        yield "several files, shards", files_in(f"{folder}/files"), shards_of(b"red\ngreenish\nred\nred", 3)
+        encoded = program.run([b"encode"], b"a\n").output
+        ended = program.run([b"shard", b"2", b"encoded", b"-"], encoded, folder=folder)
+        yield "what encode wrote", ended, (0, b"", warned(encoded))
+        given = b"a\nb\0c\0a\nb\0"
+        yield "zero bytes", program.run(b"shard 2 -z zero".split(), given, folder=folder), OK
+        files = shards_of(given.translate(exchanged), 2)
+        wanted = {it: lines if it == "order" else lines.translate(exchanged) for it, lines in files.items()}
+        yield "zero bytes, shards", files_in(f"{folder}/zero"), wanted
+        yield "replaced", program.run(b"shard --invalid=replace 2 replaced".split(), broken, folder=folder), OK
+        wanted = shards_of(broken.decode(errors="replace").encode(), 2)
+        yield "replaced, shards", files_in(f"{folder}/replaced"), wanted
+        good, message = skip_invalid(broken)
+        yield "skipped", program.run(b"shard 2 skipped --invalid skip".split(), broken, folder=folder), (0, b"", message)
+        yield "skipped, shards", files_in(f"{folder}/skipped"), shards_of(good, 2)
+
+
+def recipe():
+    """The commands of the man page that make the codes of one process."""
+    page = (TOP / "crates/dictcol/dictcol.1").read_text(encoding="utf-8")
+    begin = page.index(".Dl dictcol shard 2 parts")
+    lines = page[begin:page.index("\n.Pp", begin)].replace("\\(dq", '"').replace("\\ ", " ").split("\n")
+    return "\n".join(line.removeprefix(".Dl ") for line in lines)
+
+
+def try_recipe(program):
+    for data in TEXTS:
+        with tempfile.TemporaryDirectory() as folder:
+            Path(folder, "dictcol").symlink_to(program.path)
+            Path(folder, "app.log").write_bytes(data)
+            path = {"PATH": f"{folder}:{os.defpath}"}
+            ended = subprocess.run(["sh", "-euc", recipe()], cwd=folder, env=path, capture_output=True, check=False)
+            found = npy([int(code) for code in ended.stdout.split()])
+            yield f"{data[:40]}, the man page's codes", (ended.returncode, ended.stderr, found), (0, b"", columns_of(data)["codes.npy"])
+
+
+def limit(kind, most):
+    def set_limit():
+        signal.signal(signal.SIGXFSZ, signal.SIG_IGN)
+        resource.setrlimit(kind, (most, most))
+    return set_limit
+
+
+def try_failing(program):
+    """A folder that is there stays as it is, and a run that fails leaves none."""
+    with tempfile.TemporaryDirectory() as folder:
+        Path(folder, "file").write_bytes(b"red\n")
+        Path(folder, "bytes").write_bytes(b"a\n" * 300000 + b"\xff\n")
+        Path(folder, "there").mkdir()
+        for words, error in ((b"shard 2 file", errno.EEXIST), (b"shard 2 there", errno.EEXIST), (b"shard 2 file/new", errno.ENOTDIR),
+                             (b"shard 2 new/new", errno.ENOENT)):
+            message = b"%s: cannot write files: %s" % (words.split()[-1], told(error))
+            yield f"{words}", program.run(words.split(), b"a\n", folder=folder), failed(1, message)
+        for kind, most, error in ((resource.RLIMIT_FSIZE, 100000, errno.EFBIG), (resource.RLIMIT_NOFILE, 10, errno.EMFILE)):
+            ended = program.run(b"shard 20 new".split(), b"a\n" * 300000, folder=folder, before=limit(kind, most))
+            yield f"a limit of {most}", ended, failed(1, b"new: cannot write files: " + told(error))
+        for name, end in ((b"bytes", failed(2, b"bytes: line 300001 is not UTF-8 (see --invalid)")),
+                          (b"missing", failed(1, b"missing: cannot read input: " + told(errno.ENOENT)))):
+            yield f"{name}", program.run([b"shard", b"2", b"new", name], folder=folder), end
+        found = {path.name: path.is_dir() and [*path.iterdir()] for path in Path(folder).iterdir()}
+        yield "what is there", found, {"file": False, "bytes": False, "there": []}
+
+
+def try_refused(program):
+    """Each request for memory is refused in turn: all files are written, or there is no folder."""
+    for number in itertools.count(1):
+        with tempfile.TemporaryDirectory() as folder:
+            words, data = b"shard 3 it --invalid=skip".split(), b"red\ngreen\n\xff\nblue"
+            ended, asks = program.run_with_asks(words, data, number, folder=folder)
+            if len(asks) < number:
+                break
+            name = f"{words}, request {number} of {asks[number - 1]} bytes refused"
+            found = files_in(f"{folder}/it") if Path(folder, "it").exists() else None
+            yield name, (ended.status, found), (0, shards_of(b"red\ngreen\nblue", 3)) if ended.status == 0 else (1, None)
+
+
+# What is read is not held: so much of it, and so many bytes of memory.
+HELD, MOST = 1 << 26, 1 << 24
+
+
+def try_in_little_memory(program):
+    with tempfile.TemporaryDirectory() as folder:
+        data = (b"a" * 99 + b"\n") * (HELD // 100)
+        ended = program.run(b"shard 4 it".split(), data, folder=folder, before=limit(resource.RLIMIT_AS, MOST))
+        yield f"{HELD} bytes in {MOST} bytes of memory", ended, OK
+
+
+def try_random(program, seed):
+    chance = random.Random(seed)
+    words = ["".join(chance.choices("ab\r é", k=chance.randrange(40))) for _ in range(30)]
+    data = "\n".join(chance.choices(words, k=chance.randrange(100))).encode() + chance.choice([b"", b"\n"])
+    yield from try_text(program, data, chance.randrange(1, 9))
+
+
+def trials():
+    return [
+        *((try_text, data, count) for data in TEXTS for count in (1, 2, 3, 20)),
+        (try_reading,),
+        (try_recipe,),
+        (try_failing,),
+        (try_refused,),
+        (try_in_little_memory,),
+        *((try_random, seed) for seed in range(30)),
+    ]
