@@ -12,6 +12,17 @@ ghost use Rattle.handles.specs.Kind.{numbering_in};
 ghost use Rattle.handles.specs.declared.kind.Kind.{Kind};
 ghost use Rattle.handles.specs.Status.{TellsInterned, outcome_of};
 
+/// Evaluates an expression for the interner, whatever its kind.
+macro_rules! each {
+    ($any:expr, $interner:ident => $value:expr) => {
+        match $any {
+            AnyInterner::String($interner) => $value,
+            AnyInterner::Bucket($interner) => $value,
+            AnyInterner::Buffer($interner) => $value,
+        }
+    };
+}
+
 mod entries;
 mod guessed;
 mod intern_all;
@@ -41,17 +52,6 @@ pub enum AnyInterner {
     String(HashedInterner<StringBackend<SymbolU32>>),
     Bucket(HashedInterner<BucketBackend<SymbolU32>>),
     Buffer(HashedInterner<BufferBackend<SymbolU32>>),
-}
-
-/// Evaluates an expression for the interner, whatever its kind.
-macro_rules! each {
-    ($any:expr, $interner:ident => $value:expr) => {
-        match $any {
-            AnyInterner::String($interner) => $value,
-            AnyInterner::Bucket($interner) => $value,
-            AnyInterner::Buffer($interner) => $value,
-        }
-    };
 }
 
 /// Makes an interner of this kind from an expression for the interner in it.

@@ -71,26 +71,6 @@ fn are_likely_known<B: Backend<Symbol = SymbolU32>>(
     }
 }
 
-/// Interns texts, as `intern_all` does, by the loop that is likely to be fastest.
-#[inline(always)]
-fn intern_all_in<B: Backend<Symbol = SymbolU32>>(
-    interner: &mut HashedInterner<B>,
-    bytes: &[u8],
-    ends: &[usize],
-    symbols: &mut [u32],
-    done: &mut usize,
-) -> Result<(), Status>
-    ensures { InKindsOf B.numbering (InternsParts bytes.now ends.now)
-        (interner.old, symbols.old, done.old) result
-        (interner.new, symbols.new, done.new) }
-{
-    if are_likely_known(interner, bytes, ends) {
-        intern_each(interner, bytes, ends, symbols, done, true)
-    } else {
-        intern_each(interner, bytes, ends, symbols, done, false)
-    }
-}
-
 impl AnyInterner {
     /// Interns the texts that are end to end in the bytes, each up to its end, and writes their symbols. Stops at the first
     /// that fails, and returns how many were interned before it.
@@ -104,10 +84,10 @@ impl AnyInterner {
         ensures { InternsParts bytes.now ends.now
             (self.old, symbols.old, done.old) result (self.new, symbols.new, done.new) }
     {
-        match self {
-            AnyInterner::String(interner) => intern_all_in(interner, bytes, ends, symbols, done),
-            AnyInterner::Bucket(interner) => intern_all_in(interner, bytes, ends, symbols, done),
-            AnyInterner::Buffer(interner) => intern_all_in(interner, bytes, ends, symbols, done),
+        if each!(&*self, interner => are_likely_known(interner, bytes, ends)) {
+            each!(self, interner => intern_each(interner, bytes, ends, symbols, done, true))
+        } else {
+            each!(self, interner => intern_each(interner, bytes, ends, symbols, done, false))
         }
     }
 }

@@ -58,25 +58,6 @@ fn are_likely_known<B: Backend<Symbol = SymbolU32>>(
     }
 }
 
-/// Interns texts, as `intern_texts` does, by the loop that is likely to be fastest.
-#[inline(always)]
-fn intern_texts_in<B: Backend<Symbol = SymbolU32>>(
-    interner: &mut HashedInterner<B>,
-    texts: &[Text],
-    symbols: &mut [u32],
-    done: &mut usize,
-) -> Result<(), Status>
-    ensures { InKindsOf B.numbering (InternsTexts texts.now)
-        (interner.old, symbols.old, done.old) result
-        (interner.new, symbols.new, done.new) }
-{
-    if are_likely_known(interner, texts) {
-        intern_each(interner, texts, symbols, done, true)
-    } else {
-        intern_each(interner, texts, symbols, done, false)
-    }
-}
-
 impl AnyInterner {
     /// Interns texts, and writes their symbols. Stops at the first that fails, and returns how many were interned before it.
     pub fn intern_texts(
@@ -88,10 +69,10 @@ impl AnyInterner {
         ensures { InternsTexts texts.now
             (self.old, symbols.old, done.old) result (self.new, symbols.new, done.new) }
     {
-        match self {
-            AnyInterner::String(interner) => intern_texts_in(interner, texts, symbols, done),
-            AnyInterner::Bucket(interner) => intern_texts_in(interner, texts, symbols, done),
-            AnyInterner::Buffer(interner) => intern_texts_in(interner, texts, symbols, done),
+        if each!(&*self, interner => are_likely_known(interner, texts)) {
+            each!(self, interner => intern_each(interner, texts, symbols, done, true))
+        } else {
+            each!(self, interner => intern_each(interner, texts, symbols, done, false))
         }
     }
 }

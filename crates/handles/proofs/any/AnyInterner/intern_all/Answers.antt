@@ -2,11 +2,20 @@ use Rattle.std.proofs.Common.{refl}
 use Rattle.handles.specs.declared.kind.Kind.TheVariants.{String, Bucket, Buffer}
 use Rattle.handles.proofs.any.AnyInterner.intern_all.Goals as goal
 
-pub returns-in-String : goal.returns-in-String
-returns-in-String c = rw c.in-String.is (c.intern_all_in.ensures String refl)
+pub returns-in-String-self : goal.returns-in-String-self
+returns-in-String-self c = rw c.in-String-self.is (c.intern_each.ensures String refl)
 
-pub returns-in-Bucket : goal.returns-in-Bucket
-returns-in-Bucket c = rw c.in-Bucket.is (c.intern_all_in-in-Bucket.ensures Bucket refl)
+pub returns-in-Bucket-self : goal.returns-in-Bucket-self
+returns-in-Bucket-self c = rw c.in-Bucket-self.is (c.intern_each-in-Bucket-self.ensures Bucket refl)
 
-pub returns-in-Buffer : goal.returns-in-Buffer
-returns-in-Buffer c = rw c.in-Buffer.is (c.intern_all_in-in-Buffer.ensures Buffer refl)
+pub returns-in-Buffer-self : goal.returns-in-Buffer-self
+returns-in-Buffer-self c = rw c.in-Buffer-self.is (c.intern_each-in-Buffer-self.ensures Buffer refl)
+
+pub returns-in-String-self-2 : goal.returns-in-String-self-2
+returns-in-String-self-2 c = rw c.in-String-self-2.is (c.intern_each-in-String-self-2.ensures String refl)
+
+pub returns-in-Bucket-self-2 : goal.returns-in-Bucket-self-2
+returns-in-Bucket-self-2 c = rw c.in-Bucket-self-2.is (c.intern_each-in-Bucket-self-2.ensures Bucket refl)
+
+pub returns-in-Buffer-self-2 : goal.returns-in-Buffer-self-2
+returns-in-Buffer-self-2 c = rw c.in-Buffer-self-2.is (c.intern_each-in-Buffer-self-2.ensures Buffer refl)
