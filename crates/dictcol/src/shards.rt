@@ -92,7 +92,10 @@ impl<H: TextHasher, W: Write> Shards<H, W> {
     pub fn new(hasher: H, shards: Vec<Shard<W>>, order: Shard<W>) -> Self
         requires some { 0 < length shards.items }
         requires written { All IsWritten shards.items × IsWritten order }
-        ensures { HoldShards H.code W.contents result [] → HasSharded H.code W.contents result [] }
+        ensures kept { (result.hasher ≡ hasher) × (result.shards ≡ shards)
+            × (result.order ≡ order) }
+        ensures none { HoldShards H.code W.contents result []
+            → HasSharded H.code W.contents result [] }
     {
         Shards {
             hasher,
