@@ -1,6 +1,6 @@
 -- A file in the form that `encode` writes reads as its dictionary, its end and its numbers.
-use Rattle.std.proofs.Common.{◌≡◌, ℕ, suc, ◌+◌, ◌-◌, ◌*◌, ◌^◌, ◌==◌, ◌<◌, ◌≤◌, Bool, false, List, [], ◌∷◌, ◌++◌, map, length, get_or, take, codes, Option, Some, None, Result, Ok, Err, option_and_then, refl, sym, ap, subst, ◌∙◌, ne_eqb, append-nil, arith}
-use Rattle.std.specs.Prelude.{All, IfOk, IfSome}
+use Rattle.std.proofs.Common.{◌≡◌, ℕ, suc, ◌+◌, ◌-◌, ◌*◌, ◌^◌, ◌==◌, ◌<◌, ◌≤◌, Bool, false, List, [], ◌∷◌, ◌++◌, map, length, get_or, take, codes, Some, None, option_and_then, refl, sym, ap, subst, ◌∙◌, ne_eqb, append-nil, arith}
+use Rattle.std.specs.Prelude.{All}
 use Rattle.std.specs.List.{list_any}
 use Rattle.std.proofs.lemmas.List.{append_assoc, map-append}
 use Rattle.std.proofs.lemmas.Option.{slice_get-get_or}
@@ -25,7 +25,6 @@ use Rattle.string_interner.specs.Json.{json_of_number}
 use Rattle.string_column.specs.Column.{AreCodes, rows_of}
 use Rattle.dictcol.specs.File.{column_file, FileHolds}
 use Rattle.dictcol.specs.Lines.{has_newline}
-use Rattle.dictcol.specs.declared.file.Parts.{Parts}
 use Rattle.dictcol.specs.StreamTokens.{AreIndexes, stream}
 use Rattle.dictcol.proofs.HoldsLines.{indexed_texts-numbers}
 
@@ -163,14 +162,3 @@ pub digit-more : (bytes : Text) (i index new : ℕ) → i < length bytes → All
     → new ≡ index * 10 + digit_value (get_or bytes i 0) → AllDigits 10 (take (i + 1) bytes) × (new ≡ digits_value 10 (take (i + 1) bytes))
 digit-more bytes i index new inside digits is digit put =
     (digits_more 10 bytes i inside digits digit, put ∙ ap (λ n. n * 10 + digit_value (get_or bytes i 0)) is ∙ sym (digits_value_more 10 bytes i inside))
-
--- what was found in the tokens of a file is what it holds
-pub stream-found : {E B S : Type 0} (file : Text) (ts : List Token) (found : Result (Option (Parts B S)) E) → ts ≡ tokens file
-    → IfOk found (λ o. IfSome o (λ parts. (numbers : List Text) × (ts ≡ stream parts.dictionary.texts parts.is_ended numbers) × AreIndexes numbers parts.codes.items))
-    → IfOk found (λ o. IfSome o (λ parts. IsDistinct parts.dictionary.texts)) → IfOk found (λ o. IfSome o (λ parts. list_any has_newline parts.dictionary.texts ≡ false))
-    → IfOk found (λ o. IfSome o (λ parts. All (λ code. code < length parts.dictionary.texts) parts.codes.items))
-    → IfOk found (λ o. IfSome o (λ parts. FileHolds file (rows_of parts.dictionary.texts parts.codes.items) parts.is_ended))
-stream-found file ts (Err error) same is distinct plain within = tt
-stream-found file ts (Ok None) same is distinct plain within = tt
-stream-found file ts (Ok (Some parts)) same is distinct plain within =
-    stream-holds file parts.dictionary.texts parts.is_ended is.0 parts.codes.items (sym same ∙ is.1) is.2 distinct plain within

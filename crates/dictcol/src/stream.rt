@@ -34,7 +34,7 @@ fn takes_array(reader: &mut Reader<'_>, name: &str) -> bool
 }
 
 /// Appends a text, and returns whether it is a new one.
-#[inline]
+#[inline(always)]
 fn push_text<B: Backend>(dictionary: &mut Dictionary<B>, text: &str) -> Result<bool, Fault>
     ensures new { IfOk result (λ is_new. IsTrue is_new
         → dictionary.new.texts ≡ dictionary.old.texts ++ text.now ∷ []) }
