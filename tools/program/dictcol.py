@@ -10,7 +10,7 @@ import resource
 import subprocess
 import tempfile
 import time
-from itertools import count, product
+from itertools import chain, count, product
 from pathlib import Path
 
 from program import columns, shards, shell
@@ -303,12 +303,13 @@ def parts():
         "columns": columns.trials(),
         "shards": shards.trials(),
         "random": [(trial, seed) for trial in (try_random_lines, shell.try_random_bytes) for seed in range(200)],
-        "scale": [
-            *((try_both_ways, *given) for given in large_inputs()),
-            *((try_distant_fault, *given) for given in distant_faults()),
-            *((try_in_little_memory, *given) for given in inputs_in_little_memory()),
-            *shell.long_trials(),
-        ],
+        # Made as they are run: what this process holds counts for the programs that it starts.
+        "scale": chain(
+            ((try_both_ways, *given) for given in large_inputs()),
+            ((try_distant_fault, *given) for given in distant_faults()),
+            ((try_in_little_memory, *given) for given in inputs_in_little_memory()),
+            shell.long_trials(),
+        ),
         # Alone, since it compares times.
         "chosen": [(try_chosen_lines,)],
         "large": [(try_large, name) for name in LARGE],
