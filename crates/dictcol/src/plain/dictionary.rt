@@ -3,7 +3,7 @@
 ghost use Rattle.std.specs.Prelude.{◌≡◌, ◌+◌, ◌<◌, List, [], ◌∷◌, ◌++◌, length, IfOk, IfErr, IfSome, OnOk, vec_len, vec_capacity};
 ghost use Rattle.std.specs.Io.KnownBytes.{Appends};
 ghost use Rattle.string_interner.specs.Text.{Text, IsDistinct};
-ghost use Rattle.dictcol.specs.Fault.{IsDamage, IsNoDamage, WritesLast};
+ghost use Rattle.dictcol.specs.Fault.{IsDamage, IsLinesWriteFault, WritesLast};
 ghost use Rattle.dictcol.specs.Lines.{text_of_ended};
 ghost use Rattle.dictcol.specs.Plain.{line_bounds, IsDictionary, IsDictionaryFault, IsLinesFile};
 
@@ -82,7 +82,7 @@ pub fn write_file<B: Backend, W: Write>(
     ensures written { OnOk result (Appends (W.contents output.old) (W.contents output.new)
         (text_of_ended texts.now.texts [])) }
     ensures silent { WritesLast result output.old output.new }
-    ensures fault { IfErr result IsNoDamage }
+    ensures fault { IfErr result IsLinesWriteFault }
 {
     let Ok(mut block) = Vec::with_capacity(alloc, BLOCK) else {
         return Err(Fault::Memory);
