@@ -112,7 +112,3 @@ IsNoDamage fault = ¬ (IsDamage fault)
 -- the faults of reading a text as a file: its lines are not taken, or it is damaged, for this reason
 abbrev pub IsParseFault : Type 0 → Fault → Type 0
 IsParseFault Reason fault = IsTakeFault fault ⊎ (IsDamage fault × Reason)
-
--- if the fault says that the file is damaged, no text is one of these
-abbrev pub IsRightFault : (Text → Type 0) → Fault → Type 0
-IsRightFault Is fault = IsDamage fault → (text : Text) → ¬ (Is text)
