@@ -22,9 +22,7 @@ use Rattle.string_column.specs.Column.{AreCodes, dictionary_of, rows_of}
 use Rattle.string_column.proofs.Lemmas.Counts.{fresh-distinct, dictionary-distinct}
 use Rattle.string_column.proofs.Lemmas.Rows.{rows-are}
 use Rattle.dictcol.specs.Blocks.{IsTextOf}
-use Rattle.dictcol.specs.Fault.{IsDamage, IsRightFault}
 use Rattle.dictcol.specs.File.{HaveEntries}
-use Rattle.dictcol.specs.declared.fault.Fault.{Fault}
 use Rattle.dictcol.specs.Lines.{has_newline, text_of_ended, text_of_lines, lines_of, AreLines}
 use Rattle.dictcol.specs.Plain.{plain_text, IsLinesFile, IsDictionary, code_bytes, npy_start, npy_header, AreNumbers, IsNpy, IsOnto, IsPlain, line_bounds, AreRows, HoldPlain}
 use Rattle.dictcol.proofs.Lines.{text-of-lines, lines-plain, fresh-plain}
@@ -437,11 +435,11 @@ pub plain-held : (lines : List Text) (numbers : List ℕ) (dictionary file : Tex
 plain-held lines numbers dictionary file is_cut is npy entries = record { lines = lines; lines_are = is; codes_are = numbers; numbers_are = npy; within = entries; text_is = refl }
 
 -- files of which one is none hold no text
-pub no-lines-file : (file numbers : Text) (is_cut : Bool) (fault : Fault) → (IsDamage fault → (lines : List Text) → ¬ (IsLinesFile lines file)) → IsRightFault (HoldPlain file numbers is_cut) fault
-no-lines-file file numbers is_cut fault not damage text holds = not damage holds.lines holds.lines_are
+pub no-lines-file : (file numbers : Text) (is_cut : Bool) → ((lines : List Text) → ¬ (IsLinesFile lines file)) → (text : Text) → ¬ (HoldPlain file numbers is_cut text)
+no-lines-file file numbers is_cut not text holds = not holds.lines holds.lines_are
 
-pub no-numbers : (lines : List Text) (limit : ℕ) (dictionary numbers : Text) (is_cut : Bool) (fault : Fault) → limit ≡ length lines → IsLinesFile lines dictionary
-    → (IsDamage fault → (codes : List ℕ) → All (λ code. code < limit) codes → ¬ (IsNpy codes numbers)) → IsRightFault (HoldPlain dictionary numbers is_cut) fault
-no-numbers lines limit dictionary numbers is_cut fault count is not damage text holds =
+pub no-numbers : (lines : List Text) (limit : ℕ) (dictionary numbers : Text) (is_cut : Bool) → limit ≡ length lines → IsLinesFile lines dictionary
+    → ((codes : List ℕ) → All (λ code. code < limit) codes → ¬ (IsNpy codes numbers)) → (text : Text) → ¬ (HoldPlain dictionary numbers is_cut text)
+no-numbers lines limit dictionary numbers is_cut count is not text holds =
     let same : length holds.lines ≡ limit = ap length (sym (file-lines holds.lines dictionary holds.lines_are) ∙ file-lines lines dictionary is) ∙ sym count in
-    not damage holds.codes_are (subst (λ n. All (λ code. code < n) holds.codes_are) same holds.within) holds.numbers_are
+    not holds.codes_are (subst (λ n. All (λ code. code < n) holds.codes_are) same holds.within) holds.numbers_are

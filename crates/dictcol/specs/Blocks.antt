@@ -1,5 +1,5 @@
 -- Reading lines a block at a time: what is held, what was yielded, and the faults.
--- Cited by `blocks`, and by `merge`, `count` and `answer`.
+-- Cited by `blocks`, and by `merge`, `count`, `plain` and `answer`.
 use Rattle.std.specs.Prelude.{◌≡◌, ℕ, ◌+◌, List, [], ◌∷◌, ◌++◌, take, drop, ◌⊎◌, false, Option, Some, IfSome, IsUtf8}
 use Rattle.std.specs.Io.KnownBytes.{Consumes}
 use Rattle.std.specs.List.{list_any}

@@ -1,5 +1,5 @@
 -- The exit status of each fault, and which faults a step returns.
--- Cited by `Fault`, and by `blocks`, `file`, `format`, `stream`, `merge`, `count` and `answer`.
+-- Cited by `Fault`, and by `blocks`, `file`, `format`, `stream`, `merge`, `count`, `plain` and `answer`.
 use Rattle.std.specs.Prelude.{ℕ, ⊤, ◌≡◌, ◌+◌, ◌-◌, ◌^◌, ◌⊎◌, Option, IfSome, Result, IsOk, IsErrAnd, take, min, count_by}
 use Rattle.std.specs.Str.{IsValidUpTo}
 use Rattle.std.specs.declared.io.Error.{Error}
@@ -44,6 +44,16 @@ write_fault _ error = Output error
 abbrev pub intern_fault : InternError → Fault
 intern_fault NoSymbol = TooMany
 intern_fault (InternMemory _) = Memory
+
+-- the fault of `dict.txt` that a fault of reading its lines is
+abbrev pub dictionary_fault : Fault → Fault
+dictionary_fault (Input error) = DictionaryFile error
+dictionary_fault (NotUtf8 line) = DictionaryNotUtf8 line
+dictionary_fault fault = fault
+
+-- a fault of `dict.txt` that is one of these of its lines
+abbrev pub OfDictionary : (Fault → Type 0) → Fault → Type 0
+OfDictionary Is fault = (of_lines : Fault) × Is of_lines × (fault ≡ dictionary_fault of_lines)
 
 -- the faults of reading the input
 abbrev pub IsReadFault : Fault → Type 0
@@ -102,7 +112,3 @@ IsNoDamage fault = ¬ (IsDamage fault)
 -- the faults of reading a text as a file: its lines are not taken, or it is damaged, for this reason
 abbrev pub IsParseFault : Type 0 → Fault → Type 0
 IsParseFault Reason fault = IsTakeFault fault ⊎ (IsDamage fault × Reason)
-
--- if the fault says that the file is damaged, no text is one of these
-abbrev pub IsRightFault : (Text → Type 0) → Fault → Type 0
-IsRightFault Is fault = IsDamage fault → (text : Text) → ¬ (Is text)

@@ -1,6 +1,6 @@
 -- Plain columns: the file `dict.txt` has the distinct lines, and `codes.npy` the number of its line there for each line.
 -- Cited by `plain`.
-use Rattle.std.specs.Prelude.{◌≡◌, ℕ, ◌+◌, ◌-◌, ◌^◌, ◌<◌, List, [], ◌∷◌, ◌++◌, All, length, replicate, Bool, false, not, ◌&&◌, if◌then◌else◌, nat_lt, codes, decimal, Option, IfSome}
+use Rattle.std.specs.Prelude.{◌≡◌, ℕ, ◌+◌, ◌-◌, ◌^◌, ◌<◌, List, [], ◌∷◌, ◌++◌, All, length, replicate, Bool, false, not, ◌&&◌, if◌then◌else◌, nat_lt, codes, decimal, ◌⊎◌, Option, IfSome}
 use Rattle.std.specs.Int.{w32, to_le_bytes}
 use Rattle.std.specs.Io.KnownBytes.{Appends}
 use Rattle.std.specs.List.{list_any, flat_map, join_with_byte}
@@ -8,7 +8,8 @@ use Rattle.string_interner.specs.Text.{Text, IsDistinct}
 use Rattle.string_interner.specs.Extend.{fresh}
 use Rattle.string_column.specs.Column.{AreCodes, rows_of}
 use Rattle.dictcol.specs.declared.fault.Fault.{Fault}
-use Rattle.dictcol.specs.Fault.{IsDamage}
+use Rattle.dictcol.specs.Blocks.{IsLinesFault}
+use Rattle.dictcol.specs.Fault.{IsDamage, OfDictionary}
 use Rattle.dictcol.specs.File.{HaveEntries}
 use Rattle.dictcol.specs.Lines.{has_newline, text_of_ended, AreLines}
 
@@ -26,9 +27,10 @@ pub record IsDictionary (lines : List Text) (file : Text) : Type 0 where
   pub lines_are : IsLinesFile lines file
   pub distinct : IsDistinct lines
 
--- if the fault says that a file of these bytes is damaged, it is no dictionary
+-- the faults of reading a file as a dictionary: those of reading its lines, or it is damaged, for it is none
 abbrev pub IsDictionaryFault : Option Text → Fault → Type 0
-IsDictionaryFault file fault = IsDamage fault → IfSome file (λ text. (lines : List Text) → ¬ (IsDictionary lines text))
+IsDictionaryFault file fault =
+    OfDictionary (IsLinesFault file) fault ⊎ (IsDamage fault × IfSome file (λ text. (lines : List Text) → ¬ (IsDictionary lines text)))
 
 -- four bytes, the lowest first
 abbrev pub code_bytes : ℕ → Text

@@ -2,7 +2,7 @@
 
 ghost use Rattle.std.specs.Prelude.{◌≡◌};
 ghost use Rattle.std.specs.IoError.{error_kind};
-ghost use Rattle.dictcol.specs.Fault.{arguments_fault, intern_fault, read_fault, write_fault, status_of, IsNoDamage, IsReadFault, IsTakeFault, IsWriteFault};
+ghost use Rattle.dictcol.specs.Fault.{arguments_fault, dictionary_fault, intern_fault, read_fault, write_fault, status_of, IsNoDamage, IsReadFault, IsTakeFault, IsWriteFault};
 
 use std::io;
 use std::io::ErrorKind;
@@ -152,7 +152,7 @@ impl Fault {
 
     /// Returns a fault of reading lines as one of reading `dict.txt`.
     pub fn of_dictionary(fault: Fault) -> Fault
-        ensures { IsNoDamage fault → IsNoDamage result }
+        ensures { result ≡ dictionary_fault fault }
     {
         match fault {
             Fault::Input(error) => Fault::DictionaryFile(error),

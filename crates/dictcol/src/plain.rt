@@ -5,9 +5,10 @@ pub mod folder;
 mod npy;
 mod rows;
 
-ghost use Rattle.std.specs.Prelude.{◌≡◌, ◌≤◌, ◌++◌, List, length, IfOk, IfErr, IfSome, OnOk};
+ghost use Rattle.std.specs.Prelude.{◌≡◌, ◌≤◌, ◌++◌, ◌⊎◌, List, length, Some, IfOk, IfErr, IfSome, OnOk};
 ghost use Rattle.string_interner.specs.Text.{Text};
-ghost use Rattle.dictcol.specs.Fault.{IsNoDamage, IsRightFault, WritesLast};
+ghost use Rattle.dictcol.specs.Blocks.{IsLinesFault};
+ghost use Rattle.dictcol.specs.Fault.{IsLinesWriteFault, IsNotUtf8, IsParseFault, IsWriteFault, OfDictionary, WritesLast};
 ghost use Rattle.dictcol.specs.Lines.{AreLines};
 ghost use Rattle.dictcol.specs.Plain.{HoldPlain, IsDictionaryFault, IsOnto, WritesPlain};
 ghost use Rattle.dictcol.specs.Writes.{Writes};
@@ -39,7 +40,7 @@ fn read_lines<B: Backend + Drop, R: Read>(
 ) -> Result<(Column<B, LineHasher>, bool), Fault>
     ensures ok { IfOk result (λ lines.
         IfSome (R.remaining input.old) (λ text. AreLines text lines.0 lines.1)) }
-    ensures fault { IfErr result IsNoDamage }
+    ensures fault { IfErr result (IsLinesFault (R.remaining input.old)) }
 {
     let mut lines = Column::with_hasher(alloc, hasher);
     let rest = blocks::read_lines(alloc, input, &mut lines)?;
@@ -62,7 +63,7 @@ fn append_lines<B: Backend + Drop, R: Read>(
 ) -> Result<bool, Fault>
     ensures ok { IfOk result (λ is_ended. (more : List Text) × (lines.new ≡ lines.old ++ more)
         × IfSome (R.remaining input.old) (λ text. AreLines text more is_ended)) }
-    ensures fault { IfErr result IsNoDamage }
+    ensures fault { IfErr result (IsLinesFault (R.remaining input.old)) }
 {
     let (more, is_ended) = read_lines::<B, R>(alloc, hasher, input)?;
     if lines.is_empty() {
@@ -87,8 +88,9 @@ impl<B: Backend + Drop> Plain<B> {
             IfSome (D.remaining before.old) (λ known. IfSome (R.remaining input.old) (λ text.
             IsOnto known text plain.lines plain.known plain.is_cut))) }
 
-        // The file is called damaged only if it is.
-        ensures err { IfErr result (IsDictionaryFault (D.remaining before.old)) }
+        // The file is called damaged only if it is, and either not UTF-8 only if it is not.
+        ensures err { IfErr result (λ fault. IsDictionaryFault (D.remaining before.old) fault
+            ⊎ IsLinesFault (R.remaining input.old) fault) }
     {
         let mut lines = dictionary::read::<B, D>(alloc, hasher, before)?;
         let known = lines.len();
@@ -121,7 +123,7 @@ impl<B: Backend + Drop> Plain<B> {
             (D.contents dictionary.old) (D.contents dictionary.new)
             (N.contents numbers.old) (N.contents numbers.new)) }
         ensures silent { WritesLast result dictionary.old dictionary.new }
-        ensures fault { IfErr result IsNoDamage }
+        ensures fault { IfErr result IsLinesWriteFault }
     {
         let (narrow, wide) = self.lines.codes().as_slices();
         if !wide.is_empty() {
@@ -147,8 +149,10 @@ pub fn decode<W: Write>(
     ensures written { OnOk result (Writes (HoldPlain dictionary.now numbers.now is_cut)
         (W.contents output.old) (W.contents output.new)) }
 
-    // Files that hold a text are never called damaged.
-    ensures err { IfErr result (IsRightFault (HoldPlain dictionary.now numbers.now is_cut)) }
+    // Files are called damaged only if they hold no text, and the first not UTF-8 only if it is not.
+    ensures err { IfErr result (λ fault. OfDictionary (IsNotUtf8 0 (Some dictionary.now)) fault
+        ⊎ (IsParseFault ((text : Text) → ¬ (HoldPlain dictionary.now numbers.now is_cut text)) fault
+        ⊎ IsWriteFault fault)) }
 
     // Unless all went well or a write failed, the output was not touched.
     ensures silent { WritesLast result output.old output.new }

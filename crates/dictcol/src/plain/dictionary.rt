@@ -1,9 +1,9 @@
 //! The file `dict.txt`: distinct lines, of which each ends in a newline.
 
-ghost use Rattle.std.specs.Prelude.{◌≡◌, ◌+◌, ◌<◌, List, [], ◌∷◌, ◌++◌, length, IfOk, IfErr, IfSome, OnOk, vec_len, vec_capacity};
+ghost use Rattle.std.specs.Prelude.{◌≡◌, ◌+◌, ◌<◌, List, [], ◌∷◌, ◌++◌, ◌⊎◌, length, Some, IfOk, IfErr, IfSome, OnOk, vec_len, vec_capacity};
 ghost use Rattle.std.specs.Io.KnownBytes.{Appends};
 ghost use Rattle.string_interner.specs.Text.{Text, IsDistinct};
-ghost use Rattle.dictcol.specs.Fault.{IsDamage, IsNoDamage, WritesLast};
+ghost use Rattle.dictcol.specs.Fault.{IsLinesWriteFault, IsNotUtf8, IsParseFault, OfDictionary, WritesLast};
 ghost use Rattle.dictcol.specs.Lines.{text_of_ended};
 ghost use Rattle.dictcol.specs.Plain.{line_bounds, IsDictionary, IsDictionaryFault, IsLinesFile};
 
@@ -82,7 +82,7 @@ pub fn write_file<B: Backend, W: Write>(
     ensures written { OnOk result (Appends (W.contents output.old) (W.contents output.new)
         (text_of_ended texts.now.texts [])) }
     ensures silent { WritesLast result output.old output.new }
-    ensures fault { IfErr result IsNoDamage }
+    ensures fault { IfErr result IsLinesWriteFault }
 {
     let Ok(mut block) = Vec::with_capacity(alloc, BLOCK) else {
         return Err(Fault::Memory);
@@ -128,8 +128,8 @@ pub fn read<B: Backend + Drop, R: Read>(
 pub fn find_bounds(alloc: Global, file: &[u8]) -> Result<Vec<usize>, Fault>
     ensures ok { IfOk result (λ bounds. (lines : List Text)
         × IsLinesFile lines file.now × (bounds.items ≡ line_bounds 0 lines)) }
-    ensures err { IfErr result (λ fault. IsDamage fault → (lines : List Text)
-        → ¬ (IsLinesFile lines file.now)) }
+    ensures err { IfErr result (λ fault. OfDictionary (IsNotUtf8 0 (Some file.now)) fault
+        ⊎ IsParseFault ((lines : List Text) → ¬ (IsLinesFile lines file.now)) fault) }
 {
     if let Err(fault) = check_utf8(0, file) {
         return Err(Fault::of_dictionary(fault));

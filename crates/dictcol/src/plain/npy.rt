@@ -3,7 +3,7 @@
 ghost use Rattle.std.specs.Prelude.{◌≡◌, ℕ, ◌*◌, ◌^◌, ◌<◌, ◌≤◌, ◌++◌, List, All, length, take, IfOk, IfErr, OnOk};
 ghost use Rattle.std.specs.Io.KnownBytes.{Appends};
 ghost use Rattle.std.specs.List.{flat_map};
-ghost use Rattle.dictcol.specs.Fault.{IsDamage, IsWriteFault};
+ghost use Rattle.dictcol.specs.Fault.{IsDamage, IsParseFault, IsWriteFault};
 ghost use Rattle.string_interner.specs.Text.{Text};
 ghost use Rattle.dictcol.specs.Plain.{code_bytes, npy_header, AreNumbers, IsNpy};
 ghost use Rattle.dictcol.specs.Writes.{Writes};
@@ -101,8 +101,7 @@ fn find_fault(header: &[u8]) -> Fault
 fn split_header(alloc: Global, file: &[u8]) -> Result<&[u8], Fault>
     ensures ok { IfOk result (λ numbers. (count : ℕ) × (file.now ≡ npy_header count ++ numbers.now)
         × (length numbers.now ≡ 4 * count) × (count < 2 ^ 64)) }
-    ensures err { IfErr result (λ fault. IsDamage fault → (numbers : List ℕ)
-        → ¬ (IsNpy numbers file.now)) }
+    ensures err { IfErr result (IsParseFault ((numbers : List ℕ) → ¬ (IsNpy numbers file.now))) }
 {
     let Some((header, numbers)) = file.split_at_checked(HEADER) else {
         return Err(Fault::NotNpy);
@@ -121,8 +120,8 @@ fn split_header(alloc: Global, file: &[u8]) -> Result<&[u8], Fault>
 fn check_numbers(bytes: &[u8], limit: usize) -> Result<(), Fault>
     requires { (count : ℕ) × (length bytes.now ≡ 4 * count) }
     ensures ok { OnOk result ((numbers : List ℕ) × AreNumbers limit numbers bytes.now) }
-    ensures err { IfErr result (λ fault. (numbers : List ℕ)
-        → ¬ (AreNumbers limit numbers bytes.now)) }
+    ensures err { IfErr result (λ fault. IsDamage fault × ((numbers : List ℕ)
+        → ¬ (AreNumbers limit numbers bytes.now))) }
 {
     let mut rest = bytes;
     'numbers: while let Some((first, behind)) = rest.split_first_chunk::<4>() {
@@ -138,8 +137,8 @@ fn check_numbers(bytes: &[u8], limit: usize) -> Result<(), Fault>
 pub fn read(alloc: Global, file: &[u8], limit: usize) -> Result<&[u8], Fault>
     ensures ok { IfOk result (λ bytes. (codes : List ℕ)
         × AreNumbers limit codes bytes.now × IsNpy codes file.now) }
-    ensures err { IfErr result (λ fault. IsDamage fault → (codes : List ℕ)
-        → All (λ code. code < limit) codes → ¬ (IsNpy codes file.now)) }
+    ensures err { IfErr result (IsParseFault ((codes : List ℕ)
+        → All (λ code. code < limit) codes → ¬ (IsNpy codes file.now))) }
 {
     let bytes = split_header(alloc, file)?;
     check_numbers(bytes, limit)?;

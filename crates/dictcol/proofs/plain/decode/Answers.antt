@@ -1,10 +1,12 @@
-use Rattle.std.proofs.Common.{◌≡◌, ℕ, ◌<◌, ◌+◌, ◌-◌, List, All, IfErr, length, ap, subst, ◌∙◌, arith, rules}
+use Rattle.std.proofs.Common.{◌≡◌, ℕ, ◌<◌, ◌+◌, ◌-◌, List, All, ◌⊎◌, IfErr, Some, length, inl, inr, ap, subst, ◌∙◌, arith, rules}
 use Rattle.std.proofs.lemmas.Result.{on_ok_weaker, IfErr-weaker}
 use Rattle.string_column.specs.Column.{rows_of}
-use Rattle.dictcol.specs.Fault.{IsDamage}
-use Rattle.dictcol.specs.Plain.{plain_text, AreNumbers, IsNpy}
+use Rattle.string_interner.specs.Text.{Text}
+use Rattle.dictcol.specs.Fault.{IsNotUtf8, IsParseFault, OfDictionary}
+use Rattle.dictcol.specs.Plain.{plain_text, AreNumbers, IsLinesFile, IsNpy}
 use Rattle.dictcol.proofs.LineBounds.{bounds-long}
-use Rattle.dictcol.proofs.PlainColumns.{rows-held, plain-held, no-numbers}
+use Rattle.dictcol.proofs.ParseFault.{parse-weaker}
+use Rattle.dictcol.proofs.PlainColumns.{rows-held, plain-held, no-lines-file, no-numbers}
 use Rattle.dictcol.proofs.plain.decode.Goals as goal
 
 pub overflow_sub-len : goal.overflow_sub-len
@@ -14,14 +16,23 @@ overflow_sub-len g c =
     let same : c.len.result ≡ length c.in_ok-bounds.bounds.items = search rules in
     omega (arith, long, same)
 
+pub returns-in_err-bounds-clause-err : goal.returns-in_err-bounds-clause-err
+returns-in_err-bounds-clause-err g c =
+    let none : IfErr c.from_residual.result (λ fault. OfDictionary (IsNotUtf8 0 (Some c.args.dictionary.now)) fault ⊎ IsParseFault ((lines : List Text) → ¬ (IsLinesFile lines c.args.dictionary.now)) fault) = search rules in
+    IfErr-weaker c.from_residual.result _ _ (λ fault why. elim why [
+      | inl bad ↦ inl bad
+      | inr parse ↦ inr (inl (parse-weaker fault (no-lines-file c.args.dictionary.now c.args.numbers.now c.args.is_cut) parse))
+    ]) none
+
 pub returns-in_err-codes-clause-err : goal.returns-in_err-codes-clause-err
 returns-in_err-codes-clause-err g c =
     let read = c.in_ok-bounds.ensures.ok in
     let long : length c.in_ok-bounds.bounds.items ≡ length read.0 + 1 = ap length read.2 ∙ bounds-long 0 read.0 in
     let same : c.len.result ≡ length c.in_ok-bounds.bounds.items = search rules in
     let count : c.len.result - 1 ≡ length read.0 = omega (arith, long, same) in
-    let none : IfErr c.from_residual-in_err-codes.result (λ fault. IsDamage fault → (codes : List ℕ) → All (λ code. code < c.len.result - 1) codes → ¬ (IsNpy codes c.args.numbers.now)) = search rules in
-    IfErr-weaker c.from_residual-in_err-codes.result _ _ (λ fault not. no-numbers read.0 (c.len.result - 1) c.args.dictionary.now c.args.numbers.now c.args.is_cut fault count read.1 not) none
+    let none : IfErr c.from_residual-in_err-codes.result (IsParseFault ((codes : List ℕ) → All (λ code. code < c.len.result - 1) codes → ¬ (IsNpy codes c.args.numbers.now))) = search rules in
+    IfErr-weaker c.from_residual-in_err-codes.result _ _ (λ fault why.
+    inr (inl (parse-weaker fault (no-numbers read.0 (c.len.result - 1) c.args.dictionary.now c.args.numbers.now c.args.is_cut count read.1) why))) none
 
 pub write_rows-requires : goal.write_rows-requires
 write_rows-requires g c =
@@ -48,3 +59,6 @@ returns-clause-written g c =
       plain-held read.0 numbers.0 c.args.dictionary.now c.args.numbers.now c.args.is_cut read.1 numbers.2 are.within,
       appends,
     )) (c.write_rows.ensures.written rows held)
+
+pub returns-clause-err : goal.returns-clause-err
+returns-clause-err g c = IfErr-weaker c.write_rows.result _ _ (λ fault writing. inr (inr writing)) c.write_rows.ensures.fault

@@ -21,7 +21,7 @@ numbers-preserved c =
     one-number c.args.limit number c.args.bytes.now c.numbers.rest.now c.in-Some.first.now c.in-Some.behind.now to next.0 next.1 fits within
 
 pub returns-then-from_le_bytes-limit-clause-err : goal.returns-then-from_le_bytes-limit-clause-err
-returns-then-from_le_bytes-limit-clause-err c = λ numbers.
+returns-then-from_le_bytes-limit-clause-err c =
     let number = c.from_le_bytes.result in
     let fits : c.from_le_bytes.result < 2 ^ 32 = c.from_le_bytes.type_inv in
     let above : c.args.limit ≤ c.from_le_bytes.result = search rules in
@@ -32,7 +32,7 @@ returns-then-from_le_bytes-limit-clause-err c = λ numbers.
     let small : (i : ℕ) → get_or c.args.bytes.now i 0 < 256 = λ i. omega (arith, c.type_inv.bytes i) in
     let to = c.numbers.invariant in
     let next = next-number c.args.bytes.now c.numbers.rest.now c.in-Some.first.now c.in-Some.behind.now to.numbers number small to.so_far enough first behind is in
-    not-below c.args.limit number numbers c.args.bytes.now c.numbers.rest.now c.in-Some.first.now c.in-Some.behind.now to next.0 next.1 fits above
+    (tt, λ numbers. not-below c.args.limit number numbers c.args.bytes.now c.numbers.rest.now c.in-Some.first.now c.in-Some.behind.now to next.0 next.1 fits above)
 
 pub returns-clause-ok : goal.returns-clause-ok
 returns-clause-ok c =
