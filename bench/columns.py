@@ -1,4 +1,5 @@
-"""The program dictcol beside sort, over lines that are made here: times by hyperfine, memory, and estimated cycles."""
+"""The program dictcol beside sort and other programs that count lines, over lines that are made here: times by hyperfine, memory,
+and estimated cycles."""
 import json
 import os
 import pathlib
@@ -10,7 +11,7 @@ import sys
 import tempfile
 
 from cycles import count, cycles_in
-from results import summary
+from results import HERE, summary
 
 RUNS = 5
 # Each command, and the lines that it reads. `encoded` is what dictcol made of those in order.
@@ -22,7 +23,16 @@ COMMANDS = [
     ("dictcol decode", "encoded"),
     ("dictcol count", "repeated"),
     ("sort | uniq -c", "repeated"),
+    ("mawk", "repeated"),
+    ("Rust", "repeated"),
+    ("Python", "repeated"),
 ]
+# The commands that have another name above: each counts lines by a hash table.
+PEERS = {
+    "mawk": "mawk '{ counts[$0]++ } END { for (line in counts) print counts[line], line }'",
+    "Rust": shlex.quote(str(HERE / "out/peer/target/release/peer")),
+    "Python": f"{sys.executable} {shlex.quote(str(HERE / 'peer/count.py'))}",
+}
 # Runs a command, and prints its peak in KiB. Linux counts what the parent of a process holds when it starts, too, so the parent
 # is a small one.
 PEAK = """import resource, subprocess, sys
@@ -78,6 +88,7 @@ def measure_columns(program, number, measure):
             subprocess.run([program, "encode"], check=True, stdin=lines, stdout=encoded)
         for command, given in COMMANDS:
             size = files["in order" if given == "encoded" else given].stat().st_size / number
-            for what, value in measure(command.replace("dictcol", shlex.quote(str(program))), files[given]).items():
+            words = PEERS.get(command, command.replace("dictcol", shlex.quote(str(program))))
+            for what, value in measure(words, files[given]).items():
                 row = (command, "-", "-", "-", given, number, f"{size:.1f}", what, f"{value / number:.2f}")
                 yield "\t".join(map(str, row))
