@@ -1,12 +1,13 @@
 #!/usr/bin/env python3
-"""Prints which planted bugs the changes since the last full run can touch, a line each: CRATE NAME
+"""Prints which planted bugs the changes since the last run can touch, a line each: CRATE NAME
 
-The file tools/tried-in-full names the last commit on which all planted bugs of must-fail/ were tried and refused, and the
-toolchain's logic. A planted bug is touched if one of these files is new, gone or changed since then: its own, a source file that
-it changes, a proof file of its function, a file of specs/ of its crate or of one below, or a source file there in which a
-function has another contract, or something outside functions has changed, if a source that the bug changes names that function,
-or a type of that file. So more are touched than need be. With no such commit, or under another logic, all are. Lemmas are not
-considered, nor what tries the bugs: the gate proves the ones, and tests judge the other.
+The file tools/tried-in-full has three lines: the last commit on which each planted bug of must-fail/ was refused, either in that
+run or in an earlier one with no change since then that touches it; the toolchain's logic; and the last commit on which one run
+tried all of them. A planted bug is touched if one of these files is new, gone or changed since the first commit: its own, a
+source file that it changes, a proof file of its function, a file of specs/ of its crate or of one below, or a source file there
+in which a function has another contract, or something outside functions has changed, if a source that the bug changes names that
+function, or a type of that file. So more are touched than need be. With no such commit, or under another logic, all are. Lemmas
+are not considered, nor what tries the bugs: the gate proves the ones, and tests judge the other.
 """
 
 import re
@@ -62,9 +63,14 @@ def logic():
     return ask_rt("version").rpartition("logic")[2].strip()
 
 
-def last_full_run():
-    """The commit of the last full run, or None if there is none to compare with."""
-    commit, _, kit = read(TRIED).partition("\n") if TRIED.exists() else ("", "", "")
+def lines_of_runs():
+    """The lines of tools/tried-in-full."""
+    return read(TRIED).splitlines() if TRIED.exists() else []
+
+
+def last_run():
+    """The commit of the last run, or None if there is none to compare with."""
+    commit, kit, *_ = [*lines_of_runs(), "", ""]
     is_there = commit and git("cat-file", "-e", f"{commit}^{{commit}}") is not None
     return commit if is_there and kit.rpartition("logic")[2].strip() == logic() else None
 
@@ -76,12 +82,18 @@ def commit_as_it_stands():
 
 
 def note_full_run(commit):
-    write(TRIED, f"{commit}\nlogic {logic()}\n")
+    """Notes that on this commit one run tried all planted bugs, and each was refused."""
+    write(TRIED, f"{commit}\nlogic {logic()}\nat once {commit}\n")
+
+
+def note_run(commit):
+    """Notes that on this commit each planted bug that changes since the last run touch was refused."""
+    write(TRIED, "".join(f"{line}\n" for line in (commit, f"logic {logic()}", *lines_of_runs()[2:])))
 
 
 def touched():
     """The names of the planted bugs that are touched, for each crate that has any."""
-    commit = last_full_run()
+    commit = last_run()
     changes = Changes(commit) if commit else None
     found = {crate: [it.name for it in edits_of(crate) if not changes or changes.touch(it)] for crate in crates()}
     return {crate: names for crate, names in found.items() if names}

@@ -95,6 +95,18 @@ class FullRunTest(SmallRepository):
         touched.note_full_run(self.commit)
         self.assertEqual(touched.touched(), {})
 
+    def test_a_run_is_what_the_next_one_begins_from(self):
+        touched.note_full_run("0" * 40)
+        touched.note_run(self.commit)
+        self.assertEqual(touched.touched(), {})
+        self.write("crates/low/proofs/double/Answers.antt", "")
+        self.assertEqual(touched.touched(), {"low": ["doubles_once"]})
+
+    def test_a_run_keeps_the_last_full_one(self):
+        touched.note_full_run("0" * 40)
+        touched.note_run(self.commit)
+        self.assertEqual((self.top / "tried").read_text(encoding="utf-8"), f"{self.commit}\nlogic 1f\nat once {'0' * 40}\n")
+
     def test_without_a_full_run_all_are_touched(self):
         self.assertEqual(touched.touched(), self.ALL)
 
