@@ -35,8 +35,9 @@ VERSIONS = {
 }
 # Folders of what is built, as .gitignore has them.
 BUILT = {"out", "__pycache__"}
+# How long a page may be: the front page fits on two screens, and any other is read at one sitting.
 MOST_LINES = 120
-MOST_WORDS = 25_000
+MOST_WORDS = 3_000
 LINK = re.compile(r"\]\(([^)\s]+)\)")
 SPAN = re.compile(r"(?<!`)`([^`\n]+)`(?!`)")
 BLOCK = re.compile(r"^```(\w*)\n(.*?)^```$", re.M | re.S)
@@ -156,10 +157,9 @@ def untried_blocks(blocks, repository):
 def long_pages(texts):
     if (lines := len(texts.get("README.md", "").splitlines())) > MOST_LINES:
         yield f"README.md: {lines} lines, and {MOST_LINES} may be"
-    counts = {page: len(text.split()) for page, text in texts.items()}
-    if (words := sum(counts.values())) > MOST_WORDS:
-        longest = sorted(counts, key=counts.get, reverse=True)[:3]
-        yield f"{words} words in all pages, and {MOST_WORDS} may be; the longest are {', '.join(longest)}"
+    for page, text in texts.items():
+        if (words := len(text.split())) > MOST_WORDS:
+            yield f"{page}: {words} words, and {MOST_WORDS} may be"
 
 
 def other_versions():
