@@ -35,7 +35,7 @@ def operands(words):
     for word in left:
         if word == b"--":
             return [*found, *left]
-        if word in (b"--backend", b"--invalid"):
+        if word in (b"--backend", b"--invalid", b"--plain", b"--onto", b"--files0-from"):
             next(left, None)
         elif word == b"-" or not word.startswith(b"-"):
             found.append(word)

@@ -314,6 +314,149 @@ def try_counts_of_encoded(program):
         yield from try_refused_files(program, folder, [b"count", b"--encoded", b"--sorted", *names[:3]])
 
 
+def ended_names(names):
+    return b"".join(name + b"\0" for name in names)
+
+
+# Lists of names: the list and what is told of it.
+BAD_LISTS = (
+    (b"\0", b"1: invalid zero-length file name"),
+    (b"one\0\0one\0", b"2: invalid zero-length file name"),
+    (b"one\0one\0\0", b"3: invalid zero-length file name"),
+    (b"one\0\xff\0", b"2: the file name is not UTF-8 (a file with such a name can be standard input)"),
+    (b"one\0o\n\xc3", b"2: the file name is not UTF-8 (a file with such a name can be standard input)"),
+)
+
+
+def try_lists(program):
+    """Files that a list names are read as those that the arguments name."""
+    files = {b"one": b"red\ngreen", b"two lines\n\n": b"ish\nred\n", b"--sorted": b"blue", b"./-": b"\n\nblue\n"}
+    whole = b"".join(files.values())
+    with tempfile.TemporaryDirectory() as folder:
+        for name, data in files.items():
+            Path(folder, os.fsdecode(name)).write_bytes(data)
+        for listed in ended_names(files), ended_names(files)[:-1]:
+            Path(folder, "list").write_bytes(listed)
+            for words in [b"encode"], [b"count"], [b"count", b"--sorted", b"--backend=buffer"], [b"encode", b"--invalid=skip"]:
+                for option in [b"--files0-from=list"], [b"--files0-from", b"./list"], [b"--files0-from=one", b"--files0-from=list"]:
+                    yield f"{words} {option}", program.run([*option, *words], b"\xff", folder=folder), answer(words, whole)
+                ended = program.run([*words, b"--files0-from=-"], listed, folder=folder)
+                yield f"{words} of a list in standard input", ended, answer(words, whole)
+            yield "shards", program.run(b"shard 1 it --files0-from=list".split(), folder=folder), (0, b"", b"")
+            yield "shards of a list", Path(folder, "it", "0").read_bytes(), whole
+            Path(folder, "it", "0").unlink()
+            Path(folder, "it", "order").unlink()
+            Path(folder, "it").rmdir()
+            yield "columns", program.run(b"encode --plain columns --files0-from=list".split(), folder=folder), (0, b"", b"")
+            yield "columns of a list", program.run([b"decode", b"columns"], folder=folder), (0, whole, b"")
+        Path(folder, "list").write_bytes(b"one\0-\0two lines\n\n")
+        ended = program.run(b"count --files0-from=list".split(), files[b"--sorted"], folder=folder)
+        yield "a list with standard input", ended, answer([b"count"], b"".join([*files.values()][:1]) + b"blueish\nred\n")
+        Path(folder, "none").write_bytes(b"")
+        for words, given in ([b"--files0-from=none"], b"red\n"), ([b"--files0-from=-"], b""):
+            for word in [b"count"], [b"encode"], [b"count", b"--encoded"]:
+                wanted = answer([b"encode"], b"") if word == [b"encode"] else (0, b"", b"")
+                yield f"{word} of no file", program.run([*word, *words], given, folder=folder), wanted
+        names = write_files(folder, [answer([b"encode"], part)[1] for part in (b"red\ngreen", b"ish\nred\n")])
+        Path(folder, "7.json").write_bytes(ended_names(names))
+        words = [b"count", b"--encoded", b"--files0-from=7.json"]
+        yield "encoded files of a list", program.run(words, folder=folder), answer([b"count"], b"red\ngreenish\nred\n")
+        yield from try_refused_files(program, folder, words)
+        yield from try_refused_files(program, folder, [b"count", b"--files0-from=7.json", b"--invalid=replace"])
+
+
+def try_bad_lists(program):
+    """A list that names no file, files that are not there, and standard input where it is the list."""
+    with tempfile.TemporaryDirectory() as folder:
+        Path(folder, "one").write_bytes(b"red\n")
+        Path(folder, "bytes").write_bytes(b"red\n\xff\n")
+        Path(folder, "none").write_bytes(b"")
+        input_twice = b"2: standard input is named twice"
+        list_is_input = b"%d: no file name may be '-' if the names come from standard input"
+        for word in b"count", b"encode", b"shard 2 it", b"encode --plain it", b"count --encoded":
+            for data, message in (*BAD_LISTS, (b"-\0-\0", input_twice)):
+                Path(folder, "list").write_bytes(data)
+                words = [*word.split(), b"--files0-from=list"]
+                yield f"{words} of {data}", program.run(words, b"a\n", folder=folder), failed(2, b"list:" + message)
+            for data, message in (*BAD_LISTS, (b"-", list_is_input % 1), (b"one\0-\0one", list_is_input % 2)):
+                words = [*word.split(), b"--files0-from", b"-"]
+                yield f"{words} of {data}", program.run(words, data, folder=folder), failed(2, b"-:" + message)
+            for name, error in (b"missing", errno.ENOENT), (b".", errno.EISDIR), (b"one/", errno.ENOTDIR):
+                wanted = 1, b"", unreadable(error, name + b": ")
+                words = [*word.split(), b"--files0-from=-"]
+                front = b"" if b"--encoded" in words else b"none\0"
+                yield f"{words} of {name}", program.run(words, front + name, folder=folder), wanted
+                words = [*word.split(), b"--files0-from", name]
+                yield f"{words}", program.run(words, b"one\0", folder=folder), wanted
+        wanted = failed(2, b"bytes: line 2 is not UTF-8 (see --invalid)")
+        yield "a bad line in a list", program.run(b"count --files0-from=-".split(), b"one\0bytes\0one", folder=folder), wanted
+        yield "nothing is left", sorted(path.name for path in Path(folder).iterdir()), ["bytes", "list", "none", "one"]
+
+
+# More names than arguments may be, which take two megabytes.
+LISTED = 300000
+
+
+def try_long_list(program):
+    with tempfile.TemporaryDirectory() as folder:
+        Path(folder, "a line").write_bytes(b"red\n")
+        ended = program.run(b"count --files0-from=-".split(), b"a line\0" * LISTED, folder=folder)
+        yield f"a list of {LISTED} names", ended, (0, b"%d red\n" % LISTED, b"")
+
+
+# Words with control characters, and how Rust's `{:?}` writes them.
+CONTROLS = (
+    ("no\x1b[31msuch\nfile", r'"no\u{1b}[31msuch\nfile"'), ("\t", r'"\t"'), ("a\r", r'"a\r"'), ("\x7f", r'"\u{7f}"'),
+    ("\x9b31m", r'"\u{9b}31m"'), ("é\n", r'"é\n"'), ('"\\\x01', r'"\"\\\u{1}"'), ("'\n\n", r'''"'\n\n"'''),
+)
+
+
+def try_controls(program):
+    """No control character of a word or of the name of a file comes to the terminal. Other words are told as they are."""
+    encoded = answer([b"encode"], b"a\n")[1]
+    with tempfile.TemporaryDirectory() as folder:
+        plain = (("a b", "a b"), ('"', '"'), ("é\\n'", "é\\n'"))
+        for word, shown in (*CONTROLS, *plain):
+            name, told_name = word.encode(), shown.encode()
+            between = told_name if (word, shown) in CONTROLS else b"'%s'" % told_name
+            missing = 1, b"", unreadable(errno.ENOENT, told_name + b": ")
+            for words in ([b"count", name], [b"merge", name], [b"decode", name], [b"encode", b"--files0-from", name]):
+                yield f"{words}", program.run(words, folder=folder), missing
+            yield f"{word!r} in a list", program.run(b"count --files0-from=-".split(), name, folder=folder), missing
+            for words, message in (
+                ([name], b"unknown command %s" % between),
+                ([b"decode", b"a", name], b"extra operand %s" % between),
+                ([b"count", b"--backend=" + name], b"unknown backend %s" % between),
+                ([b"count", b"--invalid", name], b"option '--invalid' takes error, replace or skip, and not %s" % between),
+                ([b"shard", name, b"it"], b"shard takes a number of files, and not %s" % between),
+                ([b"count", b"--files0-from=a", name], b"extra operand %s: files are named by option '--files0-from'" % between),
+            ):
+                yield f"{words}", program.run(words, folder=folder), misused(message)
+            Path(folder, word).write_bytes(b"\0")
+            wanted = failed(2, told_name + b":1: invalid zero-length file name")
+            yield f"the list {word!r}", program.run([b"count", b"--files0-from", name], folder=folder), wanted
+            Path(folder, word).write_bytes(encoded)
+            wanted = *answer([b"count"], encoded)[:2], warned(encoded, told_name + b": ")
+            yield f"a warning of {word!r}", program.run([b"count", name], folder=folder), wanted
+            wanted = failed(1, b"%s: cannot write files: %s" % (told_name, told(errno.EEXIST)))
+            yield f"the folder {word!r}", program.run([b"shard", b"2", name], folder=folder), wanted
+        for words in [b"--a\nb"], [b"count", b"-\x1b"]:
+            shown = words[-1].replace(b"\n", b"\\n").replace(b"\x1b", b"\\u{1b}")
+            yield f"{words}", program.run(words), misused(b'unknown option "%s"' % shown)
+
+
+def try_folders(program):
+    """In the place of a file, a folder that encode --plain wrote is told as one."""
+    with tempfile.TemporaryDirectory() as folder:
+        yield "a folder", program.run(b"encode --plain it".split(), b"red\n", folder=folder), (0, b"", b"")
+        wanted = failed(1, b"it: a folder that encode --plain wrote; decode writes its text")
+        for words in (b"merge it", b"merge - it", b"count --encoded it", b"count it", b"encode it", b"shard 2 new it",
+                      b"encode --plain new it", b"count --files0-from=it"):
+            ended = program.run(words.split(), answer([b"encode"], b"a\n")[1], folder=folder)
+            yield f"{words}", ended, wanted
+        yield "decoded", program.run(b"decode it".split(), folder=folder), (0, b"red\n", b"")
+
+
 def try_refused_files(program, folder, words):
     """Each request for memory is refused, also those that a second file needs. The file is named, if one is being read."""
     wanted = program.run(words, folder=folder)
@@ -392,8 +535,8 @@ def try_telling_to_a_full_disk(program):
 def trials():
     return [(trial,) for trial in (
         try_telling_to_a_full_disk, try_operands, try_files, try_many_files, try_encoded, try_counts_of_encoded, try_merges,
-        try_invalid, try_blocks, try_drawing, try_help)]
+        try_invalid, try_blocks, try_drawing, try_help, try_lists, try_bad_lists, try_controls, try_folders)]
 
 
 def long_trials():
-    return [(try_many_lines,), (try_long_lines,), (try_terminal,)]
+    return [(try_many_lines,), (try_long_lines,), (try_terminal,), (try_long_list,)]
