@@ -22,6 +22,7 @@ void begin_column(Column *self, Dictionary *dictionary, Block *block, Py_ssize_t
   Dictionary *dictionary_before = self->dictionary;
   Block *block_before = self->block;
   self->dictionary = dictionary, self->block = block, self->n = n;
+  self->is_part = false;
   self->begins++;
   drop_dictionary(dictionary_before);
   drop_block(block_before);
@@ -86,6 +87,13 @@ PyObject *column_codes(Column *self, void *unused) {
 static PyObject *column_distinct(Column *self, void *unused) {
   (void)unused;
   return is_made(self) ? PyLong_FromSize_t(interner_len(self->dictionary->h)) : NULL;
+}
+
+/* About how many bytes the strings take that were made of its texts. */
+static PyObject *column_kept(Column *self, void *unused) {
+  (void)unused;
+  if (!is_made(self)) return NULL;
+  return PyLong_FromSize_t(self->dictionary->texts_room * sizeof *self->dictionary->texts + self->dictionary->texts_bytes);
 }
 
 static PyObject *column_hasher(Column *self, void *unused) {
@@ -198,6 +206,7 @@ static PyObject *column_slice(Column *self, PyObject *slice) {
     block->used = n;
   }
   begin_column(part, share_dictionary(self->dictionary), block, n);
+  part->is_part = self->is_part || n < self->n;
   return (PyObject *)part;
 failed:
   Py_XDECREF((PyObject *)part);
@@ -238,6 +247,7 @@ static PyObject *column_take(Column *self, PyObject *given) {
   if (block) {
     block->used = rows.n;
     begin_column(taken, share_dictionary(self->dictionary), block, rows.n);
+    taken->is_part = self->is_part || rows.n < self->n;
   } else Py_CLEAR(taken);
   drop_numbers(&rows);
   return (PyObject *)taken;
@@ -331,12 +341,20 @@ static PyMethodDef column_methods[] = {
     {"index", (PyCFunction)(void (*)(void))column_index, METH_VARARGS | METH_KEYWORDS,
      "index($self, /, value, start=0, stop=None)\n--\n\n"
      "Returns the first row with a value, from row `start` up to and without row `stop`. Raises ValueError if there is none."},
+    {"compact", (PyCFunction)column_compact, METH_NOARGS,
+     "compact($self, /)\n--\n\n"
+     "Returns a column of the same rows, whose dictionary has only the texts that rows have, in the order that they have here.\n\n"
+     "So a few rows of a long column do not hold all of its texts. The new column has the same hasher and keys."},
+    {"shrink", (PyCFunction)column_shrink, METH_NOARGS,
+     "shrink($self, /)\n--\n\n"
+     "Releases memory that no row needs, if it can: the strings that iteration and `dictionary` made, and spare capacity."},
     {"take", (PyCFunction)column_take, METH_O,
      "take($self, rows, /)\n--\n\n"
      "Returns a column of the rows with these numbers, in their order, with the whole dictionary. A negative number counts from\n"
      "the end. Raises IndexError for a row that there is not."},
     {"_buffers", (PyCFunction)column_buffers, METH_NOARGS, NULL},
-    {"_compact", (PyCFunction)column_compact, METH_NOARGS, NULL},
+    {"_in_order", (PyCFunction)column_in_order, METH_NOARGS, NULL},
+    {"_with_dictionary", (PyCFunction)column_with_dictionary, METH_VARARGS | METH_CLASS, NULL},
     {"__reversed__", (PyCFunction)column_reversed, METH_NOARGS, "The rows in reverse order, as they are now."},
     {"__arrow_c_schema__", (PyCFunction)column_arrow_schema, METH_NOARGS,
      "__arrow_c_schema__($self, /)\n--\n\nThe type of the column for Arrow: a dictionary of large_utf8."},
@@ -349,7 +367,7 @@ static PyGetSetDef column_getset[] = {
     {"dictionary", (getter)column_dictionary, NULL,
      "The distinct texts, in a new list. A code is an index of it.\n\n"
      "New texts are appended in order of first appearance. Texts that no row has come from `from_parts`, `from_pandas`, a merged\n"
-     "column, or a longer column of which this one is a slice. The column keeps these strings in memory from then on.",
+     "column, or a longer column of which this one is a slice. The column keeps these strings in memory until `shrink`.",
      NULL},
     {"codes", (getter)column_codes, NULL,
      "The code of each row, as they are now: a view of the column's memory that never changes.\n\n"
@@ -357,6 +375,7 @@ static PyGetSetDef column_getset[] = {
      NULL},
     {"distinct", (getter)column_distinct, NULL, "The number of texts in the dictionary.", NULL},
     {"hasher", (getter)column_hasher, NULL, "How texts are hashed: `seeded`, `siphash` or `fixed`.", NULL},
+    {"_kept", (getter)column_kept, NULL, NULL, NULL},
     {"_parts", (getter)column_parts, (setter)column_set_parts, NULL, NULL},
     {NULL, NULL, NULL, NULL, NULL}};
 

@@ -191,6 +191,9 @@ static inline void set_code(Block *block, Py_ssize_t row, int64_t code) {
 /** Makes room for more codes of a width behind the first n. Others that refer to the block keep what they see. */
 bool reserve_codes(Block **block, Py_ssize_t n, Py_ssize_t more, int width);
 
+/** Gives back the memory behind the first n codes, if nobody else refers to the block. */
+void shrink_block(Block **block, Py_ssize_t n);
+
 /** A view of the first n codes, which have `width` bytes each if there are none. */
 PyObject *view_codes(State *state, Block *block, Py_ssize_t n, int width);
 
@@ -198,21 +201,40 @@ PyObject *view_codes(State *state, Block *block, Py_ssize_t n, int width);
 
 /** A list of distinct texts. Columns share it; one that adds a text to a shared one copies it first. */
 typedef struct Dictionary {
-  size_t references;
+  size_t references;  /* columns and parts */
+  size_t readers;     /* iterators: texts that rows have stay as they are, whatever is added or undone */
   interner *h;
   size_t uses;        /* how often texts were added */
-  PyObject **texts;   /* a str of each text at the front, as far as they were read */
-  size_t texts_count;
+  PyObject **texts;   /* a str of each text at the front, or null if it was not read */
+  size_t texts_count, texts_room;
+  size_t texts_bytes; /* about how many bytes these take */
   interner_kind kind;
   interner_hasher hasher;
+  uint64_t keys[2];   /* those that a column gave it */
 } Dictionary;
 
 Dictionary *new_dictionary(const Options *options);
+
+/** A dictionary without texts, with the hasher and the keys of another. */
+Dictionary *new_dictionary_like(const Dictionary *dictionary);
 
 /** A dictionary with a handle, which it takes over. */
 Dictionary *wrap_handle(interner *h, interner_kind kind, interner_hasher hasher);
 Dictionary *share_dictionary(Dictionary *dictionary);
 void drop_dictionary(Dictionary *dictionary);
+
+/** Holds a dictionary for an iterator of rows. */
+Dictionary *read_dictionary(Dictionary *dictionary);
+void leave_dictionary(Dictionary *dictionary);
+
+/** Makes places for a str of each text, so that `keep_string` keeps them. */
+bool reserve_strings(Dictionary *dictionary);
+
+/** Lets go of all strings. */
+void forget_strings(Dictionary *dictionary);
+
+/** The text with a code. Keeps the str if there is a place for it. */
+PyObject *keep_string(Dictionary *dictionary, size_t code);
 
 /** The texts, in a new list. */
 PyObject *list_strings(Dictionary *dictionary);
@@ -231,6 +253,7 @@ typedef struct Column {
   State *state;
   PyObject *weak;
   size_t begins;          /* how often it got another dictionary and other rows */
+  bool is_part;           /* whether its dictionary is that of a longer column, so that a pickle needs not all of it */
 } Column;
 
 extern PyType_Spec column_spec;
@@ -269,7 +292,35 @@ PyObject *column_from_buffers(PyTypeObject *type, PyObject *args, PyObject *keyw
 PyObject *column_buffers(Column *self, PyObject *unused);
 PyObject *column_parts(Column *self, void *unused);
 int column_set_parts(Column *self, PyObject *value, void *unused);
+PyObject *column_with_dictionary(PyTypeObject *type, PyObject *args);
+
+/* compact.c: columns without the texts that no row has. */
+
+/** The texts that rows have, in the order of their dictionary: a bit for each, and how many come before each word of bits. */
+typedef struct Used {
+  uint64_t *bits;
+  size_t *before;
+  size_t count;
+} Used;
+
+bool find_used(const Dictionary *dictionary, const Block *block, Py_ssize_t n, Used *used);
+void drop_used(Used *used);
+
+/** The first used code from one on, or the end if there is none. */
+static inline size_t next_used(const Used *used, size_t code, size_t end) {
+  for (; code < end; code = (code | 63) + 1) {
+    uint64_t rest = used->bits[code >> 6] >> (code & 63);
+    if (rest) return code + __builtin_ctzll(rest);
+  }
+  return end;
+}
+
+/** The codes of rows in a dictionary that has only what is used. */
+Block *renumber_used(const Used *used, const Block *block, Py_ssize_t n);
+
 PyObject *column_compact(Column *self, PyObject *unused);
+PyObject *column_in_order(Column *self, PyObject *unused);
+PyObject *column_shrink(Column *self, PyObject *unused);
 
 /* rows.c */
 
@@ -358,14 +409,15 @@ typedef struct Parts {
   Dictionary *dictionary;
   Block *block;
   Py_ssize_t n; /* -1 for those of an interner */
+  bool is_part; /* as in a column */
 } Parts;
 
 extern PyType_Spec parts_spec;
 
 PyObject *new_parts(State *state, Dictionary *dictionary, Block *block, Py_ssize_t n);
 
-/** The texts of a dictionary end to end, and where each ends, in 8 bytes each. */
-bool join_texts(const Dictionary *dictionary, PyObject **joined, PyObject **ends);
+/** The texts of a dictionary end to end, and where each ends, in 8 bytes each. Without those that are not used, if this is told. */
+bool join_texts(const Dictionary *dictionary, const Used *used, PyObject **joined, PyObject **ends);
 
 /** Adds the texts between ends to an empty handle. Raises ValueError if one repeats. */
 bool split_texts(interner *h, const Bytes *joined, const size_t *ends, Py_ssize_t n);

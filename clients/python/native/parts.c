@@ -7,20 +7,27 @@ PyObject *new_parts(State *state, Dictionary *dictionary, Block *block, Py_ssize
   return (PyObject *)parts;
 }
 
-bool join_texts(const Dictionary *dictionary, PyObject **joined, PyObject **ends) {
-  size_t count = interner_len(dictionary->h), length = 0, number = 0;
+/* Reads the next text from a row on that is used, or any, and moves behind it. Only a dictionary of a column has texts that are
+ * not used: there a number is a row. */
+static bool read_next(const Dictionary *dictionary, const Used *used, size_t *row, size_t *number, interner_text *text) {
+  size_t count = interner_len(dictionary->h);
+  if (used) *row = *number = next_used(used, *row, count);
+  if (*row >= count) return false;
+  interner_resolve(dictionary->h, *number, text);
+  ++*row, *number = number_after(dictionary->kind, *number, text->len);
+  return true;
+}
+
+bool join_texts(const Dictionary *dictionary, const Used *used, PyObject **joined, PyObject **ends) {
+  size_t count = used ? used->count : interner_len(dictionary->h), length = 0, row = 0, number = 0;
   interner_text text;
   if (!(*ends = PyBytes_FromStringAndSize(NULL, count * sizeof(uint64_t)))) return false;
   uint64_t *end = (uint64_t *)PyBytes_AsString(*ends);
-  for (size_t row = 0; row < count; row++, number = number_after(dictionary->kind, number, text.len)) {
-    interner_resolve(dictionary->h, number, &text);
-    end[row] = length += text.len;
-  }
+  while (read_next(dictionary, used, &row, &number, &text)) *end++ = length += text.len;
   if (!(*joined = PyBytes_FromStringAndSize(NULL, length))) return false;
   char *at = PyBytes_AsString(*joined);
-  number = 0;
-  for (size_t row = 0; row < count; row++, number = number_after(dictionary->kind, number, text.len)) {
-    interner_resolve(dictionary->h, number, &text);
+  row = number = 0;
+  while (read_next(dictionary, used, &row, &number, &text)) {
     memcpy(at, text.bytes, text.len);
     at += text.len;
   }
@@ -122,7 +129,9 @@ static void parts_dealloc(Parts *self) {
 static PyObject *parts_deepcopy(Parts *self, PyObject *memo) {
   (void)memo;
   if (!self->dictionary) return PyErr_SetString(PyExc_ValueError, "these parts were taken"), NULL;
-  return new_parts(self->state, share_dictionary(self->dictionary), share_block(self->block), self->n);
+  Parts *copy = (Parts *)new_parts(self->state, share_dictionary(self->dictionary), share_block(self->block), self->n);
+  if (copy) copy->is_part = self->is_part;
+  return (PyObject *)copy;
 }
 
 /* Something with a buffer, as a pickle of a protocol holds it: from 5 on it may be out of band. */
@@ -137,22 +146,38 @@ static PyObject *wrap_buffer(PyObject *buffer, long protocol) {
 }
 
 /* Without keys, which are secret: what reads this hashes by the keys of its own process. */
-static PyObject *parts_reduce(Parts *self, PyObject *given) {
-  long protocol = PyLong_AsLong(given);
+static PyObject *reduce_as(const Parts *self, const Dictionary *dictionary, const Used *used, Block *block, long protocol) {
   PyObject *joined = NULL, *ends = NULL, *reduced = NULL;
-  if (protocol == -1 && PyErr_Occurred()) return NULL;
-  if (!self->dictionary) return PyErr_SetString(PyExc_ValueError, "these parts were taken"), NULL;
-  Dictionary *dictionary = share_dictionary(self->dictionary);
-  int width = self->n > 0 ? self->block->width : 4;
-  PyObject *codes = self->n < 0 ? Py_NewRef(Py_None) : view_codes(self->state, self->block, self->n, width);
-  if (codes && join_texts(dictionary, &joined, &ends))
+  int width = self->n > 0 ? block->width : 4;
+  PyObject *codes = self->n < 0 ? Py_NewRef(Py_None) : view_codes(self->state, block, self->n, width);
+  if (codes && join_texts(dictionary, used, &joined, &ends))
     reduced = Py_BuildValue("O(ssNNNi)", (PyObject *)Py_TYPE((PyObject *)self), backend_name(dictionary->kind),
                             hasher_name(dictionary->hasher), wrap_buffer(joined, protocol),
                             wrap_buffer(ends, protocol), wrap_buffer(codes, protocol), width);
-  drop_dictionary(dictionary);
   Py_XDECREF(joined);
   Py_XDECREF(ends);
   Py_XDECREF(codes);
+  return reduced;
+}
+
+/* Of a part of a longer column only the texts that its rows have. */
+static PyObject *reduce_part(const Parts *self, const Dictionary *dictionary, long protocol) {
+  Used used;
+  if (!find_used(dictionary, self->block, self->n, &used)) return NULL;
+  Block *block = renumber_used(&used, self->block, self->n);
+  PyObject *reduced = block ? reduce_as(self, dictionary, &used, block, protocol) : NULL;
+  drop_block(block);
+  drop_used(&used);
+  return reduced;
+}
+
+static PyObject *parts_reduce(Parts *self, PyObject *given) {
+  long protocol = PyLong_AsLong(given);
+  if (protocol == -1 && PyErr_Occurred()) return NULL;
+  if (!self->dictionary) return PyErr_SetString(PyExc_ValueError, "these parts were taken"), NULL;
+  Dictionary *dictionary = share_dictionary(self->dictionary);
+  PyObject *reduced = self->is_part ? reduce_part(self, dictionary, protocol) : reduce_as(self, dictionary, NULL, self->block, protocol);
+  drop_dictionary(dictionary);
   return reduced;
 }
 

@@ -33,7 +33,11 @@ class Column(_native.Column):
     then compare codes. Threads and finalizers may call it as they may call an `Interner`. A call that raises changes nothing.
 
     The texts are in the library, and take little memory there. `dictionary`, `to_pandas`, `to_numpy` and iteration make a string
-    of each, and the column keeps these strings from then on. Slices and copies share the dictionary until one of them adds a text.
+    of each that they read, and the column keeps these strings, until you call `shrink`. Iteration keeps none if the column has few
+    rows, less than one for eight texts.
+
+    Slices, copies and what `take` returns share the dictionary until one of them adds a text. A pickle of fewer rows than there were
+    has only their texts, as `compact` makes it.
 
     Copies and pickles have the class and the attributes of a subclass. They do not call its `__init__`. They have the keys that
     copies and pickles of an `Interner` have. From protocol 5 on a pickle may hold its texts and codes out of band.
@@ -86,13 +90,18 @@ class Column(_native.Column):
         codes = numpy.asarray(self.codes)
         return pandas.Categorical.from_codes(codes, categories=pandas.Index(self.dictionary, dtype=object))
 
+    def _with_few_texts(self) -> Column:
+        # Few rows of a long column: to read the whole dictionary for them takes longer than to leave it.
+        return self.compact() if len(self) < self.distinct // 8 else self
+
     def to_numpy(self) -> Any:
         """Returns the rows in an array of objects of numpy. Raises ImportError without numpy."""
         import numpy
 
-        codes = numpy.asarray(self.codes)
+        column = self._with_few_texts()
+        codes = numpy.asarray(column.codes)
         # The last is the one at -1.
-        texts = numpy.array([*self.dictionary, None], dtype=object)
+        texts = numpy.array([*column.dictionary, None], dtype=object)
         return texts[codes]
 
     def __array__(self, dtype: Any = None, copy: bool | None = None) -> Any:
@@ -103,9 +112,10 @@ class Column(_native.Column):
 
     def value_counts(self) -> dict[str, int]:
         """Returns the number of rows with each text that a row has, the most frequent first. Does not count rows that are None."""
+        column = self._with_few_texts()
         # The counts first, because the dictionary may grow in between.
-        counts = self.counts()
-        found = ((text, count) for text, count in zip(self.dictionary, counts) if count)
+        counts = column.counts()
+        found = ((text, count) for text, count in zip(column.dictionary, counts) if count)
         return dict(sorted(found, key=lambda row: -row[1]))
 
     def to_buffers(self) -> tuple[bytes, memoryview, memoryview]:
@@ -124,15 +134,18 @@ class Column(_native.Column):
         return super().__reduce_ex__(max(protocol, 2))
 
     def __sizeof__(self) -> int:
-        """About how many bytes it takes, with a guess of 64 for each distinct text. dask decides by it what to move."""
-        return object.__sizeof__(self) + self.codes.nbytes + 64 * self.distinct
+        """About how many bytes it takes, with a guess of 64 for each distinct text, and the strings that iteration made of them.
+
+        dask decides by it what to move.
+        """
+        return object.__sizeof__(self) + self.codes.nbytes + 64 * self.distinct + self._kept
 
     def __dask_tokenize__(self) -> object:
         """The same for columns with the same rows, whatever their dictionaries are."""
         from hashlib import sha256
 
         digest = sha256()
-        for part in self._compact()._buffers():
+        for part in self.compact()._in_order()._buffers():
             digest.update(memoryview(part).nbytes.to_bytes(8, "little"))
             digest.update(part)
         return "string_interner.Column", digest.hexdigest()

@@ -99,6 +99,7 @@ def calls_of_columns():
         lambda: Column.from_buffers(joined, ends, codes), lambda: Column.from_buffers(b"\xff", [1], []), lambda: Column.from_buffers(b"aa", [1, 2], []),
         lambda: Column.from_buffers(joined, ends, [99]), lambda: Column.from_file(file.name), lambda: Column.from_file("/no such file"),
         lambda: Column.from_file(-1), lambda: Column.from_file([]), lambda: column.__arrow_c_array__(), lambda: column.__arrow_c_schema__(),
+        lambda: column.compact(), lambda: column[1:3].compact(), lambda: column.shrink(), lambda: pickle.dumps(column[1:3]), lambda: next(iter(column)),
         lambda: column.__dask_tokenize__(), lambda: copy.copy(column), lambda: copy.deepcopy(column), lambda: column.__sizeof__(),
         lambda: pickle.loads(pickle.dumps(column, 2)), lambda: out_of_band(column), lambda: setattr(column, "_parts", 1),
         lambda: Column.__new__(Column).append("a"), lambda: Column.__init__(Column(["b"]), values, hasher="none"),
