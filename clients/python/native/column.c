@@ -131,7 +131,9 @@ static PyObject *column_code(Column *self, PyObject *text) {
   int64_t code;
   if (!PyUnicode_Check(text)) return raise_type("a text is a str, not ", text, "");
   switch (find_code(self, text, &code)) {
-  case 1: return PyLong_FromLongLong(code);
+  case 1:
+    self->dictionary->uses++;
+    return PyLong_FromLongLong(code);
   case 0: Py_RETURN_NONE;
   default: return NULL;
   }

@@ -12,6 +12,8 @@
  *   4. A text that the library lends becomes a str before anything else is called.
  *   5. Between the parts of a batch PyErr_CheckSignals runs handlers. After it all is tested again (resume_batch): the handle,
  *      the length of the list, the counts of changes. The table of seen objects is cleared, because a handler may have dropped them.
+ *   6. What `gc.get_objects` finds may be read or changed by others: items of a list or tuple that is being filled are null, and a
+ *      list of this module's own may be emptied. So what must not change is in memory of C.
  *
  * No variable of the module is changed after the import; what an interpreter needs is in a State. */
 #ifndef NATIVE_H
@@ -74,7 +76,7 @@ typedef struct Interner {
   PyObject *weak;
   Walk *walks;   /* iterators that have not read all yet */
   size_t cuts;   /* how often texts were dropped or the handle was replaced */
-  size_t uses;   /* how often texts were interned */
+  size_t uses;   /* how often texts were interned, or shown with their numbers */
   interner_kind kind;
   interner_hasher hasher;
 } Interner;
@@ -136,7 +138,7 @@ PyObject *new_array(const State *state, const char *typecode, Py_ssize_t n, Py_b
 typedef struct Numbers {
   Py_ssize_t n;
   int64_t *at;       /* those that do not fit are INT64_MIN or INT64_MAX */
-  PyObject *exact;   /* a list of them, or null if they are from a buffer */
+  PyObject **exact;  /* the same as they were given, which no other object refers to; or null if they are from a buffer */
   bool is_unsigned;  /* whether those of a buffer that are INT64_MIN or more are great */
 } Numbers;
 
@@ -200,7 +202,7 @@ PyObject *view_codes(State *state, Block *block, Py_ssize_t n, int width);
 typedef struct Dictionary {
   size_t references;
   interner *h;
-  size_t uses;        /* how often texts were added */
+  size_t uses;        /* how often texts were added, or shown with their codes */
   PyObject **texts;   /* a str of each text at the front, as far as they were read */
   size_t texts_count;
   interner_kind kind;
@@ -314,7 +316,7 @@ typedef struct Batch {
   size_t count;       /* texts after the last step */
   size_t cuts, uses, begins;
   bool collects;      /* whether the collection of garbage is to be enabled */
-  int seen_bits;
+  int most_bits, seen_bits; /* those that the table has memory for, and those of the part in use, which is empty at first */
   Seen seen[];        /* the last object at each place, which depends on its address */
 } Batch;
 

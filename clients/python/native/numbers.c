@@ -43,26 +43,22 @@ static bool copy_view(const Py_buffer *view, Numbers *numbers) {
   return false;
 }
 
-/* Appends the integer that an object is. */
-static bool read_number(PyObject *given, PyObject *exact) {
-  PyObject *number = PyNumber_Index(given);
-  bool is_done = number && !PyList_Append(exact, number);
-  Py_XDECREF(number);
-  return is_done;
-}
-
-/* Clips the integers of a list of its own to 8 bytes. */
-static bool clip_numbers(PyObject *exact, Numbers *numbers) {
-  Py_ssize_t n = PyList_Size(exact);
-  int64_t *at = PyMem_Malloc(n * sizeof *at + 1);
-  if (!at) return PyErr_NoMemory(), false;
-  for (Py_ssize_t row = 0; row < n; row++) {
+/* Reads the integers that the items of a tuple are, and clips them to 8 bytes. */
+static bool read_items(PyObject *items, Numbers *numbers) {
+  const Py_ssize_t n = PyTuple_Size(items);
+  *numbers = (Numbers){.at = PyMem_Malloc(n * sizeof *numbers->at + 1), .exact = PyMem_Malloc(n * sizeof *numbers->exact + 1)};
+  bool is_done = numbers->at && numbers->exact;
+  if (!is_done) PyErr_NoMemory();
+  for (Py_ssize_t row = 0; is_done && row < n; row++) {
     int overflow;
-    at[row] = PyLong_AsLongLongAndOverflow(PyList_GetItem(exact, row), &overflow);
-    if (overflow) at[row] = overflow < 0 ? INT64_MIN : INT64_MAX;
+    PyObject *number = PyNumber_Index(PyTuple_GetItem(items, row));
+    if (!(is_done = number != NULL)) break;
+    numbers->exact[numbers->n++] = number;
+    numbers->at[row] = PyLong_AsLongLongAndOverflow(number, &overflow);
+    if (overflow) numbers->at[row] = overflow < 0 ? INT64_MIN : INT64_MAX;
   }
-  *numbers = (Numbers){.n = n, .at = at, .exact = exact};
-  return true;
+  if (!is_done) drop_numbers(numbers);
+  return is_done;
 }
 
 bool read_numbers(PyObject *given, Numbers *numbers) {
@@ -75,23 +71,20 @@ bool read_numbers(PyObject *given, Numbers *numbers) {
       if (is_integers) return is_done;
     }
   }
-  PyObject *items = PySequence_Tuple(given), *exact = items ? PyList_New(0) : NULL;
-  bool is_done = exact != NULL;
-  for (Py_ssize_t row = 0; is_done && row < PyTuple_Size(items); row++)
-    is_done = read_number(PyTuple_GetItem(items, row), exact);
+  PyObject *items = PySequence_Tuple(given);
+  bool is_done = items && read_items(items, numbers);
   Py_XDECREF(items);
-  if (is_done && clip_numbers(exact, numbers)) return true;
-  Py_XDECREF(exact);
-  return false;
+  return is_done;
 }
 
 void drop_numbers(Numbers *numbers) {
+  for (Py_ssize_t row = 0; numbers->exact && row < numbers->n; row++) Py_DECREF(numbers->exact[row]);
+  PyMem_Free(numbers->exact);
   PyMem_Free(numbers->at);
-  Py_CLEAR(numbers->exact);
 }
 
 PyObject *exact_number(const Numbers *numbers, Py_ssize_t row) {
-  if (numbers->exact) return Py_NewRef(PyList_GetItem(numbers->exact, row));
+  if (numbers->exact) return Py_NewRef(numbers->exact[row]);
   if (numbers->is_unsigned) return PyLong_FromUnsignedLongLong((uint64_t)numbers->at[row]);
   return PyLong_FromLongLong(numbers->at[row]);
 }
