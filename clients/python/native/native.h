@@ -133,16 +133,21 @@ size_t number_after(interner_kind kind, size_t number, size_t length);
 /** An array of the module array with n items, and a writable view of it. Runs no Python code but hooks of `sys.addaudithook`. */
 PyObject *new_array(const State *state, const char *typecode, Py_ssize_t n, Py_buffer *view);
 
-/* numbers.c: integers of a buffer or an iterable, copied. */
+/* numbers.c: integers or booleans of a buffer or an iterable, copied. */
 
 typedef struct Numbers {
   Py_ssize_t n;
   int64_t *at;       /* those that do not fit are INT64_MIN or INT64_MAX */
   PyObject **exact;  /* the same as they were given, which no other object refers to; or null if they are from a buffer */
   bool is_unsigned;  /* whether those of a buffer that are INT64_MIN or more are great */
+  bool is_mask;      /* whether all are booleans; false is then 0 */
 } Numbers;
 
+/** Raises TypeError for booleans. */
 bool read_numbers(PyObject *given, Numbers *numbers);
+
+/** Raises TypeError if some are booleans, and some are not. */
+bool read_numbers_or_mask(PyObject *given, Numbers *numbers);
 void drop_numbers(Numbers *numbers);
 PyObject *exact_number(const Numbers *numbers, Py_ssize_t row);
 
