@@ -44,7 +44,7 @@ static bool has_its_length(const Rows *rows) {
   return false;
 }
 
-/* Some rows. Each is borrowed, and stays until Python code runs. */
+/* Some rows. Each is borrowed, and stays until Python code runs. It is null in a list or tuple that others are still filling. */
 static void read_part(const Rows *rows, Py_ssize_t at, Py_ssize_t n, PyObject **part) {
   if (!rows->sequence) {
     const char *from = rows->view.buf;
@@ -58,14 +58,22 @@ static void read_part(const Rows *rows, Py_ssize_t at, Py_ssize_t n, PyObject **
     for (Py_ssize_t row = 0; row < n; row++) part[row] = PyTuple_GetItem(rows->sequence, at + row);
 }
 
+/* How many bits the place of an object has in a table for so many rows. */
+static int bits_for(Py_ssize_t rows) {
+  enum { LEAST = 3, MOST = 12 };
+  int bits = LEAST;
+  while (bits < MOST && (Py_ssize_t)1 << bits < rows) bits++;
+  return bits;
+}
+
+/* Empties the part of the table that is in use. All of it would take longer than a few rows. */
+static void clear_seen(Batch *batch) { memset(batch->seen, 0, sizeof *batch->seen << batch->seen_bits); }
+
 Batch *new_batch(Interner *owner, Column *column, interner *h, Py_ssize_t rows) {
-  enum { LEAST_BITS = 3, MOST_BITS = 12 };
-  int bits = LEAST_BITS;
-  while (bits < MOST_BITS && (Py_ssize_t)1 << bits < rows) bits++;
-  Batch *batch = PyMem_Calloc(1, sizeof *batch + (sizeof *batch->seen << bits));
+  int bits = bits_for(rows);
+  Batch *batch = PyMem_Malloc(sizeof *batch + (sizeof *batch->seen << bits));
   if (!batch) return PyErr_NoMemory(), NULL;
-  batch->seen_bits = bits;
-  batch->interner = owner, batch->column = column, batch->h = h;
+  *batch = (Batch){.interner = owner, .column = column, .h = h, .most_bits = bits};
   batch->kept = batch->count = interner_len(h);
   return batch;
 }
@@ -102,7 +110,6 @@ static bool still_holds(const Batch *batch) {
 }
 
 bool adopt_changes(Batch *batch) {
-  memset(batch->seen, 0, sizeof *batch->seen << batch->seen_bits);
   if (!still_holds(batch)) {
     batch->h = NULL;
     if (PyErr_Occurred() || (batch->interner && !is_open(batch->interner))) return false;
@@ -128,6 +135,7 @@ bool resume_batch(Batch *batch) {
   end_batch(batch);
   PyErr_CheckSignals(); /* What it raises is found by adopt_changes. */
   begin_batch(batch);
+  clear_seen(batch);
   return adopt_changes(batch);
 }
 
@@ -183,6 +191,7 @@ static bool encode_part(Batch *batch, PyObject *const *part, Py_ssize_t at, Py_s
   for (Py_ssize_t row = 0; row < n; row++) {
     PyObject *text = part[row];
     int64_t number;
+    if (!text) return PyErr_Format(PyExc_SystemError, "row %zd is not there yet", at + row), false;
     if (row + AHEAD < n) __builtin_prefetch((const char *)part[row + AHEAD] + 48);
     Seen *seen = &batch->seen[((uintptr_t)text >> 4) * 0x9E3779B97F4A7C15u >> (64 - batch->seen_bits)];
     if (seen->object == text) number = seen->number;
@@ -200,6 +209,9 @@ bool encode_rows(Batch *batch, Rows *rows) {
   enum { AT_ONCE = 1024 };
   PyObject *part[AT_ONCE];
   bool is_done = has_its_length(rows);
+  int bits = bits_for(rows->n);
+  batch->seen_bits = bits < batch->most_bits ? bits : batch->most_bits;
+  clear_seen(batch);
   begin_batch(batch);
   for (Py_ssize_t at = 0; is_done && at < rows->n; at += AT_ONCE) {
     if (at && at % ROWS_OF_A_PART == 0) is_done = resume_batch(batch) && has_its_length(rows);

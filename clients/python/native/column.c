@@ -139,7 +139,9 @@ static PyObject *column_code(Column *self, PyObject *text) {
   int64_t code;
   if (!PyUnicode_Check(text)) return raise_type("a text is a str, not ", text, "");
   switch (find_code(self, text, &code)) {
-  case 1: return PyLong_FromLongLong(code);
+  case 1:
+    self->dictionary->uses++;
+    return PyLong_FromLongLong(code);
   case 0: Py_RETURN_NONE;
   default: return NULL;
   }
@@ -192,6 +194,12 @@ static PyObject *column_item(Column *self, Py_ssize_t row) {
   return NULL;
 }
 
+/* Begins a column of some rows of another. */
+static void begin_part(Column *part, const Column *of, Block *block, Py_ssize_t n) {
+  begin_column(part, share_dictionary(of->dictionary), block, n);
+  part->is_part = of->is_part || n < of->n;
+}
+
 static PyObject *column_slice(Column *self, PyObject *slice) {
   Py_ssize_t start, stop, step;
   if (PySlice_Unpack(slice, &start, &stop, &step)) return NULL;
@@ -205,19 +213,11 @@ static PyObject *column_slice(Column *self, PyObject *slice) {
     for (Py_ssize_t row = 0; row < n; row++) set_code(block, row, code_at(self->block, start + row * step));
     block->used = n;
   }
-  begin_column(part, share_dictionary(self->dictionary), block, n);
-  part->is_part = self->is_part || n < self->n;
+  begin_part(part, self, block, n);
   return (PyObject *)part;
 failed:
   Py_XDECREF((PyObject *)part);
   return NULL;
-}
-
-static PyObject *column_subscript(Column *self, PyObject *key) {
-  if (PySlice_Check(key)) return column_slice(self, key);
-  Py_ssize_t row = PyNumber_AsSsize_t(key, PyExc_IndexError);
-  if (row == -1 && PyErr_Occurred()) return NULL;
-  return column_item(self, row < 0 ? row + self->n : row);
 }
 
 /* The codes of rows. Raises IndexError for a row that there is not. */
@@ -236,21 +236,61 @@ static Block *take_codes(const Column *self, const Numbers *rows) {
       return NULL;
     }
   }
+  if (block) block->used = rows->n;
   return block;
+}
+
+/* The codes of the rows for which a mask is true. Raises IndexError if it has another length. */
+static Block *mask_codes(const Column *self, const Numbers *mask) {
+  Py_ssize_t n = 0;
+  if (mask->n != self->n) {
+    PyErr_Format(PyExc_IndexError, "the mask is for %zd rows, and the column has %zd", mask->n, self->n);
+    return NULL;
+  }
+  for (Py_ssize_t row = 0; row < mask->n; row++) n += mask->at[row] != 0;
+  Block *block = new_block(n, width_of(interner_len(self->dictionary->h)));
+  for (Py_ssize_t row = 0; block && row < mask->n; row++)
+    if (mask->at[row]) set_code(block, block->used++, code_at(self->block, row));
+  return block;
+}
+
+/* A column of rows, whose numbers or mask it drops. */
+static PyObject *take_rows(Column *self, Numbers *rows) {
+  Column *taken = make_plain(self);
+  Block *block = !taken || !is_made(self) ? NULL : rows->is_mask ? mask_codes(self, rows) : take_codes(self, rows);
+  if (block) begin_part(taken, self, block, block->used);
+  else Py_CLEAR(taken);
+  drop_numbers(rows);
+  return (PyObject *)taken;
 }
 
 static PyObject *column_take(Column *self, PyObject *given) {
   Numbers rows;
-  if (!read_numbers(given, &rows)) return NULL;
-  Column *taken = make_plain(self);
-  Block *block = taken && is_made(self) ? take_codes(self, &rows) : NULL;
-  if (block) {
-    block->used = rows.n;
-    begin_column(taken, share_dictionary(self->dictionary), block, rows.n);
-    taken->is_part = self->is_part || rows.n < self->n;
-  } else Py_CLEAR(taken);
-  drop_numbers(&rows);
-  return (PyObject *)taken;
+  return read_numbers(given, &rows) ? take_rows(self, &rows) : NULL;
+}
+
+/* Whether a key chooses many rows: a list, or an array with dimensions. A tuple chooses none: for numpy it has a number for each
+ * dimension. */
+static bool is_for_many(PyObject *key) {
+  Py_buffer view;
+  if (PyLong_Check(key) || PyTuple_Check(key) || PyUnicode_Check(key)) return false;
+  if (PyObject_CheckBuffer(key)) {
+    if (PyObject_GetBuffer(key, &view, PyBUF_FULL_RO)) return PyErr_Clear(), true;
+    bool is_array = view.ndim > 0;
+    PyBuffer_Release(&view);
+    return is_array;
+  }
+  return PySequence_Check(key) && !PyIndex_Check(key);
+}
+
+static PyObject *column_subscript(Column *self, PyObject *key) {
+  Numbers rows;
+  if (PySlice_Check(key)) return column_slice(self, key);
+  if (is_for_many(key)) return read_numbers_or_mask(key, &rows) ? take_rows(self, &rows) : NULL;
+  if (!PyIndex_Check(key)) return raise_type("rows are chosen by a number, a slice, a list, an array or a mask, not by ", key, "");
+  Py_ssize_t row = PyNumber_AsSsize_t(key, PyExc_IndexError);
+  if (row == -1 && PyErr_Occurred()) return NULL;
+  return column_item(self, row < 0 ? row + self->n : row);
 }
 
 /* The code in this dictionary of each text of another, with -1 before the first, and -2 for a text that is not here. */
@@ -320,7 +360,7 @@ static PyMethodDef column_methods[] = {
      "Makes a column of distinct texts, such as those of an `Interner`, and a code for each row. Copies both.\n\n"
      "The dictionary stays as it is, with texts that no row has. A masked code of numpy is a row that is None. Raises ValueError\n"
      "at the first text that repeats an earlier one, and if there is none, at the first code that is neither -1 nor an index of\n"
-     "the dictionary. The message says where."},
+     "the dictionary. The message says where. Raises TypeError for booleans."},
     {"from_buffers", (PyCFunction)(void (*)(void))column_from_buffers, METH_VARARGS | METH_KEYWORDS | METH_CLASS,
      "from_buffers($type, /, joined, ends, codes, *, hasher='seeded')\n--\n\n"
      "Makes a column of what `to_buffers` returns. Copies all, and checks what `from_parts` checks, and that texts are UTF-8.\n\n"
@@ -351,7 +391,7 @@ static PyMethodDef column_methods[] = {
     {"take", (PyCFunction)column_take, METH_O,
      "take($self, rows, /)\n--\n\n"
      "Returns a column of the rows with these numbers, in their order, with the whole dictionary. A negative number counts from\n"
-     "the end. Raises IndexError for a row that there is not."},
+     "the end. Raises IndexError for a row that there is not, and TypeError for a mask of booleans: write `column[mask]`."},
     {"_buffers", (PyCFunction)column_buffers, METH_NOARGS, NULL},
     {"_in_order", (PyCFunction)column_in_order, METH_NOARGS, NULL},
     {"_with_dictionary", (PyCFunction)column_with_dictionary, METH_VARARGS | METH_CLASS, NULL},

@@ -104,12 +104,12 @@ static PyObject *read_string(const Dictionary *dictionary, size_t code, size_t *
 
 PyObject *keep_string(Dictionary *dictionary, size_t code) {
   enum { ABOUT_A_STR = 48 };
-  PyObject **place = code < dictionary->texts_count ? &dictionary->texts[code] : NULL;
-  if (place && *place) return Py_NewRef(*place);
+  PyObject *string = kept_string(dictionary, code);
   size_t length;
-  PyObject *string = read_string(dictionary, code, &length);
-  if (string && place) {
-    *place = Py_NewRef(string);
+  if (string) return Py_NewRef(string);
+  string = read_string(dictionary, code, &length);
+  if (string && code < dictionary->texts_count) {
+    dictionary->texts[code] = Py_NewRef(string);
     dictionary->texts_bytes += ABOUT_A_STR + length;
   }
   return string;
@@ -132,6 +132,6 @@ PyObject *list_strings(Dictionary *dictionary) {
 PyObject *value_of(const Dictionary *dictionary, int64_t code) {
   size_t length;
   if (code < 0) Py_RETURN_NONE;
-  if ((size_t)code < dictionary->texts_count && dictionary->texts[code]) return Py_NewRef(dictionary->texts[code]);
-  return read_string(dictionary, code, &length);
+  PyObject *string = kept_string(dictionary, code);
+  return string ? Py_NewRef(string) : read_string(dictionary, code, &length);
 }

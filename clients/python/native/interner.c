@@ -120,8 +120,12 @@ static PyObject *method_intern(Interner *self, PyObject *text) {
   const char *bytes = utf8_of(text, &length);
   if (!bytes || !is_open(self)) return NULL;
   self->uses++;
+  size_t before = interner_len(self->h);
   interner_status status = interner_get_or_intern_utf8(self->h, bytes, length, &number);
-  return status == INTERNER_OK ? PyLong_FromSize_t(number) : raise_status(status);
+  if (status != INTERNER_OK) return raise_status(status);
+  PyObject *result = PyLong_FromSize_t(number);
+  if (!result) interner_truncate(self->h, before);
+  return result;
 }
 
 /* 1: found, 0: not known, -1: raised. A text without a UTF-8 form is not known. */
@@ -133,7 +137,9 @@ static int look_up(Interner *self, PyObject *text, interner_symbol *number) {
     PyErr_Clear();
   }
   if (!is_open(self)) return -1;
-  return bytes && interner_get_utf8(self->h, bytes, length, number) == INTERNER_OK;
+  if (!bytes || interner_get_utf8(self->h, bytes, length, number) != INTERNER_OK) return 0;
+  self->uses++;
+  return 1;
 }
 
 static PyObject *method_get(Interner *self, PyObject *const *args, Py_ssize_t given, PyObject *names) {
@@ -164,6 +170,7 @@ static PyObject *find_text(Interner *self, PyObject *given) {
   Py_ssize_t number = PyNumber_AsSsize_t(given, NULL);
   if (number == -1 && PyErr_Occurred()) return NULL;
   if (!is_open(self) || number < 0 || number > UINT32_MAX || interner_resolve(self->h, number, &text) != INTERNER_OK) return NULL;
+  self->uses++;
   return PyUnicode_DecodeUTF8(text.bytes, text.len, NULL);
 }
 
@@ -206,6 +213,7 @@ static PyObject *method_to_json(Interner *self, PyObject *unused) {
   size_t room = 1024 + 24 * interner_len(self->h), length = 0;
   char *json = NULL;
   interner_status status = INTERNER_NO_MEMORY;
+  self->uses++;
   for (int tries = 0; tries < 2; tries++) {
     PyMem_Free(json);
     if (!(json = PyMem_Malloc(room))) return PyErr_NoMemory();

@@ -162,6 +162,7 @@ static PyObject *find_once(const Interner *self, Table *table, int64_t number) {
 /* The text of each number, borrowed from the table. Returns the first row without one. */
 static Py_ssize_t find_texts(Interner *self, const Numbers *numbers, Table *table, PyObject **texts) {
   size_t cuts = self->cuts;
+  self->uses++;
   for (Py_ssize_t row = 0; row < numbers->n; row++) {
     if (row && row % ROWS_OF_A_PART == 0) {
       if (PyErr_CheckSignals() || !is_open(self)) return row;

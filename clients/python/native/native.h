@@ -12,6 +12,8 @@
  *   4. A text that the library lends becomes a str before anything else is called.
  *   5. Between the parts of a batch PyErr_CheckSignals runs handlers. After it all is tested again (resume_batch): the handle,
  *      the length of the list, the counts of changes. The table of seen objects is cleared, because a handler may have dropped them.
+ *   6. What `gc.get_objects` finds may be read or changed by others: items of a list or tuple that is being filled are null, and a
+ *      list of this module's own may be emptied. So what must not change is in memory of C.
  *
  * No variable of the module is changed after the import; what an interpreter needs is in a State. */
 #ifndef NATIVE_H
@@ -74,7 +76,7 @@ typedef struct Interner {
   PyObject *weak;
   Walk *walks;   /* iterators that have not read all yet */
   size_t cuts;   /* how often texts were dropped or the handle was replaced */
-  size_t uses;   /* how often texts were interned */
+  size_t uses;   /* how often texts were interned, or shown with their numbers */
   interner_kind kind;
   interner_hasher hasher;
 } Interner;
@@ -131,16 +133,21 @@ size_t number_after(interner_kind kind, size_t number, size_t length);
 /** An array of the module array with n items, and a writable view of it. Runs no Python code but hooks of `sys.addaudithook`. */
 PyObject *new_array(const State *state, const char *typecode, Py_ssize_t n, Py_buffer *view);
 
-/* numbers.c: integers of a buffer or an iterable, copied. */
+/* numbers.c: integers or booleans of a buffer or an iterable, copied. */
 
 typedef struct Numbers {
   Py_ssize_t n;
   int64_t *at;       /* those that do not fit are INT64_MIN or INT64_MAX */
-  PyObject *exact;   /* a list of them, or null if they are from a buffer */
+  PyObject **exact;  /* the same as they were given, which no other object refers to; or null if they are from a buffer */
   bool is_unsigned;  /* whether those of a buffer that are INT64_MIN or more are great */
+  bool is_mask;      /* whether all are booleans; false is then 0 */
 } Numbers;
 
+/** Raises TypeError for booleans. */
 bool read_numbers(PyObject *given, Numbers *numbers);
+
+/** Raises TypeError if some are booleans, and some are not. */
+bool read_numbers_or_mask(PyObject *given, Numbers *numbers);
 void drop_numbers(Numbers *numbers);
 PyObject *exact_number(const Numbers *numbers, Py_ssize_t row);
 
@@ -204,7 +211,7 @@ typedef struct Dictionary {
   size_t references;  /* columns and parts */
   size_t readers;     /* iterators: texts that rows have stay as they are, whatever is added or undone */
   interner *h;
-  size_t uses;        /* how often texts were added */
+  size_t uses;        /* how often texts were added, or shown with their codes */
   PyObject **texts;   /* a str of each text at the front, or null if it was not read */
   size_t texts_count, texts_room;
   size_t texts_bytes; /* about how many bytes these take */
@@ -232,6 +239,11 @@ bool reserve_strings(Dictionary *dictionary);
 
 /** Lets go of all strings. */
 void forget_strings(Dictionary *dictionary);
+
+/** The str of a text, borrowed, or null if none is kept. */
+static inline PyObject *kept_string(const Dictionary *dictionary, size_t code) {
+  return code < dictionary->texts_count ? dictionary->texts[code] : NULL;
+}
 
 /** The text with a code. Keeps the str if there is a place for it. */
 PyObject *keep_string(Dictionary *dictionary, size_t code);
@@ -365,7 +377,7 @@ typedef struct Batch {
   size_t count;       /* texts after the last step */
   size_t cuts, uses, begins;
   bool collects;      /* whether the collection of garbage is to be enabled */
-  int seen_bits;
+  int most_bits, seen_bits; /* those that the table has memory for, and those of the part in use, which is empty at first */
   Seen seen[];        /* the last object at each place, which depends on its address */
 } Batch;
 

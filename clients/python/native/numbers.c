@@ -1,11 +1,12 @@
 /* Integers and bytes of buffers, copied: others may change a buffer without the GIL. */
 #include "native.h"
 
-/* The width of a format of integers in this machine's byte order, or 0. */
+/* The width of a format of integers in this machine's byte order, or of booleans, or 0. */
 static Py_ssize_t width_of_format(const char *format) {
   if (!format || !*format || format[1]) return 0;
   switch (*format) {
   case 'b': case 'B': return 1;
+  case '?': return sizeof(bool);
   case 'h': case 'H': return sizeof(short);
   case 'i': case 'I': return sizeof(int);
   case 'l': case 'L': return sizeof(long);
@@ -25,17 +26,17 @@ static int64_t widen(const char *at, Py_ssize_t width, bool is_unsigned) {
   }
 }
 
-/* Reads a buffer of integers. */
+/* Reads a buffer of integers or booleans. */
 static bool copy_view(const Py_buffer *view, Numbers *numbers) {
   Py_ssize_t width = width_of_format(view->format), n = view->len / width;
   char *raw = PyMem_Malloc(view->len + 1);
   int64_t *at = PyMem_Malloc(n * sizeof *at + 1);
   bool is_done = raw && at && !PyBuffer_ToContiguous(raw, view, view->len, 'C');
-  bool is_unsigned = *view->format < 'a';
+  bool is_unsigned = *view->format < 'a', is_mask = *view->format == '?';
   for (Py_ssize_t row = 0; is_done && row < n; row++) at[row] = widen(raw + row * width, width, is_unsigned);
   PyMem_Free(raw);
   if (is_done) {
-    *numbers = (Numbers){.n = n, .at = at, .is_unsigned = is_unsigned};
+    *numbers = (Numbers){.n = n, .at = at, .is_unsigned = is_unsigned, .is_mask = is_mask};
     return true;
   }
   PyMem_Free(at);
@@ -43,29 +44,59 @@ static bool copy_view(const Py_buffer *view, Numbers *numbers) {
   return false;
 }
 
-/* Appends the integer that an object is. */
-static bool read_number(PyObject *given, PyObject *exact) {
-  PyObject *number = PyNumber_Index(given);
-  bool is_done = number && !PyList_Append(exact, number);
-  Py_XDECREF(number);
+/* Whether an object is a boolean, of Python or of numpy, whose scalars have a buffer without dimensions. */
+static bool is_boolean(PyObject *item) {
+  Py_buffer view;
+  if (!item || PyLong_CheckExact(item)) return false;
+  if (PyBool_Check(item)) return true;
+  if (!PyObject_CheckBuffer(item)) return false;
+  if (PyObject_GetBuffer(item, &view, PyBUF_FULL_RO)) return PyErr_Clear(), false;
+  bool is_one = !view.ndim && view.format && !strcmp(view.format, "?");
+  PyBuffer_Release(&view);
+  return is_one;
+}
+
+/* The integer that an item is: 0 or 1 of a boolean. */
+static PyObject *read_item(PyObject *item, Py_ssize_t *booleans) {
+  if (!is_boolean(item)) return PyNumber_Index(item);
+  ++*booleans;
+  int is_true = PyObject_IsTrue(item);
+  return is_true < 0 ? NULL : PyBool_FromLong(is_true);
+}
+
+/* Reads the integers or booleans that the items of a tuple are, and clips them to 8 bytes. */
+static bool read_items(PyObject *items, Numbers *numbers) {
+  const Py_ssize_t n = PyTuple_Size(items);
+  Py_ssize_t booleans = 0;
+  *numbers = (Numbers){.at = PyMem_Malloc(n * sizeof *numbers->at + 1), .exact = PyMem_Malloc(n * sizeof *numbers->exact + 1)};
+  bool is_done = numbers->at && numbers->exact;
+  if (!is_done) PyErr_NoMemory();
+  for (Py_ssize_t row = 0; is_done && row < n; row++) {
+    int overflow;
+    PyObject *number = read_item(PyTuple_GetItem(items, row), &booleans);
+    if (!(is_done = number != NULL)) break;
+    numbers->exact[numbers->n++] = number;
+    numbers->at[row] = PyLong_AsLongLongAndOverflow(number, &overflow);
+    if (overflow) numbers->at[row] = overflow < 0 ? INT64_MIN : INT64_MAX;
+  }
+  if (is_done && booleans && booleans < n) {
+    PyErr_SetString(PyExc_TypeError, "some are booleans, and some are numbers");
+    is_done = false;
+  }
+  numbers->is_mask = booleans > 0;
+  if (!is_done) drop_numbers(numbers);
   return is_done;
 }
 
-/* Clips the integers of a list of its own to 8 bytes. */
-static bool clip_numbers(PyObject *exact, Numbers *numbers) {
-  Py_ssize_t n = PyList_Size(exact);
-  int64_t *at = PyMem_Malloc(n * sizeof *at + 1);
-  if (!at) return PyErr_NoMemory(), false;
-  for (Py_ssize_t row = 0; row < n; row++) {
-    int overflow;
-    at[row] = PyLong_AsLongLongAndOverflow(PyList_GetItem(exact, row), &overflow);
-    if (overflow) at[row] = overflow < 0 ? INT64_MIN : INT64_MAX;
-  }
-  *numbers = (Numbers){.n = n, .at = at, .exact = exact};
-  return true;
+bool read_numbers(PyObject *given, Numbers *numbers) {
+  if (!read_numbers_or_mask(given, numbers)) return false;
+  if (!numbers->is_mask) return true;
+  drop_numbers(numbers);
+  PyErr_SetString(PyExc_TypeError, "booleans, where numbers belong: numpy.flatnonzero(mask) has the numbers of a mask's rows");
+  return false;
 }
 
-bool read_numbers(PyObject *given, Numbers *numbers) {
+bool read_numbers_or_mask(PyObject *given, Numbers *numbers) {
   Py_buffer view;
   if (PyObject_CheckBuffer(given)) {
     if (PyObject_GetBuffer(given, &view, PyBUF_FULL_RO)) PyErr_Clear();
@@ -75,23 +106,20 @@ bool read_numbers(PyObject *given, Numbers *numbers) {
       if (is_integers) return is_done;
     }
   }
-  PyObject *items = PySequence_Tuple(given), *exact = items ? PyList_New(0) : NULL;
-  bool is_done = exact != NULL;
-  for (Py_ssize_t row = 0; is_done && row < PyTuple_Size(items); row++)
-    is_done = read_number(PyTuple_GetItem(items, row), exact);
+  PyObject *items = PySequence_Tuple(given);
+  bool is_done = items && read_items(items, numbers);
   Py_XDECREF(items);
-  if (is_done && clip_numbers(exact, numbers)) return true;
-  Py_XDECREF(exact);
-  return false;
+  return is_done;
 }
 
 void drop_numbers(Numbers *numbers) {
+  for (Py_ssize_t row = 0; numbers->exact && row < numbers->n; row++) Py_DECREF(numbers->exact[row]);
+  PyMem_Free(numbers->exact);
   PyMem_Free(numbers->at);
-  Py_CLEAR(numbers->exact);
 }
 
 PyObject *exact_number(const Numbers *numbers, Py_ssize_t row) {
-  if (numbers->exact) return Py_NewRef(PyList_GetItem(numbers->exact, row));
+  if (numbers->exact) return Py_NewRef(numbers->exact[row]);
   if (numbers->is_unsigned) return PyLong_FromUnsignedLongLong((uint64_t)numbers->at[row]);
   return PyLong_FromLongLong(numbers->at[row]);
 }

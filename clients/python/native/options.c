@@ -111,11 +111,18 @@ size_t number_after(interner_kind kind, size_t number, size_t length) {
 
 PyObject *new_array(const State *state, const char *typecode, Py_ssize_t n, Py_buffer *view) {
   static const char zeros[8];
+  const Py_ssize_t width = strchr("qQ", *typecode) ? 8 : 4;
   int collects = PyGC_Disable();
-  PyObject *one = PyObject_CallFunction(state->array, "sy#", typecode, zeros, (Py_ssize_t)(strchr("qQ", *typecode) ? 8 : 4));
+  PyObject *one = PyObject_CallFunction(state->array, "sy#", typecode, zeros, width);
   PyObject *array = one ? PySequence_Repeat(one, n) : NULL;
   Py_XDECREF(one);
   if (array && PyObject_GetBuffer(array, view, PyBUF_WRITABLE)) Py_CLEAR(array);
+  else if (array && view->len / width != n) {
+    /* Another program may have put something else in the place of array.array. */
+    PyBuffer_Release(view);
+    Py_CLEAR(array);
+    PyErr_SetString(PyExc_RuntimeError, "array.array makes no array of this length");
+  }
   if (collects) PyGC_Enable();
   return array;
 }

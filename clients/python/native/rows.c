@@ -33,7 +33,8 @@ PyObject *column_reversed(Column *self, PyObject *unused) {
 static PyObject *rows_walk_next(RowsWalk *walk) {
   if (!walk->left) return NULL;
   int64_t code = code_at(walk->block, walk->at);
-  PyObject *row = code < 0 ? Py_NewRef(Py_None) : keep_string(walk->dictionary, code);
+  PyObject *row = code < 0 ? Py_None : kept_string(walk->dictionary, code);
+  row = row ? Py_NewRef(row) : keep_string(walk->dictionary, code);
   if (row) walk->at += walk->step, walk->left--;
   return row;
 }

@@ -30,7 +30,11 @@ class Column(_native.Column):
     {'red': 2, 'green': 2, 'blue': 1}
 
     It is a sequence of its rows, and equals another column with the same rows. `in`, `count` and `index` look a text up once, and
-    then compare codes. Threads and finalizers may call it as they may call an `Interner`. A call that raises changes nothing.
+    then compare codes. As of an array of numpy, `column[2:9]`, `column[[0, 2]]` and `column[mask]` are columns of some rows: of
+    those with these numbers, or of those for which a mask of booleans is true. A mask of another length, and a number without a row,
+    raise IndexError.
+
+    Threads and finalizers may call it as they may call an `Interner`. A call that raises changes nothing.
 
     The texts are in the library, and take little memory there. `dictionary`, `to_pandas`, `to_numpy` and iteration make a string
     of each that they read, and the column keeps these strings, until you call `shrink`. Iteration keeps none if the column has few

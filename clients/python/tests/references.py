@@ -90,6 +90,8 @@ def calls_of_columns():
         lambda: Column(column), lambda: grow(values), lambda: column[:3].append("new"), lambda: column[:3].append(1), lambda: column[:3].merge(other),
         lambda: column.merge(1), lambda: column[1:9:2], lambda: column[::-1], lambda: column[0], lambda: column[99], lambda: column[Wrong()],
         lambda: column.take([0, -1]), lambda: column.take([99]), lambda: column.take([Wrong()]), lambda: column.take(array("Q", [2**64 - 1])),
+        lambda: column[[0, -1]], lambda: column[[True] * 20], lambda: column[[True]], lambda: column[[True, 2]], lambda: column[[Wrong()]], lambda: column["a"],
+        lambda: column.take([True] * 20), lambda: column.take(memoryview(b"\1" * 20).cast("?")), lambda: Column.from_parts(["a"], [False]),
         lambda: list(column), lambda: list(reversed(column)), lambda: column.dictionary, lambda: column.codes, lambda: memoryview(column.codes),
         lambda: column.counts(), lambda: column.value_counts(), lambda: column.code("a"), lambda: column.code("no"), lambda: column.code(1),
         lambda: "a" in column, lambda: 1 in column, lambda: column.count("a"), lambda: column.index("ß"), lambda: column.index("no"),

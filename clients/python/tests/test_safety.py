@@ -687,6 +687,29 @@ class Batches(unittest.TestCase):
         self.assertIsInstance(self.run_with_handler(lambda: 1 // 0, lambda: column.merge(other)), ZeroDivisionError)
         self.assertEqual((list(column), column.dictionary, list(shared)), (["first"], ["first"], ["first"]))
 
+    def test_what_a_handler_saw_stays_though_the_batch_fails(self):
+        texts, seen = [f"text {number}" for number in range(1_000_000)], []
+        rows = [*texts, 1]
+        for look in (lambda it, last: it.get(texts[last]), lambda it, last: texts[last] in it and last, lambda it, last: it[last] and last,
+                     lambda it, last: it.resolve(last) and last, lambda it, last: it.resolve_all([last]) and last,
+                     lambda it, last: it.to_json() and last, lambda it, last: it.get_all([texts[last]])[0]):
+            interner = Interner()
+            self.run_with_handler(lambda: seen.append(look(interner, len(interner) - 1)), lambda: self.refuse(interner.intern_all, rows))
+            self.assertEqual((interner[seen[-1]], interner.get(texts[seen[-1]])), (texts[seen[-1]], seen[-1]))
+        # What is not there was not seen.
+        interner = Interner(["first"])
+        self.run_with_handler(lambda: [interner.get("none"), "none" in interner, interner.resolve(2**32)],
+                              lambda: self.refuse(interner.intern_all, rows))
+        self.assertEqual(list(interner), ["first"])
+        column = Column()
+        self.run_with_handler(lambda: seen.append(column.code(texts[column.distinct - 1])), lambda: self.refuse(column.extend, rows))
+        self.assertEqual((len(column), column.code(texts[seen[-1]])), (0, seen[-1]))
+
+    def refuse(self, call, rows):
+        """Makes a call with a row that is no text."""
+        with self.assertRaises(TypeError):
+            call(rows)
+
     def test_a_handler_changes_the_list(self):
         texts = [f"text {number}" for number in range(1_000_000)]
         for handle in (list.clear, lambda it: it.append("more")):
@@ -799,7 +822,104 @@ class Walks(unittest.TestCase):
         gc.collect()
 
 
+class OthersObjects(unittest.TestCase):
+    """What a program reaches by `gc.get_objects`, or puts in the place of others' functions."""
+
+    def test_a_tuple_that_is_still_filled(self):
+        self.assertEqual(run_apart("""
+            import gc
+            from string_interner import Column, Interner
+            def fill(mark):
+                yield mark
+                found.extend(it for it in gc.get_referrers(mark) if type(it) is tuple)
+                raise KeyboardInterrupt
+            found, interner, column = [], Interner(["first"]), Column(["first"])
+            try:
+                tuple(fill("mark" + str(gc)))
+            except KeyboardInterrupt:
+                pass
+            for call in (interner.intern_all, interner.get_all, column.extend, column.take, lambda it: Column.from_parts(it, [])):
+                try:
+                    call(found[0])
+                except SystemError as error:
+                    print(error.args[0][:5], list(interner), list(column))
+                except TypeError:
+                    print("a text where a number belongs")
+            """), (0, "\n".join([*["row 1 ['first'] ['first']"] * 3, "a text where a number belongs", "row 1 ['first'] ['first']"]), ""))
+
+    def test_another_function_in_the_place_of_array(self):
+        for instead in ("bytearray(1)", "memoryview(bytearray(1))[:0]", "[b'']", "b''", "None"):
+            self.assertEqual(run_apart(f"""
+                import array
+                array.array = lambda typecode, raw: {instead}
+                from string_interner import Column, Interner
+                interner, column = Interner(), Column(map(str, range(100_000)))
+                for call in (lambda: interner.intern_all(map(str, range(1_000_000))), lambda: interner.intern_lines(b"a\\n" * 1_000_000),
+                             lambda: interner.get_all(["a"] * 100_000), column.counts):
+                    try:
+                        print(call())
+                    except (RuntimeError, TypeError, BufferError):
+                        print(len(interner))
+                """), (0, "0\n0\n0\n0", ""))
+
+    def test_no_list_of_numbers_is_found(self):
+        self.assertEqual(run_apart("""
+            import gc
+            from string_interner import Column, Interner
+            class Index:
+                def __index__(self):
+                    found.extend(it for it in gc.get_objects() if type(it) is list and it[:1] == [123456789] and it is not rows)
+                    gc.collect()
+                    return 10**6
+            class Late:
+                def __init__(self):
+                    self.me = self
+                def __del__(self):
+                    for it in found:
+                        it.clear()
+            found, rows = [], [123456789, Index()]
+            for call in (Column(["a"]).take, Interner(["a"]).resolve_all, lambda it: Column.from_parts(["a"], it)):
+                Late()
+                try:
+                    call(rows)
+                except (IndexError, KeyError, ValueError) as error:
+                    print(len(found), error)
+            """), (0, "0 there is no row 123456789\n0 123456789\n0 row 0 has code 123456789, and the dictionary has 1 texts", ""))
+
+
 class Limits(unittest.TestCase):
+    def test_a_text_whose_number_finds_no_memory(self):
+        try:
+            from _testcapi import remove_mem_hooks, set_nomemory
+        except ImportError:
+            self.skipTest("no _testcapi")
+        for backend in BACKENDS:
+            # CPython keeps the numbers up to 256.
+            interner, failed = Interner(map(str, range(1000)), backend=backend), 0
+            before = list(interner)
+            for request in range(9):
+                set_nomemory(request, request + 1)
+                try:
+                    interner.intern("new")
+                except MemoryError:
+                    failed += 1
+                finally:
+                    remove_mem_hooks()
+                if failed == request + 1:
+                    self.assertEqual((list(interner), "new" in interner), (before, False))
+            self.assertGreater(failed, 0)
+
+    def test_a_short_iterator_takes_little_longer_than_a_short_list(self):
+        def time_of(form):
+            column = Column()
+            start = time.process_time()
+            for _ in range(300):
+                column.extend(form("abc"))
+            return time.process_time() - start
+
+        # It makes a list. It took 14 times as long when each call cleared the table for a long one.
+        self.assertLess(min(time_of(iter) for _ in range(60)), 5 * min(time_of(list) for _ in range(60)))
+
     def test_at_the_limit_of_recursion(self):
         self.assertEqual(run_apart("""
             from string_interner import Column, Interner

@@ -45,6 +45,9 @@ assert_type(Colors.encode(colors), Colors)
 assert_type(Colors.from_parts(names, array("b", [0, -1])), Colors)
 assert_type(colors[0], str | None)
 assert_type(colors[1:], Column)
+assert_type(colors[[0, -1]], Column)
+assert_type(colors[[True, False]], Column)
+assert_type(colors[array("b", [0, -1])], Column)
 assert_type(list(colors), list[str | None])
 assert_type(Colors.from_file("lines", hasher="fixed"), Colors)
 assert_type(Colors.from_buffers(*colors.to_buffers()), Colors)
@@ -75,7 +78,8 @@ Interner.from_json(b"[]")  # type: ignore[arg-type]
 Column([1])  # type: ignore[list-item]
 colors.append(b"red")  # type: ignore[arg-type]
 colors.merge(["red"])  # type: ignore[arg-type]
-colors["red"]  # type: ignore[call-overload]
+colors["red"]  # type: ignore[index]
+colors[["red"]]  # type: ignore[list-item]
 colors.code(None)  # type: ignore[arg-type]
 Column.from_parts(["red", None], [0])  # type: ignore[list-item]
 Column.from_parts(["red"], [0.5])  # type: ignore[list-item]

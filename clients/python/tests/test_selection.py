@@ -1,0 +1,137 @@
+"""Tests of rows that are chosen by their numbers or by a mask: as numpy chooses those of an array, if it is there."""
+
+import random
+import unittest
+from array import array
+
+from string_interner import Column, Interner
+
+try:
+    import numpy
+except ImportError:
+    numpy = None
+
+ROWS = ["b", "a", None, "b", "c"]
+MASK = [True, False, True, False, False]
+
+
+class Flag:
+    """A number that is no bool."""
+
+    def __init__(self, number):
+        self.number = number
+
+    def __index__(self):
+        return self.number
+
+
+class Plain:
+    """A sequence without a buffer, as a Series of pandas is one."""
+
+    def __init__(self, items):
+        self.items = items
+
+    def __getitem__(self, place):
+        return self.items[place]
+
+
+def masks():
+    """The same mask in each form."""
+    yield from (MASK, Plain(MASK), memoryview(bytes(MASK)).cast("?"), memoryview(bytes(MASK[::-1])).cast("?")[::-1])
+    if numpy:
+        yield from (numpy.array(MASK), list(numpy.array(MASK)), numpy.array(MASK, object), numpy.array(MASK[::-1])[::-1])
+
+
+class Selections(unittest.TestCase):
+    def test_a_mask_chooses_rows(self):
+        for mask in masks():
+            chosen = Column(ROWS)[mask]
+            self.assertEqual((list(chosen), chosen.dictionary, type(chosen)), (["b", None], ["b", "a", "c"], Column))
+        self.assertEqual((list(Column(ROWS)[[True] * 5]), list(Column(ROWS)[[False] * 5])), (ROWS, []))
+
+    def test_a_mask_of_another_length(self):
+        for mask in ([True], [False] * 4, [True] * 6, memoryview(b"").cast("?"), memoryview(b"\0" * 6).cast("?")):
+            with self.assertRaisesRegex(IndexError, f"^the mask is for {len(mask)} rows, and the column has 5$"):
+                Column(ROWS)[mask]
+        self.assertEqual(list(Column()[memoryview(b"").cast("?")]), [])
+
+    def test_numbers_choose_rows(self):
+        column = Column(ROWS)
+        for numbers in ([0, 2], [], [-1, 0, 0, 4], [Flag(1), Flag(-5)], range(5), range(4, -1, -2)):
+            wanted = [ROWS[number] for number in numbers]
+            for key in (numbers, Plain(numbers)):
+                chosen = column[key]
+                self.assertEqual((list(chosen), chosen.dictionary), (wanted, ["b", "a", "c"]))
+        self.assertEqual(list(column[array("i", [3, -5])]), ["b", "b"])
+        self.assertEqual(column[column.codes[:2]], Column(["b", "a"]))
+
+    def test_a_number_without_a_row(self):
+        for key, said in (([0, 5], 5), ([-6], -6), (array("q", [2**40]), 2**40), (array("Q", [2**64 - 1]), 2**64 - 1), ([2**70], 2**70)):
+            with self.assertRaisesRegex(IndexError, f"^there is no row {said}$"):
+                Column(ROWS)[key]
+
+    def test_one_row_is_no_column(self):
+        column = Column(ROWS)
+        self.assertEqual([column[key] for key in (0, -1, True, Flag(2), 2**2)], ["b", "c", "a", None, "c"])
+        if numpy:
+            self.assertEqual([column[key] for key in (numpy.int64(0), numpy.array(-1), numpy.uint8(2))], ["b", "c", None])
+
+    def test_what_chooses_nothing(self):
+        for key, name in (("a", "str"), ((0, 2), "tuple"), (None, "NoneType"), (1.5, "float"), ({0: 1}, "dict"), ({0}, "set"), (iter([0]), "list_iterator")):
+            with self.assertRaisesRegex(TypeError, f"^rows are chosen by a number, a slice, a list, an array or a mask, not by {name}$"):
+                Column(ROWS)[key]
+        for key in (["a"], [1.5], [None], [[0]], array("d", [0.0])):
+            with self.assertRaises(TypeError):
+                Column(ROWS)[key]
+
+    def test_some_booleans_among_numbers(self):
+        for key in ([True, 2], [0, False], [1, 2, 3, 4, True]):
+            for call in (Column(ROWS).__getitem__, Column(ROWS).take, lambda it: Column.from_parts(ROWS[:2], it)):
+                with self.assertRaisesRegex(TypeError, "^some are booleans, and some are numbers$"):
+                    call(key)
+
+    def test_a_mask_is_not_taken_for_numbers(self):
+        for mask in (*masks(), iter(MASK), tuple(MASK)):
+            for call in (Column(ROWS).take, lambda it: Column.from_parts(["no", "yes"], it), Interner(["no", "yes"]).resolve_all,
+                         lambda it: Column.from_buffers(b"noyes", [2, 5], it)):
+                with self.assertRaisesRegex(TypeError, r"^booleans, where numbers belong: numpy\.flatnonzero\(mask\) "):
+                    call(mask if mask is not MASK else MASK[:])
+                if iter(mask) is mask:
+                    break
+
+    def test_a_mask_that_changes_the_column(self):
+        class Mask(Plain):
+            def __getitem__(self, place):
+                column.__init__(["x"])
+                return self.items[place]
+
+        column = Column(ROWS)
+        with self.assertRaisesRegex(IndexError, "^the mask is for 5 rows, and the column has 1$"):
+            column[Mask(MASK)]
+        self.assertEqual(list(column[Mask([True])]), ["x"])
+
+    @unittest.skipUnless(numpy, "no numpy")
+    def test_numpy_chooses_the_same(self):
+        source = random.Random(1)
+        for _ in range(2000):
+            rows = [source.choice(("a", "b", "c", None, "é")) for _ in range(source.randrange(9))]
+            column, plain = Column(rows), numpy.array(rows, object)
+            numbers = [source.randrange(-10, 10) for _ in range(source.randrange(4))]
+            flags = [source.random() < 0.5 for _ in range(source.choice((len(rows), len(rows), source.randrange(9))))]
+            start, stop, step = (source.choice((None, *range(-9, 0), *range(1, 9))) for _ in range(3))
+            # A mask without items is for numpy one for any array.
+            mask = numpy.array(flags or [True] * len(rows), bool)
+            for key in (numbers, numpy.array(numbers, source.choice(("i1", "i2", "i8", ">i4"))), mask, mask.tolist(),
+                        slice(start, stop, step), source.randrange(-10, 10)):
+                try:
+                    wanted = plain[key]
+                except IndexError:
+                    with self.assertRaises(IndexError):
+                        column[key]
+                else:
+                    chosen = column[key]
+                    self.assertEqual(list(chosen) if isinstance(chosen, Column) else chosen, wanted.tolist() if isinstance(chosen, Column) else wanted)
+
+
+if __name__ == "__main__":
+    unittest.main()
