@@ -185,6 +185,31 @@ static PyObject *column_index(Column *self, PyObject *args, PyObject *keywords) 
   return NULL;
 }
 
+/* Marks the codes of values, and before the first whether None is among them. */
+static bool mark_codes(Column *self, PyObject *values, bool *is_wanted) {
+  for (Py_ssize_t at = 0; at < PyTuple_Size(values); at++) {
+    int64_t code;
+    int found = find_code(self, PyTuple_GetItem(values, at), &code);
+    if (found < 0) return false;
+    if (found) is_wanted[code + 1] = true;
+  }
+  return true;
+}
+
+/* A byte for each row: whether it has one of the values. */
+static PyObject *column_isin(Column *self, PyObject *given) {
+  PyObject *unmasked = are_many(given) ? without_mask(given, Py_None) : NULL, *values = unmasked ? PySequence_Tuple(unmasked) : NULL;
+  PyObject *found = NULL;
+  Py_XDECREF(unmasked);
+  bool *is_wanted = values && is_made(self) ? PyMem_Calloc(interner_len(self->dictionary->h) + 1, sizeof *is_wanted) : NULL;
+  if (!is_wanted && !PyErr_Occurred()) PyErr_NoMemory();
+  if (is_wanted && mark_codes(self, values, is_wanted) && (found = PyBytes_FromStringAndSize(NULL, self->n)))
+    for (Py_ssize_t row = 0; row < self->n; row++) PyBytes_AsString(found)[row] = is_wanted[code_at(self->block, row) + 1];
+  PyMem_Free(is_wanted);
+  Py_XDECREF(values);
+  return found;
+}
+
 static Py_ssize_t column_length(Column *self) { return is_made(self) ? self->n : -1; }
 
 static PyObject *column_item(Column *self, Py_ssize_t row) {
@@ -393,6 +418,7 @@ static PyMethodDef column_methods[] = {
      "Returns a column of the rows with these numbers, in their order, with the whole dictionary. A negative number counts from\n"
      "the end. Raises IndexError for a row that there is not, and TypeError for a mask of booleans: write `column[mask]`."},
     {"_buffers", (PyCFunction)column_buffers, METH_NOARGS, NULL},
+    {"_isin", (PyCFunction)column_isin, METH_O, NULL},
     {"_in_order", (PyCFunction)column_in_order, METH_NOARGS, NULL},
     {"_with_dictionary", (PyCFunction)column_with_dictionary, METH_VARARGS | METH_CLASS, NULL},
     {"__reversed__", (PyCFunction)column_reversed, METH_NOARGS, "The rows in reverse order, as they are now."},

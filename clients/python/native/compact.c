@@ -2,20 +2,20 @@
 #include "native.h"
 
 bool find_used(const Dictionary *dictionary, const Block *block, Py_ssize_t n, Used *used) {
-  size_t words = interner_len(dictionary->h) / 64 + 1;
+  size_t distinct = interner_len(dictionary->h), words = distinct / 64 + 1;
   *used = (Used){PyMem_Calloc(words, sizeof *used->bits), PyMem_Calloc(words, sizeof *used->before), 0};
   if (!used->bits || !used->before) {
     drop_used(used);
     return PyErr_NoMemory(), false;
   }
-  for (Py_ssize_t row = 0; row < n; row++) {
+  for (Py_ssize_t row = 0; used->count < distinct && row < n; row++) {
     int64_t code = code_at(block, row);
-    if (code >= 0) used->bits[code >> 6] |= (uint64_t)1 << (code & 63);
+    if (code < 0) continue;
+    uint64_t bit = (uint64_t)1 << (code & 63);
+    used->count += !(used->bits[code >> 6] & bit);
+    used->bits[code >> 6] |= bit;
   }
-  for (size_t word = 0; word < words; word++) {
-    used->before[word] = used->count;
-    used->count += __builtin_popcountll(used->bits[word]);
-  }
+  for (size_t word = 1; word < words; word++) used->before[word] = used->before[word - 1] + __builtin_popcountll(used->bits[word - 1]);
   return true;
 }
 

@@ -121,7 +121,8 @@ PyObject *list_strings(Dictionary *dictionary) {
   if (reserve_strings(dictionary) && (list = PyList_New(interner_len(dictionary->h)))) {
     size_t count = PyList_Size(list);
     for (size_t code = 0; list && code < count; code++) {
-      PyObject *string = keep_string(dictionary, code);
+      PyObject *string = Py_XNewRef(kept_string(dictionary, code));
+      if (!string) string = keep_string(dictionary, code);
       if (!string || PyList_SetItem(list, code, string)) Py_CLEAR(list);
     }
   }

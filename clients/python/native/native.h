@@ -107,7 +107,7 @@ PyObject *intern_objects(Interner *self, PyObject *texts, const char *typecode);
 PyObject *method_intern_all(Interner *self, PyObject *args, PyObject *keywords);
 PyObject *method_intern_column(Interner *self, PyObject *args, PyObject *keywords);
 PyObject *method_get_all(Interner *self, PyObject *args, PyObject *keywords);
-PyObject *method_resolve_all(Interner *self, PyObject *given);
+PyObject *method_resolve_all(Interner *self, PyObject *args, PyObject *keywords);
 
 /* options.c */
 
@@ -318,13 +318,13 @@ typedef struct Used {
 bool find_used(const Dictionary *dictionary, const Block *block, Py_ssize_t n, Used *used);
 void drop_used(Used *used);
 
-/** The first used code from one on, or the end if there is none. */
+/** The first used code from one on, or the end if there is none. Without `used` all are. */
 static inline size_t next_used(const Used *used, size_t code, size_t end) {
-  for (; code < end; code = (code | 63) + 1) {
+  for (; used && code < end; code = (code | 63) + 1) {
     uint64_t rest = used->bits[code >> 6] >> (code & 63);
     if (rest) return code + __builtin_ctzll(rest);
   }
-  return end;
+  return code < end ? code : end;
 }
 
 /** The codes of rows in a dictionary that has only what is used. */
@@ -350,6 +350,9 @@ typedef struct Rows {
   Py_ssize_t n;
 } Rows;
 
+/** Whether these may be many texts. A str is one, though Python can read it letter by letter: raises TypeError. */
+bool are_many(PyObject *given);
+
 bool open_rows(PyObject *given, Rows *rows);
 bool open_rows_in_place(PyObject *given, Rows *rows);
 void close_rows(Rows *rows);
@@ -367,8 +370,8 @@ typedef struct Batch {
   Column *column;
   interner *h;
   bool only_looks;    /* whether unknown texts are `missing`, and not added */
+  bool takes_none;    /* whether None is `missing`, and no error */
   int64_t missing;
-  bool takes_none;    /* whether None is a row, with the code -1 */
   Py_ssize_t first;   /* rows of earlier calls with this batch */
   void *out;          /* numbers of `width` bytes; those of `block`, if there is one */
   int width;

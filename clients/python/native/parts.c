@@ -7,27 +7,24 @@ PyObject *new_parts(State *state, Dictionary *dictionary, Block *block, Py_ssize
   return (PyObject *)parts;
 }
 
-/* Reads the next text from a row on that is used, or any, and moves behind it. Only a dictionary of a column has texts that are
- * not used: there a number is a row. */
-static bool read_next(const Dictionary *dictionary, const Used *used, size_t *row, size_t *number, interner_text *text) {
-  size_t count = interner_len(dictionary->h);
-  if (used) *row = *number = next_used(used, *row, count);
-  if (*row >= count) return false;
-  interner_resolve(dictionary->h, *number, text);
-  ++*row, *number = number_after(dictionary->kind, *number, text->len);
-  return true;
-}
-
 bool join_texts(const Dictionary *dictionary, const Used *used, PyObject **joined, PyObject **ends) {
-  size_t count = used ? used->count : interner_len(dictionary->h), length = 0, row = 0, number = 0;
+  size_t count = interner_len(dictionary->h), length = 0, number = 0;
   interner_text text;
-  if (!(*ends = PyBytes_FromStringAndSize(NULL, count * sizeof(uint64_t)))) return false;
+  if (!(*ends = PyBytes_FromStringAndSize(NULL, (used ? used->count : count) * sizeof(uint64_t)))) return false;
   uint64_t *end = (uint64_t *)PyBytes_AsString(*ends);
-  while (read_next(dictionary, used, &row, &number, &text)) *end++ = length += text.len;
+  for (size_t row = next_used(used, 0, count); row < count; row = next_used(used, row + 1, count)) {
+    if (used) number = row; /* Only a dictionary of a column has texts that are not used: there a number is a row. */
+    interner_resolve(dictionary->h, number, &text);
+    number = number_after(dictionary->kind, number, text.len);
+    *end++ = length += text.len;
+  }
   if (!(*joined = PyBytes_FromStringAndSize(NULL, length))) return false;
   char *at = PyBytes_AsString(*joined);
-  row = number = 0;
-  while (read_next(dictionary, used, &row, &number, &text)) {
+  number = 0;
+  for (size_t row = next_used(used, 0, count); row < count; row = next_used(used, row + 1, count)) {
+    if (used) number = row;
+    interner_resolve(dictionary->h, number, &text);
+    number = number_after(dictionary->kind, number, text.len);
     memcpy(at, text.bytes, text.len);
     at += text.len;
   }
@@ -164,8 +161,9 @@ static PyObject *reduce_as(const Parts *self, const Dictionary *dictionary, cons
 static PyObject *reduce_part(const Parts *self, const Dictionary *dictionary, long protocol) {
   Used used;
   if (!find_used(dictionary, self->block, self->n, &used)) return NULL;
-  Block *block = renumber_used(&used, self->block, self->n);
-  PyObject *reduced = block ? reduce_as(self, dictionary, &used, block, protocol) : NULL;
+  bool has_all = used.count == interner_len(dictionary->h);
+  Block *block = has_all ? share_block(self->block) : renumber_used(&used, self->block, self->n);
+  PyObject *reduced = block || !self->n ? reduce_as(self, dictionary, has_all ? NULL : &used, block, protocol) : NULL;
   drop_block(block);
   drop_used(&used);
   return reduced;

@@ -9,9 +9,14 @@ from . import _native
 TYPE_CHECKING = False
 if TYPE_CHECKING:
     from collections.abc import Iterable
-    from typing import Any, Self
+    from typing import Any, Literal, Self, overload
 
     from . import Hasher
+else:
+
+    def overload(call):
+        """Stands for that of `typing`, because to import it takes longer than all else here."""
+        return call
 
 
 class Column(_native.Column):
@@ -114,13 +119,43 @@ class Column(_native.Column):
         rows = self.to_numpy()
         return rows if dtype is None else rows.astype(dtype)
 
-    def value_counts(self) -> dict[str, int]:
-        """Returns the number of rows with each text that a row has, the most frequent first. Does not count rows that are None."""
+    @overload
+    def value_counts(self, *, dropna: Literal[True] = True) -> dict[str, int]: ...
+    @overload
+    def value_counts(self, *, dropna: Literal[False]) -> dict[str | None, int]: ...
+    @overload
+    def value_counts(self, *, dropna: bool) -> dict[str, int] | dict[str | None, int]: ...
+    def value_counts(self, *, dropna: bool = True) -> Any:
+        """Returns the number of rows with each text that a row has, the most frequent first.
+
+        Counts rows that are None only if `dropna` is false.
+        """
         column = self._with_few_texts()
         # The counts first, because the dictionary may grow in between.
         counts = column.counts()
-        found = ((text, count) for text, count in zip(column.dictionary, counts) if count)
-        return dict(sorted(found, key=lambda row: -row[1]))
+        found: list[tuple[str | None, int]] = [(text, count) for text, count in zip(column.dictionary, counts) if count]
+        if not dropna and None in column:
+            found.append((None, column.count(None)))
+        found.sort(key=lambda row: -row[1])
+        return dict(found)
+
+    def unique(self) -> list[str | None]:
+        """Returns the distinct values of the rows, in order of first appearance. None is one of them if a row is None."""
+        found: list[str | None] = [*self._in_order().dictionary]
+        if None in self:
+            found.insert(self[: self.index(None)]._in_order().distinct, None)
+        return found
+
+    def isin(self, values: Iterable[object]) -> memoryview:
+        """Returns for each row whether it is one of the values, of which one may be None.
+
+        `numpy.asarray` reads the result as booleans without a copy, and `column[..]` as a mask.
+        """
+        return memoryview(self._isin(values)).cast("?")
+
+    def isna(self) -> memoryview:
+        """Returns for each row whether it is None, in the form that `isin` has."""
+        return self.isin([None])
 
     def to_buffers(self) -> tuple[bytes, memoryview, memoryview]:
         """Returns the texts of the dictionary end to end in UTF-8, where each ends, and the codes. numpy reads each in place."""

@@ -203,6 +203,12 @@ class BesideAList(RuleBasedStateMachine):
         assert column.counts() == array("Q", map(rows.count, self.texts))
         counted = sorted(((text, rows.count(text)) for text in self.texts if text in rows), key=lambda row: -row[1])
         assert list(column.value_counts().items()) == counted
+        missing = [(None, rows.count(None))] if None in rows else []
+        assert list(column.value_counts(dropna=False).items()) == sorted(counted + missing, key=lambda row: -row[1])
+        assert column.unique() == list(dict.fromkeys(rows))
+        assert column.isna().tolist() == [row is None for row in rows]
+        for values in ([], [None], self.texts[:2], [*self.texts[1:], "not there", None, 1]):
+            assert column.isin(values).tolist() == [row in values for row in rows]
         assert column.__dask_tokenize__() == Column(rows, hasher="fixed").__dask_tokenize__()
         assert [column.code(text) for text in self.texts] == [*range(len(self.texts))] and column.code("not there") is None
         for value in (*self.texts, None, "not there"):
@@ -295,10 +301,10 @@ class Refusals(unittest.TestCase):
             Column(["a", None, "\ud800"])
 
     def test_a_row_that_is_no_text_is_named(self):
-        for wrong in (*WRONG_VALUES, float("nan")):
+        for wrong, why in (*((it, "") for it in WRONG_VALUES), (float("nan"), ": it is NaN, which Column.from_pandas makes None")):
             for rows in ([wrong], ["a", wrong], [None, wrong], ["a", None, wrong], ["ß", "a", "a", None, wrong, None, 1]):
                 for make in (list, tuple, iter):
-                    said = f"^row {rows.index(wrong)} is of type {type(wrong).__name__}, not str or None$"
+                    said = f"^row {rows.index(wrong)} is of type {type(wrong).__name__}, not str or None{why}$"
                     with self.assertRaisesRegex(TypeError, said):
                         Column(make(rows))
         for before in (["a"] * 300000, ["a", None] * 150000):
@@ -307,6 +313,15 @@ class Refusals(unittest.TestCase):
                 with self.assertRaisesRegex(TypeError, "^row 300000 is of type float, not str or None$"):
                     column.extend(make([*before, 3.0, None]))
                 self.assertEqual(list(column), ["b"])
+
+    def test_a_str_is_one_text(self):
+        column = Column(["a"])
+        for call in (Column, Column.from_values, Column.encode, column.extend, column.isin, lambda it: Column.from_parts(it, [0])):
+            for given in ("red", ""):
+                with self.assertRaisesRegex(TypeError, r"^a str is one text, and no rows: write \[text\], or list\(text\) for its letters$"):
+                    call(given)
+        column.append("red")
+        self.assertEqual(list(column), ["a", "red"])
 
     def test_merging_what_is_no_column(self):
         column = Column(["a"])
@@ -359,7 +374,7 @@ class Refusals(unittest.TestCase):
         for call in (lambda it: it.extend(["b", None]), lambda it: it.append("c"), lambda it: it.merge(Column(["d"])), list,
                      lambda it: it.extend(map(str, range(9))), lambda it: it.codes, lambda it: it[::2], lambda it: it.counts(),
                      lambda it: it.dictionary, lambda it: it._buffers(), lambda it: it.take([0]), lambda it: it._parts, lambda it: it.compact(),
-                     lambda it: it[:1].compact(), lambda it: it[1:].compact(), lambda it: it.shrink(), lambda it: it[1:]._parts.__reduce_ex__(2)):
+                     lambda it: it[:1].compact(), lambda it: it[1:].compact(), lambda it: it.shrink(), lambda it: it.isin(["a"]), lambda it: it[1:]._parts.__reduce_ex__(2)):
             for request in range(60):
                 column = Column(["a", None])
                 set_nomemory(request, request + 1)
@@ -814,7 +829,7 @@ class Copies(unittest.TestCase):
                      lambda: column.__arrow_c_array__(), lambda: column.__arrow_c_schema__(), lambda: pickle.dumps(column), lambda: column.hasher,
                      lambda: column.index("a"), lambda: column.count(None), lambda: column.code("a"), lambda: column.to_buffers(),
                      lambda: column.value_counts(), lambda: column.__dask_tokenize__(), lambda: reversed(column), lambda: copy.copy(column),
-                     lambda: column.compact(), lambda: column.shrink()):
+                     lambda: column.compact(), lambda: column.shrink(), lambda: column.isin([]), lambda: column.isna(), lambda: column.unique()):
             with self.assertRaisesRegex(ValueError, "^the column was not initialized$"):
                 call()
         self.assertEqual(repr(column), "<Column that was not initialized>")
@@ -886,7 +901,7 @@ class Buffers(unittest.TestCase):
         self.assertEqual((view.format, view.nbytes, view.readonly), ("i", 12, True))
         with self.assertRaises(TypeError):
             view[0] = 1
-        column.extend("ab")
+        column.extend(["a", "b"])
         self.assertEqual(view.tolist(), [0, -1, 1])
         self.assertEqual(column.codes.tolist(), [0, -1, 1, 0, 1])
 
@@ -926,7 +941,7 @@ class Buffers(unittest.TestCase):
         one = Column(["a"] * 100)
         one.append("b")
         other, third = one[:], copy.copy(one)
-        for column, rows in ((one, "cd"), (other, "ef"), (third, ["c", None])):
+        for column, rows in ((one, ["c", "d"]), (other, ["e", "f"]), (third, ["c", None])):
             column.extend(rows)
         self.assertEqual([list(it)[-3:] for it in (one, other, third)], [["b", "c", "d"], ["b", "e", "f"], ["b", "c", None]])
         self.assertEqual([it.dictionary[2:] for it in (one, other, third)], [["c", "d"], ["e", "f"], ["c"]])
@@ -941,6 +956,16 @@ class Buffers(unittest.TestCase):
         self.assertEqual(numpy.asarray(Column(["b", "a"]), dtype="U1").tolist(), ["b", "a"])
 
     @unittest.skipUnless(numpy, "no numpy")
+    def test_numpy_reads_what_isin_finds_as_booleans(self):
+        column = Column(["a", None, "b", "a"])
+        for found, wanted in ((column.isin({"a", "c"}), [True, False, False, True]), (column.isna(), [False, True, False, False]), (Column().isna(), [])):
+            self.assertEqual((found.format, found.readonly, found.tolist()), ("?", True, wanted))
+            if numpy:
+                mask = numpy.asarray(found)
+                self.assertEqual((mask.dtype, mask.tolist()), (bool, wanted))
+        self.assertEqual(list(column[column.isin(["a"])]), ["a", "a"])
+        self.assertRaises(TypeError, column.isin, 1)
+
     def test_masked_arrays(self):
         masked = numpy.ma.array(["a", "b", "c"], mask=[True, False, False], dtype=object)
         for given in (masked, numpy.ma.array(["a", "b", "c"], mask=[True, False, False])):
@@ -1116,7 +1141,7 @@ class SharedColumns(unittest.TestCase):
         self.assertEqual(wrong, [])
 
     def test_two_that_merge_each_other(self):
-        one, other = Column("ab"), Column("bc")
+        one, other = Column(["a", "b"]), Column(["b", "c"])
         threads = [threading.Thread(target=lambda: [one.merge(other[:2]) or one == other for _ in range(500)], daemon=True),
                    threading.Thread(target=lambda: [other.merge(one[:2]) or other == one for _ in range(500)], daemon=True)]
         for thread in threads:

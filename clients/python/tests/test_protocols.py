@@ -176,7 +176,7 @@ class Codes(unittest.TestCase):
             interner = Interner(backend=backend)
             for options in ({}, {"typecode": "I"}, {"typecode": "Q"}):
                 codes = interner.intern_column(b"aba", [1, 2, 3], **options)
-                self.assertEqual((codes, codes.typecode), (interner.intern_all("aba", **options), options.get("typecode", "I")))
+                self.assertEqual((codes, codes.typecode), (interner.intern_all(["a", "b", "a"], **options), options.get("typecode", "I")))
 
     def test_resolves_columns(self):
         texts = ["a", "b" * 300, "a", "", "ß", 'q"\\\n'] * 3
