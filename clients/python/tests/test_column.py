@@ -144,6 +144,7 @@ class BesideAList(RuleBasedStateMachine):
     @rule(make=strategies.sampled_from((
         copy.copy, copy.deepcopy, lambda it: pickle.loads(pickle.dumps(it)), lambda it: pickle.loads(pickle.dumps(it, 0)),
         lambda it: pickle.loads(pickle.dumps(it, 5)), lambda it: Column.from_buffers(*it.to_buffers()),
+        lambda it: Column.from_buffers(it.to_buffers()[0], offsets=[0, *it.to_buffers()[1]], codes=it.codes),
         lambda it: Column.from_parts(it.dictionary, it.codes),
         lambda it: Column.from_parts(Interner(it.dictionary), iter(it.codes)),
     )))
