@@ -291,7 +291,16 @@ static PyObject *take_rows(Column *self, Numbers *rows) {
 
 static PyObject *column_take(Column *self, PyObject *given) {
   Numbers rows;
-  return read_numbers(given, &rows) ? take_rows(self, &rows) : NULL;
+  return read_integers(given, &rows) ? take_rows(self, &rows) : NULL;
+}
+
+static PyObject *column_select(Column *self, PyObject *given) {
+  Numbers rows;
+  if (!read_numbers(given, &rows)) return NULL;
+  if (!rows.booleans || rows.is_mask) return take_rows(self, &rows);
+  drop_numbers(&rows);
+  PyErr_SetString(PyExc_TypeError, "some are booleans, and some are numbers");
+  return NULL;
 }
 
 /* Whether a key chooses many rows: a list, or an array with dimensions. A tuple chooses none: for numpy it has a number for each
@@ -309,9 +318,8 @@ static bool is_for_many(PyObject *key) {
 }
 
 static PyObject *column_subscript(Column *self, PyObject *key) {
-  Numbers rows;
   if (PySlice_Check(key)) return column_slice(self, key);
-  if (is_for_many(key)) return read_numbers_or_mask(key, &rows) ? take_rows(self, &rows) : NULL;
+  if (is_for_many(key)) return column_select(self, key);
   if (!PyIndex_Check(key)) return raise_type("rows are chosen by a number, a slice, a list, an array or a mask, not by ", key, "");
   Py_ssize_t row = PyNumber_AsSsize_t(key, PyExc_IndexError);
   if (row == -1 && PyErr_Occurred()) return NULL;
@@ -387,9 +395,10 @@ static PyMethodDef column_methods[] = {
      "at the first text that repeats an earlier one, and if there is none, at the first code that is neither -1 nor an index of\n"
      "the dictionary. The message says where. Raises TypeError for booleans."},
     {"from_buffers", (PyCFunction)(void (*)(void))column_from_buffers, METH_VARARGS | METH_KEYWORDS | METH_CLASS,
-     "from_buffers($type, /, joined, ends, codes, *, hasher='seeded')\n--\n\n"
+     "from_buffers($type, /, joined, ends=None, codes=None, *, hasher='seeded', offsets=None)\n--\n\n"
      "Makes a column of what `to_buffers` returns. Copies all, and checks what `from_parts` checks, and that texts are UTF-8.\n\n"
-     "The texts are end to end in `joined`: text `i` ends before byte `ends[i]`."},
+     "The texts are end to end in `joined`: text `i` ends before byte `ends[i]`. Arrow and others have offsets, one number more:\n"
+     "text `i` begins at byte `offsets[i]`, and ends before byte `offsets[i + 1]`. Pass one of the two, and always codes."},
     {"from_file", (PyCFunction)(void (*)(void))column_from_file, METH_VARARGS | METH_KEYWORDS | METH_CLASS,
      "from_file($type, /, file, *, hasher='seeded')\n--\n\n"
      "Makes a column of the lines of a file: a path, or the number of an open file, which stays open. Makes no str of a line.\n\n"

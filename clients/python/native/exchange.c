@@ -31,7 +31,7 @@ static PyObject *make_of_parts(State *state, PyTypeObject *type, Dictionary *dic
   Column *column = NULL;
   PyObject *minus_one = PyLong_FromLong(-1), *codes = minus_one ? without_mask(given, minus_one) : NULL;
   Py_XDECREF(minus_one);
-  if (codes && read_numbers(codes, &numbers)) {
+  if (codes && read_integers(codes, &numbers)) {
     Block *block = check_codes(&numbers, interner_len(dictionary->h));
     if (block && (column = make_column(state, type))) begin_column(column, dictionary, block, numbers.n);
     else drop_block(block);
@@ -56,28 +56,25 @@ PyObject *column_from_parts(PyTypeObject *type, PyObject *args, PyObject *keywor
 }
 
 /* Adds distinct texts, which are end to end in a buffer, to a handle that nobody else has. */
-static bool add_joined(interner *h, PyObject *given, PyObject *given_ends) {
-  Bytes joined;
-  Numbers ends;
-  bool is_done = false;
-  if (!read_bytes(given, &joined)) return false;
-  if (read_numbers(given_ends, &ends)) {
-    is_done = split_texts(h, &joined, (const size_t *)ends.at, ends.n);
-    drop_numbers(&ends);
-  }
-  drop_bytes(&joined);
+static bool add_joined(interner *h, PyObject *given, PyObject *ends, PyObject *offsets) {
+  Joined joined;
+  if (!read_joined(given, ends, offsets, &joined)) return false;
+  bool is_done = split_texts(h, &joined.bytes, ends_of(&joined), joined.ends.n);
+  drop_joined(&joined);
   return is_done;
 }
 
 PyObject *column_from_buffers(PyTypeObject *type, PyObject *args, PyObject *keywords) {
-  static char *words[] = {"joined", "ends", "codes", "hasher", NULL};
-  PyObject *joined, *ends, *codes, *hasher = NULL;
+  static char *words[] = {"joined", "ends", "codes", "hasher", "offsets", NULL};
+  PyObject *joined, *ends = NULL, *codes = NULL, *hasher = NULL, *offsets = NULL;
   Options options = {.kind = INTERNER_STRING};
   State *state = state_of_type(type);
-  if (!state || !PyArg_ParseTupleAndKeywords(args, keywords, "OOO|$O:from_buffers", words, &joined, &ends, &codes, &hasher)) return NULL;
+  if (!state || !PyArg_ParseTupleAndKeywords(args, keywords, "O|OO$OO:from_buffers", words, &joined, &ends, &codes, &hasher, &offsets))
+    return NULL;
+  if (!codes) return PyErr_SetString(PyExc_TypeError, "from_buffers wants codes"), NULL;
   Dictionary *dictionary = read_hasher(state, hasher, &options) ? new_dictionary(&options) : NULL;
   if (!dictionary) return NULL;
-  if (add_joined(dictionary->h, joined, ends)) return make_of_parts(state, type, dictionary, codes);
+  if (add_joined(dictionary->h, joined, ends, offsets)) return make_of_parts(state, type, dictionary, codes);
   drop_dictionary(dictionary);
   return NULL;
 }

@@ -307,8 +307,9 @@ static PyMethodDef method_methods[] = {
      "what is no text, the TypeError says which. Reads a list, a tuple and an array of objects in place. numpy reads the result\n"
      "without a copy."},
     {"intern_column", (PyCFunction)(void (*)(void))method_intern_column, METH_VARARGS | METH_KEYWORDS,
-     "intern_column($self, /, joined, ends, *, typecode='I')\n--\n\n"
-     "Does the same for texts that are end to end in `joined`: text `i` ends before byte `ends[i]`.\n\n"
+     "intern_column($self, /, joined, ends=None, *, typecode='I', offsets=None)\n--\n\n"
+     "Does the same for texts that are end to end in `joined`: text `i` ends before byte `ends[i]`. Arrow and others have offsets,\n"
+     "one number more: text `i` begins at byte `offsets[i]`, and ends before byte `offsets[i + 1]`. Pass one of the two.\n\n"
      "`joined` may be anything with a buffer; all but `bytes` is copied. `ends` is copied, too. That is fastest for a buffer of\n"
      "numbers, such as an array or what numpy and Arrow have. Raises ValueError at a text that is not UTF-8, and at an end that\n"
      "is less than the one before it or passes the bytes. The texts before it stay."},

@@ -29,11 +29,11 @@ static const char *read_typecode(PyObject *given) {
 }
 
 /* Interns the parts of bytes, and writes their symbols. The texts before a failure stay. */
-static bool intern_parts(Interner *self, const Bytes *joined, const size_t *ends, Py_ssize_t n, interner_symbol *numbers) {
-  size_t done;
+static bool intern_parts(Interner *self, const Joined *joined, interner_symbol *numbers) {
+  size_t done, n = joined->ends.n;
   if (!is_open(self)) return false;
   self->uses++;
-  interner_status status = interner_intern_joined(self->h, joined->at, joined->length, ends, n, numbers, n, &done);
+  interner_status status = interner_intern_joined(self->h, joined->bytes.at, joined->bytes.length, ends_of(joined), n, numbers, n, &done);
   if (status == INTERNER_BAD_TEXT) PyErr_Format(PyExc_ValueError, "text %zu is not UTF-8", done);
   else if (status != INTERNER_OK) raise_status(status);
   return status == INTERNER_OK;
@@ -52,23 +52,17 @@ static PyObject *pack_numbers(const State *state, const char *typecode, const in
 }
 
 PyObject *method_intern_column(Interner *self, PyObject *args, PyObject *keywords) {
-  static char *words[] = {"joined", "ends", "typecode", NULL};
-  PyObject *given, *given_ends, *given_typecode = NULL, *array = NULL;
-  Bytes joined;
-  Numbers ends;
-  if (!PyArg_ParseTupleAndKeywords(args, keywords, "OO|$O:intern_column", words, &given, &given_ends, &given_typecode)) return NULL;
+  static char *words[] = {"joined", "ends", "typecode", "offsets", NULL};
+  PyObject *given, *ends = NULL, *given_typecode = NULL, *offsets = NULL, *array = NULL;
+  Joined joined;
+  if (!PyArg_ParseTupleAndKeywords(args, keywords, "O|O$OO:intern_column", words, &given, &ends, &given_typecode, &offsets)) return NULL;
   const char *typecode = read_typecode(given_typecode);
-  if (!typecode || !read_bytes(given, &joined)) return NULL;
-  if (read_numbers(given_ends, &ends)) {
-    /* A negative end passes the bytes as a great one does. So the library rejects it in its turn. */
-    interner_symbol *numbers = PyMem_Malloc(ends.n * sizeof *numbers + 1);
-    if (!numbers) PyErr_NoMemory();
-    else if (intern_parts(self, &joined, (const size_t *)ends.at, ends.n, numbers))
-      array = pack_numbers(self->state, typecode, numbers, ends.n);
-    PyMem_Free(numbers);
-    drop_numbers(&ends);
-  }
-  drop_bytes(&joined);
+  if (!typecode || !read_joined(given, ends, offsets, &joined)) return NULL;
+  interner_symbol *numbers = PyMem_Malloc(joined.ends.n * sizeof *numbers + 1);
+  if (!numbers) PyErr_NoMemory();
+  else if (intern_parts(self, &joined, numbers)) array = pack_numbers(self->state, typecode, numbers, joined.ends.n);
+  PyMem_Free(numbers);
+  drop_joined(&joined);
   return array;
 }
 

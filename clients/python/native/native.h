@@ -140,14 +140,14 @@ typedef struct Numbers {
   int64_t *at;       /* those that do not fit are INT64_MIN or INT64_MAX */
   PyObject **exact;  /* the same as they were given, which no other object refers to; or null if they are from a buffer */
   bool is_unsigned;  /* whether those of a buffer that are INT64_MIN or more are great */
-  bool is_mask;      /* whether all are booleans; false is then 0 */
+  Py_ssize_t booleans; /* how many are booleans, which are 0 and 1 as in Python */
+  bool is_mask;      /* whether all are */
 } Numbers;
 
-/** Raises TypeError for booleans. */
 bool read_numbers(PyObject *given, Numbers *numbers);
 
-/** Raises TypeError if some are booleans, and some are not. */
-bool read_numbers_or_mask(PyObject *given, Numbers *numbers);
+/** The same, but raises TypeError for a boolean. */
+bool read_integers(PyObject *given, Numbers *numbers);
 void drop_numbers(Numbers *numbers);
 PyObject *exact_number(const Numbers *numbers, Py_ssize_t row);
 
@@ -167,6 +167,18 @@ typedef struct Bytes {
 
 bool read_bytes(PyObject *given, Bytes *bytes);
 void drop_bytes(Bytes *bytes);
+
+/* Texts end to end in bytes. */
+typedef struct Joined {
+  Bytes bytes;
+  Numbers ends; /* of each text; a negative end is a great one, as the library reads it */
+} Joined;
+
+/** Reads where texts end in bytes by `ends`, or as Arrow tells it by `offsets`: where the first begins, and where each ends. Raises
+ * TypeError unless exactly one of both is given and not None, and ValueError if the first begins outside of the bytes. */
+bool read_joined(PyObject *given, PyObject *ends, PyObject *offsets, Joined *joined);
+void drop_joined(Joined *joined);
+static inline const size_t *ends_of(const Joined *joined) { return (const size_t *)joined->ends.at; }
 
 /* codes.c */
 

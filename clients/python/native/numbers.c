@@ -36,7 +36,7 @@ static bool copy_view(const Py_buffer *view, Numbers *numbers) {
   for (Py_ssize_t row = 0; is_done && row < n; row++) at[row] = widen(raw + row * width, width, is_unsigned);
   PyMem_Free(raw);
   if (is_done) {
-    *numbers = (Numbers){.n = n, .at = at, .is_unsigned = is_unsigned, .is_mask = is_mask};
+    *numbers = (Numbers){.n = n, .at = at, .is_unsigned = is_unsigned, .booleans = is_mask ? n : 0, .is_mask = is_mask};
     return true;
   }
   PyMem_Free(at);
@@ -67,36 +67,31 @@ static PyObject *read_item(PyObject *item, Py_ssize_t *booleans) {
 /* Reads the integers or booleans that the items of a tuple are, and clips them to 8 bytes. */
 static bool read_items(PyObject *items, Numbers *numbers) {
   const Py_ssize_t n = PyTuple_Size(items);
-  Py_ssize_t booleans = 0;
   *numbers = (Numbers){.at = PyMem_Malloc(n * sizeof *numbers->at + 1), .exact = PyMem_Malloc(n * sizeof *numbers->exact + 1)};
   bool is_done = numbers->at && numbers->exact;
   if (!is_done) PyErr_NoMemory();
   for (Py_ssize_t row = 0; is_done && row < n; row++) {
     int overflow;
-    PyObject *number = read_item(PyTuple_GetItem(items, row), &booleans);
+    PyObject *number = read_item(PyTuple_GetItem(items, row), &numbers->booleans);
     if (!(is_done = number != NULL)) break;
     numbers->exact[numbers->n++] = number;
     numbers->at[row] = PyLong_AsLongLongAndOverflow(number, &overflow);
     if (overflow) numbers->at[row] = overflow < 0 ? INT64_MIN : INT64_MAX;
   }
-  if (is_done && booleans && booleans < n) {
-    PyErr_SetString(PyExc_TypeError, "some are booleans, and some are numbers");
-    is_done = false;
-  }
-  numbers->is_mask = booleans > 0;
+  numbers->is_mask = n && numbers->booleans == n;
   if (!is_done) drop_numbers(numbers);
   return is_done;
 }
 
-bool read_numbers(PyObject *given, Numbers *numbers) {
-  if (!read_numbers_or_mask(given, numbers)) return false;
-  if (!numbers->is_mask) return true;
+bool read_integers(PyObject *given, Numbers *numbers) {
+  if (!read_numbers(given, numbers)) return false;
+  if (!numbers->booleans && !numbers->is_mask) return true;
   drop_numbers(numbers);
   PyErr_SetString(PyExc_TypeError, "booleans, where numbers belong: numpy.flatnonzero(mask) has the numbers of a mask's rows");
   return false;
 }
 
-bool read_numbers_or_mask(PyObject *given, Numbers *numbers) {
+bool read_numbers(PyObject *given, Numbers *numbers) {
   Py_buffer view;
   if (PyObject_CheckBuffer(given)) {
     if (PyObject_GetBuffer(given, &view, PyBUF_FULL_RO)) PyErr_Clear();
@@ -112,9 +107,14 @@ bool read_numbers_or_mask(PyObject *given, Numbers *numbers) {
   return is_done;
 }
 
-void drop_numbers(Numbers *numbers) {
+static void drop_exact(Numbers *numbers) {
   for (Py_ssize_t row = 0; numbers->exact && row < numbers->n; row++) Py_DECREF(numbers->exact[row]);
   PyMem_Free(numbers->exact);
+  numbers->exact = NULL;
+}
+
+void drop_numbers(Numbers *numbers) {
+  drop_exact(numbers);
   PyMem_Free(numbers->at);
 }
 
@@ -180,4 +180,41 @@ void drop_bytes(Bytes *bytes) {
   Py_CLEAR(bytes->held);
   PyMem_Free(bytes->copy);
   bytes->copy = NULL;
+}
+
+/* Has texts begin at the first of the offsets, and makes ends of the others. */
+static bool take_offsets(Joined *joined) {
+  Bytes *bytes = &joined->bytes;
+  Numbers *ends = &joined->ends;
+  if (!ends->n) return true; /* Arrow may leave out the only offset of no text. */
+  const size_t begin = ends->at[0];
+  if (begin > (size_t)bytes->length) {
+    PyObject *name = name_number(ends, 0);
+    if (name) PyErr_Format(PyExc_ValueError, "the first offset is %U, and there are %zd bytes", name, bytes->length);
+    Py_XDECREF(name);
+    return false;
+  }
+  bytes->at += begin, bytes->length -= begin;
+  drop_exact(ends);
+  /* One that is less than the first becomes a great one, which the library rejects. */
+  for (Py_ssize_t text = 1; text < ends->n; text++) ends->at[text - 1] = (int64_t)((size_t)ends->at[text] - begin);
+  ends->n--;
+  return true;
+}
+
+bool read_joined(PyObject *given, PyObject *ends, PyObject *offsets, Joined *joined) {
+  const bool has_ends = ends && ends != Py_None, has_offsets = offsets && offsets != Py_None;
+  if (has_ends == has_offsets) return PyErr_SetString(PyExc_TypeError, "exactly one of ends and offsets is wanted"), false;
+  if (!read_bytes(given, &joined->bytes)) return false;
+  if (read_numbers(has_ends ? ends : offsets, &joined->ends)) {
+    if (has_ends || take_offsets(joined)) return true;
+    drop_numbers(&joined->ends);
+  }
+  drop_bytes(&joined->bytes);
+  return false;
+}
+
+void drop_joined(Joined *joined) {
+  drop_numbers(&joined->ends);
+  drop_bytes(&joined->bytes);
 }

@@ -6,8 +6,10 @@ import random
 import resource
 import threading
 import unittest
+from array import array
+from itertools import accumulate
 
-from string_interner import Column, _native
+from string_interner import Column, Interner, _native
 
 
 class Schema(ctypes.Structure):
@@ -124,6 +126,63 @@ class Consumers(unittest.TestCase):
         column = Column()
         self.assertRaises(TypeError, column.__arrow_c_array__, None, None)
         self.assertRaises(TypeError, column.__arrow_c_schema__, None)
+
+
+class Offsets(unittest.TestCase):
+    """Where Arrow says that texts begin and end: one number more than texts, of which the first need not be 0."""
+
+    def read(self, joined, offsets):
+        """The texts, as both calls that take offsets read them."""
+        count = max(0, len(offsets) - 1)
+        interner = Interner()
+        column = Column.from_buffers(joined, offsets=offsets, codes=range(count))
+        numbers = interner.intern_column(joined, offsets=offsets)
+        self.assertEqual((list(column), column.dictionary), ([*interner], [*interner]))
+        return [interner[number] for number in numbers]
+
+    def test_random_texts(self):
+        source = random.Random(1)
+        for _ in range(1000):
+            texts = list({source.choice(("é", "a", "", "語")) * source.randrange(9) for _ in range(source.randrange(9))})
+            raws = [b"before" * source.randrange(3), *(text.encode() for text in texts)]
+            joined, offsets = b"".join(raws) + b"behind", list(accumulate(map(len, raws)))
+            for form in (list, tuple, *(lambda it, code=code: array(code, it) for code in "hiIqQ")):
+                self.assertEqual(self.read(source.choice((bytes, bytearray, memoryview))(joined), form(offsets)), texts)
+
+    def test_one_of_both(self):
+        for words in ({}, {"ends": None}, {"offsets": None}, {"ends": [1], "offsets": [0, 1]}, {"ends": None, "offsets": None}):
+            for call in (lambda: Column.from_buffers(b"a", codes=[0], **words), lambda: Interner().intern_column(b"a", **words)):
+                with self.assertRaisesRegex(TypeError, "^exactly one of ends and offsets is wanted$"):
+                    call()
+        self.assertEqual(list(Column.from_buffers(b"a", ends=[1], offsets=None, codes=[0])), ["a"])
+        for words in ({"offsets": [0, 1]}, {"ends": [1]}):
+            with self.assertRaisesRegex(TypeError, "^from_buffers wants codes$"):
+                Column.from_buffers(b"a", **words)
+        with self.assertRaises(TypeError):
+            Column.from_buffers(b"a", [0], [0], "fixed")
+
+    def test_no_text(self):
+        for offsets in ([], [0], [2], array("q"), array("i", [2])):
+            self.assertEqual(self.read(b"ab", offsets), [])
+
+    def test_the_first_is_outside(self):
+        for offsets in ([3], [-1, 0], [2**63, 1], [-(2**63)], [2**70, 2**70], [-(2**70), 1], array("Q", [2**64 - 1, 1]), array("b", [-1])):
+            for call in (lambda: Column.from_buffers(b"ab", offsets=offsets, codes=[]), lambda: Interner().intern_column(b"ab", offsets=offsets)):
+                with self.assertRaisesRegex(ValueError, f"^the first offset is {offsets[0]}, and there are 2 bytes$"):
+                    call()
+
+    def test_others_are_outside_or_less(self):
+        for bad in (0, -1, 4, 2**63, 2**63 - 1, -(2**63), 2**64 - 1, 2**70, -(2**70)):
+            for offsets in ([1, 2, bad], [1, 2, bad, 3]):
+                interner = Interner()
+                with self.assertRaisesRegex(ValueError, "^an end"):
+                    interner.intern_column(b"abc", offsets=offsets)
+                self.assertEqual(list(interner), ["b"])
+                with self.assertRaisesRegex(ValueError, "^an end"):
+                    Column.from_buffers(b"abc", offsets=offsets, codes=[])
+        for offsets, said in (([0, 1, 2], "a text repeats"), ([0, 1, 3], "text 1 is not UTF-8")):
+            with self.assertRaisesRegex(ValueError, f"^{said}"):
+                Column.from_buffers(b"aa\xff", offsets=offsets, codes=[])
 
 
 if __name__ == "__main__":

@@ -151,6 +151,7 @@ class BesideAList(RuleBasedStateMachine):
 
     @rule(make=strategies.sampled_from((
         lambda it: Column.from_buffers(*it.to_buffers()), lambda it: Column.from_parts(it.dictionary, it.codes),
+        lambda it: Column.from_buffers(it.to_buffers()[0], offsets=[0, *it.to_buffers()[1]], codes=it.codes),
         lambda it: Column.from_parts(Interner(it.dictionary), iter(it.codes)),
     )))
     def go_on_with_its_parts(self, make):

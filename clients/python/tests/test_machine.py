@@ -52,6 +52,13 @@ class BesideAList(RuleBasedStateMachine):
         codes = self.interner.intern_column(b"".join(raws), form(list(accumulate(map(len, raws)))), typecode=typecode)
         assert codes == array(typecode, self.numbers_of(column))
 
+    @rule(column=COLUMNS, text=TEXTS, typecode=TYPECODES, form=ENDS)
+    def intern_column_by_offsets(self, column, text, typecode, form):
+        # The first begins behind another text, as in a slice of an array of Arrow.
+        raws = [it.encode() for it in (text, *column)]
+        codes = self.interner.intern_column(b"".join(raws), offsets=form(list(accumulate(map(len, raws)))), typecode=typecode)
+        assert codes == array(typecode, self.numbers_of(column))
+
     @rule(column=COLUMNS, change=strategies.integers(), wrong=strategies.sampled_from((-1, 2**64, 10**6)))
     def intern_column_with_a_bad_end(self, column, change, wrong):
         raws = [text.encode() for text in column]

@@ -86,18 +86,20 @@ class Selections(unittest.TestCase):
 
     def test_some_booleans_among_numbers(self):
         for key in ([True, 2], [0, False], [1, 2, 3, 4, True]):
-            for call in (Column(ROWS).__getitem__, Column(ROWS).take, lambda it: Column.from_parts(ROWS[:2], it)):
-                with self.assertRaisesRegex(TypeError, "^some are booleans, and some are numbers$"):
-                    call(key)
+            with self.assertRaisesRegex(TypeError, "^some are booleans, and some are numbers$"):
+                Column(ROWS)[key]
 
     def test_a_mask_is_not_taken_for_numbers(self):
-        for mask in (*masks(), iter(MASK), tuple(MASK)):
-            for call in (Column(ROWS).take, lambda it: Column.from_parts(["no", "yes"], it), Interner(["no", "yes"]).resolve_all,
-                         lambda it: Column.from_buffers(b"noyes", [2, 5], it)):
+        for make in (*(lambda mask=mask: mask for mask in masks()), lambda: iter(MASK), lambda: tuple(MASK), lambda: [1, True],
+                     lambda: memoryview(b"").cast("?")):
+            for call in (Column(ROWS).take, lambda it: Column.from_parts(["no", "yes"], it), lambda it: Column.from_buffers(b"noyes", [2, 5], it)):
                 with self.assertRaisesRegex(TypeError, r"^booleans, where numbers belong: numpy\.flatnonzero\(mask\) "):
-                    call(mask if mask is not MASK else MASK[:])
-                if iter(mask) is mask:
-                    break
+                    call(make())
+
+    def test_elsewhere_booleans_are_numbers(self):
+        # As in a list of Python.
+        for mask in masks():
+            self.assertEqual(Interner(["no", "yes"]).resolve_all(mask), ["yes", "no", "yes", "no", "no"])
 
     def test_a_mask_that_changes_the_column(self):
         class Mask(Plain):

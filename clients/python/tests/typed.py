@@ -30,6 +30,7 @@ assert_type(names.intern_all(["a", None], missing=-1), "array[int]")
 assert_type(names.get_all(["a", None]), "array[int]")
 assert_type(names.resolve_all([0, -1], missing=-1), list[str | None])
 assert_type(names.intern_column(bytearray(b"ab"), array("I", [1, 2])), "array[int]")
+assert_type(names.intern_column(b"ab", offsets=array("I", [0, 1, 2]), typecode="Q"), "array[int]")
 assert_type(names.entries(), Iterator[tuple[int, str]])
 assert_type(Named.from_json("[]", hasher="fixed"), Named)
 assert_type(Named().copy(), Named)
@@ -54,6 +55,7 @@ assert_type(colors[array("b", [0, -1])], Column)
 assert_type(list(colors), list[str | None])
 assert_type(Colors.from_file("lines", hasher="fixed"), Colors)
 assert_type(Colors.from_buffers(*colors.to_buffers()), Colors)
+assert_type(Colors.from_buffers(b"redgreen", offsets=[0, 3, 8], codes=[0, 1]), Colors)
 assert_type(colors.take([0, -1]), Column)
 assert_type(colors.value_counts(), dict[str, int])
 assert_type(colors.value_counts(dropna=True), dict[str, int])
@@ -77,7 +79,10 @@ names.intern(b"a")  # type: ignore[arg-type]
 names.intern_all([1])  # type: ignore[list-item]
 names.intern_all(["a", None])  # type: ignore[list-item]
 names.intern_all(["a"], typecode="d")  # type: ignore[call-overload]
-names.intern_column("a", [1])  # type: ignore[arg-type]
+names.intern_column("a", [1])  # type: ignore[call-overload]
+names.intern_column(b"a")  # type: ignore[call-overload]
+names.intern_column(b"a", [1], offsets=[0, 1])  # type: ignore[call-overload]
+Column.from_buffers(b"a", [1])  # type: ignore[call-overload]
 names.resolve(1.5)  # type: ignore[arg-type]
 names.get_all([1])  # type: ignore[list-item]
 names.intern_lines("a")  # type: ignore[arg-type]
