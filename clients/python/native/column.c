@@ -400,10 +400,12 @@ static PyMethodDef column_methods[] = {
      "The texts are end to end in `joined`: text `i` ends before byte `ends[i]`. Arrow and others have offsets, one number more:\n"
      "text `i` begins at byte `offsets[i]`, and ends before byte `offsets[i + 1]`. Pass one of the two, and always codes."},
     {"from_file", (PyCFunction)(void (*)(void))column_from_file, METH_VARARGS | METH_KEYWORDS | METH_CLASS,
-     "from_file($type, /, file, *, hasher='seeded')\n--\n\n"
-     "Makes a column of the lines of a file: a path, or the number of an open file, which stays open. Makes no str of a line.\n\n"
-     "A line ends at a newline, which is not part of it, or at the end of the file. Raises ValueError for a line that is not\n"
-     "UTF-8, and says which, counted from 1; and OSError."},
+     "from_file($type, /, file, *, encoding='utf-8', newline='\\n', hasher='seeded')\n--\n\n"
+     "Makes a column of the lines of a file: a path; the number of an open file; or an open file of Python in binary mode, such as\n"
+     "that of `gzip.open`. Reads from where it is to its end, and an open file stays open. Makes no str of a line.\n\n"
+     "A line ends at a newline, which is not part of it, or at the end of the file. With `newline=None` it ends at \"\\r\\n\" and\n"
+     "\"\\r\", too, and with `encoding='utf-8-sig'` a byte order mark at the front is no part of it: `open` has both words.\n"
+     "Raises ValueError for a line that is not UTF-8, and says which, counted from 1; OSError; and what reading a file raises."},
     {"counts", (PyCFunction)column_counts, METH_NOARGS,
      "counts($self, /)\n--\n\n"
      "Returns the number of rows with each text of the dictionary, in its order. Does not count rows that are None."},

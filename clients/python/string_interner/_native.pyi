@@ -5,7 +5,7 @@ from collections.abc import Iterable, Iterator, Sequence
 from os import PathLike
 from typing import ClassVar, Literal, Self, SupportsIndex, TypeVar, final, overload
 
-from _typeshed import ReadableBuffer
+from _typeshed import ReadableBuffer, SupportsRead
 
 from . import Backend, Hasher, Typecode
 from ._column import Column as _Column
@@ -85,7 +85,14 @@ class Column(Sequence[str | None]):
         cls, joined: ReadableBuffer, *, offsets: Iterable[SupportsIndex], codes: Iterable[SupportsIndex], hasher: Hasher = "seeded"
     ) -> Self: ...
     @classmethod
-    def from_file(cls, file: str | bytes | PathLike[str] | PathLike[bytes] | int, *, hasher: Hasher = "seeded") -> Self: ...
+    def from_file(
+        cls,
+        file: str | bytes | PathLike[str] | PathLike[bytes] | int | SupportsRead[bytes],
+        *,
+        encoding: Literal["utf-8", "utf-8-sig"] = "utf-8",
+        newline: Literal["\n"] | None = "\n",
+        hasher: Hasher = "seeded",
+    ) -> Self: ...
     @property
     def dictionary(self) -> list[str]: ...
     @property
