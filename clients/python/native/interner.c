@@ -256,6 +256,12 @@ static PyObject *method_hasher(Interner *self, void *unused) {
   return PyUnicode_FromString(hasher_name(self->hasher));
 }
 
+/* How many texts there are; none if it is closed. */
+static PyObject *method_count(Interner *self, void *unused) {
+  (void)unused;
+  return PyLong_FromSize_t(self->h ? interner_len(self->h) : 0);
+}
+
 /* What copies and pickles hold. */
 static PyObject *method_parts(Interner *self, void *unused) {
   (void)unused;
@@ -351,6 +357,7 @@ static PyMethodDef method_methods[] = {
 static PyGetSetDef method_getset[] = {
     {"backend", (getter)method_backend, NULL, "How texts are stored.", NULL},
     {"hasher", (getter)method_hasher, NULL, "How texts are hashed: `seeded`, `siphash` or `fixed`.", NULL},
+    {"_count", (getter)method_count, NULL, NULL, NULL},
     {"_parts", (getter)method_parts, (setter)method_set_parts, NULL, NULL},
     {NULL, NULL, NULL, NULL, NULL}};
 

@@ -34,8 +34,7 @@ static bool intern_parts(Interner *self, const Joined *joined, interner_symbol *
   if (!is_open(self)) return false;
   self->uses++;
   interner_status status = interner_intern_joined(self->h, joined->bytes.at, joined->bytes.length, ends_of(joined), n, numbers, n, &done);
-  if (status == INTERNER_BAD_TEXT) PyErr_Format(PyExc_ValueError, "text %zu is not UTF-8", done);
-  else if (status != INTERNER_OK) raise_status(status);
+  if (status != INTERNER_OK) raise_place(status, done);
   return status == INTERNER_OK;
 }
 

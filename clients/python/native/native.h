@@ -446,6 +446,9 @@ PyObject *new_parts(State *state, Dictionary *dictionary, Block *block, Py_ssize
 /** The texts of a dictionary end to end, and where each ends, in 8 bytes each. Without those that are not used, if this is told. */
 bool join_texts(const Dictionary *dictionary, const Used *used, PyObject **joined, PyObject **ends);
 
+/** Raises what a status says of the text, or the end, at a place. */
+void raise_place(interner_status status, size_t place);
+
 /** Adds the texts between ends to an empty handle. Raises ValueError if one repeats. */
 bool split_texts(interner *h, const Bytes *joined, const size_t *ends, Py_ssize_t n);
 

@@ -31,14 +31,27 @@ bool join_texts(const Dictionary *dictionary, const Used *used, PyObject **joine
   return true;
 }
 
+void raise_place(interner_status status, size_t place) {
+  if (status == INTERNER_BAD_TEXT) PyErr_Format(PyExc_ValueError, "text %zu is not UTF-8", place);
+  else if (status == INTERNER_BAD_ENDS) PyErr_Format(PyExc_ValueError, "%s: end %zu", interner_status_text(status), place);
+  else raise_status(status);
+}
+
+/* Names the first text that repeats an earlier one: its number is not greater than all before. */
+static void raise_repeat(const interner_symbol *numbers, Py_ssize_t n) {
+  Py_ssize_t row = 1, first = 0;
+  while (row < n && numbers[row] > numbers[row - 1]) row++;
+  while (first < row && numbers[first] != numbers[row]) first++;
+  PyErr_Format(PyExc_ValueError, "a text repeats an earlier one: text %zd is text %zd again", row, first);
+}
+
 bool split_texts(interner *h, const Bytes *joined, const size_t *ends, Py_ssize_t n) {
   size_t done = 0;
   interner_symbol *numbers = PyMem_Malloc(n * sizeof *numbers + 1);
   interner_status status = numbers ? interner_intern_joined(h, joined->at, joined->length, ends, n, numbers, n, &done) : INTERNER_NO_MEMORY;
+  if (status != INTERNER_OK) raise_place(status, done);
+  else if (interner_len(h) < (size_t)n) raise_repeat(numbers, n);
   PyMem_Free(numbers);
-  if (status == INTERNER_BAD_TEXT) PyErr_Format(PyExc_ValueError, "text %zu is not UTF-8", done);
-  else if (status != INTERNER_OK) raise_status(status);
-  else if (interner_len(h) < (size_t)n) PyErr_SetString(PyExc_ValueError, "a text repeats an earlier one");
   return !PyErr_Occurred();
 }
 

@@ -4,18 +4,15 @@ from __future__ import annotations
 
 from collections.abc import Sequence
 
-from . import _native
+from . import _native, _types
 
 TYPE_CHECKING = False
 if TYPE_CHECKING:
-    from collections.abc import Iterable
-    from typing import Any, Literal, Self, overload
-
-    from . import Hasher
+    from typing import overload
 else:
 
     def overload(call):
-        """Stands for that of `typing`, because to import it takes longer than all else here."""
+        """Stands for that of `typing`, which a type checker alone needs."""
         return call
 
 
@@ -55,19 +52,19 @@ class Column(_native.Column):
     __slots__ = ()
 
     @classmethod
-    def from_values(cls, values: Iterable[str | None], *, hasher: Hasher = "seeded") -> Self:
+    def from_values(cls, values: _types.Iterable[str | None], *, hasher: _types.Hasher = "seeded") -> _types.Self:
         """Makes a column of the values, as `Column` does. Does not call the `__init__` of a subclass."""
         column = cls.__new__(cls)
         Column.__init__(column, values, hasher=hasher)
         return column
 
     @classmethod
-    def encode(cls, values: Iterable[str | None], *, hasher: Hasher = "seeded") -> Self:
+    def encode(cls, values: _types.Iterable[str | None], *, hasher: _types.Hasher = "seeded") -> _types.Self:
         """Does what `from_values` does, under the name that dictionary encoding has elsewhere."""
         return cls.from_values(values, hasher=hasher)
 
     @classmethod
-    def from_pandas(cls, values: Any, *, hasher: Hasher = "seeded") -> Self:
+    def from_pandas(cls, values: _types.Any, *, hasher: _types.Hasher = "seeded") -> _types.Self:
         """Makes a column of a Series, Index, Categorical or other array of pandas. What pandas counts as missing becomes None.
 
         The categories of a Categorical become the dictionary, in their order. Raises TypeError for a category or a value that
@@ -87,7 +84,7 @@ class Column(_native.Column):
             missing = pandas.isna(numpy.asarray(rows)) | getattr(rows, "mask", False)
             return cls.from_values(numpy.where(missing, None, rows), hasher=hasher)
 
-    def to_pandas(self) -> Any:
+    def to_pandas(self) -> _types.Any:
         """Returns a Categorical of pandas, whose categories are the dictionary. Raises ImportError without pandas.
 
         Below 127 categories pandas copies the codes to 1 byte each, and below 32,767 to 2 bytes each. From there on it reads the
@@ -103,7 +100,7 @@ class Column(_native.Column):
         # Few rows of a long column: to read the whole dictionary for them takes longer than to leave it.
         return self.compact() if len(self) < self.distinct // 8 else self
 
-    def to_numpy(self) -> Any:
+    def to_numpy(self) -> _types.Any:
         """Returns the rows in an array of objects of numpy. Raises ImportError without numpy."""
         import numpy
 
@@ -113,19 +110,19 @@ class Column(_native.Column):
         texts = numpy.array([*column.dictionary, None], dtype=object)
         return texts[codes]
 
-    def __array__(self, dtype: Any = None, copy: bool | None = None) -> Any:
+    def __array__(self, dtype: _types.Any = None, copy: bool | None = None) -> _types.Any:
         if copy is False:
             raise ValueError("the rows of a column are copied")
         rows = self.to_numpy()
         return rows if dtype is None else rows.astype(dtype)
 
     @overload
-    def value_counts(self, *, dropna: Literal[True] = True) -> dict[str, int]: ...
+    def value_counts(self, *, dropna: _types.Literal[True] = True) -> dict[str, int]: ...
     @overload
-    def value_counts(self, *, dropna: Literal[False]) -> dict[str | None, int]: ...
+    def value_counts(self, *, dropna: _types.Literal[False]) -> dict[str | None, int]: ...
     @overload
     def value_counts(self, *, dropna: bool) -> dict[str, int] | dict[str | None, int]: ...
-    def value_counts(self, *, dropna: bool = True) -> Any:
+    def value_counts(self, *, dropna: bool = True) -> _types.Any:
         """Returns the number of rows with each text that a row has, the most frequent first.
 
         Counts rows that are None only if `dropna` is false.
@@ -146,7 +143,7 @@ class Column(_native.Column):
             found.insert(self[: self.index(None)]._in_order().distinct, None)
         return found
 
-    def isin(self, values: Iterable[object]) -> memoryview:
+    def isin(self, values: _types.Iterable[object]) -> memoryview:
         """Returns for each row whether it is one of the values, of which one may be None.
 
         `numpy.asarray` reads the result as booleans without a copy, and `column[..]` as a mask.
@@ -168,7 +165,7 @@ class Column(_native.Column):
         attributes, slots = state if isinstance(state, tuple) else (state, {})
         return attributes, slots | {"_parts": self._parts}
 
-    def __reduce_ex__(self, protocol: Any) -> Any:
+    def __reduce_ex__(self, protocol: _types.Any) -> _types.Any:
         # Older protocols have no way to make an object of a class that is written in C.
         return super().__reduce_ex__(max(protocol, 2))
 

@@ -23,6 +23,8 @@ class _Parts:
 
 class Interner:
     _parts: _Parts
+    @property
+    def _count(self) -> int: ...
     __hash__: ClassVar[None]  # type: ignore[assignment]
     def __init__(
         self, texts: Iterable[str] = (), *, backend: Backend = "string", capacity: SupportsIndex = 0, hasher: Hasher = "seeded"

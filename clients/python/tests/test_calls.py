@@ -4,12 +4,13 @@ import copy
 import doctest
 import json
 import pickle
+import sys
 import threading
 import unittest
 from array import array
 
 import string_interner
-from string_interner import Interner
+from string_interner import Column, Interner
 
 BACKENDS = ("string", "bucket", "buffer")
 TEXTS = ["Tiger", "", "Käfer", "語", "𝄞", "a\0b", 'q"\\\n']
@@ -208,6 +209,25 @@ class Calls:
             other.intern("Horse")
             self.assertNotEqual(other, interner)
         self.assertEqual(list(interner), TEXTS)
+
+    def test_dask_reads_its_size_and_its_name(self):
+        interner = self.make(TEXTS)
+        self.assertEqual(sys.getsizeof(interner) - sys.getsizeof(self.make([])), 64 * len(TEXTS))
+        self.assertEqual(interner.__dask_tokenize__(), self.make(TEXTS).__dask_tokenize__())
+        others = [self.make(TEXTS[::-1]), self.make(TEXTS[1:]), self.make([]), self.make([", ".join(TEXTS)]), Column(TEXTS)]
+        self.assertEqual(len({str(it.__dask_tokenize__()) for it in (interner, *others)}), 6)
+        self.assertEqual(len({str(Interner(TEXTS, backend=it).__dask_tokenize__()) for it in ("string", "bucket", "buffer")}), 3)
+        before = sys.getsizeof(self.make([]))
+        interner.close()
+        self.assertEqual(sys.getsizeof(interner), before)
+        self.assertRaises(ValueError, interner.__dask_tokenize__)
+        try:
+            from dask.base import tokenize
+            from dask.sizeof import sizeof
+        except ImportError:
+            return
+        self.assertEqual(tokenize(self.make(TEXTS)), tokenize(self.make(TEXTS)))
+        self.assertGreaterEqual(sizeof(self.make(map(str, range(1000)))), 64_000)
 
     def test_equality(self):
         interner = self.make(TEXTS)

@@ -858,8 +858,9 @@ class Buffers(unittest.TestCase):
             column = Column.from_buffers(bytearray(b"redgreen"), ends, [1, -1, 0], hasher="fixed")
             self.assertEqual((list(column), column.dictionary, column.hasher), (["green", None, "red"], ["red", "green"], "fixed"))
         for joined, ends, codes, said in (
-            (b"redred", [3, 6], [0], "a text repeats an earlier one"), (b"ab", [1, 3], [0], "an end"), (b"ab", [2, 1], [0], "an end"),
-            (b"ab", [-1], [0], "an end"), (b"a\xff", [1, 2], [0], "text 1 is not UTF-8"), (b"ab", [1, 2], [0, 2], "row 1 has code 2, and the dictionary has 2 texts"),
+            (b"redred", [3, 6], [0], "a text repeats an earlier one: text 1 is text 0 again$"), (b"ab", [1, 3], [0], "an end .* bytes: end 1$"),
+            (b"abcbb", [1, 2, 3, 4, 5], [0], "a text repeats an earlier one: text 3 is text 1 again$"), (b"ab", [2, 1], [0], "an end .*: end 1$"),
+            (b"ab", [-1], [0], "an end .*: end 0$"), (b"a\xff", [1, 2], [0], "text 1 is not UTF-8"), (b"ab", [1, 2], [0, 2], "row 1 has code 2, and the dictionary has 2 texts"),
             (b"ab", [1, 2], array("Q", [0, 2**64 - 1]), f"row 1 has code {2**64 - 1}, "),
         ):
             with self.assertRaisesRegex(ValueError, f"^{said}"):

@@ -8,6 +8,7 @@ import subprocess
 import sys
 import sysconfig
 import tempfile
+import typing
 import unittest
 from pathlib import Path
 
@@ -45,6 +46,24 @@ class Imports(unittest.TestCase):
             self.assertIsNotNone(getattr(string_interner, name))
         with self.assertRaisesRegex(AttributeError, "^module 'string_interner' has no attribute 'Backends'$"):
             string_interner.Backends
+
+    def test_types_of_calls(self):
+        named = []
+        for kind in (Interner, Column):
+            for name, call in inspect.getmembers(kind, callable):
+                if name == "__class__":
+                    continue
+                hints = typing.get_type_hints(call)
+                # A call of the module in C has its types in the stub alone.
+                if inspect.isfunction(inspect.unwrap(getattr(call, "__func__", call))):
+                    self.assertIn("return", hints, f"{kind.__name__}.{name}")
+                    named.append(name)
+        self.assertTrue({"copy", "from_values", "from_pandas", "to_buffers", "isin", "value_counts", "__sizeof__"} <= {*named})
+        hints = typing.get_type_hints(Column.from_values)
+        self.assertEqual((hints["hasher"], hints["return"]), (string_interner.Hasher, typing.Self))
+
+    def test_it_shows_its_names(self):
+        self.assertLessEqual({*string_interner.__all__, "__version__"}, {*dir(string_interner)})
 
     def test_the_version(self):
         self.assertRegex(string_interner.__version__, r"^\d+\.\d+\.\d+$")

@@ -132,7 +132,7 @@ class Ends(unittest.TestCase):
                 if isinstance(given, ctypes.Array) and list(given) != [1, bad, 4]:
                     continue
                 interner = Interner()
-                with self.assertRaisesRegex(ValueError, "an end"):
+                with self.assertRaisesRegex(ValueError, r"an end is less than the one before, or passes the bytes: end \d$"):
                     interner.intern_column(b"abcd", given)
                 self.assertEqual(list(interner), ["a"], (bad, given))
 
