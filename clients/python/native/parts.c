@@ -7,9 +7,20 @@ PyObject *new_parts(State *state, Dictionary *dictionary, Block *block, Py_ssize
   return (PyObject *)parts;
 }
 
+/* All texts, where the library has them end to end. */
+static bool copy_joined(const interner_joined *all, PyObject **joined, PyObject **ends) {
+  if (!(*ends = PyBytes_FromStringAndSize(NULL, (all->ends_len + all->long_ends_len) * sizeof(uint64_t)))) return false;
+  uint64_t *end = (uint64_t *)PyBytes_AsString(*ends);
+  for (size_t text = 0; text < all->ends_len; text++) *end++ = all->ends[text];
+  for (size_t text = 0; text < all->long_ends_len; text++) *end++ = all->long_ends[text];
+  return (*joined = PyBytes_FromStringAndSize(all->bytes, all->bytes_len)) != NULL;
+}
+
 bool join_texts(const Dictionary *dictionary, const Used *used, PyObject **joined, PyObject **ends) {
   size_t count = interner_len(dictionary->h), length = 0, number = 0;
+  interner_joined all;
   interner_text text;
+  if (!used && interner_string_joined(dictionary->h, &all) == INTERNER_OK) return copy_joined(&all, joined, ends);
   if (!(*ends = PyBytes_FromStringAndSize(NULL, (used ? used->count : count) * sizeof(uint64_t)))) return false;
   uint64_t *end = (uint64_t *)PyBytes_AsString(*ends);
   for (size_t row = next_used(used, 0, count); row < count; row = next_used(used, row + 1, count)) {

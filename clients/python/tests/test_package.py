@@ -1,8 +1,10 @@
 """Tests of the import: what it needs, what it shows, and what is said of a library with another interface."""
 
+import email
 import inspect
 import os
 import pydoc
+import re
 import shutil
 import subprocess
 import sys
@@ -18,6 +20,51 @@ from string_interner import Column, Interner, _native
 PACKAGE = Path(string_interner.__file__).resolve().parent
 SOURCES = PACKAGE.parent / "native"
 HEADERS = Path(sysconfig.get_path("include"))
+
+
+class Metadata(unittest.TestCase):
+    """What a wheel and the archive of the sources say of the package."""
+
+    def setUp(self):
+        if not (PACKAGE.parent / "setup.py").exists():
+            self.skipTest("no sources")
+        try:
+            import setuptools  # noqa: F401
+            import wheel  # noqa: F401
+        except ImportError:
+            self.skipTest("no setuptools or wheel")
+
+    def run_setup(self, *words, **environment):
+        return subprocess.run([sys.executable, "-B", "-W", "ignore", "setup.py", "--quiet", *words], cwd=PACKAGE.parent, env=os.environ | environment,
+                              capture_output=True, text=True, timeout=60)
+
+    def test_the_page_stands_by_itself(self):
+        with tempfile.TemporaryDirectory() as folder:
+            self.assertEqual(self.run_setup("egg_info", "--egg-base", folder).returncode, 0)
+            (written,) = Path(folder).glob("*/PKG-INFO")
+            metadata = email.message_from_string(written.read_text(encoding="utf-8"))
+        page = metadata.get_payload()
+        self.assertEqual((metadata["Name"], metadata["Version"]), ("string-interner", string_interner.__version__))
+        self.assertEqual((metadata["Requires-Python"], metadata["Description-Content-Type"]), (">=3.11", "text/markdown"))
+        self.assertIn("License :: OSI Approved :: MIT License", metadata.get_all("Classifier"))
+        # It is read where nothing else of the repository is.
+        self.assertTrue(page.lstrip().startswith("# string_interner for Python"))
+        for target in re.findall(r"\]\(([^)]*)\)", page):
+            self.assertRegex(target, "^(https://|#)")
+        self.assertNotRegex(page, r"\.\./|no download|PYTHONPATH")
+        for words in ("pip install", "STRING_INTERNER_LIB", "archive for C of the same release"):
+            self.assertIn(words, page)
+        programs = re.findall(r"^```python\n(.*?)^```$", page, re.M | re.S)
+        self.assertTrue(programs)
+        for program in programs:
+            exec(program, {})
+
+    def test_a_build_without_the_library_says_where_it_is(self):
+        with tempfile.TemporaryDirectory() as folder:
+            ended = self.run_setup("build_ext", "--build-lib", folder, "--build-temp", folder, STRING_INTERNER_LIB=folder)
+        self.assertNotEqual(ended.returncode, 0)
+        self.assertIn(f"no {folder}/libstring_interner.a: run clients/build, or name its folder in STRING_INTERNER_LIB", ended.stderr)
+        self.assertIn("the archive for C of each release has it", ended.stderr)
 
 
 class Imports(unittest.TestCase):
