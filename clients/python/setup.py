@@ -6,7 +6,11 @@ from pathlib import Path
 
 from setuptools import Extension, setup
 from setuptools.command.build_ext import build_ext
-from wheel.bdist_wheel import bdist_wheel
+
+try:
+    from setuptools.command.bdist_wheel import bdist_wheel
+except ImportError:  # setuptools before 70.1
+    from wheel.bdist_wheel import bdist_wheel
 
 ARCHIVE = "libstring_interner.a"
 HERE = Path(__file__).resolve().parent
@@ -17,11 +21,11 @@ class BuildWithLibrary(build_ext):
     def build_extensions(self):
         if sysconfig.get_config_var("Py_GIL_DISABLED"):
             raise SystemExit("setup.py: the module needs the global lock, which this Python is built without")
-        folder = find_library()
+        headers, archive = find_library()
         for extension in self.extensions:
-            extension.include_dirs.append(str(folder))
-            extension.extra_objects.append(str(folder / ARCHIVE))
-            extension.depends.append(str(folder / ARCHIVE))
+            extension.include_dirs.append(str(headers))
+            extension.extra_objects.append(str(archive))
+            extension.depends.append(str(archive))
         super().build_extensions()
 
 
@@ -33,11 +37,15 @@ class ManyLinuxWheel(bdist_wheel):
 
 
 def find_library():
-    """Returns the folder that STRING_INTERNER_LIB names, or else that of clients/build, if the library is there."""
+    """Returns the folder of the header and the archive: of what STRING_INTERNER_LIB names, or else of what clients/build made."""
     folder = Path(os.environ.get("STRING_INTERNER_LIB") or HERE.parent / "out")
-    if not (folder / ARCHIVE).exists():
-        raise SystemExit(f"setup.py: no {folder / ARCHIVE}: run clients/build, or name its folder in STRING_INTERNER_LIB")
-    return folder
+    for headers, archive in ((folder, folder / ARCHIVE), (folder / "include", folder / "lib" / ARCHIVE)):
+        if archive.exists():
+            return headers, archive
+    raise SystemExit(
+        f"setup.py: no {folder / ARCHIVE}: run clients/build, or name its folder in STRING_INTERNER_LIB. The library is proved and built "
+        "in the repository of string_interner, and the archive for C of each release has it: unpack that, and name its folder"
+    )
 
 
 setup(

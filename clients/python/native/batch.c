@@ -20,8 +20,14 @@ bool open_rows_in_place(PyObject *given, Rows *rows) {
   return false;
 }
 
+bool are_many(PyObject *given) {
+  if (!PyUnicode_Check(given)) return true;
+  PyErr_SetString(PyExc_TypeError, "a str is one text, and no rows: write [text], or list(text) for its letters");
+  return false;
+}
+
 bool open_rows(PyObject *given, Rows *rows) {
-  PyObject *values = without_mask(given, Py_None);
+  PyObject *values = are_many(given) ? without_mask(given, Py_None) : NULL;
   bool is_open = values && open_rows_in_place(values, rows);
   if (values && !is_open) {
     PyObject *list = PySequence_List(values);
@@ -157,9 +163,10 @@ bool put_number(Batch *batch, Py_ssize_t row, int64_t number) {
 
 static bool raise_row(const Batch *batch, Py_ssize_t row, PyObject *object) {
   PyObject *name = PyType_GetName(Py_TYPE(object));
+  bool is_nan = PyFloat_CheckExact(object) && PyFloat_AsDouble(object) != PyFloat_AsDouble(object);
   if (name)
-    PyErr_Format(PyExc_TypeError, batch->takes_none ? "row %zd is of type %U, not str or None" : "text %zd is of type %U, not str",
-                 row, name);
+    PyErr_Format(PyExc_TypeError, "%s %zd is of type %U, not str%s%s", batch->column ? "row" : "text", row, name,
+                 batch->takes_none ? " or None" : "", is_nan ? ": it is NaN, which Column.from_pandas makes None" : "");
   Py_XDECREF(name);
   return false;
 }
@@ -195,7 +202,7 @@ static bool encode_part(Batch *batch, PyObject *const *part, Py_ssize_t at, Py_s
     if (row + AHEAD < n) __builtin_prefetch((const char *)part[row + AHEAD] + 48);
     Seen *seen = &batch->seen[((uintptr_t)text >> 4) * 0x9E3779B97F4A7C15u >> (64 - batch->seen_bits)];
     if (seen->object == text) number = seen->number;
-    else if (batch->takes_none && text == Py_None) number = -1;
+    else if (batch->takes_none && text == Py_None) number = batch->missing;
     else {
       if (!encode_text(batch, at + row, text, &number)) return false;
       if (number == (uint32_t)number) *seen = (Seen){text, (uint32_t)number};

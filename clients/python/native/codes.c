@@ -50,6 +50,15 @@ bool reserve_codes(Block **at, Py_ssize_t n, Py_ssize_t more, int width) {
   return true;
 }
 
+void shrink_block(Block **at, Py_ssize_t n) {
+  Block *block = *at;
+  if (!block || block->room == n || atomic_load(&block->references) > 1) return;
+  Block *shrunk = realloc(block, sizeof *block + n * block->width);
+  if (!shrunk) return;
+  shrunk->used = shrunk->room = n;
+  *at = shrunk;
+}
+
 /* What a view of codes refers to. */
 typedef struct Codes {
   PyObject_HEAD

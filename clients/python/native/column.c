@@ -22,6 +22,7 @@ void begin_column(Column *self, Dictionary *dictionary, Block *block, Py_ssize_t
   Dictionary *dictionary_before = self->dictionary;
   Block *block_before = self->block;
   self->dictionary = dictionary, self->block = block, self->n = n;
+  self->is_part = false;
   self->begins++;
   drop_dictionary(dictionary_before);
   drop_block(block_before);
@@ -86,6 +87,13 @@ PyObject *column_codes(Column *self, void *unused) {
 static PyObject *column_distinct(Column *self, void *unused) {
   (void)unused;
   return is_made(self) ? PyLong_FromSize_t(interner_len(self->dictionary->h)) : NULL;
+}
+
+/* About how many bytes the strings take that were made of its texts. */
+static PyObject *column_kept(Column *self, void *unused) {
+  (void)unused;
+  if (!is_made(self)) return NULL;
+  return PyLong_FromSize_t(self->dictionary->texts_room * sizeof *self->dictionary->texts + self->dictionary->texts_bytes);
 }
 
 static PyObject *column_hasher(Column *self, void *unused) {
@@ -177,6 +185,31 @@ static PyObject *column_index(Column *self, PyObject *args, PyObject *keywords) 
   return NULL;
 }
 
+/* Marks the codes of values, and before the first whether None is among them. */
+static bool mark_codes(Column *self, PyObject *values, bool *is_wanted) {
+  for (Py_ssize_t at = 0; at < PyTuple_Size(values); at++) {
+    int64_t code;
+    int found = find_code(self, PyTuple_GetItem(values, at), &code);
+    if (found < 0) return false;
+    if (found) is_wanted[code + 1] = true;
+  }
+  return true;
+}
+
+/* A byte for each row: whether it has one of the values. */
+static PyObject *column_isin(Column *self, PyObject *given) {
+  PyObject *unmasked = are_many(given) ? without_mask(given, Py_None) : NULL, *values = unmasked ? PySequence_Tuple(unmasked) : NULL;
+  PyObject *found = NULL;
+  Py_XDECREF(unmasked);
+  bool *is_wanted = values && is_made(self) ? PyMem_Calloc(interner_len(self->dictionary->h) + 1, sizeof *is_wanted) : NULL;
+  if (!is_wanted && !PyErr_Occurred()) PyErr_NoMemory();
+  if (is_wanted && mark_codes(self, values, is_wanted) && (found = PyBytes_FromStringAndSize(NULL, self->n)))
+    for (Py_ssize_t row = 0; row < self->n; row++) PyBytes_AsString(found)[row] = is_wanted[code_at(self->block, row) + 1];
+  PyMem_Free(is_wanted);
+  Py_XDECREF(values);
+  return found;
+}
+
 static Py_ssize_t column_length(Column *self) { return is_made(self) ? self->n : -1; }
 
 static PyObject *column_item(Column *self, Py_ssize_t row) {
@@ -184,6 +217,12 @@ static PyObject *column_item(Column *self, Py_ssize_t row) {
   if (row >= 0 && row < self->n) return value_of(self->dictionary, code_at(self->block, row));
   PyErr_SetString(PyExc_IndexError, "there is no such row");
   return NULL;
+}
+
+/* Begins a column of some rows of another. */
+static void begin_part(Column *part, const Column *of, Block *block, Py_ssize_t n) {
+  begin_column(part, share_dictionary(of->dictionary), block, n);
+  part->is_part = of->is_part || n < of->n;
 }
 
 static PyObject *column_slice(Column *self, PyObject *slice) {
@@ -199,7 +238,7 @@ static PyObject *column_slice(Column *self, PyObject *slice) {
     for (Py_ssize_t row = 0; row < n; row++) set_code(block, row, code_at(self->block, start + row * step));
     block->used = n;
   }
-  begin_column(part, share_dictionary(self->dictionary), block, n);
+  begin_part(part, self, block, n);
   return (PyObject *)part;
 failed:
   Py_XDECREF((PyObject *)part);
@@ -244,7 +283,7 @@ static Block *mask_codes(const Column *self, const Numbers *mask) {
 static PyObject *take_rows(Column *self, Numbers *rows) {
   Column *taken = make_plain(self);
   Block *block = !taken || !is_made(self) ? NULL : rows->is_mask ? mask_codes(self, rows) : take_codes(self, rows);
-  if (block) begin_column(taken, share_dictionary(self->dictionary), block, block->used);
+  if (block) begin_part(taken, self, block, block->used);
   else Py_CLEAR(taken);
   drop_numbers(rows);
   return (PyObject *)taken;
@@ -279,9 +318,10 @@ static bool is_for_many(PyObject *key) {
 }
 
 static PyObject *column_subscript(Column *self, PyObject *key) {
+  bool is_number = PyLong_CheckExact(key);
   if (PySlice_Check(key)) return column_slice(self, key);
-  if (is_for_many(key)) return column_select(self, key);
-  if (!PyIndex_Check(key)) return raise_type("rows are chosen by a number, a slice, a list, an array or a mask, not by ", key, "");
+  if (!is_number && is_for_many(key)) return column_select(self, key);
+  if (!is_number && !PyIndex_Check(key)) return raise_type("rows are chosen by a number, a slice, a list, an array or a mask, not by ", key, "");
   Py_ssize_t row = PyNumber_AsSsize_t(key, PyExc_IndexError);
   if (row == -1 && PyErr_Occurred()) return NULL;
   return column_item(self, row < 0 ? row + self->n : row);
@@ -361,10 +401,12 @@ static PyMethodDef column_methods[] = {
      "The texts are end to end in `joined`: text `i` ends before byte `ends[i]`. Arrow and others have offsets, one number more:\n"
      "text `i` begins at byte `offsets[i]`, and ends before byte `offsets[i + 1]`. Pass one of the two, and always codes."},
     {"from_file", (PyCFunction)(void (*)(void))column_from_file, METH_VARARGS | METH_KEYWORDS | METH_CLASS,
-     "from_file($type, /, file, *, hasher='seeded')\n--\n\n"
-     "Makes a column of the lines of a file: a path, or the number of an open file, which stays open. Makes no str of a line.\n\n"
-     "A line ends at a newline, which is not part of it, or at the end of the file. Raises ValueError for a line that is not\n"
-     "UTF-8, and says which, counted from 1; and OSError."},
+     "from_file($type, /, file, *, encoding='utf-8', newline='\\n', hasher='seeded')\n--\n\n"
+     "Makes a column of the lines of a file: a path; the number of an open file; or an open file of Python in binary mode, such as\n"
+     "that of `gzip.open`. Reads from where it is to its end, and an open file stays open. Makes no str of a line.\n\n"
+     "A line ends at a newline, which is not part of it, or at the end of the file. With `newline=None` it ends at \"\\r\\n\" and\n"
+     "\"\\r\", too, and with `encoding='utf-8-sig'` a byte order mark at the front is no part of it: `open` has both words.\n"
+     "Raises ValueError for a line that is not UTF-8, and says which, counted from 1; OSError; and what reading a file raises."},
     {"counts", (PyCFunction)column_counts, METH_NOARGS,
      "counts($self, /)\n--\n\n"
      "Returns the number of rows with each text of the dictionary, in its order. Does not count rows that are None."},
@@ -376,12 +418,21 @@ static PyMethodDef column_methods[] = {
     {"index", (PyCFunction)(void (*)(void))column_index, METH_VARARGS | METH_KEYWORDS,
      "index($self, /, value, start=0, stop=None)\n--\n\n"
      "Returns the first row with a value, from row `start` up to and without row `stop`. Raises ValueError if there is none."},
+    {"compact", (PyCFunction)column_compact, METH_NOARGS,
+     "compact($self, /)\n--\n\n"
+     "Returns a column of the same rows, whose dictionary has only the texts that rows have, in the order that they have here.\n\n"
+     "So a few rows of a long column do not hold all of its texts. The new column has the same hasher and keys."},
+    {"shrink", (PyCFunction)column_shrink, METH_NOARGS,
+     "shrink($self, /)\n--\n\n"
+     "Releases memory that no row needs, if it can: the strings that iteration and `dictionary` made, and spare capacity."},
     {"take", (PyCFunction)column_take, METH_O,
      "take($self, rows, /)\n--\n\n"
      "Returns a column of the rows with these numbers, in their order, with the whole dictionary. A negative number counts from\n"
      "the end. Raises IndexError for a row that there is not, and TypeError for a mask of booleans: write `column[mask]`."},
     {"_buffers", (PyCFunction)column_buffers, METH_NOARGS, NULL},
-    {"_compact", (PyCFunction)column_compact, METH_NOARGS, NULL},
+    {"_isin", (PyCFunction)column_isin, METH_O, NULL},
+    {"_in_order", (PyCFunction)column_in_order, METH_NOARGS, NULL},
+    {"_with_dictionary", (PyCFunction)column_with_dictionary, METH_VARARGS | METH_CLASS, NULL},
     {"__reversed__", (PyCFunction)column_reversed, METH_NOARGS, "The rows in reverse order, as they are now."},
     {"__arrow_c_schema__", (PyCFunction)column_arrow_schema, METH_NOARGS,
      "__arrow_c_schema__($self, /)\n--\n\nThe type of the column for Arrow: a dictionary of large_utf8."},
@@ -394,7 +445,7 @@ static PyGetSetDef column_getset[] = {
     {"dictionary", (getter)column_dictionary, NULL,
      "The distinct texts, in a new list. A code is an index of it.\n\n"
      "New texts are appended in order of first appearance. Texts that no row has come from `from_parts`, `from_pandas`, a merged\n"
-     "column, or a longer column of which this one is a slice. The column keeps these strings in memory from then on.",
+     "column, or a longer column of which this one is a slice. The column keeps these strings in memory until `shrink`.",
      NULL},
     {"codes", (getter)column_codes, NULL,
      "The code of each row, as they are now: a view of the column's memory that never changes.\n\n"
@@ -402,6 +453,7 @@ static PyGetSetDef column_getset[] = {
      NULL},
     {"distinct", (getter)column_distinct, NULL, "The number of texts in the dictionary.", NULL},
     {"hasher", (getter)column_hasher, NULL, "How texts are hashed: `seeded`, `siphash` or `fixed`.", NULL},
+    {"_kept", (getter)column_kept, NULL, NULL, NULL},
     {"_parts", (getter)column_parts, (setter)column_set_parts, NULL, NULL},
     {NULL, NULL, NULL, NULL, NULL}};
 

@@ -14,7 +14,15 @@ Dictionary *wrap_handle(interner *h, interner_kind kind, interner_hasher hasher)
 }
 
 Dictionary *new_dictionary(const Options *options) {
-  return wrap_handle(make_handle(options, 0), options->kind, options->hasher);
+  Dictionary *dictionary = wrap_handle(make_handle(options, 0), options->kind, options->hasher);
+  if (dictionary) memcpy(dictionary->keys, options->keys, sizeof dictionary->keys);
+  return dictionary;
+}
+
+Dictionary *new_dictionary_like(const Dictionary *dictionary) {
+  Options options = {.kind = dictionary->kind, .hasher = dictionary->hasher};
+  memcpy(options.keys, dictionary->keys, sizeof options.keys);
+  return new_dictionary(&options);
 }
 
 Dictionary *share_dictionary(Dictionary *dictionary) {
@@ -22,12 +30,35 @@ Dictionary *share_dictionary(Dictionary *dictionary) {
   return dictionary;
 }
 
-void drop_dictionary(Dictionary *dictionary) {
-  if (!dictionary || --dictionary->references) return;
-  for (size_t text = 0; text < dictionary->texts_count; text++) Py_DECREF(dictionary->texts[text]);
+void forget_strings(Dictionary *dictionary) {
+  for (size_t text = 0; text < dictionary->texts_count; text++) Py_XDECREF(dictionary->texts[text]);
   PyMem_Free(dictionary->texts);
+  dictionary->texts = NULL;
+  dictionary->texts_count = dictionary->texts_room = dictionary->texts_bytes = 0;
+}
+
+static void free_unless_held(Dictionary *dictionary) {
+  if (dictionary->references || dictionary->readers) return;
+  forget_strings(dictionary);
   interner_free(dictionary->h);
   PyMem_Free(dictionary);
+}
+
+void drop_dictionary(Dictionary *dictionary) {
+  if (!dictionary) return;
+  dictionary->references--;
+  free_unless_held(dictionary);
+}
+
+Dictionary *read_dictionary(Dictionary *dictionary) {
+  dictionary->readers++;
+  return dictionary;
+}
+
+void leave_dictionary(Dictionary *dictionary) {
+  if (!dictionary) return;
+  dictionary->readers--;
+  free_unless_held(dictionary);
 }
 
 /* Gives the column a dictionary of its own, with the same texts. */
@@ -36,6 +67,7 @@ static bool own_dictionary(Column *self) {
   interner *h = NULL;
   if (interner_clone(shared->h, &h) != INTERNER_OK || !(own = wrap_handle(h, shared->kind, shared->hasher))) return false;
   own->uses = shared->uses + 1;
+  memcpy(own->keys, shared->keys, sizeof own->keys);
   self->dictionary = own;
   drop_dictionary(shared);
   return true;
@@ -49,38 +81,58 @@ interner_status add_text(Column *self, const char *bytes, size_t length, interne
   return interner_get_or_intern_utf8(self->dictionary->h, bytes, length, number);
 }
 
-/* Makes the strings of the dictionary that are not made yet. */
-static bool read_strings(Dictionary *dictionary) {
-  size_t count = interner_len(dictionary->h);
-  if (dictionary->texts_count >= count) return true;
-  PyObject **texts = PyMem_Realloc(dictionary->texts, count * sizeof *texts);
-  if (!texts) return PyErr_NoMemory(), false;
-  dictionary->texts = texts;
-  while (dictionary->texts_count < count) {
-    interner_text text;
-    interner_resolve(dictionary->h, dictionary->texts_count, &text);
-    if (!(texts[dictionary->texts_count] = PyUnicode_DecodeUTF8(text.bytes, text.len, NULL))) return false;
-    dictionary->texts_count++;
+bool reserve_strings(Dictionary *dictionary) {
+  size_t count = interner_len(dictionary->h), room = count + count / 8;
+  if (dictionary->texts_room < count) {
+    /* Zeroed memory, of which the system gives only what is written to. */
+    PyObject **texts = PyMem_Calloc(room, sizeof *texts);
+    if (!texts) return PyErr_NoMemory(), false;
+    if (dictionary->texts_count) memcpy(texts, dictionary->texts, dictionary->texts_count * sizeof *texts);
+    PyMem_Free(dictionary->texts);
+    dictionary->texts = texts, dictionary->texts_room = room;
   }
+  if (dictionary->texts_count < count) dictionary->texts_count = count;
   return true;
+}
+
+static PyObject *read_string(const Dictionary *dictionary, size_t code, size_t *length) {
+  interner_text text;
+  interner_resolve(dictionary->h, code, &text);
+  *length = text.len;
+  return PyUnicode_DecodeUTF8(text.bytes, text.len, NULL);
+}
+
+PyObject *keep_string(Dictionary *dictionary, size_t code) {
+  enum { ABOUT_A_STR = 48 };
+  PyObject *string = kept_string(dictionary, code);
+  size_t length;
+  if (string) return Py_NewRef(string);
+  string = read_string(dictionary, code, &length);
+  if (string && code < dictionary->texts_count) {
+    dictionary->texts[code] = Py_NewRef(string);
+    dictionary->texts_bytes += ABOUT_A_STR + length;
+  }
+  return string;
 }
 
 PyObject *list_strings(Dictionary *dictionary) {
   PyObject *list = NULL;
   share_dictionary(dictionary); /* so that it stays as it is while a collection runs */
-  if (read_strings(dictionary)) {
-    size_t count = dictionary->texts_count;
-    list = PyList_New(count);
-    for (size_t text = 0; list && text < count; text++) PyList_SetItem(list, text, Py_NewRef(dictionary->texts[text]));
+  if (reserve_strings(dictionary) && (list = PyList_New(interner_len(dictionary->h)))) {
+    size_t count = PyList_Size(list);
+    for (size_t code = 0; list && code < count; code++) {
+      PyObject *string = Py_XNewRef(kept_string(dictionary, code));
+      if (!string) string = keep_string(dictionary, code);
+      if (!string || PyList_SetItem(list, code, string)) Py_CLEAR(list);
+    }
   }
   drop_dictionary(dictionary);
   return list;
 }
 
 PyObject *value_of(const Dictionary *dictionary, int64_t code) {
-  interner_text text;
+  size_t length;
   if (code < 0) Py_RETURN_NONE;
-  if ((size_t)code < dictionary->texts_count) return Py_NewRef(dictionary->texts[code]);
-  interner_resolve(dictionary->h, code, &text);
-  return PyUnicode_DecodeUTF8(text.bytes, text.len, NULL);
+  PyObject *string = kept_string(dictionary, code);
+  return string ? Py_NewRef(string) : read_string(dictionary, code, &length);
 }

@@ -79,6 +79,13 @@ PyObject *column_from_buffers(PyTypeObject *type, PyObject *args, PyObject *keyw
   return NULL;
 }
 
+PyObject *column_with_dictionary(PyTypeObject *type, PyObject *args) {
+  PyObject *other, *codes;
+  State *state = state_of_type(type);
+  if (!state || !PyArg_ParseTuple(args, "O!O:_with_dictionary", state->column, &other, &codes) || !is_made((Column *)other)) return NULL;
+  return make_of_parts(state, type, share_dictionary(((Column *)other)->dictionary), codes);
+}
+
 PyObject *column_buffers(Column *self, PyObject *unused) {
   (void)unused;
   PyObject *joined = NULL, *ends = NULL, *all = NULL;
@@ -86,7 +93,7 @@ PyObject *column_buffers(Column *self, PyObject *unused) {
   /* The dictionary first, because a collection may give the column another while the view is made. */
   Dictionary *dictionary = share_dictionary(self->dictionary);
   PyObject *codes = column_codes(self, NULL);
-  if (codes && join_texts(dictionary, &joined, &ends)) all = PyTuple_Pack(3, joined, ends, codes);
+  if (codes && join_texts(dictionary, NULL, &joined, &ends)) all = PyTuple_Pack(3, joined, ends, codes);
   drop_dictionary(dictionary);
   Py_XDECREF(joined);
   Py_XDECREF(ends);
@@ -99,7 +106,7 @@ PyObject *column_parts(Column *self, void *unused) {
   Parts *parts = (Parts *)new_parts(self->state, NULL, NULL, 0);
   if (parts && is_made(self)) {
     parts->dictionary = share_dictionary(self->dictionary);
-    parts->block = share_block(self->block), parts->n = self->n;
+    parts->block = share_block(self->block), parts->n = self->n, parts->is_part = self->is_part;
   } else Py_CLEAR(parts);
   return (PyObject *)parts;
 }
@@ -110,39 +117,6 @@ int column_set_parts(Column *self, PyObject *value, void *unused) {
   if (!value || !PyObject_TypeCheck(value, self->state->parts) || parts->n < 0)
     return PyErr_SetString(PyExc_TypeError, "no parts of a column"), -1;
   begin_column(self, share_dictionary(parts->dictionary), share_block(parts->block), parts->n);
+  self->is_part = parts->is_part;
   return 0;
-}
-
-/* Encodes the rows under the dictionary of a column that has none yet. */
-static bool add_in_order(const Column *self, Column *compact, Block *block) {
-  size_t distinct = interner_len(self->dictionary->h);
-  interner_symbol number;
-  int64_t *table = PyMem_Malloc(distinct * sizeof *table + 1);
-  interner_status status = table ? INTERNER_OK : INTERNER_NO_MEMORY;
-  for (size_t code = 0; table && code < distinct; code++) table[code] = -1;
-  for (Py_ssize_t row = 0; status == INTERNER_OK && row < self->n; row++) {
-    int64_t code = code_at(self->block, row);
-    if (code >= 0 && table[code] < 0) {
-      interner_text text;
-      interner_resolve(self->dictionary->h, code, &text);
-      status = add_text(compact, text.bytes, text.len, &number);
-      table[code] = (int64_t)number;
-    }
-    if (status == INTERNER_OK) set_code(block, row, code < 0 ? -1 : table[code]);
-  }
-  PyMem_Free(table);
-  if (status != INTERNER_OK) raise_status(status);
-  return status == INTERNER_OK;
-}
-
-PyObject *column_compact(Column *self, PyObject *unused) {
-  (void)unused;
-  Options options = {.kind = INTERNER_STRING};
-  Column *compact = make_plain(self);
-  Dictionary *dictionary = compact && is_made(self) && read_hasher(self->state, NULL, &options) ? new_dictionary(&options) : NULL;
-  Block *block = dictionary ? new_block(self->n, width_of(interner_len(self->dictionary->h))) : NULL;
-  if (dictionary) begin_column(compact, dictionary, NULL, 0);
-  if (!block || !add_in_order(self, compact, block) || !add_codes(compact, block, self->n)) Py_CLEAR(compact);
-  drop_block(block);
-  return (PyObject *)compact;
 }

@@ -19,7 +19,7 @@ bool add_codes(Column *self, Block *codes, Py_ssize_t n) {
 
 static Batch *batch_of(Column *self, Py_ssize_t rows) {
   Batch *batch = is_made(self) ? new_batch(NULL, self, self->dictionary->h, rows) : NULL;
-  if (batch) batch->takes_none = true;
+  if (batch) batch->takes_none = true, batch->missing = -1;
   return batch;
 }
 
@@ -92,7 +92,7 @@ PyObject *column_extend(Column *self, PyObject *given) {
   Rows rows;
   PyObject *done = NULL;
   if (PyObject_TypeCheck(given, self->state->column)) return column_merge(self, given);
-  PyObject *values = without_mask(given, Py_None);
+  PyObject *values = are_many(given) ? without_mask(given, Py_None) : NULL;
   if (!values) return NULL;
   if (open_rows_in_place(values, &rows)) {
     done = extend_in_place(self, &rows);

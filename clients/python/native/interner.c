@@ -167,6 +167,10 @@ static int method_contains(Interner *self, PyObject *text) {
 /* The text with a number. Null without an exception if there is none. */
 static PyObject *find_text(Interner *self, PyObject *given) {
   interner_text text;
+  if (PyUnicode_Check(given)) {
+    PyErr_SetString(PyExc_TypeError, "a text is found by its number; the number of a text is what get(text) or intern(text) returns");
+    return NULL;
+  }
   Py_ssize_t number = PyNumber_AsSsize_t(given, NULL);
   if (number == -1 && PyErr_Occurred()) return NULL;
   if (!is_open(self) || number < 0 || number > UINT32_MAX || interner_resolve(self->h, number, &text) != INTERNER_OK) return NULL;
@@ -252,6 +256,12 @@ static PyObject *method_hasher(Interner *self, void *unused) {
   return PyUnicode_FromString(hasher_name(self->hasher));
 }
 
+/* How many texts there are; none if it is closed. */
+static PyObject *method_count(Interner *self, void *unused) {
+  (void)unused;
+  return PyLong_FromSize_t(self->h ? interner_len(self->h) : 0);
+}
+
 /* What copies and pickles hold. */
 static PyObject *method_parts(Interner *self, void *unused) {
   (void)unused;
@@ -296,8 +306,9 @@ static PyMethodDef method_methods[] = {
      "Returns the number of a text. Appends a text that is not known.\n\n"
      "Raises OverflowError if no number is left for it, and MemoryError. The interner is then unchanged."},
     {"intern_all", (PyCFunction)(void (*)(void))method_intern_all, METH_VARARGS | METH_KEYWORDS,
-     "intern_all($self, /, texts, *, typecode='I')\n--\n\n"
+     "intern_all($self, /, texts, *, typecode='I', missing=None)\n--\n\n"
      "Returns the number of each text, in order, in an array: 4 bytes for each, or 8 if the typecode is \"Q\".\n\n"
+     "With a number for `missing`, as -1, None is no error, and has this number. The array is then as that of `get_all`.\n\n"
      "It is all or nothing: if a value is no text, or has no UTF-8 form, or if no number or memory is left, nothing changes. For\n"
      "what is no text, the TypeError says which. Reads a list, a tuple and an array of objects in place. numpy reads the result\n"
      "without a copy."},
@@ -317,16 +328,16 @@ static PyMethodDef method_methods[] = {
      "get($self, text, /, default=None)\n--\n\nReturns the number of a text, or the default if it is not known."},
     {"get_all", (PyCFunction)(void (*)(void))method_get_all, METH_VARARGS | METH_KEYWORDS,
      "get_all($self, /, texts, missing=-1)\n--\n\n"
-     "Returns the number of each text, in order, and `missing` for a text that is not known. Adds no text.\n\n"
+     "Returns the number of each text, in order, and `missing` for None and for a text that is not known. Adds no text.\n\n"
      "The array has 4 bytes for each, with a sign, or 8 if a number does not fit."},
     {"resolve", (PyCFunction)method_resolve, METH_O,
      "resolve($self, number, /)\n--\n\n"
      "Returns the text with a number, or None if there is none.\n\n"
      "With the backend `buffer`, a number that belongs to no text may return a piece of other texts."},
-    {"resolve_all", (PyCFunction)method_resolve_all, METH_O,
-     "resolve_all($self, numbers, /)\n--\n\n"
+    {"resolve_all", (PyCFunction)(void (*)(void))method_resolve_all, METH_VARARGS | METH_KEYWORDS,
+     "resolve_all($self, numbers, /, *, missing=None)\n--\n\n"
      "Returns the text with each number, in order. Raises KeyError at a number without one.\n\n"
-     "Undoes `intern_all`. With the backend `buffer`, a number that belongs to no text may return a piece of other texts, or\n"
+     "Undoes `intern_all`. With a number for `missing`, as -1, it returns None for this number, and so undoes `get_all`. With the backend `buffer`, a number that belongs to no text may return a piece of other texts, or\n"
      "raise KeyError."},
     {"entries", (PyCFunction)method_entries, METH_NOARGS,
      "entries($self, /)\n--\n\nReturns an iterator of each number with its text, in insertion order, as they are now."},
@@ -346,6 +357,7 @@ static PyMethodDef method_methods[] = {
 static PyGetSetDef method_getset[] = {
     {"backend", (getter)method_backend, NULL, "How texts are stored.", NULL},
     {"hasher", (getter)method_hasher, NULL, "How texts are hashed: `seeded`, `siphash` or `fixed`.", NULL},
+    {"_count", (getter)method_count, NULL, NULL, NULL},
     {"_parts", (getter)method_parts, (setter)method_set_parts, NULL, NULL},
     {NULL, NULL, NULL, NULL, NULL}};
 

@@ -5,26 +5,45 @@
 #include <fcntl.h>
 #include <unistd.h>
 
-static Py_ssize_t count_newlines(const char *at, const char *end) {
+/* At most how many lines there are, without the last one that does not end. */
+static Py_ssize_t count_ends(const char *at, const char *end, bool any_newline) {
   Py_ssize_t count = 0;
-  for (; at < end; at++) count += *at == '\n';
+  for (; at < end; at++) count += *at == '\n' || (any_newline && *at == '\r');
   return count;
+}
+
+/* Encodes a line. */
+static bool encode_line(Batch *batch, const char *at, size_t length) {
+  interner_symbol number;
+  interner_status status = interner_get_or_intern(batch->h, at, length, &number);
+  if (status != INTERNER_OK) {
+    if (status == INTERNER_BAD_TEXT) PyErr_Format(PyExc_ValueError, "line %zd is not UTF-8", batch->first + 1);
+    else raise_status(status);
+    return false;
+  }
+  if (!put_number(batch, batch->first, (int64_t)number)) return false;
+  batch->first++;
+  return true;
 }
 
 /* Encodes lines that end before `end`; the last need not end in a newline. There is room for their numbers. */
 static bool encode_lines(Batch *batch, const char *at, const char *end) {
   while (at < end) {
     const char *newline = memchr(at, '\n', end - at), *stop = newline ? newline : end;
-    interner_symbol number;
-    interner_status status = interner_get_or_intern(batch->h, at, stop - at, &number);
-    if (status != INTERNER_OK) {
-      if (status == INTERNER_BAD_TEXT) PyErr_Format(PyExc_ValueError, "line %zd is not UTF-8", batch->first + 1);
-      else raise_status(status);
-      return false;
-    }
-    if (!put_number(batch, batch->first, (int64_t)number)) return false;
-    batch->first++;
+    if (!encode_line(batch, at, stop - at)) return false;
     at = stop + 1;
+  }
+  return true;
+}
+
+/* The same for lines that "\n", "\r" or "\r\n" ends. */
+static bool encode_any_lines(Batch *batch, const char *at, const char *end) {
+  const char *newline = memchr(at, '\n', end - at);
+  while (at < end) {
+    if (newline && newline < at) newline = memchr(at, '\n', end - at);
+    const char *stop = newline ? newline : end, *carriage = memchr(at, '\r', stop - at);
+    if (!encode_line(batch, at, (carriage ? carriage : stop) - at)) return false;
+    at = carriage && carriage + 1 < stop ? carriage + 1 : stop + 1;
   }
   return true;
 }
@@ -57,7 +76,7 @@ PyObject *intern_lines(Interner *self, PyObject *given) {
   Py_buffer view;
   if (!read_bytes(given, &bytes)) return NULL;
   const char *end = bytes.at + bytes.length;
-  Py_ssize_t lines = count_newlines(bytes.at, end) + (bytes.length && end[-1] != '\n');
+  Py_ssize_t lines = count_ends(bytes.at, end, false) + (bytes.length && end[-1] != '\n');
   PyObject *array = new_array(self->state, "I", lines, &view);
   if (array) {
     Batch *batch = is_open(self) ? new_batch(self, NULL, self->h, 0) : NULL;
@@ -76,19 +95,30 @@ PyObject *intern_lines(Interner *self, PyObject *given) {
 
 /* A file that is read, and what is read of it and not encoded yet. */
 typedef struct Reader {
-  int file;
+  PyObject *name;   /* what was given */
+  PyObject *object; /* an open file of Python, or null */
+  int file;         /* if there is no object */
+  bool skips_mark;  /* whether a byte order mark at the front is no part of the first line */
+  bool any_newline; /* whether "\r" and "\r\n" end a line, too */
+  bool ended;       /* whether there is no more */
   char *bytes;
   size_t used, room;
 } Reader;
 
-/* Reads more bytes. Returns how many, or -1 with an exception. Other threads run meanwhile: nobody else has the reader. */
-static Py_ssize_t read_more(Reader *reader, PyObject *name) {
-  if (reader->room - reader->used < BYTES_OF_A_PART) {
-    size_t room = 2 * reader->room + BYTES_OF_A_PART;
-    char *bytes = PyMem_Realloc(reader->bytes, room);
-    if (!bytes) return PyErr_NoMemory(), -1;
-    reader->bytes = bytes, reader->room = room;
-  }
+/* Has room for more bytes. */
+static bool reserve_bytes(Reader *reader, size_t more) {
+  if (reader->room - reader->used >= more) return true;
+  size_t room = 2 * reader->room + more;
+  char *bytes = PyMem_Realloc(reader->bytes, room);
+  if (!bytes) return PyErr_NoMemory(), false;
+  reader->bytes = bytes, reader->room = room;
+  return true;
+}
+
+/* Reads more bytes of a descriptor. Returns how many, or -1 with an exception. Other threads run meanwhile: nobody else has the
+ * reader. */
+static Py_ssize_t read_descriptor(Reader *reader) {
+  if (!reserve_bytes(reader, BYTES_OF_A_PART)) return -1;
   for (;;) {
     Py_ssize_t count;
     int error;
@@ -99,8 +129,40 @@ static Py_ssize_t read_more(Reader *reader, PyObject *name) {
     if (PyErr_CheckSignals()) return -1;
     if (count >= 0) return count;
     errno = error;
-    if (error != EINTR) return PyErr_SetFromErrnoWithFilenameObject(PyExc_OSError, name), -1;
+    if (error != EINTR) return PyErr_SetFromErrnoWithFilenameObject(PyExc_OSError, reader->name), -1;
   }
+}
+
+/* The same of an open file of Python, which may run any code: nobody else has the reader. */
+static Py_ssize_t read_object(Reader *reader) {
+  Bytes bytes;
+  Py_ssize_t count = -1;
+  PyObject *given = PyErr_CheckSignals() ? NULL : PyObject_CallMethod(reader->object, "read", "n", (Py_ssize_t)BYTES_OF_A_PART);
+  if (!given) return -1;
+  if (given == Py_None) PyErr_SetString(PyExc_BlockingIOError, "the file does not wait for its bytes");
+  else if (PyUnicode_Check(given)) PyErr_SetString(PyExc_TypeError, "the file is open as text: open it in the mode 'rb'");
+  else if (read_bytes(given, &bytes)) {
+    if (reserve_bytes(reader, bytes.length)) {
+      if (bytes.length) memcpy(reader->bytes + reader->used, bytes.at, bytes.length);
+      count = bytes.length;
+    }
+    drop_bytes(&bytes);
+  }
+  Py_DECREF(given);
+  return count;
+}
+
+static Py_ssize_t read_more(Reader *reader) {
+  Py_ssize_t count = reader->ended ? 0 : reader->object ? read_object(reader) : read_descriptor(reader);
+  reader->ended |= !count;
+  if (count > 0) reader->used += count;
+  return count;
+}
+
+/* Drops bytes at the front. */
+static void drop_front(Reader *reader, size_t count) {
+  reader->used -= count;
+  memmove(reader->bytes, reader->bytes + count, reader->used);
 }
 
 /* Encodes the lines that are read to their ends, or at the end of the file all. Only the last `count` bytes may have newlines. */
@@ -110,24 +172,37 @@ static bool encode_read(Batch *batch, Reader *reader, size_t count) {
   if (!count) whole = reader->used;
   else if (whole == searched) return true;
   const char *end = reader->bytes + whole;
-  if (!reserve_batch(batch, count_newlines(reader->bytes, end) + 1) || !encode_lines(batch, reader->bytes, end)) return false;
+  if (!reserve_batch(batch, count_ends(reader->bytes, end, reader->any_newline) + 1)) return false;
+  if (!(reader->any_newline ? encode_any_lines : encode_lines)(batch, reader->bytes, end)) return false;
   batch->block->used = batch->first;
-  reader->used -= whole;
-  memmove(reader->bytes, reader->bytes + whole, reader->used);
+  drop_front(reader, whole);
   return true;
 }
 
-static bool encode_file(Batch *batch, int file, PyObject *name) {
-  Reader reader = {.file = file};
-  Py_ssize_t count;
-  bool is_done;
-  do {
-    count = read_more(&reader, name);
-    reader.used += count > 0 ? count : 0;
-    is_done = count >= 0 && encode_read(batch, &reader, count);
-  } while (is_done && count);
-  PyMem_Free(reader.bytes);
-  return is_done;
+/* Reads the first bytes, at least 3 if there are as many. Returns how many there are, or -1. */
+static Py_ssize_t read_front(Reader *reader) {
+  static const char mark[] = "\xEF\xBB\xBF";
+  enum { MARK = 3 };
+  while (!reader->ended && reader->used < MARK)
+    if (read_more(reader) < 0) return -1;
+  if (reader->skips_mark && reader->used >= MARK && !memcmp(reader->bytes, mark, MARK)) drop_front(reader, MARK);
+  return reader->used;
+}
+
+/* Says what to do with a file that is compressed. */
+static bool explain_compression(bool is_compressed) {
+  if (!is_compressed || !PyErr_ExceptionMatches(PyExc_ValueError)) return false;
+  PyErr_SetString(PyExc_ValueError, "line 1 is not UTF-8: the file is compressed by gzip; give what gzip.open(path) returns");
+  return false;
+}
+
+static bool encode_file(Batch *batch, Reader *reader) {
+  Py_ssize_t count = read_front(reader);
+  bool is_compressed = count >= 2 && reader->bytes[0] == '\x1F' && reader->bytes[1] == '\x8B';
+  bool is_done = count >= 0 && encode_read(batch, reader, count);
+  for (bool is_last = false; is_done && !is_last; is_last = !count)
+    is_done = (count = read_more(reader)) >= 0 && encode_read(batch, reader, count);
+  return is_done || explain_compression(is_compressed && !batch->first);
 }
 
 /* Opens a path. Returns a negative number with an exception. */
@@ -154,32 +229,55 @@ static int read_file_number(PyObject *given) {
   return (int)file;
 }
 
+/* Whether this is an open file of Python. */
+static bool is_open_file(PyObject *given) {
+  return !PyUnicode_Check(given) && !PyBytes_Check(given) && !PyObject_HasAttrString(given, "__fspath__") &&
+         PyObject_HasAttrString(given, "read");
+}
+
 /* Encodes the lines of a file in a dictionary that nobody else has. */
-static Block *encode_named(Dictionary *dictionary, PyObject *name, Py_ssize_t *rows) {
-  bool is_number = PyLong_Check(name);
-  int file = is_number ? read_file_number(name) : open_file(name);
+static Block *encode_named(Dictionary *dictionary, Reader *reader, Py_ssize_t *rows) {
+  bool is_number = PyLong_Check(reader->name);
+  if (is_open_file(reader->name)) reader->object = reader->name;
+  else reader->file = is_number ? read_file_number(reader->name) : open_file(reader->name);
   if (PyErr_Occurred()) return NULL;
   Batch *batch = new_batch(NULL, NULL, dictionary->h, 0);
   Block *block = NULL;
-  if (batch && encode_file(batch, file, name)) {
+  if (batch && encode_file(batch, reader)) {
     block = share_block(batch->block);
     *rows = batch->first;
   }
   free_batch(batch);
-  if (!is_number) close(file);
+  PyMem_Free(reader->bytes);
+  if (!is_number && !reader->object) close(reader->file);
   return block;
 }
 
+static bool is_word(PyObject *given, const char *word) {
+  return PyUnicode_Check(given) && !PyUnicode_CompareWithASCIIString(given, word);
+}
+
+/* How to read a file, in the words that `open` of Python has. */
+static bool read_format(PyObject *encoding, PyObject *newline, Reader *reader) {
+  reader->skips_mark = encoding && is_word(encoding, "utf-8-sig");
+  reader->any_newline = newline == Py_None;
+  if (encoding && !reader->skips_mark && !is_word(encoding, "utf-8")) PyErr_SetString(PyExc_ValueError, "an encoding is 'utf-8' or 'utf-8-sig'");
+  else if (newline && !reader->any_newline && !is_word(newline, "\n")) PyErr_SetString(PyExc_ValueError, "a newline is '\\n' or None");
+  return !PyErr_Occurred();
+}
+
 PyObject *column_from_file(PyTypeObject *type, PyObject *args, PyObject *keywords) {
-  static char *words[] = {"file", "hasher", NULL};
-  PyObject *name, *hasher = NULL;
+  static char *words[] = {"file", "encoding", "newline", "hasher", NULL};
+  PyObject *encoding = NULL, *newline = NULL, *hasher = NULL;
   Options options = {.kind = INTERNER_STRING};
   Py_ssize_t rows = 0;
+  Reader reader = {0};
   State *state = state_of_type(type);
-  if (!state || !PyArg_ParseTupleAndKeywords(args, keywords, "O|$O:from_file", words, &name, &hasher)) return NULL;
+  if (!state || !PyArg_ParseTupleAndKeywords(args, keywords, "O|$OOO:from_file", words, &reader.name, &encoding, &newline, &hasher)) return NULL;
+  if (!read_format(encoding, newline, &reader)) return NULL;
   Dictionary *dictionary = read_hasher(state, hasher, &options) ? new_dictionary(&options) : NULL;
   if (!dictionary) return NULL;
-  Block *block = encode_named(dictionary, name, &rows);
+  Block *block = encode_named(dictionary, &reader, &rows);
   Column *column = block ? make_column(state, type) : NULL;
   if (column) {
     begin_column(column, dictionary, block, rows);

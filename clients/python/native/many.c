@@ -28,22 +28,13 @@ static const char *read_typecode(PyObject *given) {
   return NULL;
 }
 
-PyObject *method_intern_all(Interner *self, PyObject *args, PyObject *keywords) {
-  static char *words[] = {"texts", "typecode", NULL};
-  PyObject *texts, *given = NULL;
-  if (!PyArg_ParseTupleAndKeywords(args, keywords, "O|$O:intern_all", words, &texts, &given)) return NULL;
-  const char *typecode = read_typecode(given);
-  return typecode && is_open(self) ? intern_objects(self, texts, typecode) : NULL;
-}
-
 /* Interns the parts of bytes, and writes their symbols. The texts before a failure stay. */
 static bool intern_parts(Interner *self, const Joined *joined, interner_symbol *numbers) {
   size_t done, n = joined->ends.n;
   if (!is_open(self)) return false;
   self->uses++;
   interner_status status = interner_intern_joined(self->h, joined->bytes.at, joined->bytes.length, ends_of(joined), n, numbers, n, &done);
-  if (status == INTERNER_BAD_TEXT) PyErr_Format(PyExc_ValueError, "text %zu is not UTF-8", done);
-  else if (status != INTERNER_OK) raise_status(status);
+  if (status != INTERNER_OK) raise_place(status, done);
   return status == INTERNER_OK;
 }
 
@@ -74,11 +65,12 @@ PyObject *method_intern_column(Interner *self, PyObject *args, PyObject *keyword
   return array;
 }
 
-/* Looks up texts, and writes numbers of 8 bytes. */
-static bool look_up_rows(Interner *self, Rows *rows, int64_t missing, int64_t *numbers) {
+/* Looks up or interns texts of which some may be missing, and writes numbers of 8 bytes. */
+static bool encode_some(Interner *self, Rows *rows, bool only_looks, int64_t missing, int64_t *numbers) {
   Batch *batch = is_open(self) ? new_batch(self, NULL, self->h, rows->n) : NULL;
   if (!batch) return false;
-  batch->only_looks = true, batch->missing = missing;
+  batch->only_looks = only_looks;
+  batch->takes_none = true, batch->missing = missing;
   batch->out = numbers, batch->width = 8;
   bool is_done = encode_rows(batch, rows);
   free_batch(batch);
@@ -98,19 +90,44 @@ static PyObject *pack_signed(const State *state, const int64_t *numbers, Py_ssiz
   return array;
 }
 
-PyObject *method_get_all(Interner *self, PyObject *args, PyObject *keywords) {
-  static char *words[] = {"texts", "missing", NULL};
-  PyObject *texts, *array = NULL;
-  long long missing = -1;
+/* The number of each text, with a sign, and another number for what is missing. */
+static PyObject *encode_signed(Interner *self, PyObject *texts, bool only_looks, int64_t missing) {
   Rows rows;
-  if (!PyArg_ParseTupleAndKeywords(args, keywords, "O|L:get_all", words, &texts, &missing)) return NULL;
+  PyObject *array = NULL;
   if (!open_rows(texts, &rows)) return NULL;
   int64_t *numbers = PyMem_Malloc(rows.n * sizeof *numbers + 1);
   if (!numbers) PyErr_NoMemory();
-  else if (look_up_rows(self, &rows, missing, numbers)) array = pack_signed(self->state, numbers, rows.n);
+  else if (encode_some(self, &rows, only_looks, missing, numbers)) array = pack_signed(self->state, numbers, rows.n);
   PyMem_Free(numbers);
   close_rows(&rows);
   return array;
+}
+
+/* A number that stands for what is missing. */
+static bool read_missing(PyObject *given, int64_t *missing) {
+  *missing = PyLong_AsLongLong(given);
+  return *missing != -1 || !PyErr_Occurred();
+}
+
+PyObject *method_get_all(Interner *self, PyObject *args, PyObject *keywords) {
+  static char *words[] = {"texts", "missing", NULL};
+  PyObject *texts;
+  long long missing = -1;
+  if (!PyArg_ParseTupleAndKeywords(args, keywords, "O|L:get_all", words, &texts, &missing)) return NULL;
+  return encode_signed(self, texts, true, missing);
+}
+
+PyObject *method_intern_all(Interner *self, PyObject *args, PyObject *keywords) {
+  static char *words[] = {"texts", "typecode", "missing", NULL};
+  PyObject *texts, *given = NULL, *given_missing = Py_None;
+  int64_t missing;
+  if (!PyArg_ParseTupleAndKeywords(args, keywords, "O|$OO:intern_all", words, &texts, &given, &given_missing)) return NULL;
+  if (given_missing != Py_None) {
+    if (given) return PyErr_SetString(PyExc_ValueError, "a typecode and missing: with missing the numbers have a sign"), NULL;
+    return read_missing(given_missing, &missing) && is_open(self) ? encode_signed(self, texts, false, missing) : NULL;
+  }
+  const char *typecode = read_typecode(given);
+  return typecode && is_open(self) ? intern_objects(self, texts, typecode) : NULL;
 }
 
 /* Texts by their numbers, so that equal numbers give one str. */
@@ -153,8 +170,20 @@ static PyObject *find_once(const Interner *self, Table *table, int64_t number) {
   return found->text;
 }
 
-/* The text of each number, borrowed from the table. Returns the first row without one. */
-static Py_ssize_t find_texts(Interner *self, const Numbers *numbers, Table *table, PyObject **texts) {
+/* Whether the number of a row is this one. One that does not fit in 8 bytes is none. */
+static bool is_number(const Numbers *numbers, Py_ssize_t row, int64_t number) {
+  int overflow = 0;
+  if (numbers->at[row] != number) return false;
+  if (!numbers->exact) return number >= 0 || !numbers->is_unsigned;
+  PyObject *exact = exact_number(numbers, row);
+  if (exact) PyLong_AsLongLongAndOverflow(exact, &overflow);
+  Py_XDECREF(exact);
+  return !overflow;
+}
+
+/* The text of each number, borrowed from the table, and None for one that stands for what is missing. Returns the first row without
+ * one. */
+static Py_ssize_t find_texts(Interner *self, const Numbers *numbers, const int64_t *missing, Table *table, PyObject **texts) {
   size_t cuts = self->cuts;
   self->uses++;
   for (Py_ssize_t row = 0; row < numbers->n; row++) {
@@ -162,7 +191,8 @@ static Py_ssize_t find_texts(Interner *self, const Numbers *numbers, Table *tabl
       if (PyErr_CheckSignals() || !is_open(self)) return row;
       if (self->cuts != cuts) return PyErr_SetString(PyExc_RuntimeError, "the interner changed during the call"), row;
     }
-    if (!(texts[row] = find_once(self, table, numbers->at[row]))) return row;
+    if (missing && is_number(numbers, row, *missing)) texts[row] = Py_None;
+    else if (!(texts[row] = find_once(self, table, numbers->at[row]))) return row;
   }
   return numbers->n;
 }
@@ -173,15 +203,20 @@ static PyObject *list_texts(PyObject *const *texts, Py_ssize_t n) {
   return list;
 }
 
-PyObject *method_resolve_all(Interner *self, PyObject *given) {
+PyObject *method_resolve_all(Interner *self, PyObject *args, PyObject *keywords) {
+  static char *words[] = {"", "missing", NULL};
+  PyObject *given, *given_missing = Py_None;
+  int64_t missing = 0;
   Numbers numbers;
   Table table = {0};
   PyObject *list = NULL;
+  if (!PyArg_ParseTupleAndKeywords(args, keywords, "O|$O:resolve_all", words, &given, &given_missing)) return NULL;
+  if (given_missing != Py_None && !read_missing(given_missing, &missing)) return NULL;
   if (!read_numbers(given, &numbers)) return NULL;
   PyObject **texts = PyMem_Malloc(numbers.n * sizeof *texts + 1);
   if (!texts) PyErr_NoMemory();
   else if (is_open(self) && make_table(self, numbers.n, &table)) {
-    Py_ssize_t row = find_texts(self, &numbers, &table, texts);
+    Py_ssize_t row = find_texts(self, &numbers, given_missing != Py_None ? &missing : NULL, &table, texts);
     if (row == numbers.n) list = list_texts(texts, row);
     else if (!PyErr_Occurred()) {
       PyObject *number = exact_number(&numbers, row);

@@ -107,7 +107,7 @@ PyObject *intern_objects(Interner *self, PyObject *texts, const char *typecode);
 PyObject *method_intern_all(Interner *self, PyObject *args, PyObject *keywords);
 PyObject *method_intern_column(Interner *self, PyObject *args, PyObject *keywords);
 PyObject *method_get_all(Interner *self, PyObject *args, PyObject *keywords);
-PyObject *method_resolve_all(Interner *self, PyObject *given);
+PyObject *method_resolve_all(Interner *self, PyObject *args, PyObject *keywords);
 
 /* options.c */
 
@@ -210,6 +210,9 @@ static inline void set_code(Block *block, Py_ssize_t row, int64_t code) {
 /** Makes room for more codes of a width behind the first n. Others that refer to the block keep what they see. */
 bool reserve_codes(Block **block, Py_ssize_t n, Py_ssize_t more, int width);
 
+/** Gives back the memory behind the first n codes, if nobody else refers to the block. */
+void shrink_block(Block **block, Py_ssize_t n);
+
 /** A view of the first n codes, which have `width` bytes each if there are none. */
 PyObject *view_codes(State *state, Block *block, Py_ssize_t n, int width);
 
@@ -217,21 +220,45 @@ PyObject *view_codes(State *state, Block *block, Py_ssize_t n, int width);
 
 /** A list of distinct texts. Columns share it; one that adds a text to a shared one copies it first. */
 typedef struct Dictionary {
-  size_t references;
+  size_t references;  /* columns and parts */
+  size_t readers;     /* iterators: texts that rows have stay as they are, whatever is added or undone */
   interner *h;
   size_t uses;        /* how often texts were added, or shown with their codes */
-  PyObject **texts;   /* a str of each text at the front, as far as they were read */
-  size_t texts_count;
+  PyObject **texts;   /* a str of each text at the front, or null if it was not read */
+  size_t texts_count, texts_room;
+  size_t texts_bytes; /* about how many bytes these take */
   interner_kind kind;
   interner_hasher hasher;
+  uint64_t keys[2];   /* those that a column gave it */
 } Dictionary;
 
 Dictionary *new_dictionary(const Options *options);
+
+/** A dictionary without texts, with the hasher and the keys of another. */
+Dictionary *new_dictionary_like(const Dictionary *dictionary);
 
 /** A dictionary with a handle, which it takes over. */
 Dictionary *wrap_handle(interner *h, interner_kind kind, interner_hasher hasher);
 Dictionary *share_dictionary(Dictionary *dictionary);
 void drop_dictionary(Dictionary *dictionary);
+
+/** Holds a dictionary for an iterator of rows. */
+Dictionary *read_dictionary(Dictionary *dictionary);
+void leave_dictionary(Dictionary *dictionary);
+
+/** Makes places for a str of each text, so that `keep_string` keeps them. */
+bool reserve_strings(Dictionary *dictionary);
+
+/** Lets go of all strings. */
+void forget_strings(Dictionary *dictionary);
+
+/** The str of a text, borrowed, or null if none is kept. */
+static inline PyObject *kept_string(const Dictionary *dictionary, size_t code) {
+  return code < dictionary->texts_count ? dictionary->texts[code] : NULL;
+}
+
+/** The text with a code. Keeps the str if there is a place for it. */
+PyObject *keep_string(Dictionary *dictionary, size_t code);
 
 /** The texts, in a new list. */
 PyObject *list_strings(Dictionary *dictionary);
@@ -250,6 +277,7 @@ typedef struct Column {
   State *state;
   PyObject *weak;
   size_t begins;          /* how often it got another dictionary and other rows */
+  bool is_part;           /* whether its dictionary is that of a longer column, so that a pickle needs not all of it */
 } Column;
 
 extern PyType_Spec column_spec;
@@ -288,7 +316,35 @@ PyObject *column_from_buffers(PyTypeObject *type, PyObject *args, PyObject *keyw
 PyObject *column_buffers(Column *self, PyObject *unused);
 PyObject *column_parts(Column *self, void *unused);
 int column_set_parts(Column *self, PyObject *value, void *unused);
+PyObject *column_with_dictionary(PyTypeObject *type, PyObject *args);
+
+/* compact.c: columns without the texts that no row has. */
+
+/** The texts that rows have, in the order of their dictionary: a bit for each, and how many come before each word of bits. */
+typedef struct Used {
+  uint64_t *bits;
+  size_t *before;
+  size_t count;
+} Used;
+
+bool find_used(const Dictionary *dictionary, const Block *block, Py_ssize_t n, Used *used);
+void drop_used(Used *used);
+
+/** The first used code from one on, or the end if there is none. Without `used` all are. */
+static inline size_t next_used(const Used *used, size_t code, size_t end) {
+  for (; used && code < end; code = (code | 63) + 1) {
+    uint64_t rest = used->bits[code >> 6] >> (code & 63);
+    if (rest) return code + __builtin_ctzll(rest);
+  }
+  return code < end ? code : end;
+}
+
+/** The codes of rows in a dictionary that has only what is used. */
+Block *renumber_used(const Used *used, const Block *block, Py_ssize_t n);
+
 PyObject *column_compact(Column *self, PyObject *unused);
+PyObject *column_in_order(Column *self, PyObject *unused);
+PyObject *column_shrink(Column *self, PyObject *unused);
 
 /* rows.c */
 
@@ -305,6 +361,9 @@ typedef struct Rows {
   Py_buffer view;     /* if there is no sequence */
   Py_ssize_t n;
 } Rows;
+
+/** Whether these may be many texts. A str is one, though Python can read it letter by letter: raises TypeError. */
+bool are_many(PyObject *given);
 
 bool open_rows(PyObject *given, Rows *rows);
 bool open_rows_in_place(PyObject *given, Rows *rows);
@@ -323,8 +382,8 @@ typedef struct Batch {
   Column *column;
   interner *h;
   bool only_looks;    /* whether unknown texts are `missing`, and not added */
+  bool takes_none;    /* whether None is `missing`, and no error */
   int64_t missing;
-  bool takes_none;    /* whether None is a row, with the code -1 */
   Py_ssize_t first;   /* rows of earlier calls with this batch */
   void *out;          /* numbers of `width` bytes; those of `block`, if there is one */
   int width;
@@ -377,14 +436,18 @@ typedef struct Parts {
   Dictionary *dictionary;
   Block *block;
   Py_ssize_t n; /* -1 for those of an interner */
+  bool is_part; /* as in a column */
 } Parts;
 
 extern PyType_Spec parts_spec;
 
 PyObject *new_parts(State *state, Dictionary *dictionary, Block *block, Py_ssize_t n);
 
-/** The texts of a dictionary end to end, and where each ends, in 8 bytes each. */
-bool join_texts(const Dictionary *dictionary, PyObject **joined, PyObject **ends);
+/** The texts of a dictionary end to end, and where each ends, in 8 bytes each. Without those that are not used, if this is told. */
+bool join_texts(const Dictionary *dictionary, const Used *used, PyObject **joined, PyObject **ends);
+
+/** Raises what a status says of the text, or the end, at a place. */
+void raise_place(interner_status status, size_t place);
 
 /** Adds the texts between ends to an empty handle. Raises ValueError if one repeats. */
 bool split_texts(interner *h, const Bytes *joined, const size_t *ends, Py_ssize_t n);

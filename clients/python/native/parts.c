@@ -7,34 +7,62 @@ PyObject *new_parts(State *state, Dictionary *dictionary, Block *block, Py_ssize
   return (PyObject *)parts;
 }
 
-bool join_texts(const Dictionary *dictionary, PyObject **joined, PyObject **ends) {
-  size_t count = interner_len(dictionary->h), length = 0, number = 0;
-  interner_text text;
-  if (!(*ends = PyBytes_FromStringAndSize(NULL, count * sizeof(uint64_t)))) return false;
+/* All texts, where the library has them end to end. */
+static bool copy_joined(const interner_joined *all, PyObject **joined, PyObject **ends) {
+  if (!(*ends = PyBytes_FromStringAndSize(NULL, (all->ends_len + all->long_ends_len) * sizeof(uint64_t)))) return false;
   uint64_t *end = (uint64_t *)PyBytes_AsString(*ends);
-  for (size_t row = 0; row < count; row++, number = number_after(dictionary->kind, number, text.len)) {
+  for (size_t text = 0; text < all->ends_len; text++) *end++ = all->ends[text];
+  for (size_t text = 0; text < all->long_ends_len; text++) *end++ = all->long_ends[text];
+  return (*joined = PyBytes_FromStringAndSize(all->bytes, all->bytes_len)) != NULL;
+}
+
+bool join_texts(const Dictionary *dictionary, const Used *used, PyObject **joined, PyObject **ends) {
+  size_t count = interner_len(dictionary->h), length = 0, number = 0;
+  interner_joined all;
+  interner_text text;
+  if (!used && interner_string_joined(dictionary->h, &all) == INTERNER_OK) return copy_joined(&all, joined, ends);
+  if (!(*ends = PyBytes_FromStringAndSize(NULL, (used ? used->count : count) * sizeof(uint64_t)))) return false;
+  uint64_t *end = (uint64_t *)PyBytes_AsString(*ends);
+  for (size_t row = next_used(used, 0, count); row < count; row = next_used(used, row + 1, count)) {
+    if (used) number = row; /* Only a dictionary of a column has texts that are not used: there a number is a row. */
     interner_resolve(dictionary->h, number, &text);
-    end[row] = length += text.len;
+    number = number_after(dictionary->kind, number, text.len);
+    *end++ = length += text.len;
   }
   if (!(*joined = PyBytes_FromStringAndSize(NULL, length))) return false;
   char *at = PyBytes_AsString(*joined);
   number = 0;
-  for (size_t row = 0; row < count; row++, number = number_after(dictionary->kind, number, text.len)) {
+  for (size_t row = next_used(used, 0, count); row < count; row = next_used(used, row + 1, count)) {
+    if (used) number = row;
     interner_resolve(dictionary->h, number, &text);
+    number = number_after(dictionary->kind, number, text.len);
     memcpy(at, text.bytes, text.len);
     at += text.len;
   }
   return true;
 }
 
+void raise_place(interner_status status, size_t place) {
+  if (status == INTERNER_BAD_TEXT) PyErr_Format(PyExc_ValueError, "text %zu is not UTF-8", place);
+  else if (status == INTERNER_BAD_ENDS) PyErr_Format(PyExc_ValueError, "%s: end %zu", interner_status_text(status), place);
+  else raise_status(status);
+}
+
+/* Names the first text that repeats an earlier one: its number is not greater than all before. */
+static void raise_repeat(const interner_symbol *numbers, Py_ssize_t n) {
+  Py_ssize_t row = 1, first = 0;
+  while (row < n && numbers[row] > numbers[row - 1]) row++;
+  while (first < row && numbers[first] != numbers[row]) first++;
+  PyErr_Format(PyExc_ValueError, "a text repeats an earlier one: text %zd is text %zd again", row, first);
+}
+
 bool split_texts(interner *h, const Bytes *joined, const size_t *ends, Py_ssize_t n) {
   size_t done = 0;
   interner_symbol *numbers = PyMem_Malloc(n * sizeof *numbers + 1);
   interner_status status = numbers ? interner_intern_joined(h, joined->at, joined->length, ends, n, numbers, n, &done) : INTERNER_NO_MEMORY;
+  if (status != INTERNER_OK) raise_place(status, done);
+  else if (interner_len(h) < (size_t)n) raise_repeat(numbers, n);
   PyMem_Free(numbers);
-  if (status == INTERNER_BAD_TEXT) PyErr_Format(PyExc_ValueError, "text %zu is not UTF-8", done);
-  else if (status != INTERNER_OK) raise_status(status);
-  else if (interner_len(h) < (size_t)n) PyErr_SetString(PyExc_ValueError, "a text repeats an earlier one");
   return !PyErr_Occurred();
 }
 
@@ -122,7 +150,9 @@ static void parts_dealloc(Parts *self) {
 static PyObject *parts_deepcopy(Parts *self, PyObject *memo) {
   (void)memo;
   if (!self->dictionary) return PyErr_SetString(PyExc_ValueError, "these parts were taken"), NULL;
-  return new_parts(self->state, share_dictionary(self->dictionary), share_block(self->block), self->n);
+  Parts *copy = (Parts *)new_parts(self->state, share_dictionary(self->dictionary), share_block(self->block), self->n);
+  if (copy) copy->is_part = self->is_part;
+  return (PyObject *)copy;
 }
 
 /* Something with a buffer, as a pickle of a protocol holds it: from 5 on it may be out of band. */
@@ -137,22 +167,39 @@ static PyObject *wrap_buffer(PyObject *buffer, long protocol) {
 }
 
 /* Without keys, which are secret: what reads this hashes by the keys of its own process. */
-static PyObject *parts_reduce(Parts *self, PyObject *given) {
-  long protocol = PyLong_AsLong(given);
+static PyObject *reduce_as(const Parts *self, const Dictionary *dictionary, const Used *used, Block *block, long protocol) {
   PyObject *joined = NULL, *ends = NULL, *reduced = NULL;
-  if (protocol == -1 && PyErr_Occurred()) return NULL;
-  if (!self->dictionary) return PyErr_SetString(PyExc_ValueError, "these parts were taken"), NULL;
-  Dictionary *dictionary = share_dictionary(self->dictionary);
-  int width = self->n > 0 ? self->block->width : 4;
-  PyObject *codes = self->n < 0 ? Py_NewRef(Py_None) : view_codes(self->state, self->block, self->n, width);
-  if (codes && join_texts(dictionary, &joined, &ends))
+  int width = self->n > 0 ? block->width : 4;
+  PyObject *codes = self->n < 0 ? Py_NewRef(Py_None) : view_codes(self->state, block, self->n, width);
+  if (codes && join_texts(dictionary, used, &joined, &ends))
     reduced = Py_BuildValue("O(ssNNNi)", (PyObject *)Py_TYPE((PyObject *)self), backend_name(dictionary->kind),
                             hasher_name(dictionary->hasher), wrap_buffer(joined, protocol),
                             wrap_buffer(ends, protocol), wrap_buffer(codes, protocol), width);
-  drop_dictionary(dictionary);
   Py_XDECREF(joined);
   Py_XDECREF(ends);
   Py_XDECREF(codes);
+  return reduced;
+}
+
+/* Of a part of a longer column only the texts that its rows have. */
+static PyObject *reduce_part(const Parts *self, const Dictionary *dictionary, long protocol) {
+  Used used;
+  if (!find_used(dictionary, self->block, self->n, &used)) return NULL;
+  bool has_all = used.count == interner_len(dictionary->h);
+  Block *block = has_all ? share_block(self->block) : renumber_used(&used, self->block, self->n);
+  PyObject *reduced = block || !self->n ? reduce_as(self, dictionary, has_all ? NULL : &used, block, protocol) : NULL;
+  drop_block(block);
+  drop_used(&used);
+  return reduced;
+}
+
+static PyObject *parts_reduce(Parts *self, PyObject *given) {
+  long protocol = PyLong_AsLong(given);
+  if (protocol == -1 && PyErr_Occurred()) return NULL;
+  if (!self->dictionary) return PyErr_SetString(PyExc_ValueError, "these parts were taken"), NULL;
+  Dictionary *dictionary = share_dictionary(self->dictionary);
+  PyObject *reduced = self->is_part ? reduce_part(self, dictionary, protocol) : reduce_as(self, dictionary, NULL, self->block, protocol);
+  drop_dictionary(dictionary);
   return reduced;
 }
 

@@ -3,18 +3,21 @@
 
 typedef struct RowsWalk {
   PyObject_HEAD
-  PyObject *texts; /* a list that nobody else has */
+  Dictionary *dictionary;
   Block *block;
   Py_ssize_t at, step, left;
 } RowsWalk;
 
+/* Whether there are so few rows that a place for the str of each text would take longer than all else. */
+static bool has_few_rows(const Column *self) { return (size_t)self->n < interner_len(self->dictionary->h) / 8; }
+
 static PyObject *walk_rows(Column *self, bool is_reversed) {
   RowsWalk *walk = (RowsWalk *)PyType_GenericAlloc(self->state->rows_walk, 0);
   if (walk && is_made(self)) {
-    /* The codes first, because a collection may add rows while the list is made. */
+    walk->dictionary = read_dictionary(self->dictionary);
     walk->block = share_block(self->block), walk->left = self->n;
     walk->at = is_reversed ? self->n - 1 : 0, walk->step = is_reversed ? -1 : 1;
-    if ((walk->texts = list_strings(self->dictionary))) return (PyObject *)walk;
+    if (has_few_rows(self) || reserve_strings(self->dictionary)) return (PyObject *)walk;
   }
   Py_XDECREF((PyObject *)walk);
   return NULL;
@@ -28,10 +31,12 @@ PyObject *column_reversed(Column *self, PyObject *unused) {
 }
 
 static PyObject *rows_walk_next(RowsWalk *walk) {
-  if (!walk->left || !walk->texts) return NULL;
+  if (!walk->left) return NULL;
   int64_t code = code_at(walk->block, walk->at);
-  walk->at += walk->step, walk->left--;
-  return Py_XNewRef(code < 0 ? Py_None : PyList_GetItem(walk->texts, code));
+  PyObject *row = code < 0 ? Py_None : kept_string(walk->dictionary, code);
+  row = row ? Py_NewRef(row) : keep_string(walk->dictionary, code);
+  if (row) walk->at += walk->step, walk->left--;
+  return row;
 }
 
 static PyObject *rows_walk_length_hint(RowsWalk *walk, PyObject *unused) {
@@ -40,20 +45,15 @@ static PyObject *rows_walk_length_hint(RowsWalk *walk, PyObject *unused) {
 }
 
 static int rows_walk_traverse(RowsWalk *walk, visitproc visit, void *arg) {
-  Py_VISIT(Py_TYPE((PyObject *)walk));
-  Py_VISIT(walk->texts);
-  return 0;
-}
-
-static int rows_walk_clear(RowsWalk *walk) {
-  Py_CLEAR(walk->texts);
+  (void)walk;
+  Py_VISIT(Py_TYPE((PyObject *)walk)); /* Strings need no visit. */
   return 0;
 }
 
 static void rows_walk_dealloc(RowsWalk *walk) {
   PyTypeObject *type = Py_TYPE((PyObject *)walk);
   PyObject_GC_UnTrack(walk);
-  rows_walk_clear(walk);
+  leave_dictionary(walk->dictionary);
   drop_block(walk->block);
   ((freefunc)PyType_GetSlot(type, Py_tp_free))(walk);
   Py_DECREF(type);
@@ -63,6 +63,6 @@ static PyMethodDef rows_walk_methods[] = {
     {"__length_hint__", (PyCFunction)rows_walk_length_hint, METH_NOARGS, NULL}, {NULL, NULL, 0, NULL}};
 static PyType_Slot rows_walk_slots[] = {
     {Py_tp_iter, PyObject_SelfIter}, {Py_tp_iternext, rows_walk_next}, {Py_tp_methods, rows_walk_methods},
-    {Py_tp_traverse, rows_walk_traverse}, {Py_tp_clear, rows_walk_clear}, {Py_tp_dealloc, rows_walk_dealloc}, {0, NULL}};
+    {Py_tp_traverse, rows_walk_traverse}, {Py_tp_dealloc, rows_walk_dealloc}, {0, NULL}};
 PyType_Spec rows_walk_spec = {"string_interner._native._RowsWalk", sizeof(RowsWalk), 0,
                               Py_TPFLAGS_DEFAULT | Py_TPFLAGS_HAVE_GC | Py_TPFLAGS_DISALLOW_INSTANTIATION, rows_walk_slots};

@@ -40,18 +40,18 @@ a list for the way back: `texts[number]`          `i[number]`
 ================================================  ================================================
 
 A call holds Python's global lock, so threads take turns, and each call is whole for the others. A call in a coroutine blocks its
-loop for as long as it takes, and nothing is to be awaited; for a long batch use `asyncio.to_thread`. Between parts of a batch
-handlers of signals run, so Ctrl-C ends it.
+loop for as long as it takes, also by `asyncio.to_thread`; so intern many texts in parts, with `await asyncio.sleep(0)` in between.
+Between parts of a batch handlers of signals run, so Ctrl-C ends it.
 """
 
 from __future__ import annotations
 
-from . import _native
+from . import _native, _types
 from ._column import Column
 
 TYPE_CHECKING = False
 if TYPE_CHECKING:
-    from typing import Any, Literal, Self, SupportsIndex
+    from typing import Literal, SupportsIndex
 
     Backend = Literal["string", "bucket", "buffer"]
     Hasher = Literal["seeded", "siphash", "fixed"] | tuple[SupportsIndex, SupportsIndex]
@@ -90,6 +90,10 @@ __all__ = ["Backend", "Column", "Hasher", "Interner", "Typecode"]
 __version__ = "0.1.0"
 
 
+def __dir__() -> list[str]:
+    return sorted({*globals(), *__all__})
+
+
 class Interner(_native.Interner):
     """A list of distinct texts, each with a number.
 
@@ -112,7 +116,7 @@ class Interner(_native.Interner):
 
     __slots__ = ()
 
-    def copy(self) -> Self:
+    def copy(self) -> _types.Self:
         """Returns an interner with the same texts under the same numbers."""
         import copy
 
@@ -124,6 +128,16 @@ class Interner(_native.Interner):
         attributes, slots = state if isinstance(state, tuple) else (state, {})
         return attributes, slots | {"_parts": self._parts}
 
-    def __reduce_ex__(self, protocol: Any) -> Any:
+    def __sizeof__(self) -> int:
+        """About how many bytes it takes, with a guess of 64 for each text. dask decides by it what to move."""
+        return object.__sizeof__(self) + 64 * self._count
+
+    def __dask_tokenize__(self) -> object:
+        """The same for interners that are equal."""
+        from hashlib import sha256
+
+        return "string_interner.Interner", self.backend, sha256(self.to_json().encode()).hexdigest()
+
+    def __reduce_ex__(self, protocol: _types.Any) -> _types.Any:
         # Older protocols have no way to make an object of a class that is written in C.
         return super().__reduce_ex__(max(protocol, 2))

@@ -4,14 +4,16 @@ from __future__ import annotations
 
 from collections.abc import Sequence
 
-from . import _native
+from . import _native, _types
 
 TYPE_CHECKING = False
 if TYPE_CHECKING:
-    from collections.abc import Iterable
-    from typing import Any, Self
+    from typing import overload
+else:
 
-    from . import Hasher
+    def overload(call):
+        """Stands for that of `typing`, which a type checker alone needs."""
+        return call
 
 
 class Column(_native.Column):
@@ -37,7 +39,11 @@ class Column(_native.Column):
     Threads and finalizers may call it as they may call an `Interner`. A call that raises changes nothing.
 
     The texts are in the library, and take little memory there. `dictionary`, `to_pandas`, `to_numpy` and iteration make a string
-    of each, and the column keeps these strings from then on. Slices and copies share the dictionary until one of them adds a text.
+    of each that they read, and the column keeps these strings, until you call `shrink`. Iteration keeps none if the column has few
+    rows, less than one for eight texts.
+
+    Slices, copies and what `take` returns share the dictionary until one of them adds a text. A pickle of fewer rows than there were
+    has only their texts, as `compact` makes it.
 
     Copies and pickles have the class and the attributes of a subclass. They do not call its `__init__`. They have the keys that
     copies and pickles of an `Interner` have. From protocol 5 on a pickle may hold its texts and codes out of band.
@@ -46,19 +52,19 @@ class Column(_native.Column):
     __slots__ = ()
 
     @classmethod
-    def from_values(cls, values: Iterable[str | None], *, hasher: Hasher = "seeded") -> Self:
+    def from_values(cls, values: _types.Iterable[str | None], *, hasher: _types.Hasher = "seeded") -> _types.Self:
         """Makes a column of the values, as `Column` does. Does not call the `__init__` of a subclass."""
         column = cls.__new__(cls)
         Column.__init__(column, values, hasher=hasher)
         return column
 
     @classmethod
-    def encode(cls, values: Iterable[str | None], *, hasher: Hasher = "seeded") -> Self:
+    def encode(cls, values: _types.Iterable[str | None], *, hasher: _types.Hasher = "seeded") -> _types.Self:
         """Does what `from_values` does, under the name that dictionary encoding has elsewhere."""
         return cls.from_values(values, hasher=hasher)
 
     @classmethod
-    def from_pandas(cls, values: Any, *, hasher: Hasher = "seeded") -> Self:
+    def from_pandas(cls, values: _types.Any, *, hasher: _types.Hasher = "seeded") -> _types.Self:
         """Makes a column of a Series, Index, Categorical or other array of pandas. What pandas counts as missing becomes None.
 
         The categories of a Categorical become the dictionary, in their order. Raises TypeError for a category or a value that
@@ -78,7 +84,7 @@ class Column(_native.Column):
             missing = pandas.isna(numpy.asarray(rows)) | getattr(rows, "mask", False)
             return cls.from_values(numpy.where(missing, None, rows), hasher=hasher)
 
-    def to_pandas(self) -> Any:
+    def to_pandas(self) -> _types.Any:
         """Returns a Categorical of pandas, whose categories are the dictionary. Raises ImportError without pandas.
 
         Below 127 categories pandas copies the codes to 1 byte each, and below 32,767 to 2 bytes each. From there on it reads the
@@ -90,27 +96,63 @@ class Column(_native.Column):
         codes = numpy.asarray(self.codes)
         return pandas.Categorical.from_codes(codes, categories=pandas.Index(self.dictionary, dtype=object))
 
-    def to_numpy(self) -> Any:
+    def _with_few_texts(self) -> Column:
+        # Few rows of a long column: to read the whole dictionary for them takes longer than to leave it.
+        return self.compact() if len(self) < self.distinct // 8 else self
+
+    def to_numpy(self) -> _types.Any:
         """Returns the rows in an array of objects of numpy. Raises ImportError without numpy."""
         import numpy
 
-        codes = numpy.asarray(self.codes)
+        column = self._with_few_texts()
+        codes = numpy.asarray(column.codes)
         # The last is the one at -1.
-        texts = numpy.array([*self.dictionary, None], dtype=object)
+        texts = numpy.array([*column.dictionary, None], dtype=object)
         return texts[codes]
 
-    def __array__(self, dtype: Any = None, copy: bool | None = None) -> Any:
+    def __array__(self, dtype: _types.Any = None, copy: bool | None = None) -> _types.Any:
         if copy is False:
             raise ValueError("the rows of a column are copied")
         rows = self.to_numpy()
         return rows if dtype is None else rows.astype(dtype)
 
-    def value_counts(self) -> dict[str, int]:
-        """Returns the number of rows with each text that a row has, the most frequent first. Does not count rows that are None."""
+    @overload
+    def value_counts(self, *, dropna: _types.Literal[True] = True) -> dict[str, int]: ...
+    @overload
+    def value_counts(self, *, dropna: _types.Literal[False]) -> dict[str | None, int]: ...
+    @overload
+    def value_counts(self, *, dropna: bool) -> dict[str, int] | dict[str | None, int]: ...
+    def value_counts(self, *, dropna: bool = True) -> _types.Any:
+        """Returns the number of rows with each text that a row has, the most frequent first.
+
+        Counts rows that are None only if `dropna` is false.
+        """
+        column = self._with_few_texts()
         # The counts first, because the dictionary may grow in between.
-        counts = self.counts()
-        found = ((text, count) for text, count in zip(self.dictionary, counts) if count)
-        return dict(sorted(found, key=lambda row: -row[1]))
+        counts = column.counts()
+        found: list[tuple[str | None, int]] = [(text, count) for text, count in zip(column.dictionary, counts) if count]
+        if not dropna and None in column:
+            found.append((None, column.count(None)))
+        found.sort(key=lambda row: -row[1])
+        return dict(found)
+
+    def unique(self) -> list[str | None]:
+        """Returns the distinct values of the rows, in order of first appearance. None is one of them if a row is None."""
+        found: list[str | None] = [*self._in_order().dictionary]
+        if None in self:
+            found.insert(self[: self.index(None)]._in_order().distinct, None)
+        return found
+
+    def isin(self, values: _types.Iterable[object]) -> memoryview:
+        """Returns for each row whether it is one of the values, of which one may be None.
+
+        `numpy.asarray` reads the result as booleans without a copy, and `column[..]` as a mask.
+        """
+        return memoryview(self._isin(values)).cast("?")
+
+    def isna(self) -> memoryview:
+        """Returns for each row whether it is None, in the form that `isin` has."""
+        return self.isin([None])
 
     def to_buffers(self) -> tuple[bytes, memoryview, memoryview]:
         """Returns the texts of the dictionary end to end in UTF-8, where each ends, and the codes. numpy reads each in place."""
@@ -123,20 +165,23 @@ class Column(_native.Column):
         attributes, slots = state if isinstance(state, tuple) else (state, {})
         return attributes, slots | {"_parts": self._parts}
 
-    def __reduce_ex__(self, protocol: Any) -> Any:
+    def __reduce_ex__(self, protocol: _types.Any) -> _types.Any:
         # Older protocols have no way to make an object of a class that is written in C.
         return super().__reduce_ex__(max(protocol, 2))
 
     def __sizeof__(self) -> int:
-        """About how many bytes it takes, with a guess of 64 for each distinct text. dask decides by it what to move."""
-        return object.__sizeof__(self) + self.codes.nbytes + 64 * self.distinct
+        """About how many bytes it takes, with a guess of 64 for each distinct text, and the strings that iteration made of them.
+
+        dask decides by it what to move.
+        """
+        return object.__sizeof__(self) + self.codes.nbytes + 64 * self.distinct + self._kept
 
     def __dask_tokenize__(self) -> object:
         """The same for columns with the same rows, whatever their dictionaries are."""
         from hashlib import sha256
 
         digest = sha256()
-        for part in self._compact()._buffers():
+        for part in self.compact()._in_order()._buffers():
             digest.update(memoryview(part).nbytes.to_bytes(8, "little"))
             digest.update(part)
         return "string_interner.Column", digest.hexdigest()

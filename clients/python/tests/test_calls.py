@@ -4,12 +4,13 @@ import copy
 import doctest
 import json
 import pickle
+import sys
 import threading
 import unittest
 from array import array
 
 import string_interner
-from string_interner import Interner
+from string_interner import Column, Interner
 
 BACKENDS = ("string", "bucket", "buffer")
 TEXTS = ["Tiger", "", "Käfer", "語", "𝄞", "a\0b", 'q"\\\n']
@@ -89,11 +90,54 @@ class Calls:
             numbers = interner.get_all(["Horse", "Tiger", "Horse"], missing)
             self.assertEqual((numbers.tolist(), numbers.typecode), ([missing, wanted[0], missing], typecode))
             self.assertEqual(interner.get_all(["Horse"], missing=missing).tolist(), [missing])
-        for wrong in (b"a", 1, None):
-            with self.assertRaisesRegex(TypeError, f"^text 1 is of type {type(wrong).__name__}, not str$"):
+        for wrong in (b"a", 1):
+            with self.assertRaisesRegex(TypeError, f"^text 1 is of type {type(wrong).__name__}, not str or None$"):
                 interner.get_all(["a", wrong])
         self.assertRaises(OverflowError, interner.get_all, ["a"], 2**63)
         self.assertRaises(TypeError, interner.get_all, ["a"], 1.5)
+        self.assertEqual(list(interner), TEXTS)
+
+    def test_texts_that_are_missing(self):
+        interner, (first, second, _, *_) = self.make(TEXTS), places(TEXTS, self.backend)
+        rows = [TEXTS[1], None, "Horse", TEXTS[0], None]
+        known = dict(zip(TEXTS, places(TEXTS, self.backend)))
+        for given in (rows, tuple(rows), iter(rows)):
+            self.assertEqual(interner.get_all(given).tolist(), [known.get(text, -1) for text in rows])
+        self.assertEqual(interner.get_all([None], 7).tolist(), [7])
+        self.assertEqual(interner.resolve_all(interner.get_all(rows), missing=-1), [TEXTS[1], None, None, TEXTS[0], None])
+        self.assertEqual(interner.resolve_all([first, 2**40], missing=2**40), [TEXTS[0], None])
+        self.assertEqual(interner.resolve_all([first], missing=first), [None])
+        # What is missing without a number for it is an error, and so are other numbers.
+        for call in (lambda: interner.resolve_all([-1]), lambda: interner.resolve_all([-1, -2], missing=-1), lambda: interner.resolve_all([-1], missing=2),
+                     lambda: interner.resolve_all([2**64], missing=2**63 - 1), lambda: interner.resolve_all([-(2**64)], missing=-(2**63)),
+                     lambda: interner.resolve_all(array("Q", [2**64 - 1]), missing=-1)):
+            self.assertRaises(KeyError, call)
+        with self.assertRaisesRegex(TypeError, "^text 1 is of type NoneType, not str$"):
+            interner.intern_all([TEXTS[0], None])
+        numbers = interner.intern_all([TEXTS[1], None, "Horse", "Horse"], missing=-1)
+        self.assertEqual((numbers.tolist(), numbers.typecode), ([second, -1, interner.get("Horse"), interner.get("Horse")], "i"))
+        self.assertEqual(list(interner), [*TEXTS, "Horse"])
+        self.assertEqual(interner.intern_all([None, TEXTS[0]], missing=2**31).tolist(), [2**31, first])
+        for wrong, error in ((1.5, TypeError), ("1", TypeError), (2**63, OverflowError)):
+            for call in (lambda: interner.intern_all(["new"], missing=wrong), lambda: interner.resolve_all([0], missing=wrong)):
+                self.assertRaises(error, call)
+        self.assertRaises(ValueError, interner.intern_all, ["new"], typecode="Q", missing=-1)
+        with self.assertRaisesRegex(TypeError, "^text 1 is of type int, not str or None$"):
+            interner.intern_all(["new", 1], missing=-1)
+        self.assertEqual(list(interner), [*TEXTS, "Horse"])
+
+    def test_a_text_is_no_number(self):
+        interner = self.make(TEXTS)
+        for call in (interner.resolve, interner.__getitem__):
+            with self.assertRaisesRegex(TypeError, r"the number of a text is what get\(text\) or intern\(text\) returns$"):
+                call(TEXTS[0])
+
+    def test_a_str_is_one_text(self):
+        interner = self.make(TEXTS)
+        for given in ("Tiger", "", str.__new__(type("Name", (str,), {}), "ab")):
+            for call in (interner.intern_all, interner.get_all, Interner, lambda it: interner.intern_all(it, missing=-1)):
+                with self.assertRaisesRegex(TypeError, r"^a str is one text, and no rows: write \[text\], or list\(text\) for its letters$"):
+                    call(given)
         self.assertEqual(list(interner), TEXTS)
 
     def test_encodes_columns(self):
@@ -165,6 +209,25 @@ class Calls:
             other.intern("Horse")
             self.assertNotEqual(other, interner)
         self.assertEqual(list(interner), TEXTS)
+
+    def test_dask_reads_its_size_and_its_name(self):
+        interner = self.make(TEXTS)
+        self.assertEqual(sys.getsizeof(interner) - sys.getsizeof(self.make([])), 64 * len(TEXTS))
+        self.assertEqual(interner.__dask_tokenize__(), self.make(TEXTS).__dask_tokenize__())
+        others = [self.make(TEXTS[::-1]), self.make(TEXTS[1:]), self.make([]), self.make([", ".join(TEXTS)]), Column(TEXTS)]
+        self.assertEqual(len({str(it.__dask_tokenize__()) for it in (interner, *others)}), 6)
+        self.assertEqual(len({str(Interner(TEXTS, backend=it).__dask_tokenize__()) for it in ("string", "bucket", "buffer")}), 3)
+        before = sys.getsizeof(self.make([]))
+        interner.close()
+        self.assertEqual(sys.getsizeof(interner), before)
+        self.assertRaises(ValueError, interner.__dask_tokenize__)
+        try:
+            from dask.base import tokenize
+            from dask.sizeof import sizeof
+        except ImportError:
+            return
+        self.assertEqual(tokenize(self.make(TEXTS)), tokenize(self.make(TEXTS)))
+        self.assertGreaterEqual(sizeof(self.make(map(str, range(1000)))), 64_000)
 
     def test_equality(self):
         interner = self.make(TEXTS)

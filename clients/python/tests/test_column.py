@@ -58,6 +58,7 @@ class BesideAList(RuleBasedStateMachine):
     def __init__(self):
         super().__init__()
         self.column, self.rows, self.texts, self.lent = Column(), [], [], []
+        self.is_part = False
 
     def add(self, rows, texts=None):
         """Notes that rows were added, and texts if these are not only those of the rows."""
@@ -139,19 +140,41 @@ class BesideAList(RuleBasedStateMachine):
 
     @rule(start=PLACES, stop=PLACES)
     def go_on_with_a_slice(self, start, stop):
+        self.is_part = self.is_part or len(self.rows[start:stop]) < len(self.rows)
         self.column, self.rows = self.column[start:stop], self.rows[start:stop]
 
-    @rule(make=strategies.sampled_from((
-        copy.copy, copy.deepcopy, lambda it: pickle.loads(pickle.dumps(it)), lambda it: pickle.loads(pickle.dumps(it, 0)),
-        lambda it: pickle.loads(pickle.dumps(it, 5)), lambda it: Column.from_buffers(*it.to_buffers()),
-        lambda it: Column.from_buffers(it.to_buffers()[0], offsets=[0, *it.to_buffers()[1]], codes=it.codes),
-        lambda it: Column.from_parts(it.dictionary, it.codes),
-        lambda it: Column.from_parts(Interner(it.dictionary), iter(it.codes)),
-    )))
+    @rule(make=strategies.sampled_from((copy.copy, copy.deepcopy)))
     def go_on_with_a_copy(self, make):
         before, self.column = self.column, make(self.column)
         assert before == self.column
         before.extend(["only there", None])
+
+    @rule(make=strategies.sampled_from((
+        lambda it: Column.from_buffers(*it.to_buffers()), lambda it: Column.from_parts(it.dictionary, it.codes),
+        lambda it: Column.from_buffers(it.to_buffers()[0], offsets=[0, *it.to_buffers()[1]], codes=it.codes),
+        lambda it: Column.from_parts(Interner(it.dictionary), iter(it.codes)),
+    )))
+    def go_on_with_its_parts(self, make):
+        self.go_on_with_a_copy(make)
+        self.is_part = False
+
+    @rule(protocol=strategies.sampled_from((0, 2, 4, 5)))
+    def go_on_with_a_pickle(self, protocol):
+        # That of a part has only the texts of its rows.
+        if self.is_part:
+            self.texts = [text for text in self.texts if text in self.rows]
+        self.go_on_with_its_parts(lambda it: pickle.loads(pickle.dumps(it, protocol)))
+
+    @rule()
+    def compact(self):
+        texts, part = [text for text in self.texts if text in self.rows], self.column.compact()
+        assert (list(part), part.dictionary, part.hasher) == (self.rows, texts, self.column.hasher)
+        assert part == self.column and part.compact().dictionary == texts
+        part.append("only there")
+
+    @rule()
+    def shrink(self):
+        self.column.shrink()
 
     @rule()
     def lend(self):
@@ -181,6 +204,12 @@ class BesideAList(RuleBasedStateMachine):
         assert column.counts() == array("Q", map(rows.count, self.texts))
         counted = sorted(((text, rows.count(text)) for text in self.texts if text in rows), key=lambda row: -row[1])
         assert list(column.value_counts().items()) == counted
+        missing = [(None, rows.count(None))] if None in rows else []
+        assert list(column.value_counts(dropna=False).items()) == sorted(counted + missing, key=lambda row: -row[1])
+        assert column.unique() == list(dict.fromkeys(rows))
+        assert column.isna().tolist() == [row is None for row in rows]
+        for values in ([], [None], self.texts[:2], [*self.texts[1:], "not there", None, 1]):
+            assert column.isin(values).tolist() == [row in values for row in rows]
         assert column.__dask_tokenize__() == Column(rows, hasher="fixed").__dask_tokenize__()
         assert [column.code(text) for text in self.texts] == [*range(len(self.texts))] and column.code("not there") is None
         for value in (*self.texts, None, "not there"):
@@ -273,10 +302,10 @@ class Refusals(unittest.TestCase):
             Column(["a", None, "\ud800"])
 
     def test_a_row_that_is_no_text_is_named(self):
-        for wrong in (*WRONG_VALUES, float("nan")):
+        for wrong, why in (*((it, "") for it in WRONG_VALUES), (float("nan"), ": it is NaN, which Column.from_pandas makes None")):
             for rows in ([wrong], ["a", wrong], [None, wrong], ["a", None, wrong], ["ß", "a", "a", None, wrong, None, 1]):
                 for make in (list, tuple, iter):
-                    said = f"^row {rows.index(wrong)} is of type {type(wrong).__name__}, not str or None$"
+                    said = f"^row {rows.index(wrong)} is of type {type(wrong).__name__}, not str or None{why}$"
                     with self.assertRaisesRegex(TypeError, said):
                         Column(make(rows))
         for before in (["a"] * 300000, ["a", None] * 150000):
@@ -285,6 +314,15 @@ class Refusals(unittest.TestCase):
                 with self.assertRaisesRegex(TypeError, "^row 300000 is of type float, not str or None$"):
                     column.extend(make([*before, 3.0, None]))
                 self.assertEqual(list(column), ["b"])
+
+    def test_a_str_is_one_text(self):
+        column = Column(["a"])
+        for call in (Column, Column.from_values, Column.encode, column.extend, column.isin, lambda it: Column.from_parts(it, [0])):
+            for given in ("red", ""):
+                with self.assertRaisesRegex(TypeError, r"^a str is one text, and no rows: write \[text\], or list\(text\) for its letters$"):
+                    call(given)
+        column.append("red")
+        self.assertEqual(list(column), ["a", "red"])
 
     def test_merging_what_is_no_column(self):
         column = Column(["a"])
@@ -336,7 +374,8 @@ class Refusals(unittest.TestCase):
             self.skipTest("no _testcapi")
         for call in (lambda it: it.extend(["b", None]), lambda it: it.append("c"), lambda it: it.merge(Column(["d"])), list,
                      lambda it: it.extend(map(str, range(9))), lambda it: it.codes, lambda it: it[::2], lambda it: it.counts(),
-                     lambda it: it.dictionary, lambda it: it._buffers(), lambda it: it.take([0]), lambda it: it._parts):
+                     lambda it: it.dictionary, lambda it: it._buffers(), lambda it: it.take([0]), lambda it: it._parts, lambda it: it.compact(),
+                     lambda it: it[:1].compact(), lambda it: it[1:].compact(), lambda it: it.shrink(), lambda it: it.isin(["a"]), lambda it: it[1:]._parts.__reduce_ex__(2)):
             for request in range(60):
                 column = Column(["a", None])
                 set_nomemory(request, request + 1)
@@ -430,6 +469,89 @@ class Calls(unittest.TestCase):
         self.assertEqual(sys.getsizeof(column) - empty, 4000)
         column.extend(map(str, range(1000)))
         self.assertEqual(sys.getsizeof(column) - empty, 2000 * WIDTH + 64 * 1000)
+
+    def test_a_part_has_the_texts_of_its_rows(self):
+        column = Column((f"text {number}" for number in range(100_000)), hasher="fixed")
+        few = ["text 9", "text 7", None, "text 9"]
+        for part in (column[3:6], column[9:6:-1], column.take([9, 7, 9]), column[7:10][:2], copy.copy(column[3:6]), column[:0]):
+            part.append(None)
+            for protocol in range(pickle.HIGHEST_PROTOCOL + 1):
+                written = pickle.dumps(part, protocol)
+                self.assertLess(len(written), 600)
+                read = pickle.loads(written)
+                self.assertEqual((read, read.dictionary), (part, part.compact().dictionary))
+                self.assertEqual((part.distinct, read.distinct), (100_000, len({*part} - {None})))
+        # The texts stay in the order of the dictionary, and those of a whole column all stay.
+        part = Column.from_parts(["no", "b", "a"], [2, -1, 1])
+        for whole in (part, part[:], part.take([0, 1, 2]), part[::-1]):
+            self.assertEqual(pickle.loads(pickle.dumps(whole)).dictionary, ["no", "b", "a"])
+            self.assertEqual((whole.compact().dictionary, whole.compact()), (["b", "a"], whole))
+        self.assertEqual(column.take([9, 7])[1:].compact().hasher, "fixed")
+        column.extend(few)
+        self.assertEqual((list(column[-4:].compact()), column[-4:].compact().dictionary), (few, ["text 7", "text 9"]))
+
+    def test_few_rows_are_read_without_the_whole_dictionary(self):
+        column = Column(f"text {number}" for number in range(100_000))
+        part, texts = column[5:8], ["text 5", "text 6", "text 7"]
+        tracemalloc.start()
+        try:
+            self.assertEqual((list(part), list(reversed(part)), list(part.compact())), (texts, texts[::-1], texts))
+            self.assertEqual(part.value_counts(), dict.fromkeys(texts, 1))
+            self.assertLess(tracemalloc.get_traced_memory()[1], 100_000)
+            # The first row of a long column makes one string, and a place for each.
+            self.assertEqual(next(iter(column)), "text 0")
+            self.assertLess(tracemalloc.get_traced_memory()[1], 100_000 + 9 * 100_000)
+        finally:
+            tracemalloc.stop()
+        if numpy:
+            self.assertEqual(part.to_numpy().tolist(), texts)
+
+    def test_strings_are_told_and_let_go(self):
+        column = Column(f"text {number}" for number in range(10_000))
+        before, codes = sys.getsizeof(column), bytes(column.codes)
+        for read in (list, lambda it: list(reversed(it)), lambda it: it.dictionary, set):
+            tracemalloc.start()
+            try:
+                read(column)
+                kept, told = tracemalloc.get_traced_memory()[0], sys.getsizeof(column) - before
+                self.assertTrue(0.8 * kept < told < 1.2 * kept, (kept, told))
+                walk = iter(column)
+                self.assertEqual(next(walk), "text 0")
+                column.shrink()
+                self.assertLess(tracemalloc.get_traced_memory()[0], 2000)
+            finally:
+                tracemalloc.stop()
+            self.assertEqual(sys.getsizeof(column), before)
+            # An iterator goes on, and so do codes that were lent.
+            self.assertEqual(list(walk), [f"text {number}" for number in range(1, 10_000)])
+            self.assertEqual((bytes(column.codes), column[-1]), (codes, "text 9999"))
+
+    def test_a_walk_shows_the_rows_that_there_were(self):
+        column = Column(["a", None, "b"])
+        walks = [iter(column), reversed(column), iter(column[:2])]
+        for act in (lambda: column.append("c"), lambda: column.extend(map(str, range(100))), column.shrink, lambda: column.__init__(["x"])):
+            act()
+            walks.append(iter(column))
+            next(walks[-1])
+        del column
+        self.assertEqual([[*walk][:4] for walk in walks],
+                         [["a", None, "b"], ["b", None, "a"], ["a", None], [None, "b", "c"], [None, "b", "c", "0"], [None, "b", "c", "0"], []])
+
+    def test_an_iterator_shrinks_the_column_before_it_fails(self):
+        rows = 2 * _native._VALUES_AT_ONCE
+
+        def values():
+            yield from map(str, range(rows))
+            self.assertIn("7", column.dictionary)
+            column.shrink()
+            raise ZeroDivisionError
+
+        column = Column(["x"])
+        with self.assertRaises(ZeroDivisionError):
+            column.extend(values())
+        self.assertEqual(column.code("1"), 2)
+        column.append("new")
+        self.assertEqual((list(column), column.dictionary[column.code("new")]), (["x", "new"], "new"))
 
     def test_a_text_is_what_it_holds(self):
         self.assertEqual(list(Column([LyingStr("Tiger"), None])), ["Tiger", None])
@@ -707,7 +829,8 @@ class Copies(unittest.TestCase):
                      lambda: column.codes, lambda: column.dictionary, lambda: column.counts(), lambda: column.take([]), lambda: column.distinct,
                      lambda: column.__arrow_c_array__(), lambda: column.__arrow_c_schema__(), lambda: pickle.dumps(column), lambda: column.hasher,
                      lambda: column.index("a"), lambda: column.count(None), lambda: column.code("a"), lambda: column.to_buffers(),
-                     lambda: column.value_counts(), lambda: column.__dask_tokenize__(), lambda: reversed(column), lambda: copy.copy(column)):
+                     lambda: column.value_counts(), lambda: column.__dask_tokenize__(), lambda: reversed(column), lambda: copy.copy(column),
+                     lambda: column.compact(), lambda: column.shrink(), lambda: column.isin([]), lambda: column.isna(), lambda: column.unique()):
             with self.assertRaisesRegex(ValueError, "^the column was not initialized$"):
                 call()
         self.assertEqual(repr(column), "<Column that was not initialized>")
@@ -735,8 +858,9 @@ class Buffers(unittest.TestCase):
             column = Column.from_buffers(bytearray(b"redgreen"), ends, [1, -1, 0], hasher="fixed")
             self.assertEqual((list(column), column.dictionary, column.hasher), (["green", None, "red"], ["red", "green"], "fixed"))
         for joined, ends, codes, said in (
-            (b"redred", [3, 6], [0], "a text repeats an earlier one"), (b"ab", [1, 3], [0], "an end"), (b"ab", [2, 1], [0], "an end"),
-            (b"ab", [-1], [0], "an end"), (b"a\xff", [1, 2], [0], "text 1 is not UTF-8"), (b"ab", [1, 2], [0, 2], "row 1 has code 2, and the dictionary has 2 texts"),
+            (b"redred", [3, 6], [0], "a text repeats an earlier one: text 1 is text 0 again$"), (b"ab", [1, 3], [0], "an end .* bytes: end 1$"),
+            (b"abcbb", [1, 2, 3, 4, 5], [0], "a text repeats an earlier one: text 3 is text 1 again$"), (b"ab", [2, 1], [0], "an end .*: end 1$"),
+            (b"ab", [-1], [0], "an end .*: end 0$"), (b"a\xff", [1, 2], [0], "text 1 is not UTF-8"), (b"ab", [1, 2], [0, 2], "row 1 has code 2, and the dictionary has 2 texts"),
             (b"ab", [1, 2], array("Q", [0, 2**64 - 1]), f"row 1 has code {2**64 - 1}, "),
         ):
             with self.assertRaisesRegex(ValueError, f"^{said}"):
@@ -779,7 +903,7 @@ class Buffers(unittest.TestCase):
         self.assertEqual((view.format, view.nbytes, view.readonly), ("i", 12, True))
         with self.assertRaises(TypeError):
             view[0] = 1
-        column.extend("ab")
+        column.extend(["a", "b"])
         self.assertEqual(view.tolist(), [0, -1, 1])
         self.assertEqual(column.codes.tolist(), [0, -1, 1, 0, 1])
 
@@ -819,7 +943,7 @@ class Buffers(unittest.TestCase):
         one = Column(["a"] * 100)
         one.append("b")
         other, third = one[:], copy.copy(one)
-        for column, rows in ((one, "cd"), (other, "ef"), (third, ["c", None])):
+        for column, rows in ((one, ["c", "d"]), (other, ["e", "f"]), (third, ["c", None])):
             column.extend(rows)
         self.assertEqual([list(it)[-3:] for it in (one, other, third)], [["b", "c", "d"], ["b", "e", "f"], ["b", "c", None]])
         self.assertEqual([it.dictionary[2:] for it in (one, other, third)], [["c", "d"], ["e", "f"], ["c"]])
@@ -834,6 +958,16 @@ class Buffers(unittest.TestCase):
         self.assertEqual(numpy.asarray(Column(["b", "a"]), dtype="U1").tolist(), ["b", "a"])
 
     @unittest.skipUnless(numpy, "no numpy")
+    def test_numpy_reads_what_isin_finds_as_booleans(self):
+        column = Column(["a", None, "b", "a"])
+        for found, wanted in ((column.isin({"a", "c"}), [True, False, False, True]), (column.isna(), [False, True, False, False]), (Column().isna(), [])):
+            self.assertEqual((found.format, found.readonly, found.tolist()), ("?", True, wanted))
+            if numpy:
+                mask = numpy.asarray(found)
+                self.assertEqual((mask.dtype, mask.tolist()), (bool, wanted))
+        self.assertEqual(list(column[column.isin(["a"])]), ["a", "a"])
+        self.assertRaises(TypeError, column.isin, 1)
+
     def test_masked_arrays(self):
         masked = numpy.ma.array(["a", "b", "c"], mask=[True, False, False], dtype=object)
         for given in (masked, numpy.ma.array(["a", "b", "c"], mask=[True, False, False])):
@@ -1009,7 +1143,7 @@ class SharedColumns(unittest.TestCase):
         self.assertEqual(wrong, [])
 
     def test_two_that_merge_each_other(self):
-        one, other = Column("ab"), Column("bc")
+        one, other = Column(["a", "b"]), Column(["b", "c"])
         threads = [threading.Thread(target=lambda: [one.merge(other[:2]) or one == other for _ in range(500)], daemon=True),
                    threading.Thread(target=lambda: [other.merge(one[:2]) or other == one for _ in range(500)], daemon=True)]
         for thread in threads:

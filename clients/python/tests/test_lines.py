@@ -1,5 +1,8 @@
 """Tests of lines: of bytes, and of files, without a str of each."""
 
+import bz2
+import gzip
+import io
 import os
 import pathlib
 import random
@@ -20,6 +23,27 @@ def lines_of(raw):
     """The lines that the page promises: each ends at a newline, or at the end."""
     lines = raw.decode().split("\n")
     return lines[:-1] if lines[-1] == "" else lines
+
+
+class Few:
+    """An open file that reads a byte at a time, or anything else."""
+
+    def __init__(self, raw):
+        self.raw, self.at = raw, 0
+
+    def read(self, count):
+        if isinstance(self.raw, Exception):
+            raise self.raw
+        if not isinstance(self.raw, (bytes, bytearray, memoryview)):
+            return self.raw
+        self.at += 1
+        return self.raw[self.at - 1 : self.at]
+
+    def __enter__(self):
+        return self
+
+    def __exit__(self, *_):
+        pass
 
 
 class OfBytes(unittest.TestCase):
@@ -83,6 +107,73 @@ class OfFiles(unittest.TestCase):
             self.path.write_bytes(raw)
             with self.assertRaisesRegex(ValueError, f"^line {line} is not UTF-8$"):
                 Column.from_file(self.path)
+
+    def test_open_files(self):
+        for raw in INPUTS:
+            self.path.write_bytes(raw)
+            packed = {open: self.path, gzip.open: self.path.with_suffix(".gz"), bz2.open: self.path.with_suffix(".bz2")}
+            for make, path in packed.items():
+                with make(path, "wb") as file:
+                    file.write(raw)
+                with make(path, "rb") as file:
+                    self.assertEqual(list(Column.from_file(file)), lines_of(raw))
+                    # It stays open, and is at its end.
+                    self.assertEqual((file.closed, file.read()), (False, b""))
+            for file in (io.BytesIO(raw), open(self.path, "rb", buffering=0), Few(raw), Few(bytearray(raw)), Few(memoryview(raw))):
+                with file:
+                    self.assertEqual(list(Column.from_file(file, hasher="fixed")), lines_of(raw))
+        file = io.BytesIO(b"header\na\nb")
+        file.readline()
+        self.assertEqual(list(Column.from_file(file)), ["a", "b"])
+
+    def test_what_an_open_file_may_do(self):
+        for wrong, error, said in (
+            (io.StringIO("a"), TypeError, "^the file is open as text: open it in the mode 'rb'$"), (Few(None), BlockingIOError, "does not wait"),
+            (Few(ZeroDivisionError()), ZeroDivisionError, ""), (Few(7), TypeError, "bytes-like object"), (Few(b"a\n\xff\n"), ValueError, "^line 2 is not UTF-8$"),
+        ):
+            with self.assertRaisesRegex(error, said):
+                Column.from_file(wrong)
+        with open(__file__, encoding="utf-8") as file, self.assertRaises(TypeError):
+            Column.from_file(file)
+
+        class Again(io.BytesIO):
+            def read(self, count):
+                found.append(Column.from_file(io.BytesIO(b"x\ny\nx")))
+                return super().read(count)
+
+        found = []
+        self.assertEqual(list(Column.from_file(Again(b"a\nb"))), ["a", "b"])
+        self.assertEqual({tuple(it) for it in found}, {("x", "y", "x")})
+
+    def test_a_file_that_is_compressed(self):
+        for content in (b"a\n" * 3, os.urandom(3_000_000)):
+            with gzip.open(self.path, "wb") as file:
+                file.write(content)
+            for given in (self.path, str(self.path), io.BytesIO(self.path.read_bytes())):
+                with self.assertRaisesRegex(ValueError, r"^line 1 is not UTF-8: the file is compressed by gzip; give what gzip.open\(path\) returns$"):
+                    Column.from_file(given)
+        # Such bytes behind the first line, or a line that is UTF-8, are something else.
+        for raw, line in ((b"a\n\x1f\x8b\n", 2), (b"\x1f\n\x8b", 2)):
+            with self.assertRaisesRegex(ValueError, f"^line {line} is not UTF-8$"):
+                Column.from_file(io.BytesIO(raw))
+
+    def test_newlines_and_a_mark_as_open_reads_them(self):
+        mark = "\ufeff".encode()
+        for raw in (*INPUTS, b"a\rb\r\n\r\n\n\rc\r", b"\r", b"\r\n", b"\n\r", b"a\r\r\nb", b"a\r" * 3, b"x\rlong" * 300_000 + b"\r\nend"):
+            for front in (b"", mark, mark * 2):
+                self.path.write_bytes(front + raw)
+                for encoding in ("utf-8", "utf-8-sig"):
+                    for newline in ("\n", None):
+                        with open(self.path, encoding=encoding, newline=newline) as file:
+                            wanted = lines_of(file.read().encode())
+                        for given in (self.path, Few(front + raw) if len(raw) < 100 else io.BytesIO(front + raw)):
+                            column = Column.from_file(given, encoding=encoding, newline=newline)
+                            self.assertEqual(list(column), wanted)
+        # A mark that is cut is not UTF-8.
+        self.assertRaises(ValueError, Column.from_file, Few(mark[:2]), encoding="utf-8-sig")
+        for wrong in ({"newline": "\r\n"}, {"newline": ""}, {"newline": 1}, {"encoding": "latin-1"}, {"encoding": None}, {"encoding": b"utf-8"}):
+            with self.assertRaises(ValueError):
+                Column.from_file(self.path, **wrong)
 
     def test_many_lines_and_long_ones(self):
         source = random.Random(2)

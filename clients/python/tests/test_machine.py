@@ -106,7 +106,7 @@ class BesideAList(RuleBasedStateMachine):
         before, self.interner = self.interner, make(self.interner)
         assert self.interner == before
         before.truncate(0)
-        before.intern_all("xyz")
+        before.intern_all(["x", "y", "z"])
 
     @rule(column=COLUMNS)
     def go_on_with_json(self, column):

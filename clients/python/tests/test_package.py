@@ -1,13 +1,16 @@
 """Tests of the import: what it needs, what it shows, and what is said of a library with another interface."""
 
+import email
 import inspect
 import os
 import pydoc
+import re
 import shutil
 import subprocess
 import sys
 import sysconfig
 import tempfile
+import typing
 import unittest
 from pathlib import Path
 
@@ -17,6 +20,51 @@ from string_interner import Column, Interner, _native
 PACKAGE = Path(string_interner.__file__).resolve().parent
 SOURCES = PACKAGE.parent / "native"
 HEADERS = Path(sysconfig.get_path("include"))
+
+
+class Metadata(unittest.TestCase):
+    """What a wheel and the archive of the sources say of the package."""
+
+    def setUp(self):
+        if not (PACKAGE.parent / "setup.py").exists():
+            self.skipTest("no sources")
+        try:
+            import setuptools  # noqa: F401
+            import wheel  # noqa: F401
+        except ImportError:
+            self.skipTest("no setuptools or wheel")
+
+    def run_setup(self, *words, **environment):
+        return subprocess.run([sys.executable, "-B", "-W", "ignore", "setup.py", "--quiet", *words], cwd=PACKAGE.parent, env=os.environ | environment,
+                              capture_output=True, text=True, timeout=60)
+
+    def test_the_page_stands_by_itself(self):
+        with tempfile.TemporaryDirectory() as folder:
+            self.assertEqual(self.run_setup("egg_info", "--egg-base", folder).returncode, 0)
+            (written,) = Path(folder).glob("*/PKG-INFO")
+            metadata = email.message_from_string(written.read_text(encoding="utf-8"))
+        page = metadata.get_payload()
+        self.assertEqual((metadata["Name"], metadata["Version"]), ("string-interner", string_interner.__version__))
+        self.assertEqual((metadata["Requires-Python"], metadata["Description-Content-Type"]), (">=3.11", "text/markdown"))
+        self.assertIn("License :: OSI Approved :: MIT License", metadata.get_all("Classifier"))
+        # It is read where nothing else of the repository is.
+        self.assertTrue(page.lstrip().startswith("# string_interner for Python"))
+        for target in re.findall(r"\]\(([^)]*)\)", page):
+            self.assertRegex(target, "^(https://|#)")
+        self.assertNotRegex(page, r"\.\./|no download|PYTHONPATH")
+        for words in ("pip install", "STRING_INTERNER_LIB", "archive for C of the same release"):
+            self.assertIn(words, page)
+        programs = re.findall(r"^```python\n(.*?)^```$", page, re.M | re.S)
+        self.assertTrue(programs)
+        for program in programs:
+            exec(program, {})
+
+    def test_a_build_without_the_library_says_where_it_is(self):
+        with tempfile.TemporaryDirectory() as folder:
+            ended = self.run_setup("build_ext", "--build-lib", folder, "--build-temp", folder, STRING_INTERNER_LIB=folder)
+        self.assertNotEqual(ended.returncode, 0)
+        self.assertIn(f"no {folder}/libstring_interner.a: run clients/build, or name its folder in STRING_INTERNER_LIB", ended.stderr)
+        self.assertIn("the archive for C of each release has it", ended.stderr)
 
 
 class Imports(unittest.TestCase):
@@ -45,6 +93,24 @@ class Imports(unittest.TestCase):
             self.assertIsNotNone(getattr(string_interner, name))
         with self.assertRaisesRegex(AttributeError, "^module 'string_interner' has no attribute 'Backends'$"):
             string_interner.Backends
+
+    def test_types_of_calls(self):
+        named = []
+        for kind in (Interner, Column):
+            for name, call in inspect.getmembers(kind, callable):
+                if name == "__class__":
+                    continue
+                hints = typing.get_type_hints(call)
+                # A call of the module in C has its types in the stub alone.
+                if inspect.isfunction(inspect.unwrap(getattr(call, "__func__", call))):
+                    self.assertIn("return", hints, f"{kind.__name__}.{name}")
+                    named.append(name)
+        self.assertTrue({"copy", "from_values", "from_pandas", "to_buffers", "isin", "value_counts", "__sizeof__"} <= {*named})
+        hints = typing.get_type_hints(Column.from_values)
+        self.assertEqual((hints["hasher"], hints["return"]), (string_interner.Hasher, typing.Self))
+
+    def test_it_shows_its_names(self):
+        self.assertLessEqual({*string_interner.__all__, "__version__"}, {*dir(string_interner)})
 
     def test_the_version(self):
         self.assertRegex(string_interner.__version__, r"^\d+\.\d+\.\d+$")

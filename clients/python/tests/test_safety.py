@@ -684,7 +684,7 @@ class Batches(unittest.TestCase):
             self.run_with_handler(lambda: found.append(gc.isenabled()), lambda: encode(Interner()))
         self.assertEqual((found, gc.isenabled()), ([True, True], True))
         interner = Interner(["a", "b"])
-        raised = self.run_with_handler(lambda: interner.truncate(0) or interner.intern_all("cd"), lambda: interner.resolve_all(numbers))
+        raised = self.run_with_handler(lambda: interner.truncate(0) or interner.intern_all(["c", "d"]), lambda: interner.resolve_all(numbers))
         self.assertIsInstance(raised, RuntimeError)
         column, other = Column(["first"]), Column(texts)
         shared = column[:]
@@ -788,7 +788,7 @@ class Walks(unittest.TestCase):
         texts = ["a", "b" * 200, "", "ß"]
         for backend in BACKENDS:
             for change in (lambda it: it.truncate(1), lambda it: it.truncate(0), Interner.close, lambda it: it.__init__(["x"]),
-                           lambda it: it.intern_all("xyz"), Interner.shrink):
+                           lambda it: it.intern_all(["x", "y", "z"]), Interner.shrink):
                 for read in range(5):
                     interner = Interner(texts, backend=backend)
                     pairs = list(interner.entries())

@@ -26,6 +26,9 @@ assert_type(names.resolve(0), str | None)
 assert_type(names[0], str)
 assert_type(names.resolve_all(names.intern_all(["a"], typecode="I")), list[str])
 assert_type(names.intern_all(names), "array[int]")
+assert_type(names.intern_all(["a", None], missing=-1), "array[int]")
+assert_type(names.get_all(["a", None]), "array[int]")
+assert_type(names.resolve_all([0, -1], missing=-1), list[str | None])
 assert_type(names.intern_column(bytearray(b"ab"), array("I", [1, 2])), "array[int]")
 assert_type(names.intern_column(b"ab", offsets=array("I", [0, 1, 2]), typecode="Q"), "array[int]")
 assert_type(names.entries(), Iterator[tuple[int, str]])
@@ -55,6 +58,13 @@ assert_type(Colors.from_buffers(*colors.to_buffers()), Colors)
 assert_type(Colors.from_buffers(b"redgreen", offsets=[0, 3, 8], codes=[0, 1]), Colors)
 assert_type(colors.take([0, -1]), Column)
 assert_type(colors.value_counts(), dict[str, int])
+assert_type(colors.value_counts(dropna=True), dict[str, int])
+assert_type(colors.value_counts(dropna=False), dict[str | None, int])
+assert_type(colors.unique(), list[str | None])
+assert_type(colors.isin(["red", None, 1]), memoryview)
+assert_type(colors.isna(), memoryview)
+assert_type(colors.compact(), Column)
+colors.shrink()
 assert_type(colors.dictionary, list[str])
 assert_type(colors.codes.tolist(), list[int])
 assert_type(colors.counts(), "array[int]")
@@ -67,7 +77,8 @@ colors.merge(Colors())
 
 names.intern(b"a")  # type: ignore[arg-type]
 names.intern_all([1])  # type: ignore[list-item]
-names.intern_all(["a"], typecode="d")  # type: ignore[arg-type]
+names.intern_all(["a", None])  # type: ignore[list-item]
+names.intern_all(["a"], typecode="d")  # type: ignore[call-overload]
 names.intern_column("a", [1])  # type: ignore[call-overload]
 names.intern_column(b"a")  # type: ignore[call-overload]
 names.intern_column(b"a", [1], offsets=[0, 1])  # type: ignore[call-overload]

@@ -1,0 +1,20 @@
+"""What annotations name. It is made when somebody asks for it, because to import `typing` takes longer than all else here."""
+
+from __future__ import annotations
+
+TYPE_CHECKING = False
+if TYPE_CHECKING:
+    from collections.abc import Iterable as Iterable
+    from typing import Any as Any
+    from typing import Literal as Literal
+    from typing import Self as Self
+
+    from . import Hasher as Hasher
+else:
+
+    def __getattr__(name):
+        import typing
+
+        import string_interner
+
+        return getattr(string_interner if name in string_interner.__all__ else typing, name)
