@@ -19,6 +19,7 @@ from files import read
 # Where the blocks of each language stand as files that the gate proves or runs.
 EXAMPLES = {
     "rattle": "crates/*/src/**/*.rt",
+    "antt": "crates/examples/proofs/**/*.antt",
     "c": "clients/c/examples/*.c",
     "rust": "clients/rust/examples/*.rs",
     "python": "clients/python/examples/*.py",

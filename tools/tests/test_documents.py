@@ -98,6 +98,14 @@ class DocumentsTest(SmallRepository):
         self.assertEqual(self.faults_after("```python", "```rust"), ["README.md: in no example: number = half(4)"])
         self.assertEqual(self.faults_after("```python", "```text"), [])
 
+    def test_answers_of_examples(self):
+        self.write("crates/examples/proofs/half/Answers.antt", "use Low\n\npub returns : goal.returns\nreturns g c = c.half\n")
+        block = "```antt\npub returns : goal.returns\nreturns g c = c.half\n```\n"
+        self.write("docs/ANSWERS.md", block)
+        self.assertEqual(list(documents.faults()), [])
+        self.write("docs/ANSWERS.md", block.replace("c.half", "c.third"))
+        self.assertEqual(list(documents.faults()), ["docs/ANSWERS.md: in no example: pub returns : goal.returns"])
+
     def test_commands(self):
         self.write("clients/README.md", "# Clients\n\n```sh\ncc half.c\n```\n")
         self.assertEqual(list(documents.faults()), ["clients/README.md: in no example: cc half.c"])

@@ -22,3 +22,21 @@ pub fn same_text<B: Backend, H: TextHasher>(
     let _ = interner.len();
     Ok(left == right)
 }
+
+/// Interns three texts, and reports whether all are equal by their symbols alone.
+///
+/// Fails as `get_or_intern` does.
+pub fn same_texts<B: Backend, H: TextHasher>(
+    interner: &mut StringInterner<B, H>,
+    a: &str,
+    b: &str,
+    c: &str,
+) -> Result<bool, InternError>
+    ensures { IfOk result (λ same. IsTrue same ↔ ((a.now ≡ b.now) × (b.now ≡ c.now))) }
+{
+    let first = interner.get_or_intern(a)?;
+    let second = interner.get_or_intern(b)?;
+    let third = interner.get_or_intern(c)?;
+    let _ = interner.len();
+    Ok(first == second && second == third)
+}
