@@ -37,6 +37,7 @@ pub fn same_texts<B: Backend, H: TextHasher>(
     let first = interner.get_or_intern(a)?;
     let second = interner.get_or_intern(b)?;
     let third = interner.get_or_intern(c)?;
+    // For the proof, as above.
     let _ = interner.len();
     Ok(first == second && second == third)
 }
