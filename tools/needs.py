@@ -28,6 +28,14 @@ def packages():
     return {need: names.split() for need, _, names in lines} | ONLY_TO_MEASURE
 
 
+def needs_of_tests():
+    return [need for need in packages() if need not in ONLY_TO_MEASURE]
+
+
+def packages_of(needs):
+    return [name for need in needs for name in packages()[need]]
+
+
 @cache
 def python_with(*modules):
     for python in filter(None, map(shutil.which, ("python3", "/usr/bin/python3"))):
@@ -46,14 +54,13 @@ def is_there(need):
 
 def missing(needs):
     lacking = (it for it in needs if not is_there(it))
-    return [f"no {it} on this machine: what needs it is left out. Debian's packages: {' '.join(packages()[it])}" for it in lacking]
+    return [f"no {it} on this machine: what needs it is left out. Debian's packages: {' '.join(packages_of([it]))}" for it in lacking]
 
 
 def main(*words):
     match words:
         case ():
-            lacking = (names for need, names in packages().items() if need not in ONLY_TO_MEASURE and not is_there(need))
-            print(*(name for names in lacking for name in names))
+            print(*packages_of(it for it in needs_of_tests() if not is_there(it)))
             return 0
         case ("--python", *modules):
             found = python_with(*modules)

@@ -6,7 +6,9 @@ import os
 import runpy
 import subprocess
 import sys
+import tempfile
 import unittest
+from pathlib import Path
 from unittest import mock
 
 from small import edits
@@ -25,7 +27,13 @@ class PartTest(unittest.TestCase):
     def test_a_count(self):
         is_well, part, printed = self.run_part("echo '9 passed, 9 failed'; echo '3 passed, 0 failed'")
         self.assertEqual((is_well, part.passed, part.failed), (True, 3, 0))
-        self.assertEqual(printed, "== it\n9 passed, 9 failed\n3 passed, 0 failed\n")
+        self.assertEqual(printed, "== it: begins\n== it\n9 passed, 9 failed\n3 passed, 0 failed\n")
+
+    def test_it_is_told_that_a_part_begins(self):
+        with contextlib.redirect_stdout(io.StringIO()) as printed:
+            part = CHECK["Part"]("proofs", ["sleep", "60"])
+        self.assertRegex(printed.getvalue(), r"^== proofs: begins, and takes \d+ to \d+ minutes\n$")
+        self.assertTrue(part.end())
 
     def test_what_failed(self):
         self.assertEqual(self.run_part("echo '3 passed, 2 failed'; exit 1")[0], False)
@@ -53,6 +61,64 @@ class PartTest(unittest.TestCase):
         lines = printed.getvalue().splitlines()
         self.assertRegex(lines[1], r"^it: \d+ seconds, \d+ processor seconds$")
         self.assertEqual(lines[-2:], ["left out: a thing", "3 passed, 2 failed"])
+
+
+class ProofsTest(unittest.TestCase):
+    """How far the proofs are, over something that stands for `rt`."""
+
+    def run_proofs(self, script):
+        """The status of what proves, what it prints, and what it says meanwhile, as if it had begun a minute ago."""
+        with tempfile.TemporaryDirectory() as tree:
+            for name in ("one", "two", "three"):
+                Path(tree, "crates", name).mkdir(parents=True)
+            Path(tree, "rt").write_text(f"#!/bin/sh\n{script}")
+            Path(tree, "rt").chmod(0o755)
+            environment = {"PATH": f"{tree}:{os.environ['PATH']}", "SECONDS": "58"}
+            ran = subprocess.run(["bash", "-c", CHECK["PROVE"], edits.TOP], cwd=tree, env=environment, capture_output=True,
+                                 encoding="utf-8", check=False)
+        return ran.returncode, ran.stdout, ran.stderr
+
+    def test_how_many_crates_are_proved(self):
+        said = ["== one", "rt: one proved", "rt: one: its tests are proved", "rt: two is kept: why", "== three", "rt: three NOT PROVED"]
+        script = "".join(f"echo '{line}'\n" for line in said) + 'sleep 2.5\necho "$1" >&2\nprintf "3 passed, 0 failed"\n'
+        status, printed, told = self.run_proofs(script)
+        self.assertEqual((status, printed), (0, "\n".join([*said, "ci", "3 passed, 0 failed"])))
+        self.assertRegex(told, r"^proofs: 2 of 3 crates are proved, 1 min \d s\n$")
+
+    def test_proofs_that_fail(self):
+        self.assertEqual(self.run_proofs("echo '2 passed, 1 failed'; exit 3"), (3, "2 passed, 1 failed\n", ""))
+
+
+class BeforehandTest(unittest.TestCase):
+    def told(self, command, lacking=()):
+        found = mock.patch.dict(CHECK["tell_beforehand"].__globals__, {"is_there": lambda need: need not in lacking})
+        with found, contextlib.redirect_stdout(io.StringIO()) as printed:
+            CHECK["tell_beforehand"](command)
+        return printed.getvalue().splitlines()
+
+    def test_what_a_command_takes(self):
+        for command in ("./check", "./check all"):
+            lines = self.told(command)
+            self.assertEqual(len(lines), 1)
+            self.assertRegex(lines[0], rf"^{command} takes [\d.]+ to [\d.]+ (minutes|hours) on 4 processors, and \d+ GiB of memory$")
+        self.assertEqual(self.told("./check quick"), [])
+
+    def test_what_the_machine_lacks(self):
+        with mock.patch("needs.is_there", lambda need: need not in ("cc", "mandoc")):
+            lines = self.told("./check quick", ("cc", "mandoc"))
+        self.assertEqual([line.partition(":")[0] for line in lines[:2]], ["no cc on this machine", "no mandoc on this machine"])
+        self.assertRegex(lines[2], r"^\.ci/run installs them first, or: apt-get install .* gcc libc6-dev binutils mandoc$")
+
+    def test_it_comes_before_the_first_part(self):
+        """And the command is printed at the end, for tools/release."""
+        gate = CHECK["Gate"](None)
+        modes = mock.patch.dict(CHECK["MODES"], {"all": lambda gate: gate.run("it", ["echo", "1 passed, 0 failed"])})
+        signals = mock.patch("signal.signal")
+        with modes, signals, contextlib.redirect_stdout(io.StringIO()) as printed:
+            self.assertEqual(CHECK["run_mode"](gate, "all"), 0)
+        lines = printed.getvalue().splitlines()
+        self.assertLess(next(i for i, line in enumerate(lines) if line.startswith("./check all takes ")), lines.index("== it: begins"))
+        self.assertIn("ran: ./check all", lines[lines.index("== what it took"):])
 
 
 class EndedTest(unittest.TestCase):
@@ -88,7 +154,7 @@ class CheckTest(unittest.TestCase):
         gate, kept = CHECK["Gate"](None), []
         begun = []
 
-        def begin(name, words, folder=None):
+        def begin(name, words, folder=None, tells=False):
             begun.append((name, words[:2]))
             return mock.Mock(said="no pip on this machine: it\n", **{"wait.return_value": is_proved})
 
@@ -104,7 +170,7 @@ class CheckTest(unittest.TestCase):
         self.assertEqual(names, ["proofs", "the library for C and its clients", "scenarios", "the program", "the program dictcol",
                                  "records of proofs", "the steps of the pages for users", "the site of the documents",
                                  "texts chosen without keys", "what was measured"])
-        self.assertEqual((words, kept), (["rt", "ci"], 2))
+        self.assertEqual((words, kept), (["bash", "-c"], 2))
         self.assertIn("no pip on this machine: it", left_out)
 
     def test_nothing_runs_that_is_not_proved(self):
