@@ -16,7 +16,7 @@ def help_text() -> str:
 
 
 def options_of(text: str) -> set[str]:
-    return set(re.findall(r"(?<![\w-])--?[a-z][a-z-]*\b", text))
+    return set(re.findall(r"(?<![\w-])--?[a-z][a-z0-9-]*\b", text))
 
 
 def shown_manual() -> str:
@@ -34,7 +34,7 @@ class ManualTest(unittest.TestCase):
 
     def test_options(self) -> None:
         """Each option that is taken is told twice, and no other."""
-        taken = set(re.findall(r'"(--?[a-z][a-z-]*)"', (CRATE / "src/arguments.rt").read_text()))
+        taken = set(re.findall(r'"(--?[a-z][a-z0-9-]*)"', (CRATE / "src/arguments.rt").read_text()))
         self.assertIn("--sorted", taken)
         self.assertEqual(options_of(help_text()), taken)
         defined = re.findall(r"^\.It Fl (.*?)(?: Ar .*)?$", MANUAL.read_text(), re.M)

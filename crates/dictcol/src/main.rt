@@ -286,7 +286,7 @@ fn end_task(
 }
 
 /// Does what is asked for with files, prints what failed, and returns the status.
-fn act(rt: &HostRuntime, action: Action<'_>, files: &[Source<'_>]) -> ExitCode {
+fn act<'a>(rt: &'a HostRuntime, action: Action<'a>, files: &'a [Source<'a>]) -> ExitCode {
     let lines = Task::Write(Form::File, Choice::String);
     let (task, (source, outcome)) = match action {
         Action::Do(task, reading) => (task, work_on(rt, task, reading, files)),
