@@ -13,6 +13,8 @@
                     take nothing if that is 0
    NO_RANDOM=1      has each request for random bytes fail
    TELL_DRAWN=1     says `draws BYTES` on standard error at the end: how many random bytes were drawn
+   STOP_AT=N        stops the process, as SIGSTOP does, before the Nth call, counted from 1, that looks for, opens, makes, locks,
+                    renames or removes a file or folder
 
    The built programs call malloc, realloc and free, and no other call for memory; those of bench/ calloc, too. This
    includes nothing: the kit's compiler runs where no headers of the C library are installed. For one thread. */
@@ -24,6 +26,7 @@ extern int *__errno_location(void);
 extern void *dlsym(void *library, const char *name);
 extern int snprintf(char *line, size_type room, const char *format, ...);
 extern size_type malloc_usable_size(void *block);
+extern int raise(int signal);
 
 #define STANDARD_INPUT 0
 #define STANDARD_OUTPUT 1
@@ -31,6 +34,7 @@ extern size_type malloc_usable_size(void *block);
 /* Linux's numbers for a call that it does not have, and for a connection that was reset. */
 #define NO_SUCH_CALL 38
 #define CONNECTION_RESET 104
+#define STOP 19
 /* Finds the function of this name in the library after this one, and calls it `next`. */
 #define FIND_NEXT(name)                      \
     static __typeof__(&(name)) next;         \
@@ -111,6 +115,61 @@ int getentropy(void *bytes, size_type count) {
     }
     drawn += count;
     return next(bytes, count);
+}
+
+static void count_call(void) {
+    static size_type calls;
+    if (++calls == setting("STOP_AT", 0)) {
+        raise(STOP);
+    }
+}
+
+int open(const char *path, int flags, unsigned mode) {
+    FIND_NEXT(open)
+    count_call();
+    return next(path, flags, mode);
+}
+
+int statx(int folder, const char *path, int flags, unsigned mask, void *told) {
+    FIND_NEXT(statx)
+    count_call();
+    return next(folder, path, flags, mask, told);
+}
+
+int mkdir(const char *path, unsigned mode) {
+    FIND_NEXT(mkdir)
+    count_call();
+    return next(path, mode);
+}
+
+int flock(int file, int how) {
+    FIND_NEXT(flock)
+    count_call();
+    return next(file, how);
+}
+
+int rename(const char *old, const char *path) {
+    FIND_NEXT(rename)
+    count_call();
+    return next(old, path);
+}
+
+int unlink(const char *path) {
+    FIND_NEXT(unlink)
+    count_call();
+    return next(path);
+}
+
+int unlinkat(int folder, const char *path, int flags) {
+    FIND_NEXT(unlinkat)
+    count_call();
+    return next(folder, path, flags);
+}
+
+int rmdir(const char *path) {
+    FIND_NEXT(rmdir)
+    count_call();
+    return next(path);
 }
 
 /* Blocks that are granted and not given back, and their bytes as the C library rounds them: now, at most, and at the reset. */

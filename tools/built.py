@@ -1,10 +1,11 @@
 """Runs a built program, also with requests for memory, reading or writing that fail."""
 
 import os
+import signal
 import subprocess
 import tempfile
 from collections import namedtuple
-from contextlib import nullcontext
+from contextlib import contextmanager, nullcontext
 from pathlib import Path
 
 from edits import TOP
@@ -72,6 +73,34 @@ class Program:
             process.returncode = os.waitstatus_to_exitcode(status)
             told.seek(0)
             return End(process.returncode, b"", told.read()), used.ru_maxrss
+
+    @contextmanager
+    def stopped(self, words, data, call, folder):
+        """A run that stops before its call of this number that looks for, opens, makes, locks, renames or removes a file or
+        folder. It goes on or is killed by `end`; without such a call it has ended."""
+        environment = {"LD_PRELOAD": self.library, "STOP_AT": str(call)}
+        with holding(data) as given, subprocess.Popen([self.path, *words], stdin=given, stdout=subprocess.PIPE,
+                                                      stderr=subprocess.PIPE, env=environment, cwd=folder) as started:
+            yield Stopped(started)
+
+
+class Stopped:
+    """A run that may have stopped."""
+
+    def __init__(self, started):
+        self.started = started
+        # `wait` of the process itself would not return where it stops.
+        _, status = os.waitpid(started.pid, os.WUNTRACED)
+        self.is_stopped = os.WIFSTOPPED(status)
+        if not self.is_stopped:
+            started.returncode = os.waitstatus_to_exitcode(status)
+
+    def end(self, by=signal.SIGCONT):
+        """How it ends after this signal."""
+        if self.is_stopped:
+            os.kill(self.started.pid, by)
+        printed, told = self.started.communicate(timeout=SECONDS)
+        return End(self.started.returncode, printed, told)
 
 
 def without_held(told):

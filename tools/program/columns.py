@@ -4,11 +4,14 @@ import errno
 import itertools
 import os
 import random
+import shutil
+import signal
 import struct
 import subprocess
 import tempfile
 from pathlib import Path
 
+from built import holding
 from needs import python_with
 from program.cases import MANY
 from program.reckon import answer, skip_invalid, unwritten, warned
@@ -38,11 +41,20 @@ def npy(codes, said=None):
     return b"\x93NUMPY\1\0" + struct.pack("<H", len(said)) + said + struct.pack(f"<{len(codes)}I", *codes)
 
 
+def pair_of(lines, codes):
+    """What the third file says of so many lines and these codes: the checksum is FNV-1a's, over codes in the place of bytes."""
+    checksum = 0xCBF29CE484222325
+    for code in codes:
+        checksum = (checksum ^ code) * (2**40 + 2**8 + 0xB3) % 2**64
+    return b"lines %d\nnumbers %d\nchecksum %d\n" % (lines, len(codes), checksum)
+
+
 def columns_of(data, before=()):
     """The files of a text, by name, onto the lines of a dictionary from before."""
     lines = data.removesuffix(b"\n").split(b"\n") if data else []
     index = {line: number for number, line in enumerate(dict.fromkeys([*before, *lines]))}
-    files = {"dict.txt": b"".join(line + b"\n" for line in index), "codes.npy": npy([index[line] for line in lines])}
+    codes = [index[line] for line in lines]
+    files = {"dict.txt": b"".join(line + b"\n" for line in index), "codes.npy": npy(codes), "pair.txt": pair_of(len(index), codes)}
     return files | ({"no_final_newline": b""} if data and not data.endswith(b"\n") else {})
 
 
@@ -187,14 +199,22 @@ DAMAGED = (
 
 
 def try_damaged(program, lines, numbers, message):
-    """Nothing is written of damaged files. Without its numbers a dictionary is still one to write onto."""
+    """Nothing is written of damaged files, and nothing onto them, unless the dictionary alone is to be taken. What is damaged is
+    told also where it is not what the third file says."""
     with tempfile.TemporaryDirectory() as folder:
-        write_files(f"{folder}/it", {"dict.txt": lines, "codes.npy": numbers})
-        yield f"{message!r}", program.run([b"decode", b"it"], folder=folder), failed(2, b"it: " + message)
-        ended = program.run(b"encode --onto it --plain new".split(), b"a\n", folder=folder)
+        files = {"dict.txt": lines, "codes.npy": numbers}
+        write_files(f"{folder}/it", files)
+        write_files(f"{folder}/pair", files | {"pair.txt": pair_of(2, [0, 1, 1])})
+        for name in b"it", b"pair":
+            wanted = failed(2, name + b": " + message)
+            yield f"{message!r} of {name}", program.run([b"decode", name], folder=folder), wanted
+            ended = program.run([*b"encode --plain new --onto".split(), name], b"a\n", folder=folder)
+            yield f"{message!r} of {name}, written onto", ended, wanted
+            yield f"{message!r} of {name}, what was written", Path(folder, "new").exists(), False
+        ended = program.run(b"encode --onto-dictionary it --plain new".split(), b"a\n", folder=folder)
         is_of_lines = message.startswith(b"dict.txt")
-        yield f"{message!r}, written onto", ended, failed(2, b"it: " + message) if is_of_lines else OK
-        yield f"{message!r}, what was written", Path(folder, "new").exists(), not is_of_lines
+        yield f"{message!r}, written onto the dictionary", ended, failed(2, b"it: " + message) if is_of_lines else OK
+        yield f"{message!r}, what was written onto the dictionary", Path(folder, "new").exists(), not is_of_lines
 
 
 # Files whose lines are there twice, the text, and the first line that is there already.
@@ -224,9 +244,22 @@ def try_missing(program):
         files = columns_of(LINES)
         for name in files:
             write_files(f"{folder}/without {name}", {it: content for it, content in files.items() if it != name})
-            ended = program.run([b"decode", f"without {name}".encode()], folder=folder)
-            message = b"without %s: cannot read %s: %s" % (name.encode(), name.encode(), told(errno.ENOENT))
-            yield f"without {name}", ended, failed(1, message)
+        for name in "dict.txt", "codes.npy":
+            where = f"without {name}".encode()
+            message = b"%s: cannot read %s: %s" % (where, name.encode(), told(errno.ENOENT))
+            yield f"without {name}", program.run([b"decode", where], folder=folder), failed(1, message)
+            ended = program.run([*b"encode --plain new --onto".split(), where], LINES, folder=folder)
+            advice = b" (see --onto-dictionary)" if name == "codes.npy" else b""
+            yield f"onto one without {name}", ended, failed(1, message + advice)
+        # As earlier versions wrote it.
+        yield "without pair.txt", program.run([b"decode", b"without pair.txt"], folder=folder), (0, LINES, b"")
+        alone = b"without codes.npy"
+        for onto in [b"--onto", b"without pair.txt"], [b"--onto-dictionary", alone], [b"--onto-dictionary=" + alone]:
+            ended = program.run([b"encode", *onto, b"--plain", b"written"], b"blue\nred\n", folder=folder)
+            yield f"{onto}", ended, OK
+            wanted = columns_of(b"blue\nred\n", LINES.split(b"\n")[:-1])
+            yield f"{onto}, files", files_in(f"{folder}/written"), wanted
+            shutil.rmtree(f"{folder}/written")
         ended = program.run(b"encode --onto nowhere --plain new".split(), LINES, folder=folder)
         yield "onto nothing", ended, failed(1, b"nowhere: cannot read dict.txt: " + told(errno.ENOENT))
         Path(folder, "file").write_bytes(b"")
@@ -236,6 +269,184 @@ def try_missing(program):
         ended = program.run(b"encode --plain bytes".split(), b"a\n\xff", folder=folder)
         yield "bytes that are not UTF-8", ended, failed(2, b"line 2 is not UTF-8 (see --invalid)")
         yield "no folder of them", Path(folder, "bytes").exists(), False
+
+
+NOT_A_PAIR = b"it: dict.txt and codes.npy are not of one run (see pair.txt)"
+# A text, and files that come into the place of its own, with what is decoded then, or nothing where they are no pair.
+OF_TWO_RUNS = (
+    (b"a\nb\na\n", {"dict.txt": b"x\nb\n"}, b"x\nb\nx\n"),
+    (b"a\nb\na\n", {"dict.txt": b"x\nx\n"}, b"x\nx\nx\n"),
+    (b"a\nb\na", {"dict.txt": b"x\nlonger\n"}, b"x\nlonger\nx"),
+    (b"a\nb\na\n", {"dict.txt": b"a\nb\nc\n"}, None),
+    (b"a\nb\nc\na\n", {"dict.txt": b"a\nb\n", "codes.npy": npy([0, 1, 1, 0])}, None),
+    (b"a\nb\na\n", {"codes.npy": npy([0, 1, 1])}, None),
+    (b"a\nb\na\n", {"codes.npy": npy([1, 0, 0])}, None),
+    (b"a\nb\na\n", {"codes.npy": npy([0, 1])}, None),
+    (b"a\nb\na\n", {"codes.npy": npy([0, 1, 0, 0])}, None),
+    (b"a\na\n", {"codes.npy": npy([])}, None),
+    (b"a\nb\na\n", {"pair.txt": b""}, None),
+    (b"a\nb\na\n", {"pair.txt": pair_of(2, [0, 1, 0]) + b"\n"}, None),
+    (b"a\nb\na\n", {"pair.txt": pair_of(2, [0, 1, 1])}, None),
+    (b"a\nb\na\n", {"pair.txt": pair_of(3, [0, 1, 0])}, None),
+    (b"", {"dict.txt": b"a\n"}, None),
+)
+
+
+def try_pair(program, text, changed, decoded):
+    """Files of two runs are refused. Lines of the dictionary may be changed."""
+    with tempfile.TemporaryDirectory() as folder:
+        files = columns_of(text) | changed
+        write_files(f"{folder}/it", files)
+        wanted = failed(2, NOT_A_PAIR) if decoded is None else (0, decoded, b"")
+        yield f"{text!r} with {changed}", program.run([b"decode", b"it"], folder=folder), wanted
+        lines = files["dict.txt"].split(b"\n")[:-1]
+        is_taken = decoded is not None and len({*lines}) == len(lines)
+        repeated = failed(2, b"it: dict.txt: line 2 repeats an earlier line")
+        wanted = OK if is_taken else failed(2, NOT_A_PAIR) if decoded is None else repeated
+        ended = program.run(b"encode --onto it --plain new".split(), b"b\nc\n", folder=folder)
+        yield f"{text!r} with {changed}, written onto", ended, wanted
+        found = files_in(f"{folder}/new") if Path(folder, "new").exists() else None
+        yield f"{text!r} with {changed}, what was written onto it", found, columns_of(b"b\nc\n", lines) if is_taken else None
+
+
+def try_exchange(program):
+    """Files that cannot be replaced: none of yesterday's numbers are beside today's dictionary, and nothing unfinished stays."""
+    for name in "dict.txt", "pair.txt", "no_final_newline", "codes.npy":
+        for data in b"blue\ngreen", b"blue\ngreen\n":
+            with tempfile.TemporaryDirectory() as folder:
+                before = columns_of(LINES)
+                write_files(f"{folder}/it", {it: content for it, content in before.items() if it != name})
+                Path(folder, "it", name).mkdir()
+                Path(folder, "it", name, "kept").write_bytes(b"kept")
+                ended = program.run(b"encode --plain it".split(), data, folder=folder)
+                yield f"{name} is a folder, {data}", ended, failed(1, b"it: cannot write files: " + told(errno.EISDIR))
+                found = {path.name for path in Path(folder, "it").iterdir()}
+                wanted = {"dict.txt", "pair.txt", "no_final_newline", name}
+                yield f"{name} is a folder, {data}, files {found}", found <= wanted, True
+                yield f"{name} is a folder, {data}, what it has", files_in(f"{folder}/it/{name}"), {"kept": b"kept"}
+                if name == "codes.npy":
+                    yield f"{data}, the dictionary", Path(folder, "it/dict.txt").read_bytes(), before["dict.txt"]
+
+
+def try_links(program):
+    """What a link leads to is not written: its name gets a file, or the run fails."""
+    with tempfile.TemporaryDirectory() as folder:
+        Path(folder, "precious").write_bytes(b"kept\n")
+        Path(folder, "files").mkdir()
+        Path(folder, "files/precious").write_bytes(b"kept\n")
+        for name in (*columns_of(b"a"), "dict.txt.new", "codes.npy.new"):
+            Path(folder, "it").mkdir()
+            Path(folder, "it", name).symlink_to("../precious")
+            yield f"{name} is a link", program.run(b"encode --plain it".split(), b"a", folder=folder), OK
+            found = {path: content for path, content in files_in(f"{folder}/it").items() if not path.endswith(".new")}
+            yield f"{name} is a link, files", found, columns_of(b"a")
+            shutil.rmtree(f"{folder}/it")
+        for target, message in (("files", b"resource busy"), ("precious", b"resource busy"), ("nowhere", told(errno.EEXIST))):
+            Path(folder, "it").mkdir()
+            Path(folder, "it", UNFINISHED).symlink_to(f"../{target}")
+            ended = program.run(b"encode --plain it".split(), b"a", folder=folder)
+            yield f"a link to {target}", ended, failed(1, b"it: cannot write files: " + message)
+            Path(folder, "it", UNFINISHED).unlink()
+            Path(folder, "it").rmdir()
+        yield "what links led to", files_in(f"{folder}/files") | {"": Path(folder, "precious").read_bytes()}, {
+            "precious": b"kept\n", "": b"kept\n"}
+
+
+# Where a run puts files before all are written.
+UNFINISHED = "dictcol-unfinished"
+# Texts with equally many lines, of which equally many are distinct: no other text has the dictionary of one and the codes of another.
+FIRST, SECOND, THIRD = b"red\ngreen\nred", b"green\nblue\nblue\n", b"red\nblue\nred\n"
+WRITE = b"encode --plain it".split()
+
+
+def read_folder(folder):
+    """What a folder has, or nothing if there is none. What is in an unfinished folder does not count."""
+    path = Path(folder, "it")
+    return {it.name: it.read_bytes() for it in path.iterdir() if it.name != UNFINISHED} if path.exists() else None
+
+
+def each_stop(program, words, data, old):
+    """A run over a folder with the files of this text, or without any, stopped before each of its calls in turn."""
+    for call in itertools.count(1):
+        with tempfile.TemporaryDirectory() as folder:
+            if old is not None:
+                write_files(f"{folder}/it", columns_of(old))
+            with program.stopped(words, data, call, folder) as run:
+                yield f"call {call} onto {old}", folder, run
+                if not run.is_stopped:
+                    return
+
+
+def try_killed_writers(program, old):
+    """Wherever a run is killed, the folder has the files from before, or those of the run, or no numbers. The next run is as any
+    other, and nothing unfinished stays."""
+    for name, folder, run in each_stop(program, WRITE, FIRST, old):
+        if run.is_stopped:
+            run.end(signal.SIGKILL)
+        found, before = read_folder(folder) or {}, {} if old is None else columns_of(old)
+        yield f"{name}, killed", found in (before, columns_of(FIRST)) or "codes.npy" not in found, True
+        yield f"{name}, the next", program.run(WRITE, SECOND, folder=folder), OK
+        yield f"{name}, files of the next", files_in(f"{folder}/it"), columns_of(SECOND)
+
+
+def is_begun(folder):
+    """Whether a run has made a file in the unfinished folder that it has there."""
+    return Path(folder).exists() and bool(os.listdir(folder))
+
+
+def try_writers(program, old):
+    """Wherever a second run writes beside a first one, one of them ends well, and the folder has its files. It is the first one as
+    soon as that has begun."""
+    for name, folder, run in each_stop(program, WRITE, FIRST, old):
+        is_first = is_begun(f"{folder}/it/{UNFINISHED}")
+        second = program.run(WRITE, SECOND, folder=folder)
+        busy = failed(1, b"it: cannot write files: resource busy")
+        yield f"{name}, the second", not is_first or second == busy, True
+        first = run.end()
+        ends = first, second
+        yield f"{name}, {ends}", OK in ends and all(it == OK or it[:2] == (1, b"") and it[2].count(b"\n") == 1 for it in ends), True
+        # The first one is the last to end if it was stopped.
+        last = FIRST if run.is_stopped and first == OK else SECOND
+        yield f"{name}, files", files_in(f"{folder}/it"), columns_of(last)
+
+
+def try_readers(program):
+    """Wherever files are replaced beside a run that reads them, it gets those of one run, or fails and says so."""
+    for words in b"decode it".split(), b"encode --onto it --plain new".split():
+        for name, folder, run in each_stop(program, words, b"red\n", FIRST):
+            yield f"{name}, the writer", program.run(WRITE, SECOND, folder=folder), OK
+            ended = run.end()
+            if ended.status == 0 and b"decode" in words:
+                yield f"{name}, decoded", ended in ((0, FIRST, b""), (0, SECOND, b"")), True
+            elif ended.status == 0:
+                wanted = [columns_of(b"red\n", [*dict.fromkeys(it.removesuffix(b"\n").split(b"\n"))]) for it in (FIRST, SECOND)]
+                yield f"{name}, written onto", files_in(f"{folder}/new") in wanted, True
+            else:
+                yield f"{name}, {ended}", (ended.output, ended.error.count(b"\n")), (b"", 1)
+
+
+# So many times two runs write at once, and a third one reads.
+RACES = 60
+
+
+def try_race(program):
+    """Two runs that start at once, and one that reads meanwhile."""
+    texts = [text * 3000 for text in (SECOND, THIRD)]
+    texts[0] += b"\n"
+    with tempfile.TemporaryDirectory() as folder:
+        whole = [columns_of(text) for text in texts]
+        write_files(f"{folder}/it", whole[0])
+        for number in range(RACES):
+            runs = []
+            for text in texts:
+                with holding(text) as given:
+                    runs.append(subprocess.Popen([program.path, *WRITE], stdin=given, stderr=subprocess.DEVNULL, cwd=folder))
+            read = program.run(b"decode it".split(), folder=folder)
+            is_one = read in [(0, text, b"") for text in texts] or read.status in (1, 2) and not read.output
+            yield f"race {number}, read {read.status}", is_one, True
+            statuses = [run.wait() for run in runs]
+            wins = [files for files, status in zip(whole, statuses) if status == 0]
+            yield f"race {number}, {statuses}", (len(wins) > 0, {*statuses} <= {0, 1}, files_in(f"{folder}/it") in wins), (True,) * 3
 
 
 def try_refused(program):
@@ -317,6 +528,12 @@ def trials():
         *((try_onto, *both) for both in itertools.product(TEXTS[:-2], repeat=2)),
         *((try_damaged, *given) for given in DAMAGED),
         *((try_repeated, *given) for given in REPEATED),
+        *((try_pair, *given) for given in OF_TWO_RUNS),
+        (try_exchange,),
+        (try_links,),
+        *((trial, old) for trial in (try_killed_writers, try_writers) for old in (None, SECOND, THIRD)),
+        (try_readers,),
+        (try_race,),
         (try_missing,),
         (try_refused,),
         (try_numpy,),

@@ -13,7 +13,7 @@ import time
 from itertools import chain, count, product
 from pathlib import Path
 
-from program import columns, shards, shell
+from program import closed, columns, shards, shell
 from program.cases import MANY, MEBIBYTE, Case, cases, rows
 from program.reckon import MEMORY, answer, failed, misused, unreadable, unwritable, warned
 from program.requests import OUTPUT_BUFFER, asks_of_lines
@@ -35,7 +35,7 @@ def operands(words):
     for word in left:
         if word == b"--":
             return [*found, *left]
-        if word in (b"--backend", b"--invalid", b"--plain", b"--onto", b"--files0-from"):
+        if word in (b"--backend", b"--invalid", b"--plain", b"--onto", b"--onto-dictionary", b"--files0-from"):
             next(left, None)
         elif word == b"-" or not word.startswith(b"-"):
             found.append(word)
@@ -316,7 +316,7 @@ def parts():
     return {
         "cases": cases(CASES, try_case),
         "tables": rows(CASES, TABLES),
-        "streams": [*STREAMS.trials(), *shell.trials()],
+        "streams": [*STREAMS.trials(), *shell.trials(), *closed.trials()],
         "columns": columns.trials(),
         "shards": shards.trials(),
         "random": [(trial, seed) for trial in (try_random_lines, shell.try_random_bytes) for seed in range(200)],

@@ -12,7 +12,7 @@ from collections import Counter
 from pathlib import Path
 
 from edits import TOP
-from program.columns import OK, columns_of, failed, files_in, npy, told
+from program.columns import OK, UNFINISHED, columns_of, each_stop, failed, files_in, is_begun, npy, told
 from program.reckon import skip_invalid, warned
 
 MULTIPLIER, START = 0x9E3779B97F4A7C15, 0x243F6A8885A308D3
@@ -154,6 +154,65 @@ def try_failing(program):
         yield "what is there", found, {"file": False, "bytes": False, "there": []}
 
 
+SHARD = b"shard 2 it".split()
+COLORS, MORE_COLORS = b"red\ngreen\nblue\nred", b"blue\nwhite\n"
+
+
+def try_killed(program):
+    """Wherever a run is killed there is no folder, or a whole one. The next run is as any other, and nothing unfinished stays."""
+    for name, folder, run in each_stop(program, SHARD, COLORS, None):
+        if run.is_stopped:
+            run.end(signal.SIGKILL)
+        wanted, made = shards_of(COLORS, 2), Path(folder, "it")
+        if made.exists():
+            yield f"{name}, killed", files_in(made), wanted
+        else:
+            wanted = shards_of(MORE_COLORS, 3)
+            yield f"{name}, the next", program.run(b"shard 3 it".split(), MORE_COLORS, folder=folder), OK
+        yield f"{name}, files", files_in(made), wanted
+        if not run.is_stopped or wanted != shards_of(COLORS, 2):
+            yield f"{name}, folders", os.listdir(folder), ["it"]
+
+
+def try_beside(program):
+    """Wherever a second run writes beside a first one, one of them fails, and the folder has the files of the other. It is the
+    second that fails as soon as the first one has begun."""
+    for name, folder, run in each_stop(program, SHARD, COLORS, None):
+        is_first = is_begun(f"{folder}/it.{UNFINISHED}")
+        second = program.run(b"shard 3 it".split(), MORE_COLORS, folder=folder)
+        ends = run.end(), second
+        yield f"{name}, {ends}", sorted(it.status for it in ends), [0, 1]
+        busy = failed(1, b"it: cannot write files: resource busy")
+        yield f"{name}, the second", not is_first or second == busy, True
+        files = shards_of(COLORS, 2) if ends[0] == OK else shards_of(MORE_COLORS, 3)
+        yield f"{name}, files", files_in(f"{folder}/it"), files
+        yield f"{name}, folders", os.listdir(folder), ["it"]
+
+
+def try_links(program):
+    """What has the name of an unfinished folder and is none stays as it is."""
+    for target, message in (("files", b"resource busy"), ("files/precious", b"resource busy"), ("nowhere", told(errno.EEXIST))):
+        with tempfile.TemporaryDirectory() as folder:
+            Path(folder, "files").mkdir()
+            Path(folder, "files/precious").write_bytes(b"kept\n")
+            Path(folder, f"it.{UNFINISHED}").symlink_to(target)
+            ended = program.run(SHARD, COLORS, folder=folder)
+            yield f"a link to {target}", ended, failed(1, b"it: cannot write files: " + message)
+            yield f"a link to {target}, files", files_in(f"{folder}/files"), {"precious": b"kept\n"}
+            yield f"a link to {target}, folders", sorted(os.listdir(folder)), ["files", f"it.{UNFINISHED}"]
+
+
+def try_names(program):
+    """The folder may be named with a slash behind it, and lie elsewhere."""
+    with tempfile.TemporaryDirectory() as folder:
+        Path(folder, "in").mkdir()
+        for name in b"one/", b"two//", b"in/three", b"./four", b"in/../five", f"{folder}/six".encode():
+            yield f"{name}", program.run([b"shard", b"2", name], COLORS, folder=folder), OK
+            yield f"{name}, files", files_in(Path(folder, name.decode())), shards_of(COLORS, 2)
+        found = sorted(os.listdir(folder)), os.listdir(f"{folder}/in")
+        yield "folders", found, (["five", "four", "in", "one", "six", "two"], ["three"])
+
+
 def try_refused(program):
     """Each request for memory is refused in turn: all files are written, or there is no folder."""
     for number in itertools.count(1):
@@ -193,6 +252,10 @@ def trials():
         (try_reading,),
         (try_recipe,),
         (try_failing,),
+        (try_killed,),
+        (try_beside,),
+        (try_links,),
+        (try_names,),
         (try_refused,),
         (try_in_little_memory,),
         *((try_random, seed) for seed in range(30)),

@@ -46,13 +46,22 @@ pub struct Reading {
     pub is_zero_ended: bool,
 }
 
+/// Where the dictionary comes from that plain columns begin with.
+#[derive(Clone, Copy)]
+pub struct Onto<'a> {
+    /// The folder.
+    pub folder: &'a str,
+    /// Whether the dictionary is taken alone, and needs no numbers.
+    pub is_dictionary: bool,
+}
+
 /// Where plain columns are written.
 #[derive(Clone, Copy)]
 pub struct Columns<'a> {
     /// The folder.
     pub folder: &'a str,
-    /// The folder whose dictionary they begin with.
-    pub onto: Option<&'a str>,
+    /// What they begin with.
+    pub onto: Option<Onto<'a>>,
 }
 
 /// Where shards are written.
@@ -181,6 +190,7 @@ impl Command {
             Command::Encode => {
                 option == "--plain"
                     || option == "--onto"
+                    || option == "--onto-dictionary"
                     || option == "--files0-from"
                     || option == "--backend"
                     || option == "--invalid"
@@ -211,6 +221,8 @@ enum Next {
     Folder,
     /// The value of `--onto`.
     Onto,
+    /// The value of `--onto-dictionary`.
+    OntoDictionary,
     /// The value of `--files0-from`.
     List,
     /// Behind `--`.
@@ -232,8 +244,8 @@ struct Given<'a> {
     is_encoded: bool,
     /// What `--plain` says.
     folder: Option<&'a str>,
-    /// What `--onto` says.
-    onto: Option<&'a str>,
+    /// What `--onto` or `--onto-dictionary` says.
+    onto: Option<Onto<'a>>,
     /// What `--files0-from` says.
     list: Option<&'a str>,
     /// How many shards `shard` writes.
@@ -272,8 +284,12 @@ impl<'a> Given<'a> {
     }
 
     /// Takes the folder whose dictionary they begin with. Of several the last decides.
-    fn take_onto(&mut self, path: &'a str) -> Result<(), Misuse<'a>> {
-        self.onto = Some(check_value("--onto", path)?);
+    fn take_onto(&mut self, path: &'a str, is_dictionary: bool) -> Result<(), Misuse<'a>> {
+        let folder = check_value(onto_option(is_dictionary), path)?;
+        self.onto = Some(Onto {
+            folder,
+            is_dictionary,
+        });
         Ok(())
     }
 
@@ -352,7 +368,8 @@ impl<'a> Given<'a> {
             Some(("--backend", name)) => self.take_backend(name),
             Some(("--invalid", how)) => self.take_mending(how),
             Some(("--plain", path)) => self.take_folder(path),
-            Some(("--onto", path)) => self.take_onto(path),
+            Some(("--onto", path)) => self.take_onto(path, false),
+            Some(("--onto-dictionary", path)) => self.take_onto(path, true),
             Some(("--files0-from", path)) => self.take_list(path),
             Some((option, _)) if is_flag(option) => Err(Misuse::HasValue(ShownWord(option))),
             _ if word.starts_with('-') && word != "-" => Err(Misuse::UnknownOption(ShownWord(
@@ -364,9 +381,12 @@ impl<'a> Given<'a> {
 
     /// Checks that the command takes the options.
     fn check_options(&self, command: Command) -> Result<(), Misuse<'a>> {
+        let onto = self
+            .onto
+            .map_or("--onto", |onto| onto_option(onto.is_dictionary));
         let given = [
             ("--plain", self.folder.is_some()),
-            ("--onto", self.onto.is_some()),
+            (onto, self.onto.is_some()),
             ("--files0-from", self.list.is_some()),
             ("--sorted", self.is_sorted),
             ("--backend", self.choice.is_some()),
@@ -383,7 +403,7 @@ impl<'a> Given<'a> {
             }
         }
         if self.onto.is_some() && self.folder.is_none() {
-            return Err(Misuse::NeedsOption("--onto", "--plain"));
+            return Err(Misuse::NeedsOption(onto, "--plain"));
         }
         Ok(())
     }
@@ -394,7 +414,8 @@ impl<'a> Given<'a> {
             (Next::Backend, name) => self.take_backend(name)?,
             (Next::Mending, how) => self.take_mending(how)?,
             (Next::Folder, path) => self.take_folder(path)?,
-            (Next::Onto, path) => self.take_onto(path)?,
+            (Next::Onto, path) => self.take_onto(path, false)?,
+            (Next::OntoDictionary, path) => self.take_onto(path, true)?,
             (Next::List, path) => self.take_list(path)?,
             (Next::Operand, word) => {
                 self.take_operand(word)?;
@@ -404,6 +425,7 @@ impl<'a> Given<'a> {
             (Next::OptionOrOperand, "--invalid") => return Ok(Next::Mending),
             (Next::OptionOrOperand, "--plain") => return Ok(Next::Folder),
             (Next::OptionOrOperand, "--onto") => return Ok(Next::Onto),
+            (Next::OptionOrOperand, "--onto-dictionary") => return Ok(Next::OntoDictionary),
             (Next::OptionOrOperand, "--files0-from") => return Ok(Next::List),
             (Next::OptionOrOperand, "--") => return Ok(Next::Operand),
             (Next::OptionOrOperand, word) => self.take_word(word)?,
@@ -464,6 +486,15 @@ impl<'a> Given<'a> {
     }
 }
 
+/// Returns the option that says which dictionary columns begin with.
+fn onto_option(is_dictionary: bool) -> &'static str {
+    if is_dictionary {
+        "--onto-dictionary"
+    } else {
+        "--onto"
+    }
+}
+
 /// Returns the value of an option, which may not be empty.
 fn check_value<'a>(option: &'static str, value: &'a str) -> Result<&'a str, Misuse<'a>> {
     if value.is_empty() {
@@ -516,6 +547,7 @@ pub fn parse_arguments(alloc: Global, arguments: &[String]) -> Result<Request<'_
         Next::Mending => Err(Misuse::NoValue("--invalid")),
         Next::Folder => Err(Misuse::NoValue("--plain")),
         Next::Onto => Err(Misuse::NoValue("--onto")),
+        Next::OntoDictionary => Err(Misuse::NoValue("--onto-dictionary")),
         Next::List => Err(Misuse::NoValue("--files0-from")),
         Next::OptionOrOperand | Next::Operand => given.decide(),
     }

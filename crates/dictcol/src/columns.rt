@@ -1,6 +1,6 @@
 //! Writing plain columns of the lines of some files.
 
-use crate::arguments::{Choice, Columns, Reading, Source};
+use crate::arguments::{Choice, Columns, Onto, Reading, Source};
 use crate::fault::Fault;
 use crate::hasher::LineHasher;
 use crate::inputs::{Inputs, report_progress};
@@ -15,12 +15,12 @@ use string_interner::backend::{Backend, BucketBackend, BufferBackend, StringBack
 fn read_onto<B: Backend + Drop, R: Read>(
     rt: &HostRuntime,
     hasher: LineHasher,
-    onto: Option<&str>,
+    onto: Option<Onto<'_>>,
     input: &mut R,
 ) -> Result<Plain<B>, Fault> {
     match onto {
-        Some(path) => {
-            let mut before = folder::open_dictionary(rt, path)?;
+        Some(onto) => {
+            let mut before = folder::open_dictionary(rt, onto)?;
             Plain::<B>::read(rt.alloc(), hasher, &mut before, input)
         }
         None => Plain::<B>::read(rt.alloc(), hasher, &mut io::empty(), input),
@@ -31,7 +31,7 @@ fn read_onto<B: Backend + Drop, R: Read>(
 fn read<B: Backend + Drop>(
     rt: &HostRuntime,
     hasher: LineHasher,
-    onto: Option<&str>,
+    onto: Option<Onto<'_>>,
     reading: Reading,
     inputs: &mut Inputs<'_>,
 ) -> Result<Plain<B>, Fault> {
@@ -60,7 +60,9 @@ fn write_over<'a, B: Backend + Drop>(
             let folder = Source::File(columns.folder);
             (folder, folder::write(rt, columns.folder, &plain))
         }
-        (Err(fault), Some(path)) if fault.is_of_dictionary() => (Source::File(path), Err(fault)),
+        (Err(fault), Some(onto)) if fault.is_of_columns() => {
+            (Source::File(onto.folder), Err(fault))
+        }
         (Err(fault), _) => {
             let (source, fault) = inputs.locate(fault);
             (source, Err(fault))

@@ -78,6 +78,9 @@ pub enum Fault {
     /// The number at this index (0-based) of `codes.npy` is not that of a line of `dict.txt`.
     #[error("codes[{0}] is not the number of a line of dict.txt")]
     NotALine(usize),
+    /// `dict.txt` has more or fewer lines than `pair.txt` says, or `codes.npy` other numbers.
+    #[error("dict.txt and codes.npy are not of one run (see pair.txt)")]
+    NotAPair,
     /// `dict.txt` cannot be read.
     #[error("cannot read dict.txt: {0}")]
     DictionaryFile(io::Error),
@@ -171,14 +174,22 @@ impl Fault {
         }
     }
 
-    /// Returns whether the fault is one of a file `dict.txt`.
-    pub fn is_of_dictionary(&self) -> bool {
+    /// Returns whether the fault is one of plain columns.
+    pub fn is_of_columns(&self) -> bool {
         matches!(
             self,
             Fault::DictionaryFile(_)
                 | Fault::DictionaryNotUtf8(_)
                 | Fault::NotEnded
                 | Fault::RepeatedLine(_)
+                | Fault::NumbersFile(_)
+                | Fault::NotNpy
+                | Fault::OtherType
+                | Fault::OtherOrder
+                | Fault::OtherShape
+                | Fault::OtherLength
+                | Fault::NotALine(_)
+                | Fault::NotAPair
         )
     }
 

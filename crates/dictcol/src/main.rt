@@ -23,6 +23,8 @@ mod shards;
 mod shown;
 mod split;
 mod stream;
+mod streams;
+mod unfinished;
 mod zero;
 
 use arguments::{Action, Choice, Files, Form, Misuse, Reading, Request, Source, Task};
@@ -245,6 +247,7 @@ fn print(rt: &HostRuntime, text: &str) -> Result<(), Fault> {
 fn advice(task: Task, fault: &Fault) -> &'static str {
     match (task, fault) {
         (Task::Write(..), Fault::NotUtf8(_)) => " (see --invalid)",
+        (Task::Write(..), Fault::NumbersFile(_)) => " (see --onto-dictionary)",
         _ => "",
     }
 }
@@ -329,6 +332,7 @@ fn act_on_listed(rt: &HostRuntime, action: Action<'_>, list: Source<'_>) -> Exit
 }
 
 fn main(rt: HostRuntime) -> ExitCode {
+    streams::take_closed(&rt);
     let arguments = match read_arguments(&rt) {
         Ok(arguments) => arguments,
         Err(fault) => return end_arguments(&rt, fault),

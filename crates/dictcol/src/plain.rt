@@ -1,8 +1,10 @@
-//! Plain columns: `dict.txt` has the distinct lines, and `codes.npy` the number of its line there for each line.
+//! Plain columns: `dict.txt` has the distinct lines, `codes.npy` the number of its line there for each line, and `pair.txt` says
+//! which two of them belong together.
 
 mod dictionary;
 pub mod folder;
 mod npy;
+mod pair;
 mod rows;
 
 ghost use Rattle.std.specs.Prelude.{◌≡◌, ◌≤◌, ◌++◌, ◌⊎◌, List, length, Some, IfOk, IfErr, IfSome, OnOk};
@@ -108,6 +110,13 @@ impl<B: Backend + Drop> Plain<B> {
         ensures { result ≡ self.now.is_cut }
     {
         self.is_cut
+    }
+
+    /// Returns the text of the file `pair.txt`.
+    fn format_pair(&self, alloc: Global) -> Result<String, Fault> {
+        let (numbers, _) = self.lines.codes().as_slices();
+        let codes = numbers.get(self.known..).unwrap_or(&[]);
+        pair::format_numbers(alloc, self.lines.dictionary().len(), codes)
     }
 
     /// Writes the files of the text: the distinct lines, and the numbers of its lines.

@@ -17,7 +17,7 @@ use std::io;
 use std::io::Write;
 
 /// How many bytes stand before the numbers.
-const HEADER: usize = 128;
+pub const HEADER: usize = 128;
 
 /// How many numbers are written at once.
 const BLOCK: usize = 1 << 12;

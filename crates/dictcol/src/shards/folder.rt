@@ -8,17 +8,25 @@ use crate::arguments::{Parts, Reading, Source};
 use crate::fault::Fault;
 use crate::inputs::{Inputs, report_progress};
 use crate::mend::Mended;
+use crate::unfinished::Unfinished;
 use crate::zero::Exchanged;
 use crate::{tell_skipped, warn_of_encoded};
-use std::fs;
 use std::fs::File;
+use std::io::ErrorKind;
+use std::{fs, io};
 use string_interner::dedup::FoldState;
+
+/// What stands behind the name of a folder while its files are written.
+const UNFINISHED: &str = ".dictcol-unfinished";
+
+/// Linux's number for a file that is there already.
+const EXISTS: i32 = 17;
 
 /// Creates a file, in which zero bytes end lines or not.
 fn create(rt: &HostRuntime, path: &str, is_exchanged: bool) -> Result<Shard<Exchanged<File>>, Fault>
     ensures { IfOk result IsWritten }
 {
-    let file = File::create(rt, path).map_err(Fault::Folder)?;
+    let file = File::create_new(rt, path).map_err(Fault::Folder)?;
     let output = Exchanged::new(rt.alloc(), file, is_exchanged).map_err(|_| Fault::Memory)?;
     Ok(Shard::new(rt.alloc(), output))
 }
@@ -42,29 +50,57 @@ fn create_files(
     Ok(shards)
 }
 
-/// Writes the lines of the input into files of the folder. Every machine has the same hash codes.
+/// Writes the lines of the input into files of the folder, and returns how many lines were left out. Every machine has the same
+/// hash codes.
 fn write_files(
     rt: &HostRuntime,
     parts: Parts<'_>,
     reading: Reading,
     inputs: &mut Inputs<'_>,
-) -> Result<(), Fault> {
+) -> Result<usize, Fault> {
     let (alloc, folder) = (rt.alloc(), parts.folder);
     let path = format!(in alloc; "{folder}/order").map_err(|_| Fault::Memory)?;
     let order = create(rt, path.as_str(), false)?;
     let outputs = create_files(rt, parts, reading.is_zero_ended)?;
     let mut shards = Shards::new(FoldState::default(), outputs, order);
     let Some(mending) = reading.mending else {
-        return shards.write_lines(alloc, inputs);
+        shards.write_lines(alloc, inputs)?;
+        return Ok(0);
     };
     let mut mended = Mended::new(alloc, inputs, mending);
     shards.write_lines(alloc, &mut mended)?;
-    tell_skipped(rt, mended.skipped());
-    Ok(())
+    Ok(mended.skipped())
 }
 
-/// Writes the lines of the files, or of standard input, into a folder, which is made for them. A run that fails leaves no folder.
-/// Returns how it ended, and where.
+/// Makes the folder that becomes this one, which may not be there.
+fn begin(rt: &HostRuntime, folder: &str) -> Result<Unfinished, Fault> {
+    match fs::symlink_metadata(rt, folder) {
+        Ok(_) => return Err(Fault::Folder(io::Error::from_raw_os_error(EXISTS))),
+        Err(error) if error.kind() == ErrorKind::NotFound => {}
+        Err(error) => return Err(Fault::Folder(error)),
+    }
+    let name = folder.trim_end_matches('/');
+    let path = format!(in rt.alloc(); "{name}{UNFINISHED}").map_err(|_| Fault::Memory)?;
+    Unfinished::make(rt, path).map_err(Fault::Folder)
+}
+
+/// Does what `write_files` does, in a folder that gets its name once all its files are written.
+fn write_folder(
+    rt: &HostRuntime,
+    parts: Parts<'_>,
+    unfinished: &Unfinished,
+    reading: Reading,
+    inputs: &mut Inputs<'_>,
+) -> Result<usize, Fault> {
+    let count = parts.count;
+    let folder = unfinished.path();
+    let skipped = write_files(rt, Parts { count, folder }, reading, inputs)?;
+    unfinished.rename(rt, parts.folder).map_err(Fault::Folder)?;
+    Ok(skipped)
+}
+
+/// Writes the lines of the files, or of standard input, into a folder, which is made for them. A run that fails leaves no folder,
+/// and one that is killed leaves none of this name. Returns how it ended, and where.
 pub fn write<'a>(
     rt: &'a HostRuntime,
     parts: Parts<'a>,
@@ -72,17 +108,21 @@ pub fn write<'a>(
     files: &'a [Source<'a>],
 ) -> (Source<'a>, Result<(), Fault>) {
     let folder = Source::File(parts.folder);
-    if let Err(error) = fs::create_dir(rt, parts.folder) {
-        return (folder, Err(Fault::Folder(error)));
-    }
-    let mut inputs = Inputs::new(rt, files, reading.is_zero_ended);
-    let Err(fault) = write_files(rt, parts, reading, &mut inputs) else {
-        report_progress(rt, inputs.length(), "done");
-        warn_of_encoded(rt, &inputs);
-        return (folder, Ok(()));
+    let unfinished = match begin(rt, parts.folder) {
+        Ok(unfinished) => unfinished,
+        Err(fault) => return (folder, Err(fault)),
     };
-    // Nothing is left to do if it stays.
-    let _ = fs::remove_dir_all(rt, parts.folder);
+    let mut inputs = Inputs::new(rt, files, reading.is_zero_ended);
+    let fault = match write_folder(rt, parts, &unfinished, reading, &mut inputs) {
+        Ok(skipped) => {
+            tell_skipped(rt, skipped);
+            report_progress(rt, inputs.length(), "done");
+            warn_of_encoded(rt, &inputs);
+            return (folder, Ok(()));
+        }
+        Err(fault) => fault,
+    };
+    unfinished.remove(rt);
     match fault {
         Fault::Output(error) | Fault::Folder(error) => (folder, Err(Fault::Folder(error))),
         fault => {

@@ -1,0 +1,87 @@
+"""What is tried of `dictcol` with each of its standard streams open or closed, in each form in which it reads and writes."""
+
+import errno
+import os
+import tempfile
+from itertools import product
+from pathlib import Path
+
+from program.columns import columns_of, files_in, write_files
+from program.reckon import answer, failed, misused, skip_invalid, told, unreadable, unwritable, warned
+from program.shards import shards_of
+
+TEXT, BROKEN, MORE = b"red\ngreen\nred", b"a\n\xff\nb\n\xc3\na\n", b"blue\nred\n"
+ENCODED = answer([b"encode"], TEXT)[1]
+GOOD, SKIPPED = skip_invalid(BROKEN)
+FILES = {"text": TEXT, "broken": BROKEN, "encoded": ENCODED, "empty": b""}
+SKIP = b"--invalid=skip"
+
+
+def forms():
+    """The arguments, standard input if it is read, how a run ends, and the files of the folder `new` if it makes that."""
+    for word in b"encode", b"count":
+        yield [word], TEXT, answer([word], TEXT), None
+        yield [word, b"text"], None, answer([word], TEXT), None
+        yield [word, b"text", b"-"], MORE, answer([word], TEXT + MORE), None
+        yield [word, SKIP], BROKEN, answer([word, SKIP], BROKEN), None
+        yield [word, SKIP, b"broken"], None, answer([word, SKIP], BROKEN), None
+        ended = answer([word], ENCODED)
+        yield [word, b"encoded"], None, (*ended[:2], warned(ENCODED, b"encoded: ")), None
+        yield [word, b"broken"], None, failed(2, b"broken: line 2 is not UTF-8 (see --invalid)"), None
+        yield [word, b"missing"], None, failed(1, b"missing: cannot read input: " + told(errno.ENOENT)), None
+        yield [word, b"empty"], None, answer([word], b""), None
+    yield [b"count", b"-z", SKIP, b"broken"], None, answer([b"count", b"-z", SKIP], BROKEN), None
+    yield [b"count", b"--sorted", b"--encoded"], ENCODED, answer([b"count", b"--sorted"], TEXT), None
+    yield [b"count", b"--encoded", b"encoded"], None, answer([b"count"], TEXT), None
+    yield [b"decode"], ENCODED, (0, TEXT, b""), None
+    yield [b"decode", b"encoded"], None, (0, TEXT, b""), None
+    yield [b"decode", b"plain"], None, (0, TEXT, b""), None
+    yield [b"decode", b"text"], None, failed(2, b"text: invalid JSON at line 1 column 1"), None
+    yield [b"merge", b"-", b"encoded"], ENCODED, answer([b"encode"], TEXT + TEXT), None
+    yield [b"merge", b"encoded", b"encoded"], None, answer([b"encode"], TEXT + TEXT), None
+    plain = [b"encode", b"--plain", b"new"]
+    yield plain, TEXT, (0, b"", b""), columns_of(TEXT)
+    yield [*plain, SKIP, b"broken"], None, (0, b"", SKIPPED), columns_of(GOOD)
+    yield [*plain, b"--onto", b"plain", SKIP], BROKEN, (0, b"", SKIPPED), columns_of(GOOD, [b"red", b"green"])
+    yield [*plain, b"encoded"], None, (0, b"", warned(ENCODED, b"encoded: ")), columns_of(ENCODED)
+    yield [*plain, b"broken"], None, failed(2, b"broken: line 2 is not UTF-8 (see --invalid)"), None
+    shard = [b"shard", b"3", b"new"]
+    yield shard, TEXT, (0, b"", b""), shards_of(TEXT, 3)
+    yield [*shard, SKIP], BROKEN, (0, b"", SKIPPED), shards_of(GOOD, 3)
+    yield [*shard, SKIP, b"broken"], None, (0, b"", SKIPPED), shards_of(GOOD, 3)
+    yield [*shard, b"encoded", b"text"], None, (0, b"", warned(ENCODED, b"encoded: ")), shards_of(ENCODED + TEXT, 3)
+    yield [*shard, b"broken"], None, failed(2, b"broken: line 2 is not UTF-8 (see --invalid)"), None
+    yield [b"--version"], None, (0, b"dictcol 0.1.0\n", b""), None
+    yield [b"count", b"--sort"], None, misused(b"unknown option '--sort'"), None
+
+
+def close(numbers):
+    for number in numbers:
+        os.close(number)
+
+
+def end_with(closed, given, end):
+    """How a run ends with these streams closed: what is read or written there fails."""
+    if 0 in closed and given is not None:
+        end = 1, b"", unreadable(errno.EBADF)
+    elif 1 in closed and end[1]:
+        end = unwritable(errno.EBADF)[0], b"", unwritable(errno.EBADF)[1]
+    return (*end[:2], b"") if 2 in closed else end
+
+
+def try_closed(program, words, given, end, made):
+    """The status is right, what was read stays as it was, and no file gets a message."""
+    for closed in ([it for it, is_closed in enumerate(them) if is_closed] for them in product((False, True), repeat=3)):
+        with tempfile.TemporaryDirectory() as folder:
+            for name, content in FILES.items():
+                Path(folder, name).write_bytes(content)
+            write_files(f"{folder}/plain", columns_of(TEXT))
+            name, wanted = f"{words} without {closed}", end_with(closed, given, end)
+            yield name, program.run(words, given or b"", folder=folder, before=lambda: close(closed)), wanted
+            found = {it.name: files_in(it) if it.is_dir() else it.read_bytes() for it in Path(folder).iterdir()}
+            files = FILES | {"plain": columns_of(TEXT)} | ({"new": made} if made and wanted[0] == 0 else {})
+            yield f"{name}, files", found, files
+
+
+def trials():
+    return [(try_closed, *given) for given in forms()]
