@@ -141,7 +141,7 @@ def build_crate(name, top=TOP):
         if why := next(filter(None, (stale(it, records[it.name]) for it in crates)), None):
             print(f"{name}: {why}", file=sys.stderr)
             return NO_RECORD_FITS
-        print(f"{name}: building from the recorded proof of these sources; ./check proves them here", file=sys.stderr)
+        print(f"{name}: building from the recorded proof of these sources, in a minute; ./check proves them here", file=sys.stderr)
         for crate in crates:
             record = records[crate.name]
             try:

@@ -125,7 +125,7 @@ class Records(unittest.TestCase):
     def test_a_program_is_built_from_its_record(self):
         ran = self.run_in_copy("bin/intern", "string")
         self.assertRegex(ran.stdout, "^recorded ")
-        self.assertEqual(ran.stderr, "intern: building from the recorded proof of these sources; ./check proves them here\n")
+        self.assertEqual(ran.stderr, "intern: building from the recorded proof of these sources, in a minute; ./check proves them here\n")
         self.assertEqual(self.run_in_copy("bin/intern", "string").stderr, "")
 
     def test_changed_sources_are_proved(self):
