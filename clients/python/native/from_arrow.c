@@ -1,8 +1,8 @@
 /* Columns of what others hand over by Arrow's C data interface, in capsules.
  *
- * A struct is moved out of its capsule, so that nobody else has it, and is released once, whatever happens. Python code may run while
- * a stream is asked for its next array, and in handlers of signals. It does not find the dictionary and the codes, which become a
- * column's only at the end. All numbers are checked. How long a buffer is the interface does not tell. */
+ * A struct is moved out of its capsule, so that nobody else has it, and is released once, whatever happens. Python code may run
+ * while a stream is asked for its next array, and in handlers of signals. It does not find the dictionary and the codes, which
+ * become a column's only at the end. All numbers are checked. How long a buffer is, the interface does not tell. */
 #include "arrow.h"
 
 #include <errno.h>
@@ -25,7 +25,8 @@ typedef struct Taken {
 static const interner_symbol NO_TEXT = UINT32_MAX;
 
 static bool raise_format(const char *format) {
-  PyErr_Format(PyExc_TypeError, "Arrow's type '%s' has no texts: utf8, large_utf8 and dictionaries of them are read", format ? format : "");
+  PyErr_Format(PyExc_TypeError, "Arrow's type '%s' has no texts: utf8, large_utf8 and dictionaries of them are read",
+               format ? format : "");
   return false;
 }
 
@@ -54,7 +55,9 @@ static bool is_null(const struct ArrowArray *array, int64_t row) {
 
 /* What is wrong with the numbers of an array, or null. */
 static const char *fault_of(const struct ArrowArray *array, int64_t buffers, bool has_dictionary) {
-  if (array->length < 0 || array->offset < 0 || array->length > PY_SSIZE_T_MAX / 16 - array->offset) return "a length or an offset that cannot be";
+  enum { WIDEST = 8 };
+  if (array->length < 0 || array->offset < 0 || array->length > PY_SSIZE_T_MAX / (2 * WIDEST) - array->offset)
+    return "a length or an offset that cannot be";
   if (array->n_buffers != buffers || !array->buffers) return "another number of buffers than its type";
   if ((array->dictionary != NULL) != has_dictionary) return "a dictionary, and its type none, or the other way round";
   if (array->length && !array->buffers[1]) return "rows, and no buffer for them";
@@ -74,27 +77,21 @@ static int64_t number_at(const struct ArrowArray *array, int64_t row, int width,
   return widen((const char *)array->buffers[1] + (array->offset + row) * width, width, is_unsigned);
 }
 
-/* Finds the texts of some rows that are not null, and how many there are. */
-static bool find_texts(const struct ArrowArray *array, int width, int64_t first, size_t n, interner_text *texts, size_t *count) {
+/* Finds the texts of some rows, and marks the rows that are null. Each number is read once, because others may change a buffer. */
+static bool find_texts(const struct ArrowArray *array, int width, int64_t first, size_t n, interner_text *texts, interner_symbol *symbols) {
   const char *bytes = array->buffers[2];
   int64_t begin, end = number_at(array, first, width, false);
-  *count = 0;
   for (size_t row = 0; row < n; row++) {
     begin = end, end = number_at(array, first + row + 1, width, false);
     if (begin < 0 || end < begin || (end > begin && !bytes)) {
-      PyErr_Format(PyExc_ValueError, "text %lld of an array of Arrow is from byte %lld to %lld%s", (long long)(first + row), (long long)begin,
-                   (long long)end, bytes ? "" : ", and there are no bytes");
+      PyErr_Format(PyExc_ValueError, "text %lld of an array of Arrow is from byte %lld to %lld%s", (long long)(first + row),
+                   (long long)begin, (long long)end, bytes ? "" : ", and there are no bytes");
       return false;
     }
-    if (!is_null(array, first + row)) texts[(*count)++] = (interner_text){end > begin ? bytes + begin : "", end - begin};
+    symbols[row] = is_null(array, first + row) ? NO_TEXT : 0;
+    if (symbols[row] != NO_TEXT) *texts++ = (interner_text){end > begin ? bytes + begin : "", end - begin};
   }
   return true;
-}
-
-/* Which row has a text, by how many texts go before it among some rows. */
-static int64_t row_of_text(const struct ArrowArray *array, int64_t first, size_t before) {
-  while (is_null(array, first) || before--) first++;
-  return first;
 }
 
 enum { AT_ONCE = 512 };
@@ -103,13 +100,15 @@ enum { AT_ONCE = 512 };
 static bool intern_some(interner *h, const struct ArrowArray *array, int width, int64_t first, size_t n, interner_symbol *symbols) {
   interner_text texts[AT_ONCE];
   interner_symbol found[AT_ONCE];
-  size_t count, done, next = 0;
-  if (!find_texts(array, width, first, n, texts, &count)) return false;
+  size_t places[AT_ONCE], count = 0, done;
+  if (!find_texts(array, width, first, n, texts, symbols)) return false;
+  for (size_t row = 0; row < n; row++)
+    if (symbols[row] != NO_TEXT) places[count++] = row;
   interner_status status = interner_intern_texts(h, texts, count, found, &done);
+  for (size_t text = 0; status == INTERNER_OK && text < count; text++) symbols[places[text]] = found[text];
   if (status == INTERNER_BAD_TEXT)
-    PyErr_Format(PyExc_ValueError, "text %lld of an array of Arrow is not UTF-8", (long long)row_of_text(array, first, done));
+    PyErr_Format(PyExc_ValueError, "text %lld of an array of Arrow is not UTF-8", (long long)(first + places[done]));
   else if (status != INTERNER_OK) raise_status(status);
-  for (size_t row = 0; status == INTERNER_OK && row < n; row++) symbols[row] = is_null(array, first + row) ? NO_TEXT : found[next++];
   return status == INTERNER_OK;
 }
 
@@ -127,25 +126,28 @@ static interner_symbol *intern_texts(interner *h, const struct ArrowArray *array
   return symbols;
 }
 
-/* The place of a row's text in the dictionary, or -1 for null. Raises ValueError if there is no such text. */
-static bool read_index(const struct ArrowArray *array, const Form *form, int64_t row, int64_t *index) {
-  *index = is_null(array, row) ? -1 : number_at(array, row, form->index_width, form->is_unsigned);
-  if (*index < array->dictionary->length && (*index >= 0 || is_null(array, row))) return true;
+/* The place of a row's text among those of the dictionary, or -1 for null. Raises ValueError if there is no such text. */
+static bool read_index(const struct ArrowArray *array, const Form *form, int64_t row, int64_t texts, int64_t *index) {
+  *index = -1;
+  if (is_null(array, row)) return true;
+  *index = number_at(array, row, form->index_width, form->is_unsigned);
+  if (*index >= 0 && *index < texts) return true;
   PyErr_Format(PyExc_ValueError, form->is_unsigned ? "row %lld of an array of Arrow has index %llu, and its dictionary %lld texts"
                                                    : "row %lld of an array of Arrow has index %lld, and its dictionary %lld texts",
-               (long long)row, (long long)*index, (long long)array->dictionary->length);
+               (long long)row, (long long)*index, (long long)texts);
   return false;
 }
 
 /* Adds the rows of an array. */
 static bool add_rows(Taken *taken, const struct ArrowArray *array, const Form *form) {
   if (form->index_width && !check_array(array, 2, true)) return false;
+  const struct ArrowArray texts = form->index_width ? *array->dictionary : *array;
   interner *h = taken->dictionary->h;
-  interner_symbol *symbols = intern_texts(h, form->index_width ? array->dictionary : array, form->offset_width);
+  interner_symbol *symbols = intern_texts(h, &texts, form->offset_width);
   bool is_done = symbols && reserve_codes(&taken->block, taken->n, array->length, width_of(interner_len(h)));
   for (int64_t row = 0, index; is_done && row < array->length; row++) {
     if (!form->index_width) index = row;
-    else if (!(is_done = read_index(array, form, row, &index))) break;
+    else if (!(is_done = read_index(array, form, row, texts.length, &index))) break;
     set_code(taken->block, taken->n + row, index < 0 || symbols[index] == NO_TEXT ? -1 : (int64_t)symbols[index]);
   }
   if (is_done) taken->block->used = taken->n += array->length;
@@ -278,7 +280,8 @@ static bool take_rows(Taken *taken, PyObject *given) {
   if (!both && !PyErr_Occurred()) {
     stream = call_if_there(given, "__arrow_c_stream__");
     if (stream) is_done = take_stream(taken, stream);
-    else if (!PyErr_Occurred()) raise_type("an array of Arrow has __arrow_c_array__ or __arrow_c_stream__, and a ", given, " has neither");
+    else if (!PyErr_Occurred())
+      raise_type("an array of Arrow has __arrow_c_array__ or __arrow_c_stream__, and a ", given, " has neither");
   }
   Py_XDECREF(both);
   Py_XDECREF(stream);
