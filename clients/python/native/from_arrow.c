@@ -25,7 +25,7 @@ typedef struct Taken {
 static const interner_symbol NO_TEXT = UINT32_MAX;
 
 static bool raise_format(const char *format) {
-  PyErr_Format(PyExc_TypeError, "Arrow's type '%s' has no texts: utf8, large_utf8 and dictionaries of them are read",
+  PyErr_Format(PyExc_TypeError, "Arrow's type '%s' is not read: utf8, large_utf8 and dictionaries of them are",
                format ? format : "");
   return false;
 }

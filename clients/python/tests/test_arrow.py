@@ -240,7 +240,8 @@ class Producer:
             out.contents.release = None
             return 0
 
-        functions = (get_schema(lambda _, out: write(schema, out)), get_next(give), get_last_error(lambda _: ctypes.addressof(text) if text else None))
+        functions = (get_schema(lambda _, out: write(schema, out)), get_next(give),
+                     get_last_error(lambda _: ctypes.addressof(text) if text else None))
         stream = self.own(Stream(*(ctypes.cast(it, ctypes.c_void_p) for it in functions)), release_stream)
         self.kept += [functions, text]
 
@@ -309,23 +310,25 @@ class Producers(unittest.TestCase):
 
     def test_other_types(self):
         producer = self.producer
-        for form, texts, said in (("i", None, "i"), ("z", None, "z"), ("", None, ""), ("uu", None, "uu"), ("+s", None, r"\+s"), ("tdD", None, "tdD"),
-                                  ("vu", None, "vu"), ("i", "z", "z"), ("i", "+l", r"\+l"), ("f", "u", "f"), ("u", "u", "u"), ("", "u", ""), ("ii", "U", "ii")):
+        for form, texts, said in (("i", None, "i"), ("z", None, "z"), ("", None, ""), ("uu", None, "uu"), ("+s", None, r"\+s"),
+                                  ("tdD", None, "tdD"), ("vu", None, "vu"), ("i", "z", "z"), ("i", "+l", r"\+l"), ("f", "u", "f"),
+                                  ("u", "u", "u"), ("", "u", ""), ("ii", "U", "ii")):
             for give in (lambda schema: producer.pair(schema, producer.texts(["a"])), lambda schema: producer.stream(schema, [])):
-                self.refuse(TypeError, f"^Arrow's type '{said}' has no texts: ", give(producer.schema(form, texts)))
+                self.refuse(TypeError, f"^Arrow's type '{said}' is not read: ", give(producer.schema(form, texts)))
         schema = producer.schema("i", "i")
         schema.dictionary.contents.dictionary = ctypes.pointer(producer.schema("u"))
-        self.refuse(TypeError, "^Arrow's type 'i' has no texts: ", producer.pair(schema, producer.texts(["a"])))
+        self.refuse(TypeError, "^Arrow's type 'i' is not read: ", producer.pair(schema, producer.texts(["a"])))
         schema = producer.schema("i")
         schema.format = None
-        self.refuse(TypeError, "^Arrow's type '' has no texts: ", producer.pair(schema, producer.texts(["a"])))
+        self.refuse(TypeError, "^Arrow's type '' is not read: ", producer.pair(schema, producer.texts(["a"])))
 
     def test_numbers_that_cannot_be(self):
         producer = self.producer
         great = 2**63 - 1
         rows = ["a", None, "b"]
-        for changes in ({"length": -1}, {"offset": -1}, {"length": great}, {"offset": great}, {"length": -great - 1, "offset": 9}, {"n_buffers": 1},
-                        {"n_buffers": 4}, {"n_buffers": 0}, {"n_buffers": -1}, {"buffers": None}, {"null_count": 2}, {"null_count": -2}, {"null_count": 0}):
+        for changes in ({"length": -1}, {"offset": -1}, {"length": great}, {"offset": great}, {"length": -great - 1, "offset": 9},
+                        {"n_buffers": 1}, {"n_buffers": 4}, {"n_buffers": 0}, {"n_buffers": -1}, {"buffers": None}, {"null_count": 2},
+                        {"null_count": -2}, {"null_count": 0}):
             for given in (producer.pair(producer.schema("u"), producer.texts(rows, **changes)),
                           producer.stream(producer.schema("u"), [producer.texts(["a", "b"]), producer.texts(rows, **changes)]),
                           producer.pair(producer.schema("i", "u"), producer.indices([0, None, 1], "i", producer.texts(["a", "b"]), **changes)),
@@ -333,14 +336,18 @@ class Producers(unittest.TestCase):
                 self.refuse(ValueError, "^an array of Arrow has ", given)
         known = producer.texts(["a", "b"])
         self.refuse(ValueError, "another number of nulls", producer.pair(producer.schema("u"), producer.texts(["a"], null_count=1)))
-        self.refuse(ValueError, "a dictionary, and its type none", producer.pair(producer.schema("u"), producer.array(["a"], 0, (b"\0" * 8, b"a"), known)))
-        self.refuse(ValueError, "a dictionary, and its type none", producer.pair(producer.schema("i", "u"), producer.array([0], 0, (b"\0" * 4,))))
-        self.refuse(ValueError, "rows, and no buffer for them", producer.pair(producer.schema("u"), producer.array(["a"], 0, (None, b"a"))))
-        self.refuse(ValueError, "rows, and no buffer for them", producer.pair(producer.schema("i", "u"), producer.array([0], 0, (None,), known)))
+        for schema, given, said in (
+            (producer.schema("u"), producer.array(["a"], 0, (b"\0" * 8, b"a"), known), "a dictionary, and its type none"),
+            (producer.schema("i", "u"), producer.array([0], 0, (b"\0" * 4,)), "a dictionary, and its type none"),
+            (producer.schema("u"), producer.array(["a"], 0, (None, b"a")), "rows, and no buffer for them"),
+            (producer.schema("i", "u"), producer.array([0], 0, (None,), known), "rows, and no buffer for them"),
+        ):
+            self.refuse(ValueError, said, producer.pair(schema, given))
 
     def test_offsets_that_cannot_be(self):
         producer = self.producer
-        for offsets, said in (([0, 2, 1], "text 1 of an array of Arrow is from byte 2 to 1"), ([-1, 1, 2], "text 0 of an array of Arrow is from byte -1 to 1"),
+        for offsets, said in (([0, 2, 1], "text 1 of an array of Arrow is from byte 2 to 1"),
+                              ([-1, 1, 2], "text 0 of an array of Arrow is from byte -1 to 1"),
                               ([0, -5, 2], "text 0 of an array of Arrow is from byte 0 to -5")):
             for form in "uU":
                 bad = producer.texts(["a", "b"], form, offsets=offsets)
@@ -364,12 +371,13 @@ class Producers(unittest.TestCase):
 
     def test_indices_that_are_outside(self):
         producer = self.producer
-        for form, bad in (("c", 2), ("c", -1), ("C", 255), ("s", -2), ("S", 2), ("i", -(2**31)), ("I", 2**32 - 1), ("l", 2**40), ("L", 2**64 - 1), ("L", 2**63)):
+        for form, bad in (("c", 2), ("c", -1), ("C", 255), ("s", -2), ("S", 2), ("i", -(2**31)), ("I", 2**32 - 1), ("l", 2**40),
+                          ("L", 2**64 - 1), ("L", 2**63)):
             for known in (["a", "b"], ["a", None]):
-                given = producer.indices([0, None, bad], form, producer.texts(known))
-                self.refuse(ValueError, f"^row 2 of an array of Arrow has index {bad}, and its dictionary 2 texts$", producer.pair(producer.schema(form, "u"), given))
-        given = producer.indices([None, 0], "i", producer.texts([]))
-        self.refuse(ValueError, "^row 1 of an array of Arrow has index 0, and its dictionary 0 texts$", producer.pair(producer.schema("i", "u"), given))
+                given = producer.pair(producer.schema(form, "u"), producer.indices([0, None, bad], form, producer.texts(known)))
+                self.refuse(ValueError, f"^row 2 of an array of Arrow has index {bad}, and its dictionary 2 texts$", given)
+        given = producer.pair(producer.schema("i", "u"), producer.indices([None, 0], "i", producer.texts([])))
+        self.refuse(ValueError, "^row 1 of an array of Arrow has index 0, and its dictionary 0 texts$", given)
 
     def test_no_array(self):
         class Has:
@@ -405,10 +413,13 @@ class Producers(unittest.TestCase):
         self.refuse(ValueError, "^what a capsule of Arrow had was released$", producer.pair(schema, taken))
 
     def test_a_stream_that_fails(self):
-        for status, said, error, text in ((12, b"no", MemoryError, "^$"), (22, b"bad \xff\xc3\xa9", OSError, "^.Errno 22. bad \ufffdé$"), (5, None, OSError, "Input/output error$"),
-                                          (-3, b"", OSError, "^.Errno -3. $"), (2, b"gone", FileNotFoundError, "gone")):
+        for status, said, error, text in (
+            (12, b"no", MemoryError, "^$"), (22, b"bad \xff\xc3\xa9", OSError, "^.Errno 22. bad \ufffdé$"),
+            (5, None, OSError, "Input/output error$"), (-3, b"", OSError, "^.Errno -3. $"), (2, b"gone", FileNotFoundError, "gone"),
+        ):
             producer = self.producer
-            for schema, arrays in ((None, []), (producer.schema("u"), []), (producer.schema("u"), [producer.texts(["a"]), producer.texts(["b"])])):
+            arrays = [producer.texts(["a"]), producer.texts(["b"])]
+            for schema, arrays in ((None, []), (producer.schema("u"), []), (producer.schema("u"), arrays)):
                 self.refuse(error, text, producer.stream(schema, arrays, status, said))
 
     def test_other_threads_run_while_a_stream_is_asked(self):
