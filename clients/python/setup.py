@@ -53,7 +53,7 @@ setup(
         Extension(
             "string_interner._native",
             sorted(str(path.relative_to(HERE)) for path in HERE.glob("native/*.c")),
-            depends=["native/native.h"],
+            depends=["native/arrow.h", "native/native.h"],
             py_limited_api=True,
             extra_compile_args=FLAGS,
             extra_link_args=["-Wl,--exclude-libs,ALL"],

@@ -13,3 +13,7 @@ assert list(colors[3:]) == ["red", "blue", "green"]
 # As numpy chooses rows of an array: by their numbers, or by a mask.
 assert list(colors[[0, 2, -1]]) == ["red", None, "green"]
 assert list(colors[[code == 0 for code in colors.codes]]) == ["red", "red"]
+# Of pyarrow, or anything else that has __arrow_c_array__ or __arrow_c_stream__, as a column has.
+assert Column.from_arrow(colors) == colors
+# Arrow's offsets: where the first text begins, and where each ends.
+assert list(Column.from_buffers(b"redgreen", offsets=[0, 3, 8], codes=[1, 0])) == ["green", "red"]

@@ -1,25 +1,10 @@
 /* Columns for Arrow, by its C data interface in capsules: dictionary<int32 or int64, large_utf8>. */
-#include "native.h"
+#include "arrow.h"
 
+#include <errno.h>
 #include <stdlib.h>
 
 enum { ARROW_FLAG_NULLABLE = 2 };
-
-struct ArrowSchema {
-  const char *format, *name, *metadata;
-  int64_t flags, n_children;
-  struct ArrowSchema **children, *dictionary;
-  void (*release)(struct ArrowSchema *);
-  void *private_data;
-};
-
-struct ArrowArray {
-  int64_t length, null_count, offset, n_buffers, n_children;
-  const void **buffers;
-  struct ArrowArray **children, *dictionary;
-  void (*release)(struct ArrowArray *);
-  void *private_data;
-};
 
 static void release_schema(struct ArrowSchema *schema) {
   if (schema->dictionary) {
@@ -62,16 +47,22 @@ static void free_array(PyObject *capsule) {
   free(array);
 }
 
-static PyObject *make_schema(int width) {
-  struct ArrowSchema *schema = calloc(1, sizeof *schema), *texts = calloc(1, sizeof *texts);
-  if (!schema || !texts) {
-    free(schema);
-    free(texts);
-    return PyErr_NoMemory();
-  }
+/* Writes the type of a column with codes of a width. */
+static bool fill_schema(struct ArrowSchema *schema, int width) {
+  struct ArrowSchema *texts = calloc(1, sizeof *texts);
+  if (!texts) return false;
   *texts = (struct ArrowSchema){.format = "U", .name = "", .flags = ARROW_FLAG_NULLABLE, .release = release_schema};
   *schema = (struct ArrowSchema){
       .format = width == 4 ? "i" : "l", .name = "", .flags = ARROW_FLAG_NULLABLE, .dictionary = texts, .release = release_schema};
+  return true;
+}
+
+static PyObject *make_schema(int width) {
+  struct ArrowSchema *schema = calloc(1, sizeof *schema);
+  if (!schema || !fill_schema(schema, width)) {
+    free(schema);
+    return PyErr_NoMemory();
+  }
   PyObject *capsule = PyCapsule_New(schema, "arrow_schema", free_schema);
   if (!capsule) {
     release_schema(schema);
@@ -153,14 +144,20 @@ static struct ArrowArray *make_codes(const Column *self) {
   return array;
 }
 
-static PyObject *make_capsule(const Column *self) {
+/* Null without an exception if there is no memory. */
+static struct ArrowArray *make_rows(const Column *self) {
   struct ArrowArray *texts = make_texts(self->dictionary->h), *array = texts ? make_codes(self) : NULL;
-  if (!array) {
-    if (texts) texts->release(texts);
+  if (array) array->dictionary = texts;
+  else if (texts) {
+    texts->release(texts);
     free(texts);
-    return PyErr_NoMemory();
   }
-  array->dictionary = texts;
+  return array;
+}
+
+static PyObject *make_capsule(const Column *self) {
+  struct ArrowArray *array = make_rows(self);
+  if (!array) return PyErr_NoMemory();
   PyObject *capsule = PyCapsule_New(array, "arrow_array", free_array);
   if (!capsule) {
     array->release(array);
@@ -179,4 +176,72 @@ PyObject *column_arrow_array(Column *self, PyObject *args, PyObject *keywords) {
   Py_XDECREF(array);
   Py_DECREF(schema);
   return both;
+}
+
+/* What a stream has: one array, or after that none. Its functions may be called without the GIL. */
+typedef struct Chunk {
+  struct ArrowArray *array;
+  int width;
+} Chunk;
+
+static int stream_schema(struct ArrowArrayStream *stream, struct ArrowSchema *schema) {
+  const Chunk *chunk = stream->private_data;
+  return fill_schema(schema, chunk->width) ? 0 : ENOMEM;
+}
+
+static int stream_next(struct ArrowArrayStream *stream, struct ArrowArray *array) {
+  Chunk *chunk = stream->private_data;
+  if (chunk->array) *array = *chunk->array;
+  else array->release = NULL; /* the end */
+  free(chunk->array);
+  chunk->array = NULL;
+  return 0;
+}
+
+static const char *stream_error(struct ArrowArrayStream *stream) {
+  (void)stream;
+  return NULL;
+}
+
+static void release_stream(struct ArrowArrayStream *stream) {
+  Chunk *chunk = stream->private_data;
+  if (chunk->array) chunk->array->release(chunk->array);
+  free(chunk->array);
+  free(chunk);
+  stream->release = NULL;
+}
+
+static void free_stream(PyObject *capsule) {
+  struct ArrowArrayStream *stream = PyCapsule_GetPointer(capsule, "arrow_array_stream");
+  if (stream->release) stream->release(stream);
+  free(stream);
+}
+
+/* Null without an exception if there is no memory. */
+static struct ArrowArrayStream *make_stream(const Column *self) {
+  struct ArrowArrayStream *stream = calloc(1, sizeof *stream);
+  Chunk *chunk = calloc(1, sizeof *chunk);
+  if (stream && chunk && (chunk->array = make_rows(self))) {
+    chunk->width = column_width(self);
+    *stream = (struct ArrowArrayStream){stream_schema, stream_next, stream_error, release_stream, chunk};
+    return stream;
+  }
+  free(stream);
+  free(chunk);
+  return NULL;
+}
+
+PyObject *column_arrow_stream(Column *self, PyObject *args, PyObject *keywords) {
+  static char *words[] = {"requested_schema", NULL};
+  PyObject *requested = NULL;
+  if (!PyArg_ParseTupleAndKeywords(args, keywords, "|O:__arrow_c_stream__", words, &requested)) return NULL;
+  if (!is_made(self)) return NULL;
+  struct ArrowArrayStream *stream = make_stream(self);
+  if (!stream) return PyErr_NoMemory();
+  PyObject *capsule = PyCapsule_New(stream, "arrow_array_stream", free_stream);
+  if (!capsule) {
+    stream->release(stream);
+    free(stream);
+  }
+  return capsule;
 }

@@ -400,6 +400,14 @@ static PyMethodDef column_methods[] = {
      "Makes a column of what `to_buffers` returns. Copies all, and checks what `from_parts` checks, and that texts are UTF-8.\n\n"
      "The texts are end to end in `joined`: text `i` ends before byte `ends[i]`. Arrow and others have offsets, one number more:\n"
      "text `i` begins at byte `offsets[i]`, and ends before byte `offsets[i + 1]`. Pass one of the two, and always codes."},
+    {"from_arrow", (PyCFunction)(void (*)(void))column_from_arrow, METH_VARARGS | METH_KEYWORDS | METH_CLASS,
+     "from_arrow($type, /, values, *, hasher='seeded')\n--\n\n"
+     "Makes a column of an array of Arrow, of anything that has `__arrow_c_array__` or `__arrow_c_stream__`. Copies all.\n\n"
+     "Reads utf8, large_utf8, and dictionaries of them with any integers as indices; a null is a row that is None. Texts of a\n"
+     "dictionary become the column's in their order, also those that no row has. One that repeats becomes one text.\n\n"
+     "Raises TypeError for any other type, ValueError at a text that is not UTF-8, at an offset or an index that is outside, and for\n"
+     "numbers that do not agree, and OSError if a stream fails. The interface does not tell how long a buffer is. So only whoever\n"
+     "made the array knows that all of its buffers are as long as its numbers say."},
     {"from_file", (PyCFunction)(void (*)(void))column_from_file, METH_VARARGS | METH_KEYWORDS | METH_CLASS,
      "from_file($type, /, file, *, encoding='utf-8', newline='\\n', hasher='seeded')\n--\n\n"
      "Makes a column of the lines of a file: a path; the number of an open file; or an open file of Python in binary mode, such as\n"
@@ -439,6 +447,8 @@ static PyMethodDef column_methods[] = {
     {"__arrow_c_array__", (PyCFunction)(void (*)(void))column_arrow_array, METH_VARARGS | METH_KEYWORDS,
      "__arrow_c_array__($self, /, requested_schema=None)\n--\n\n"
      "The column for Arrow, by its PyCapsule interface. Lends the codes, and copies the dictionary."},
+    {"__arrow_c_stream__", (PyCFunction)(void (*)(void))column_arrow_stream, METH_VARARGS | METH_KEYWORDS,
+     "__arrow_c_stream__($self, /, requested_schema=None)\n--\n\nThe same as a stream of one array."},
     {NULL, NULL, 0, NULL}};
 
 static PyGetSetDef column_getset[] = {

@@ -144,6 +144,9 @@ typedef struct Numbers {
   bool is_mask;      /* whether all are */
 } Numbers;
 
+/** An integer of 1, 2, 4 or 8 bytes, which need not be aligned. One of 8 bytes without a sign is as its bytes are with one. */
+int64_t widen(const char *at, Py_ssize_t width, bool is_unsigned);
+
 bool read_numbers(PyObject *given, Numbers *numbers);
 
 /** The same, but raises TypeError for a boolean. */
@@ -459,5 +462,10 @@ Block *check_codes(const Numbers *numbers, size_t distinct);
 
 PyObject *column_arrow_schema(Column *self, PyObject *unused);
 PyObject *column_arrow_array(Column *self, PyObject *args, PyObject *keywords);
+PyObject *column_arrow_stream(Column *self, PyObject *args, PyObject *keywords);
+
+/* from_arrow.c */
+
+PyObject *column_from_arrow(PyTypeObject *type, PyObject *args, PyObject *keywords);
 
 #endif

@@ -15,7 +15,7 @@ static Py_ssize_t width_of_format(const char *format) {
   }
 }
 
-static int64_t widen(const char *at, Py_ssize_t width, bool is_unsigned) {
+int64_t widen(const char *at, Py_ssize_t width, bool is_unsigned) {
   union { int8_t one; int16_t two; int32_t four; int64_t eight; } number;
   memcpy(&number, at, width);
   switch (width) {

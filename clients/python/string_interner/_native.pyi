@@ -3,7 +3,7 @@
 from array import array
 from collections.abc import Iterable, Iterator, Sequence
 from os import PathLike
-from typing import ClassVar, Literal, Self, SupportsIndex, TypeVar, final, overload
+from typing import ClassVar, Literal, Protocol, Self, SupportsIndex, TypeVar, final, overload
 
 from _typeshed import ReadableBuffer, SupportsRead
 
@@ -14,6 +14,12 @@ _T = TypeVar("_T")
 
 _MOST_NARROW: int
 _VALUES_AT_ONCE: int
+
+class _ArrowArray(Protocol):
+    def __arrow_c_array__(self) -> tuple[object, object]: ...
+
+class _ArrowStream(Protocol):
+    def __arrow_c_stream__(self) -> object: ...
 
 @final
 class _Parts:
@@ -87,6 +93,8 @@ class Column(Sequence[str | None]):
         cls, joined: ReadableBuffer, *, offsets: Iterable[SupportsIndex], codes: Iterable[SupportsIndex], hasher: Hasher = "seeded"
     ) -> Self: ...
     @classmethod
+    def from_arrow(cls, values: _ArrowArray | _ArrowStream, *, hasher: Hasher = "seeded") -> Self: ...
+    @classmethod
     def from_file(
         cls,
         file: str | bytes | PathLike[str] | PathLike[bytes] | int | SupportsRead[bytes],
@@ -131,3 +139,4 @@ class Column(Sequence[str | None]):
     def __eq__(self, other: object, /) -> bool: ...
     def __arrow_c_schema__(self) -> object: ...
     def __arrow_c_array__(self, requested_schema: object = None) -> tuple[object, object]: ...
+    def __arrow_c_stream__(self, requested_schema: object = None) -> object: ...

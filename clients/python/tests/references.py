@@ -111,6 +111,8 @@ def calls_of_columns():
         lambda: column.compact(), lambda: column[1:3].compact(), lambda: column.shrink(), lambda: pickle.dumps(column[1:3]), lambda: next(iter(column)),
         lambda: column.isin(["a", None, 1]), lambda: column.isin("a"), lambda: column.unique(), lambda: column.value_counts(dropna=False),
         lambda: Column._with_dictionary(column, [0, -1]), lambda: Column._with_dictionary(column, [99]),
+        lambda: column.__arrow_c_stream__(), lambda: Column.from_arrow(column), lambda: Column.from_arrow(HasStream(column)), lambda: Column.from_arrow(1),
+        lambda: Column.from_arrow(HasStream(1)), lambda: Column.from_arrow(column, hasher="none"), lambda: take_twice(column),
         lambda: column.__dask_tokenize__(), lambda: copy.copy(column), lambda: copy.deepcopy(column), lambda: column.__sizeof__(),
         lambda: pickle.loads(pickle.dumps(column, 2)), lambda: out_of_band(column), lambda: setattr(column, "_parts", 1),
         lambda: Column.__new__(Column).append("a"), lambda: Column.__init__(Column(["b"]), values, hasher="none"),
@@ -126,6 +128,25 @@ def grow(values):
     column.extend(values)
     column.merge(column)
     return views
+
+
+class HasStream:
+    def __init__(self, column):
+        self.column = column
+
+    def __arrow_c_stream__(self):
+        return self.column.__arrow_c_stream__()
+
+
+def take_twice(column):
+    class HasArray:
+        array = column.__arrow_c_array__()
+
+        def __arrow_c_array__(self):
+            return self.array
+
+    Column.from_arrow(HasArray())
+    Column.from_arrow(HasArray())
 
 
 def out_of_band(column):

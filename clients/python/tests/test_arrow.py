@@ -1,4 +1,5 @@
-"""Tests of what a column gives to Arrow, by a consumer that is written after the specification of Arrow's C data interface."""
+"""Tests of what a column gives to Arrow and takes from it, by a consumer and a producer that are written after the specification of
+Arrow's C data interface."""
 
 import ctypes
 import gc
@@ -20,6 +21,10 @@ class Array(ctypes.Structure):
     """struct ArrowArray of the specification."""
 
 
+class Stream(ctypes.Structure):
+    """struct ArrowArrayStream of the specification."""
+
+
 Schema._fields_ = [
     ("format", ctypes.c_char_p), ("name", ctypes.c_char_p), ("metadata", ctypes.c_char_p), ("flags", ctypes.c_int64),
     ("n_children", ctypes.c_int64), ("children", ctypes.c_void_p), ("dictionary", ctypes.POINTER(Schema)),
@@ -30,10 +35,21 @@ Array._fields_ = [
     ("n_children", ctypes.c_int64), ("buffers", ctypes.POINTER(ctypes.c_void_p)), ("children", ctypes.c_void_p),
     ("dictionary", ctypes.POINTER(Array)), ("release", ctypes.c_void_p), ("private_data", ctypes.c_void_p),
 ]
+Stream._fields_ = [(name, ctypes.c_void_p) for name in ("get_schema", "get_next", "get_last_error", "release", "private_data")]
 NULLABLE = 2
 pointer_of = ctypes.pythonapi.PyCapsule_GetPointer
 pointer_of.restype, pointer_of.argtypes = ctypes.c_void_p, [ctypes.py_object, ctypes.c_char_p]
 release_array = ctypes.CFUNCTYPE(None, ctypes.POINTER(Array))
+release_schema = ctypes.CFUNCTYPE(None, ctypes.POINTER(Schema))
+release_stream = ctypes.CFUNCTYPE(None, ctypes.POINTER(Stream))
+get_schema = ctypes.CFUNCTYPE(ctypes.c_int, ctypes.POINTER(Stream), ctypes.POINTER(Schema))
+get_next = ctypes.CFUNCTYPE(ctypes.c_int, ctypes.POINTER(Stream), ctypes.POINTER(Array))
+get_last_error = ctypes.CFUNCTYPE(ctypes.c_void_p, ctypes.POINTER(Stream))
+new_capsule = ctypes.pythonapi.PyCapsule_New
+new_capsule.restype, new_capsule.argtypes = ctypes.py_object, [ctypes.c_void_p, ctypes.c_char_p, ctypes.c_void_p]
+NAMES = {Schema: ctypes.c_char_p(b"arrow_schema"), Array: ctypes.c_char_p(b"arrow_array"), Stream: ctypes.c_char_p(b"arrow_array_stream")}
+INDICES = {"c": "b", "C": "B", "s": "h", "S": "H", "i": "i", "I": "I", "l": "q", "L": "Q"}
+"""The format of each type of indices, and its typecode in Python."""
 
 
 def check_schema(capsule):
@@ -125,7 +141,338 @@ class Consumers(unittest.TestCase):
     def test_wrong_arguments(self):
         column = Column()
         self.assertRaises(TypeError, column.__arrow_c_array__, None, None)
+        self.assertRaises(TypeError, column.__arrow_c_stream__, None, None)
+        self.assertRaises(TypeError, Column.from_arrow)
+        self.assertRaises(TypeError, Column.from_arrow, column, "fixed")
+        self.assertRaisesRegex(ValueError, "^no hasher 'none'$", Column.from_arrow, column, hasher="none")
         self.assertRaises(TypeError, column.__arrow_c_schema__, None)
+
+
+class Producer:
+    """Makes arrays and streams, and counts how often each struct of a capsule is released: once, if it was taken."""
+
+    def __init__(self):
+        self.kept, self.structs, self.released = [], [], []
+
+    def own(self, struct, prototype):
+        """Has a struct count by itself."""
+        number = len(self.structs)
+
+        def release(it):
+            self.released[number] += 1
+            it.contents.release = None
+
+        function = prototype(release)
+        struct.release = ctypes.cast(function, ctypes.c_void_p)
+        self.kept += [function, struct]
+        self.structs.append(struct)
+        self.released.append(0)
+        return struct
+
+    def buffers(self, *buffers):
+        """The addresses of some buffers, of which None has none."""
+        addresses = (ctypes.c_void_p * len(buffers))()
+        for place, buffer in enumerate(buffers):
+            if buffer is not None:
+                # Between other bytes, and not aligned.
+                held = ctypes.create_string_buffer(b"." + bytes(buffer) + b".")
+                self.kept.append(held)
+                addresses[place] = ctypes.addressof(held) + 1
+        self.kept.append(addresses)
+        return ctypes.cast(addresses, ctypes.POINTER(ctypes.c_void_p))
+
+    def valid(self, rows, skip):
+        bits = [True] * skip + [row is not None for row in rows]
+        return bytes(sum(bit << place for place, bit in enumerate(bits[at : at + 8])) for at in range(0, len(bits), 8))
+
+    def array(self, rows, skip, parts, dictionary=None, **changes):
+        valid = self.valid(rows, skip) if None in rows or changes.pop("has_valid", False) else None
+        fields = {"length": len(rows), "null_count": rows.count(None), "offset": skip, "n_buffers": 1 + len(parts),
+                  "buffers": self.buffers(valid, *parts)}
+        if dictionary is not None:
+            fields["dictionary"] = ctypes.pointer(dictionary)
+        return self.own(Array(**fields | changes), release_array)
+
+    def texts(self, rows, form="u", skip=0, joined=None, offsets=None, **changes):
+        """An array of texts behind others that it skips. A null has a text, too, which nobody may read."""
+        raws = [b"\xff skipped"] * skip + [b"\xff null" if row is None else row.encode() for row in rows]
+        joined = b"".join(raws) if joined is None else joined
+        offsets = list(accumulate(map(len, raws), initial=0)) if offsets is None else offsets
+        return self.array(rows, skip, (array("i" if form == "u" else "q", offsets), joined), **changes)
+
+    def indices(self, rows, form, dictionary, skip=0, **changes):
+        """An array of indices. Those of nulls are great."""
+        numbers = array(INDICES[form], [99] * skip + [99 if row is None else row for row in rows])
+        return self.array(rows, skip, (numbers,), dictionary, **changes)
+
+    def schema(self, form, texts=None):
+        schema = Schema(format=form.encode(), name=b"", flags=NULLABLE)
+        if texts is not None:
+            schema.dictionary = ctypes.pointer(self.schema(texts))
+        return self.own(schema, release_schema)
+
+    def capsule(self, struct):
+        return new_capsule(ctypes.addressof(struct), NAMES[type(struct)], None)
+
+    def pair(self, schema, array):
+        """What has an array."""
+        class HasArray:
+            def __arrow_c_array__(_, requested_schema=None):
+                return self.capsule(schema), self.capsule(array)
+
+        return HasArray()
+
+    def stream(self, schema, arrays, status=0, said=None, act=lambda: None):
+        """What has a stream, which fails with a status after its arrays, or before if there is no schema."""
+        left, text = list(arrays), None if said is None else ctypes.create_string_buffer(said)
+
+        def write(struct, out):
+            if struct is None:
+                return status
+            ctypes.memmove(out, ctypes.addressof(struct), ctypes.sizeof(struct))
+            struct.release = None
+            return 0
+
+        def give(_, out):
+            act()
+            if left or status:
+                return write(left.pop(0) if left else None, out)
+            out.contents.release = None
+            return 0
+
+        functions = (get_schema(lambda _, out: write(schema, out)), get_next(give), get_last_error(lambda _: ctypes.addressof(text) if text else None))
+        stream = self.own(Stream(*(ctypes.cast(it, ctypes.c_void_p) for it in functions)), release_stream)
+        self.kept += [functions, text]
+
+        class HasStream:
+            def __arrow_c_stream__(_, requested_schema=None):
+                return self.capsule(stream)
+
+        return HasStream()
+
+
+class Producers(unittest.TestCase):
+    def setUp(self):
+        self.producer = Producer()
+
+    def tearDown(self):
+        # What was moved out of its capsule was released once; all else the capsule would release. Those of dictionaries are theirs.
+        inner = {ctypes.addressof(it.dictionary.contents) for it in self.producer.structs if getattr(it, "dictionary", None)}
+        for struct, released in zip(self.producer.structs, self.producer.released):
+            self.assertEqual(released, 0 if ctypes.addressof(struct) in inner else not struct.release)
+
+    def refuse(self, error, said, given):
+        with self.assertRaisesRegex(error, said):
+            Column.from_arrow(given)
+
+    def test_random_arrays_and_streams(self):
+        source = random.Random(1)
+        for _ in range(400):
+            producer = self.producer = Producer()
+            texts, form, wanted, dictionary, arrays = source.choice("uU"), source.choice(("", *INDICES)), [], [], []
+            for _ in range(source.randrange(1, 4)):
+                known = [source.choice((None, "", "é", "a" * 50, str(source.random()))) for _ in range(source.randrange(1, 9))]
+                skip, changes = source.randrange(20), source.choice(({}, {"null_count": -1}, {"has_valid": True}))
+                if form:
+                    rows = [source.choice((None, *range(len(known)))) for _ in range(source.randrange(40))]
+                    arrays.append(producer.indices(rows, form, producer.texts(known, texts, source.randrange(9)), skip, **changes))
+                    wanted += [None if row is None else known[row] for row in rows]
+                else:
+                    arrays.append(producer.texts(known, texts, skip, **changes))
+                    wanted += known
+                dictionary += [text for text in known if text is not None]
+            schema = producer.schema(form, texts) if form else producer.schema(texts)
+            given = producer.stream(schema, arrays)
+            if len(arrays) == 1 and source.random() < 0.5:
+                given = producer.pair(schema, arrays[0])
+            column = Column.from_arrow(given, hasher="fixed")
+            self.assertEqual((list(column), column.dictionary, column.hasher), (wanted, list(dict.fromkeys(dictionary)), "fixed"))
+            self.tearDown()
+
+    def test_there_and_back(self):
+        class HasStream:
+            def __init__(self, column):
+                self.__arrow_c_stream__ = column.__arrow_c_stream__
+
+        class Named(Column):
+            def __init__(self):
+                raise ZeroDivisionError
+
+        for rows in ([], [None], ["a"], ["b", None, "a", "b", "é"], [*map(str, range(2000)), None]):
+            column = Column(["unused", *rows])[1:]
+            for given in (column, HasStream(column), column[:]):
+                back = Column.from_arrow(given)
+                self.assertEqual((list(back), back.dictionary, type(back)), (rows, column.dictionary, Column))
+                back.append("other")
+                self.assertEqual((list(column), list(Named.from_arrow(given))), (rows, rows))
+                self.assertIs(type(Named.from_arrow(given)), Named)
+
+    def test_other_types(self):
+        producer = self.producer
+        for form, texts, said in (("i", None, "i"), ("z", None, "z"), ("", None, ""), ("uu", None, "uu"), ("+s", None, r"\+s"), ("tdD", None, "tdD"),
+                                  ("vu", None, "vu"), ("i", "z", "z"), ("i", "+l", r"\+l"), ("f", "u", "f"), ("u", "u", "u"), ("", "u", ""), ("ii", "U", "ii")):
+            for give in (lambda schema: producer.pair(schema, producer.texts(["a"])), lambda schema: producer.stream(schema, [])):
+                self.refuse(TypeError, f"^Arrow's type '{said}' has no texts: ", give(producer.schema(form, texts)))
+        schema = producer.schema("i", "i")
+        schema.dictionary.contents.dictionary = ctypes.pointer(producer.schema("u"))
+        self.refuse(TypeError, "^Arrow's type 'i' has no texts: ", producer.pair(schema, producer.texts(["a"])))
+        schema = producer.schema("i")
+        schema.format = None
+        self.refuse(TypeError, "^Arrow's type '' has no texts: ", producer.pair(schema, producer.texts(["a"])))
+
+    def test_numbers_that_cannot_be(self):
+        producer = self.producer
+        great = 2**63 - 1
+        rows = ["a", None, "b"]
+        for changes in ({"length": -1}, {"offset": -1}, {"length": great}, {"offset": great}, {"length": -great - 1, "offset": 9}, {"n_buffers": 1},
+                        {"n_buffers": 4}, {"n_buffers": 0}, {"n_buffers": -1}, {"buffers": None}, {"null_count": 2}, {"null_count": -2}, {"null_count": 0}):
+            for given in (producer.pair(producer.schema("u"), producer.texts(rows, **changes)),
+                          producer.stream(producer.schema("u"), [producer.texts(["a", "b"]), producer.texts(rows, **changes)]),
+                          producer.pair(producer.schema("i", "u"), producer.indices([0, None, 1], "i", producer.texts(["a", "b"]), **changes)),
+                          producer.pair(producer.schema("i", "u"), producer.indices([0, None, 1], "i", producer.texts(rows, **changes)))):
+                self.refuse(ValueError, "^an array of Arrow has ", given)
+        known = producer.texts(["a", "b"])
+        self.refuse(ValueError, "another number of nulls", producer.pair(producer.schema("u"), producer.texts(["a"], null_count=1)))
+        self.refuse(ValueError, "a dictionary, and its type none", producer.pair(producer.schema("u"), producer.array(["a"], 0, (b"\0" * 8, b"a"), known)))
+        self.refuse(ValueError, "a dictionary, and its type none", producer.pair(producer.schema("i", "u"), producer.array([0], 0, (b"\0" * 4,))))
+        self.refuse(ValueError, "rows, and no buffer for them", producer.pair(producer.schema("u"), producer.array(["a"], 0, (None, b"a"))))
+        self.refuse(ValueError, "rows, and no buffer for them", producer.pair(producer.schema("i", "u"), producer.array([0], 0, (None,), known)))
+
+    def test_offsets_that_cannot_be(self):
+        producer = self.producer
+        for offsets, said in (([0, 2, 1], "text 1 of an array of Arrow is from byte 2 to 1"), ([-1, 1, 2], "text 0 of an array of Arrow is from byte -1 to 1"),
+                              ([0, -5, 2], "text 0 of an array of Arrow is from byte 0 to -5")):
+            for form in "uU":
+                bad = producer.texts(["a", "b"], form, offsets=offsets)
+                self.refuse(ValueError, f"^{said}$", producer.pair(producer.schema(form), bad))
+                bad = producer.texts(["a", "b"], form, offsets=offsets)
+                self.refuse(ValueError, f"^{said}$", producer.pair(producer.schema("i", form), producer.indices([0], "i", bad)))
+        given = producer.array(["a"], 0, (array("i", [0, 1]), None))
+        self.refuse(ValueError, "^text 0 of an array of Arrow is from byte 0 to 1, and there are no bytes$", producer.pair(producer.schema("u"), given))
+        # Bytes may be left out if all texts are empty, and all if there is no text.
+        for rows, buffers in ((["", ""], (array("i", [7, 7, 7]), None)), ([], (None, None))):
+            self.assertEqual(list(Column.from_arrow(producer.pair(producer.schema("u"), producer.array(rows, 0, buffers)))), rows)
+
+    def test_what_is_not_utf8(self):
+        producer = self.producer
+        for rows, bad in ((["b", None, None, "c"], 3), ([*"abcdefg" * 100, None, "z"], 701)):
+            joined = "".join(row or "" for row in rows).encode()[:-1] + b"\xff"
+            offsets = [*accumulate((row is not None for row in rows), initial=0)]
+            for skip in (0, 3):
+                given = producer.texts(rows, "U", skip, b"..." + joined, [*range(skip), *(3 + offset for offset in offsets)])
+                self.refuse(ValueError, f"^text {bad} of an array of Arrow is not UTF-8$", producer.pair(producer.schema("U"), given))
+
+    def test_indices_that_are_outside(self):
+        producer = self.producer
+        for form, bad in (("c", 2), ("c", -1), ("C", 255), ("s", -2), ("S", 2), ("i", -(2**31)), ("I", 2**32 - 1), ("l", 2**40), ("L", 2**64 - 1), ("L", 2**63)):
+            for known in (["a", "b"], ["a", None]):
+                given = producer.indices([0, None, bad], form, producer.texts(known))
+                self.refuse(ValueError, f"^row 2 of an array of Arrow has index {bad}, and its dictionary 2 texts$", producer.pair(producer.schema(form, "u"), given))
+        given = producer.indices([None, 0], "i", producer.texts([]))
+        self.refuse(ValueError, "^row 1 of an array of Arrow has index 0, and its dictionary 0 texts$", producer.pair(producer.schema("i", "u"), given))
+
+    def test_no_array(self):
+        class Has:
+            pass
+
+        for given, name in ((1, "int"), (["a"], "list"), (None, "NoneType"), (Has(), "Has")):
+            self.refuse(TypeError, f"^an array of Arrow has __arrow_c_array__ or __arrow_c_stream__, and a {name} has neither$", given)
+        producer = self.producer
+        schema, other = producer.capsule(producer.schema("u")), producer.capsule(producer.texts(["a"]))
+        for result in (None, (), (schema,), (schema, other, other), [schema, other]):
+            Has.__arrow_c_array__ = lambda _, result=result: result
+            self.refuse(TypeError, "^__arrow_c_array__ returns a tuple of two, not ", Has())
+        for result in ((1, 2), (other, schema), (schema, None), (None, other)):
+            Has.__arrow_c_array__ = lambda _, result=result: result
+            self.refuse((TypeError, ValueError), "PyCapsule_GetPointer called with|was released", Has())
+        del Has.__arrow_c_array__
+        for result in (None, schema):
+            Has.__arrow_c_stream__ = lambda _, result=result: result
+            self.refuse((TypeError, ValueError), "PyCapsule_GetPointer called with", Has())
+        for name, error in (("__arrow_c_array__", ZeroDivisionError), ("__arrow_c_stream__", KeyError)):
+            Has.__arrow_c_array__ = property(lambda _: 1 // 0) if name == "__arrow_c_array__" else lambda _: {}[1]
+            with self.assertRaises(error):
+                Column.from_arrow(Has())
+
+    def test_what_was_taken_before(self):
+        producer = self.producer
+        for given in (producer.pair(producer.schema("u"), producer.texts(["a"])), producer.stream(producer.schema("u"), [])):
+            Column.from_arrow(given)
+            self.refuse(ValueError, "^what a capsule of Arrow had was released$", given)
+        # The array only.
+        taken, schema = producer.texts(["a"]), producer.schema("u")
+        Column.from_arrow(producer.pair(producer.schema("u"), taken))
+        self.refuse(ValueError, "^what a capsule of Arrow had was released$", producer.pair(schema, taken))
+
+    def test_a_stream_that_fails(self):
+        for status, said, error, text in ((12, b"no", MemoryError, "^$"), (22, b"bad \xff\xc3\xa9", OSError, "^.Errno 22. bad \ufffdé$"), (5, None, OSError, "Input/output error$"),
+                                          (-3, b"", OSError, "^.Errno -3. $"), (2, b"gone", FileNotFoundError, "gone")):
+            producer = self.producer
+            for schema, arrays in ((None, []), (producer.schema("u"), []), (producer.schema("u"), [producer.texts(["a"]), producer.texts(["b"])])):
+                self.refuse(error, text, producer.stream(schema, arrays, status, said))
+
+    def test_other_threads_run_while_a_stream_is_asked(self):
+        has_begun, may_end = threading.Event(), threading.Event()
+        producer = self.producer
+
+        def wait():
+            has_begun.set()
+            may_end.wait(60)
+
+        def help():
+            has_begun.wait(60)
+            may_end.set()
+
+        thread = threading.Thread(target=help)
+        thread.start()
+        self.assertEqual(list(Column.from_arrow(producer.stream(producer.schema("u"), [producer.texts(["a", None])], act=wait))), ["a", None])
+        thread.join()
+
+    def test_a_stream_that_uses_all_that_it_finds(self):
+        producer, found = self.producer, []
+
+        def act():
+            gc.collect()
+            found.extend(it for it in gc.get_objects() if type(it) is Column)
+
+        rows = [f"text {number}" for number in range(3000)]
+        column = Column.from_arrow(producer.stream(producer.schema("U"), [producer.texts(rows, "U"), producer.texts(rows[::-1], "U")], act=act))
+        self.assertEqual((list(column), found), (rows + rows[::-1], []))
+
+
+class Streams(unittest.TestCase):
+    def test_a_stream_has_one_array(self):
+        for rows in ([], [None], ["a", None, "é", "a"]):
+            capsule = Column(rows).__arrow_c_stream__()
+            held = Stream.from_address(pointer_of(capsule, b"arrow_array_stream"))
+            stream = Stream.from_buffer_copy(held)
+            held.release = None
+            del capsule
+            schema, arrays = Schema(), [Array() for _ in range(3)]
+            for _ in range(2):
+                self.assertEqual(get_schema(stream.get_schema)(ctypes.byref(stream), ctypes.byref(schema)), 0)
+                form = schema.format
+                self.assertIn(form, (b"i", b"l"))
+                self.assertEqual((schema.dictionary.contents.format, schema.flags), (b"U", NULLABLE))
+                release_schema(schema.release)(ctypes.byref(schema))
+            for each in arrays:
+                self.assertEqual(get_next(stream.get_next)(ctypes.byref(stream), ctypes.byref(each)), 0)
+            self.assertEqual([bool(each.release) for each in arrays], [True, False, False])
+            self.assertIsNone(get_last_error(stream.get_last_error)(ctypes.byref(stream)))
+            release_stream(stream.release)(ctypes.byref(stream))
+            self.assertIsNone(stream.release)
+            # It outlives its stream.
+            self.assertEqual(read_rows(arrays[0], form)[0], rows)
+            release_array(arrays[0].release)(ctypes.byref(arrays[0]))
+
+    def test_what_nobody_takes_is_freed(self):
+        column = Column(map(str, range(100_000)))
+        for turn in range(30):
+            column.__arrow_c_stream__()
+            Column.from_arrow(column)
+            if turn == 5:
+                before = resource.getrusage(resource.RUSAGE_SELF).ru_maxrss
+        self.assertLess(resource.getrusage(resource.RUSAGE_SELF).ru_maxrss - before, 10_000)
 
 
 class Offsets(unittest.TestCase):

@@ -150,7 +150,7 @@ class BesideAList(RuleBasedStateMachine):
         before.extend(["only there", None])
 
     @rule(make=strategies.sampled_from((
-        lambda it: Column.from_buffers(*it.to_buffers()), lambda it: Column.from_parts(it.dictionary, it.codes),
+        lambda it: Column.from_buffers(*it.to_buffers()), lambda it: Column.from_parts(it.dictionary, it.codes), Column.from_arrow,
         lambda it: Column.from_buffers(it.to_buffers()[0], offsets=[0, *it.to_buffers()[1]], codes=it.codes),
         lambda it: Column.from_parts(Interner(it.dictionary), iter(it.codes)),
     )))
@@ -353,12 +353,18 @@ class Refusals(unittest.TestCase):
             from string_interner import Column
             column, part, texts = Column(["a", None]), Column(["b"]), [str(number) * 100 for number in range(100_000)]
             other, wide = Column(texts), Column(["a"] * 10**7)
+            class Held:
+                made = other.__arrow_c_array__()
+                def __arrow_c_array__(self):
+                    return self.made
+            held = Held()
             with open("/proc/self/statm") as pages:
                 used = int(pages.read().split()[0]) * resource.getpagesize()
             resource.setrlimit(resource.RLIMIT_AS, (used + 10_000_000,) * 2)
             for call in (lambda: column.extend(texts), lambda: column.extend(iter(texts)), lambda: column.merge(other),
-                         lambda: part.merge(wide), lambda: wide.append("z"), lambda: wide[1:], lambda: wide.take(range(10**7)),
-                         lambda: Column.from_parts(texts, [0]), lambda: other.__arrow_c_array__(), lambda: other.dictionary):
+                         lambda: part.merge(wide), lambda: wide.append("z"), lambda: wide[1:], lambda: wide.take(range(10**7)), lambda: wide[range(10**7)],
+                         lambda: Column.from_parts(texts, [0]), lambda: other.__arrow_c_array__(), lambda: other.dictionary,
+                         lambda: other.__arrow_c_stream__(), lambda: Column.from_arrow(other), lambda: Column.from_arrow(held)):
                 try:
                     call()
                 except MemoryError:
@@ -375,7 +381,8 @@ class Refusals(unittest.TestCase):
         for call in (lambda it: it.extend(["b", None]), lambda it: it.append("c"), lambda it: it.merge(Column(["d"])), list,
                      lambda it: it.extend(map(str, range(9))), lambda it: it.codes, lambda it: it[::2], lambda it: it.counts(),
                      lambda it: it.dictionary, lambda it: it._buffers(), lambda it: it.take([0]), lambda it: it._parts, lambda it: it.compact(),
-                     lambda it: it[:1].compact(), lambda it: it[1:].compact(), lambda it: it.shrink(), lambda it: it.isin(["a"]), lambda it: it[1:]._parts.__reduce_ex__(2)):
+                     lambda it: it[:1].compact(), lambda it: it[1:].compact(), lambda it: it.shrink(), lambda it: it.isin(["a"]), lambda it: it[1:]._parts.__reduce_ex__(2),
+                     Column.from_arrow, lambda it: it.__arrow_c_stream__(), lambda it: it[[0, 1]], lambda it: it[[True, False]]):
             for request in range(60):
                 column = Column(["a", None])
                 set_nomemory(request, request + 1)
@@ -829,6 +836,7 @@ class Copies(unittest.TestCase):
                      lambda: column.codes, lambda: column.dictionary, lambda: column.counts(), lambda: column.take([]), lambda: column.distinct,
                      lambda: column.__arrow_c_array__(), lambda: column.__arrow_c_schema__(), lambda: pickle.dumps(column), lambda: column.hasher,
                      lambda: column.index("a"), lambda: column.count(None), lambda: column.code("a"), lambda: column.to_buffers(),
+                     lambda: column.__arrow_c_stream__(), lambda: Column.from_arrow(column), lambda: column[[0]], lambda: column[[True]],
                      lambda: column.value_counts(), lambda: column.__dask_tokenize__(), lambda: reversed(column), lambda: copy.copy(column),
                      lambda: column.compact(), lambda: column.shrink(), lambda: column.isin([]), lambda: column.isna(), lambda: column.unique()):
             with self.assertRaisesRegex(ValueError, "^the column was not initialized$"):

@@ -55,6 +55,7 @@ assert_type(colors[array("b", [0, -1])], Column)
 assert_type(list(colors), list[str | None])
 assert_type(Colors.from_file("lines", hasher="fixed"), Colors)
 assert_type(Colors.from_buffers(*colors.to_buffers()), Colors)
+assert_type(Colors.from_arrow(colors, hasher="fixed"), Colors)
 assert_type(Colors.from_buffers(b"redgreen", offsets=[0, 3, 8], codes=[0, 1]), Colors)
 assert_type(colors.take([0, -1]), Column)
 assert_type(colors.value_counts(), dict[str, int])
@@ -83,6 +84,7 @@ names.intern_column("a", [1])  # type: ignore[call-overload]
 names.intern_column(b"a")  # type: ignore[call-overload]
 names.intern_column(b"a", [1], offsets=[0, 1])  # type: ignore[call-overload]
 Column.from_buffers(b"a", [1])  # type: ignore[call-overload]
+Column.from_arrow(["a"])  # type: ignore[arg-type]
 names.resolve(1.5)  # type: ignore[arg-type]
 names.get_all([1])  # type: ignore[list-item]
 names.intern_lines("a")  # type: ignore[arg-type]
