@@ -446,7 +446,8 @@ static PyMethodDef column_methods[] = {
      "__arrow_c_schema__($self, /)\n--\n\nThe type of the column for Arrow: a dictionary of large_utf8."},
     {"__arrow_c_array__", (PyCFunction)(void (*)(void))column_arrow_array, METH_VARARGS | METH_KEYWORDS,
      "__arrow_c_array__($self, /, requested_schema=None)\n--\n\n"
-     "The column for Arrow, by its PyCapsule interface. Lends the codes, and copies the dictionary."},
+     "The column for Arrow, by its PyCapsule interface. Lends the codes, and copies the dictionary: of a slice with few rows, less than\n"
+     "one for eight texts, only the texts that they have."},
     {"__arrow_c_stream__", (PyCFunction)(void (*)(void))column_arrow_stream, METH_VARARGS | METH_KEYWORDS,
      "__arrow_c_stream__($self, /, requested_schema=None)\n--\n\nThe same as a stream of one array."},
     {NULL, NULL, 0, NULL}};

@@ -345,6 +345,12 @@ static inline size_t next_used(const Used *used, size_t code, size_t end) {
 /** The codes of rows in a dictionary that has only what is used. */
 Block *renumber_used(const Used *used, const Block *block, Py_ssize_t n);
 
+/** Whether there are so few rows that to do something for each text of the dictionary would take longer than all else. */
+static inline bool has_few_rows(const Column *self) { return (size_t)self->n < interner_len(self->dictionary->h) / 8; }
+
+/** The column, or if it is a part with few rows, a compact one. */
+Column *without_the_rest(Column *self);
+
 PyObject *column_compact(Column *self, PyObject *unused);
 PyObject *column_in_order(Column *self, PyObject *unused);
 PyObject *column_shrink(Column *self, PyObject *unused);

@@ -150,7 +150,7 @@ class BesideAList(RuleBasedStateMachine):
         before.extend(["only there", None])
 
     @rule(make=strategies.sampled_from((
-        lambda it: Column.from_buffers(*it.to_buffers()), lambda it: Column.from_parts(it.dictionary, it.codes), Column.from_arrow,
+        lambda it: Column.from_buffers(*it.to_buffers()), lambda it: Column.from_parts(it.dictionary, it.codes),
         lambda it: Column.from_buffers(it.to_buffers()[0], offsets=[0, *it.to_buffers()[1]], codes=it.codes),
         lambda it: Column.from_parts(Interner(it.dictionary), iter(it.codes)),
     )))
@@ -164,6 +164,13 @@ class BesideAList(RuleBasedStateMachine):
         if self.is_part:
             self.texts = [text for text in self.texts if text in self.rows]
         self.go_on_with_its_parts(lambda it: pickle.loads(pickle.dumps(it, protocol)))
+
+    @rule()
+    def go_on_with_what_arrow_reads(self):
+        # Of a part with few rows only their texts.
+        if self.is_part and len(self.rows) < len(self.texts) // 8:
+            self.texts = [text for text in self.texts if text in self.rows]
+        self.go_on_with_its_parts(Column.from_arrow)
 
     @rule()
     def compact(self):
@@ -512,6 +519,10 @@ class Calls(unittest.TestCase):
             tracemalloc.stop()
         if numpy:
             self.assertEqual(part.to_numpy().tolist(), texts)
+        self.assertEqual([it.dictionary for it in map(Column.from_arrow, (part, column[:3], part[:0]))], [texts, ["text 0", "text 1", "text 2"], []])
+        # What is no part has all texts there.
+        categories = list(map(str, range(100)))
+        self.assertEqual(Column.from_arrow(Column.from_parts(categories, [7, 1])).dictionary, categories)
 
     def test_strings_are_told_and_let_go(self):
         column = Column(f"text {number}" for number in range(10_000))
