@@ -440,6 +440,7 @@ static PyMethodDef column_methods[] = {
     {"_buffers", (PyCFunction)column_buffers, METH_NOARGS, NULL},
     {"_isin", (PyCFunction)column_isin, METH_O, NULL},
     {"_in_order", (PyCFunction)column_in_order, METH_NOARGS, NULL},
+    {"_lines", (PyCFunction)column_lines, METH_NOARGS, NULL},
     {"_with_dictionary", (PyCFunction)column_with_dictionary, METH_VARARGS | METH_CLASS, NULL},
     {"__reversed__", (PyCFunction)column_reversed, METH_NOARGS, "The rows in reverse order, as they are now."},
     {"__arrow_c_schema__", (PyCFunction)column_arrow_schema, METH_NOARGS,
