@@ -320,6 +320,7 @@ PyObject *column_buffers(Column *self, PyObject *unused);
 PyObject *column_parts(Column *self, void *unused);
 int column_set_parts(Column *self, PyObject *value, void *unused);
 PyObject *column_lines(Column *self, PyObject *unused);
+PyObject *column_checksum(PyObject *unused, PyObject *given);
 PyObject *column_with_dictionary(PyTypeObject *type, PyObject *args);
 
 /* compact.c: columns without the texts that no row has. */

@@ -1,4 +1,4 @@
-"""Folders of plain columns, as `dictcol encode --plain` writes them: `dict.txt`, `codes.npy` and sometimes `no_final_newline`."""
+"""Folders of plain columns, as `dictcol encode --plain` writes them. `man dictcol` says what is in the files."""
 
 from __future__ import annotations
 
@@ -22,7 +22,7 @@ if TYPE_CHECKING:
 
     Columns = TypeVar("Columns", bound=Column)
 
-DICTIONARY, CODES, CUT = "dict.txt", "codes.npy", "no_final_newline"
+DICTIONARY, CODES, PAIR, CUT = "dict.txt", "codes.npy", "pair.txt", "no_final_newline"
 UNFINISHED = "dictcol-unfinished"
 HEADER = 128
 
@@ -53,13 +53,21 @@ def read_lines(descriptor: int, hasher: _types.Hasher) -> _native.Column:
     return _native.Column.from_file(descriptor, hasher=hasher)
 
 
-def read(cls: type[Columns], folder: str, hasher: _types.Hasher) -> Columns:
-    path = os.path.join(folder, CODES)
-    with open(path, "rb") as codes_file, open(os.path.join(folder, DICTIONARY), "rb") as dictionary:
-        # While it is there, the other files are of its run. So both are of one run if it still is in its place.
-        if not os.path.samestat(os.fstat(codes_file.fileno()), os.stat(path)):
-            raise busy(folder)
-        codes, lines = read_codes(codes_file.read()), read_lines(dictionary.fileno(), hasher)
+def format_pair(lines: int, codes: memoryview) -> bytes:
+    """What a dictionary and codes of one run have."""
+    return f"lines {lines}\nnumbers {len(codes)}\nchecksum {_native.Column._checksum(codes)}\n".encode()
+
+
+def read_pair(folder: str) -> bytes | None:
+    """What `pair.txt` says. Earlier versions wrote none."""
+    try:
+        with open(os.path.join(folder, PAIR), "rb") as file:
+            return file.read()
+    except FileNotFoundError:
+        return None
+
+
+def make_column(cls: type[Columns], lines: _native.Column, codes: memoryview) -> Columns:
     if lines.distinct == len(lines):
         return cls._with_dictionary(lines, codes)
     # Lines that were changed may be equal: then both are the first of them.
@@ -67,6 +75,20 @@ def read(cls: type[Columns], folder: str, hasher: _types.Hasher) -> Columns:
         return cls._with_dictionary(lines, lines.take(codes).codes)
     except IndexError as error:
         raise ValueError(f"{CODES} has a number that is no line of {DICTIONARY}: {error}") from None
+
+
+def read(cls: type[Columns], folder: str, hasher: _types.Hasher) -> Columns:
+    path = os.path.join(folder, CODES)
+    with open(path, "rb") as codes_file, open(os.path.join(folder, DICTIONARY), "rb") as dictionary:
+        pair = read_pair(folder)
+        # While it is there, the other files are of its run. So all are of one run if it still is in its place.
+        if not os.path.samestat(os.fstat(codes_file.fileno()), os.stat(path)):
+            raise busy(folder)
+        codes, lines = read_codes(codes_file.read()), read_lines(dictionary.fileno(), hasher)
+    column = make_column(cls, lines, codes)
+    if pair not in (None, format_pair(len(lines), codes)):
+        raise ValueError(f"{DICTIONARY} and {CODES} are of two runs")
+    return column
 
 
 def lock(folder: str) -> int:
@@ -120,16 +142,18 @@ def write(column: Column, folder: str) -> None:
     if None in column:
         raise ValueError(f"row {column.index(None)} is None, which no line of {DICTIONARY} is")
     lines, codes = column._lines()
-    numbers: ReadableBuffer = codes if codes.itemsize == 4 else array("I", codes)
+    if codes.itemsize != 4:
+        codes = memoryview(array("I", codes))
     os.makedirs(folder, exist_ok=True)
     with unfinished(folder) as new:
         write_file(new, DICTIONARY, lines)
-        write_file(new, CODES, format_header(len(codes)), numbers)
+        write_file(new, CODES, format_header(len(codes)), codes)
+        write_file(new, PAIR, format_pair(column.distinct, codes))
         # There is no codes.npy while the other files are not those of the new one.
         for name in (CODES, CUT):
             try:
                 os.remove(os.path.join(folder, name))
             except FileNotFoundError:
                 pass
-        for name in (DICTIONARY, CODES):
+        for name in (PAIR, DICTIONARY, CODES):
             os.rename(os.path.join(new, name), os.path.join(folder, name))

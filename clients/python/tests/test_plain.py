@@ -19,13 +19,22 @@ except ImportError:
 DICTCOL = shutil.which("dictcol")
 
 
-def write_folder(folder, lines, codes, cut=False):
+def format_pair(lines, codes):
+    checksum = 14695981039346656037
+    for code in codes:
+        checksum = (checksum ^ code) * 1099511628211 % 2**64
+    return f"lines {len(lines)}\nnumbers {len(codes)}\nchecksum {checksum}\n"
+
+
+def write_folder(folder, lines, codes, cut=False, pair=True):
     """What the man page of dictcol says of a folder."""
     folder.mkdir(parents=True, exist_ok=True)
     (folder / "dict.txt").write_text("".join(f"{line}\n" for line in lines), encoding="utf-8", newline="\n")
     words = "{'descr': '<u4', 'fortran_order': False, 'shape': (%d,), }" % len(codes)
     header = b"\x93NUMPY\x01\x00" + (118).to_bytes(2, "little") + words.ljust(117).encode() + b"\n"
     (folder / "codes.npy").write_bytes(header + b"".join(code.to_bytes(4, "little") for code in codes))
+    if pair:
+        (folder / "pair.txt").write_text(format_pair(lines, codes))
     if cut:
         (folder / "no_final_newline").touch()
 
@@ -43,7 +52,9 @@ class Plain(unittest.TestCase):
     def test_reads_what_the_page_says(self):
         for lines, codes in (([], []), (["red", "", "ß\r"], [0, 2, 1, 0]), (["a"] + [str(number) for number in range(1000)], [7, 999] * 500)):
             for cut in (False, True):
-                write_folder(self.folder, lines, codes, cut)
+                shutil.rmtree(self.folder, ignore_errors=True)
+                # Earlier versions wrote no pair.txt.
+                write_folder(self.folder, lines, codes, cut, pair=cut)
                 for given in (self.folder, str(self.folder), os.fsencode(self.folder)):
                     column = Column.from_plain(given, hasher="fixed")
                     self.assertEqual((column.dictionary, column.codes.tolist(), column.hasher), (lines, codes, "fixed"))
@@ -54,8 +65,7 @@ class Plain(unittest.TestCase):
             write_folder(other, column.dictionary, column.codes.tolist())
             for given in (self.folder, str(self.folder), os.fsencode(self.folder)):
                 column.to_plain(given)
-                self.assertEqual({name: self.files()[name] for name in ("dict.txt", "codes.npy")},
-                                 {path.name: path.read_bytes() for path in other.iterdir()})
+                self.assertEqual(self.files(), {path.name: path.read_bytes() for path in other.iterdir()})
                 read = Column.from_plain(given)
                 self.assertEqual((read, read.dictionary), (column, column.dictionary))
 
@@ -78,6 +88,9 @@ class Plain(unittest.TestCase):
         write_folder(self.folder, ["a", "b", "a", "c"], [3, 2, 1, 0])
         column = Column.from_plain(self.folder)
         self.assertEqual((list(column), column.dictionary), (["c", "a", "b", "a"], ["a", "b", "c"]))
+        # Others in their place are still those of the codes.
+        (self.folder / "dict.txt").write_text("A\nB\nA\nC\n")
+        self.assertEqual(list(Column.from_plain(self.folder)), ["C", "A", "B", "A"])
         write_folder(self.folder, ["a", "a"], [0, 2])
         with self.assertRaisesRegex(ValueError, "no line of dict.txt: there is no row 2$"):
             Column.from_plain(self.folder)
@@ -91,7 +104,9 @@ class Plain(unittest.TestCase):
             ("codes.npy", codes[:-4] + b"\2\0\0\0", "^row 1 has code 2, and the dictionary has 2 texts$"),
             ("codes.npy", codes[:-4] + b"\xff" * 4, f"^row 1 has code {2**32 - 1}, and the dictionary has 2 texts$"),
             ("dict.txt", lines[:-1], "^dict.txt does not end in a newline$"), ("dict.txt", b"red\n\xff\n", "^line 2 is not UTF-8$"),
-            ("dict.txt", b"red\n", "^row 1 has code 1, and the dictionary has 1 texts$"),
+            ("dict.txt", b"red\n", "^row 1 has code 1, and the dictionary has 1 texts$"), ("dict.txt", lines + b"blue\n", "are of two runs$"),
+            ("codes.npy", codes[:-8] + codes[-4:] + codes[-8:-4], "are of two runs$"), ("codes.npy", codes[:-4] + b"\0" * 4, "are of two runs$"),
+            ("pair.txt", b"", "are of two runs$"), ("pair.txt", format_pair(["a", "b"], [1, 0]).encode(), "are of two runs$"),
         ):
             write_folder(self.folder, ["red", "green"], [0, 1])
             (self.folder / name).write_bytes(content)
@@ -172,6 +187,7 @@ class Plain(unittest.TestCase):
         shutil.rmtree(self.folder / "dict.txt")
         Column(["old"]).to_plain(self.folder)
         self.assertEqual(self.files(), before)
+        self.assertRaises(TypeError, Column._checksum, "a")
         # A link of a name that was used once leads nowhere.
         (self.top / "target").write_text("stays")
         (self.folder / "dictcol-unfinished").symlink_to(self.top / "target")
@@ -187,6 +203,10 @@ class Plain(unittest.TestCase):
         before = self.files()
         subprocess.run([DICTCOL, "encode", "--plain", self.folder], input=text.encode(), check=True)
         self.assertEqual((self.files(), list(Column.from_plain(self.folder))), (before, text.split("\n")[:-1]))
+        # Each finds the other's files when they are of two runs.
+        (self.folder / "codes.npy").write_bytes(before["codes.npy"][:-4] + b"\0" * 4)
+        self.assertNotEqual(subprocess.run([DICTCOL, "decode", self.folder], capture_output=True).returncode, 0)
+        self.assertRaises(ValueError, Column.from_plain, self.folder)
 
 
 if __name__ == "__main__":
