@@ -12,6 +12,7 @@
    BROKEN_WRITE=N   breaks the Nth write there, counted from 1, and each after it: they fail with the error number ERROR, or
                     take nothing if that is 0
    NO_RANDOM=1      has each request for random bytes fail
+   TELL_DRAWN=1     says `draws BYTES` on standard error at the end: how many random bytes were drawn
 
    The built programs call malloc, realloc and free, and no other call for memory; those of bench/ calloc, too. This
    includes nothing: the kit's compiler runs where no headers of the C library are installed. For one thread. */
@@ -95,15 +96,21 @@ long writev(int file, const struct part *parts, int count) {
     return 0;
 }
 
-int getentropy(void *bytes, size_type count) {
-    FIND_NEXT(getentropy)
-    return setting("NO_RANDOM", 0) ? (int)failed(NO_SUCH_CALL) : next(bytes, count);
-}
-
 /* printf would ask for memory itself. */
 static void tell(const char *format, size_type one, size_type other) {
     char line[64];
     write(STANDARD_ERROR, line, snprintf(line, sizeof line, format, one, other));
+}
+
+static size_type drawn;
+
+int getentropy(void *bytes, size_type count) {
+    FIND_NEXT(getentropy)
+    if (setting("NO_RANDOM", 0)) {
+        return (int)failed(NO_SUCH_CALL);
+    }
+    drawn += count;
+    return next(bytes, count);
 }
 
 /* Blocks that are granted and not given back, and their bytes as the C library rounds them: now, at most, and at the reset. */
@@ -137,6 +144,9 @@ __attribute__((destructor)) static void tell_held(void) {
     }
     if (getenv("TELL_BYTES")) {
         tell("bytes %lu %lu\n", live - base, peak - base);
+    }
+    if (getenv("TELL_DRAWN")) {
+        tell("draws %lu\n", drawn, 0);
     }
 }
 

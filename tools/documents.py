@@ -13,7 +13,7 @@ from functools import cached_property
 from pathlib import PurePosixPath
 from textwrap import indent
 
-from edits import TOP
+from edits import TOP, listed
 from files import read
 
 # Where the blocks of each language stand as files that the gate proves or runs.
@@ -26,6 +26,9 @@ EXAMPLES = {
 }
 FRONT_PAGE = "crates/string_interner/src/lib.rt"
 NAMES_THE_ORIGINAL = "docs/PORTING.md"
+# The page with a table of the toolchain's libraries that each crate uses, whose contracts are trusted, and a row of it.
+NAMES_THE_TRUSTED = "docs/promises.md"
+TRUSTED = re.compile(r"^\| `(\w+)` \| ((?:`\w+`(?:, )?)+) \|$", re.M)
 # What names the version, and the line that does; of several such lines the first.
 VERSIONS = {
     "CHANGELOG.md": r"^## \[(.*)\] - \d{4}-\d\d-\d\d$",
@@ -170,6 +173,20 @@ def other_versions():
             yield f"{name}: names {found[1] if found else 'no version'}, and VERSION names {version}"
 
 
+def used_libraries():
+    """Each pair of a crate and a library of the toolchain that its line of crates.txt names."""
+    lines = listed(TOP)
+    return {(crate, it) for crate, line in lines.items() for it in line.partition(":")[2].split() if it not in lines}
+
+
+def other_libraries(text):
+    """How the libraries in the table of a page differ from those that the crates use."""
+    named = {(crate, it) for crate, libraries in TRUSTED.findall(text) for it in SPAN.findall(libraries)}
+    used = used_libraries()
+    yield from (f"does not name {it}, which {crate} uses" for crate, it in sorted(used - named))
+    yield from (f"names {it}, which {crate} does not use" for crate, it in sorted(named - used))
+
+
 def faults():
     """What is wrong with the documents."""
     repository = Repository()
@@ -185,6 +202,7 @@ def faults():
         untried = STEP.sub("", text) if is_tried(page) else text
         found = [*broken_links(page, text), *missing_names(page, untried, repository)]
         found += untried_blocks(BLOCK.findall(untried), repository)
+        found += other_libraries(text) if page == NAMES_THE_TRUSTED else []
         yield from (f"{page}: {it}" for it in dict.fromkeys(found))
 
 

@@ -10,6 +10,9 @@ import tempfile
 from pathlib import Path
 
 from needs import python_with
+from program.cases import MANY
+from program.reckon import answer, skip_invalid, unwritten, warned
+from program.streams import limit_files
 
 BACKENDS = (b"string", b"bucket", b"buffer")
 OK = 0, b"", b""
@@ -96,7 +99,65 @@ def try_onto(program, first, second):
         yield f"{name}, files in place", files_in(f"{folder}/old"), columns_of(second, known)
 
 
+def try_output(program):
+    """A text on a full disk, in a file that may grow to so many bytes, and where nobody reads it or nothing takes it."""
+    with tempfile.TemporaryDirectory() as folder:
+        for number, data in enumerate(TEXTS):
+            words = [b"decode", b"%d" % number]
+            write_files(f"{folder}/{number}", columns_of(data))
+            with open("/dev/full", "wb") as full:
+                ended = program.run(words, b"", full, folder=folder)
+            yield f"{data[:40]}, a full disk", ended, unwritten(errno.ENOSPC) if data else OK
+            ended = program.run(words, b"", None, folder=folder, before=lambda: os.close(1))
+            yield f"{data[:40]}, a closed output", ended, unwritten(errno.EBADF) if data else OK
+            ended = program.run(words, folder=folder, BROKEN_WRITE=1, ERROR=errno.EPIPE)
+            yield f"{data[:40]}, a reader that left", ended, unwritten(errno.EPIPE) if data else OK
+            for count in {0, 1, len(data) // 2, len(data) - 1} & {*range(len(data))}:
+                with tempfile.TemporaryFile() as output:
+                    status, _, message = program.run(words, b"", output, folder=folder, before=lambda: limit_files(count))
+                    output.seek(0)
+                    found = status, output.read(), message
+                yield f"{data[:40]}, a disk with {count} bytes", found, unwritten(errno.EFBIG, data[:count])
+
+
+def try_reading(program):
+    """What is told of an input whose lines are written, also onto others: which are left out, and that `encode` wrote it."""
+    broken, encoded = b"a\n\xff\nb\0\nc\xc3\xa9\n\xe2\x82", answer([b"encode"], LINES)[1]
+    with tempfile.TemporaryDirectory() as folder:
+        write_files(f"{folder}/old", columns_of(LINES))
+        known = LINES.split(b"\n")[:-1]
+        for name, data in ("broken", broken), ("encoded", encoded), ("both", encoded + broken):
+            Path(folder, name).write_bytes(data)
+            good, skipped = skip_invalid(data)
+            replaced = data.decode(errors="replace").encode()
+            hows = [([], data, b"")] if data == encoded else [([b"--invalid=skip"], good, skipped), ([b"--invalid=replace"], replaced, b"")]
+            for (how, text, told_of), onto, given in itertools.product(hows, (b"", b"old"), ([], [name.encode()])):
+                words = [b"encode", b"--plain", b"new", *how, *([b"--onto", onto] if onto else []), *given]
+                wanted = 0, b"", told_of + warned(data, given[0] + b": " if given else b"")
+                yield f"{words} of {data[:40]}", program.run(words, data, folder=folder), wanted
+                yield f"{words} of {data[:40]}, files", files_in(f"{folder}/new"), columns_of(text, known if onto else ())
+        words = b"encode --plain bad --onto old encoded broken".split()
+        wanted = failed(2, b"broken: line 2 is not UTF-8 (see --invalid)")
+        yield f"{words}", program.run(words, folder=folder), wanted
+
+
+def try_several(program):
+    """Of several folders the last one is written, and of several to write onto the last one is read."""
+    with tempfile.TemporaryDirectory() as folder:
+        write_files(f"{folder}/old", columns_of(b"old\n"))
+        write_files(f"{folder}/older", columns_of(b"older\n"))
+        for words, before in (
+                (b"encode --plain a --onto older --plain b --onto old --plain new", b"old"),
+                (b"encode --plain=a --plain=new --onto=old --onto=older", b"older"),
+                (b"encode --onto nowhere --plain=a --onto=older --plain new", b"older")):
+            yield f"{words}", program.run(words.split(), LINES, folder=folder), OK
+            yield f"{words}, files", files_in(f"{folder}/new"), columns_of(LINES, [before])
+            yield f"{words}, folders", sorted(path.name for path in Path(folder).iterdir()), ["new", "old", "older"]
+
+
 LINES = b"red\ngreen\n"
+# Distinct lines, more than a number of 16 bits counts.
+MANY_LINES = b"".join(b"%d\n" % number for number in range(MANY))
 # Files that are damaged, and the message.
 DAMAGED = (
     (b"red\ngreen", npy([0]), b"dict.txt does not end in a newline"),
@@ -118,6 +179,10 @@ DAMAGED = (
     (LINES, npy([0, 1])[:-1], b"codes.npy has another length than its header says"),
     (LINES, npy([0, 1])[:-4], b"codes.npy has another length than its header says"),
     (LINES, npy([0, 1]) + b"\0" * 4, b"codes.npy has another length than its header says"),
+    # Far behind the first line and number.
+    (MANY_LINES + b"\xff\n", npy([0]), b"dict.txt: line %d is not UTF-8" % (MANY + 1)),
+    (LINES, npy([1] * MANY + [2]), b"codes[%d] is not the number of a line of dict.txt" % MANY),
+    (MANY_LINES, npy([*range(MANY), MANY, 0]), b"codes[%d] is not the number of a line of dict.txt" % MANY),
 )
 
 
@@ -138,6 +203,8 @@ REPEATED = (
     (b"a\nb\nc\nb\na\n", npy([4, 3, 2, 0, 1, 1]), b"a\nb\nc\na\nb\nb\n", 4),
     (b"\n\n", npy([1, 0]), b"\n\n", 2),
     (b"\n\n", npy([]), b"", 2),
+    (MANY_LINES + b"7\n", npy([MANY, 0]), b"7\n0\n", MANY + 1),
+    (MANY_LINES + MANY_LINES, npy([]), b"", MANY + 1),
 )
 
 
@@ -145,10 +212,10 @@ def try_repeated(program, lines, numbers, text, line):
     """Lines may be there twice, as if they were masked, unless lines of a text are to get their codes."""
     with tempfile.TemporaryDirectory() as folder:
         write_files(f"{folder}/it", {"dict.txt": lines, "codes.npy": numbers})
-        yield f"{lines!r}", program.run([b"decode", b"it"], folder=folder), (0, text, b"")
+        yield f"{lines[:40]}", program.run([b"decode", b"it"], folder=folder), (0, text, b"")
         ended = program.run(b"encode --onto it --plain new".split(), b"a\n", folder=folder)
-        yield f"{lines!r}, written onto", ended, failed(2, b"it: dict.txt: line %d repeats an earlier line" % line)
-        yield f"{lines!r}, what was written", Path(folder, "new").exists(), False
+        yield f"{lines[:40]}, written onto", ended, failed(2, b"it: dict.txt: line %d repeats an earlier line" % line)
+        yield f"{lines[:40]}, what was written", Path(folder, "new").exists(), False
 
 
 def try_missing(program):
@@ -244,6 +311,9 @@ def trials():
     return [
         *((try_text, data) for data in TEXTS),
         (try_texts_in_turn,),
+        (try_output,),
+        (try_reading,),
+        (try_several,),
         *((try_onto, *both) for both in itertools.product(TEXTS[:-2], repeat=2)),
         *((try_damaged, *given) for given in DAMAGED),
         *((try_repeated, *given) for given in REPEATED),

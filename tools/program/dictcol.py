@@ -35,7 +35,7 @@ def operands(words):
     for word in left:
         if word == b"--":
             return [*found, *left]
-        if word in (b"--backend", b"--invalid"):
+        if word in (b"--backend", b"--invalid", b"--plain", b"--onto", b"--files0-from"):
             next(left, None)
         elif word == b"-" or not word.startswith(b"-"):
             found.append(word)
@@ -241,6 +241,23 @@ def try_large(program, name):
             yield f"{name}, counted", all(map(operator.eq, counts, wanted)) and counts.read() == b"", True
 
 
+def try_long_input(program, length, number):
+    """So many lines of this many bytes, which are zero and take no room on the disk. No part of them is held here."""
+    with tempfile.TemporaryDirectory() as folder:
+        given, wanted = Path(folder, "given"), Path(folder, "wanted")
+        with open(given, "wb") as lines:
+            for end in range(1, number + 1):
+                lines.seek(end * (length + 1) - 1)
+                lines.write(b"\n")
+        with open(wanted, "wb") as counts:
+            counts.write(b"%d " % number)
+            counts.seek(length, os.SEEK_CUR)
+            counts.write(b"\n")
+        with open(given, "rb") as lines, open(f"{folder}/counts", "wb") as counts:
+            yield f"{number} lines of {length} bytes", program.run([b"count"], lines, counts), (0, b"", b"")
+        yield f"{number} lines of {length} bytes, counted", filecmp.cmp(wanted, f"{folder}/counts", shallow=False), True
+
+
 def chosen_lines(length, start, key):
     """Lines of 32 letters that all have one code under a hasher that multiplies 16 bytes at a time: the first eight with its
     state, and the others with a key. Where its state is eight letters and the next eight are these, the product is 0 whatever
@@ -312,5 +329,6 @@ def parts():
         ),
         # Alone, since it compares times.
         "chosen": [(try_chosen_lines,)],
-        "large": [(try_large, name) for name in LARGE],
+        # The second is longer than a number of 32 bits counts.
+        "large": [*((try_large, name) for name in LARGE), (try_long_input, 130 * MEBIBYTE, 2), (try_long_input, MEBIBYTE, 4100)],
     }

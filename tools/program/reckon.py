@@ -49,9 +49,9 @@ def is_utf8(line):
         return False
 
 
-def skip_invalid(data):
+def skip_invalid(data, end=b"\n"):
     """The lines that are UTF-8, and how a run tells of the others."""
-    lines = re.findall(rb"[^\n]*\n|[^\n]+", data)
+    lines = re.findall(rb"[^%b]*%b|[^%b]+" % (end, end, end), data)
     good = [line for line in lines if is_utf8(line)]
     left_out = len(lines) - len(good)
     return b"".join(good), b"dictcol: lines left out that are not UTF-8: %d\n" % left_out if left_out else b""
@@ -70,11 +70,11 @@ def warned(data, name=b""):
 def answer(words, data):
     """How a run of `encode` or `count` on UTF-8 must end, as Python reckons it. With `--invalid` it need not be UTF-8."""
     told, warning = b"", warned(data)
+    end = b"\0" if b"-z" in words else b"\n"
     if b"--invalid=replace" in words:
         data = data.decode(errors="replace").encode()
     elif b"--invalid=skip" in words:
-        data, told = skip_invalid(data)
-    end = b"\0" if b"-z" in words else b"\n"
+        data, told = skip_invalid(data, end)
     lines = data.removesuffix(end).split(end) if data else []
     counts = Counter(lines)
     if words[0] == b"encode":

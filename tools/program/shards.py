@@ -188,6 +188,8 @@ def try_random(program, seed):
 def trials():
     return [
         *((try_text, data, count) for data in TEXTS for count in (1, 2, 3, 20)),
+        # More than a byte numbers.
+        (try_text, LONG, 300),
         (try_reading,),
         (try_recipe,),
         (try_failing,),

@@ -12,6 +12,7 @@ from itertools import product
 from pathlib import Path
 
 from edits import TOP
+from program.columns import OK, columns_of, files_in
 from program.reckon import ENCODED, MEMORY, answer, failed, is_utf8, misused, told, unreadable, unwritten, warned
 
 VERSION = (TOP / "VERSION").read_bytes().strip()
@@ -50,9 +51,9 @@ def try_operands(program):
             ended = program.run([b"count", b"lines"], b"", full, folder=folder)
         yield "a file on a full disk", ended, unwritten(errno.ENOSPC)
     for words, number in (([b"count", b"\xff"], 2), ([b"\xff", b"\xff"], 1),
-                          ([b"count", "é".encode(), b"a\xc3", b"a" * 9999], 3)):
+                          ([b"count", "é".encode(), b"a\xc3", b"a" * 9999], 3), ([b"count", *[b"a"] * 200, b"\xff"], 202)):
         wanted = failed(2, b"argument %d is not UTF-8 (a file with such a name can be standard input)" % number)
-        yield f"an argument that is not UTF-8: {words}", program.run(words), wanted
+        yield f"an argument that is not UTF-8: {words[-9:]}", program.run(words), wanted
     for words in [b"count", b"\xff" * 5000], [b"count", b"a" * 5000, b"\xff" * 5000]:
         yield "a long argument that is not UTF-8", program.run(words), failed(2, b"an argument is not UTF-8")
 
@@ -64,21 +65,30 @@ def write_files(folder, files):
     return names
 
 
+# So often one file is named.
+MANY_TIMES = 1500
+
+
 def try_many_files(program):
-    """A hundred files, of which some end in the midst of a line, a file that is named twice, and a line of 100 kB in two files."""
+    """A hundred files, of which some end in the midst of a line, a file that is named twice and 1,500 times, and a line of 110 kB
+    in two files."""
     parts = [b"%d\nline\n%s" % (number % 7, b"half" * (number % 3)) for number in range(100)]
     with tempfile.TemporaryDirectory() as folder:
         names = write_files(folder, parts)
         for word in b"encode", b"count":
             yield f"{word} of 100 files", program.run([word, *names], folder=folder), answer([word], b"".join(parts))
-            yield f"{word} of a file twice", program.run([word, names[1], names[1]], folder=folder), answer([word], parts[1] * 2)
+            for times in 2, MANY_TIMES:
+                ended = program.run([word, *[names[1]] * times], folder=folder)
+                yield f"{word} of a file {times} times", ended, answer([word], parts[1] * times)
     with tempfile.TemporaryDirectory() as folder:
         names = write_files(folder, [answer([b"encode"], part)[1] for part in parts])
         yield "100 files merged", program.run([b"merge", *names], folder=folder), answer([b"encode"], b"".join(parts))
-        yield "a file merged twice", program.run([b"merge", names[1], names[1]], folder=folder), answer([b"encode"], parts[1] * 2)
+        for times in 2, MANY_TIMES:
+            ended = program.run([b"merge", *[names[1]] * times], folder=folder)
+            yield f"a file merged {times} times", ended, answer([b"encode"], parts[1] * times)
         for backend in b"string", b"bucket", b"buffer":
             yield from try_refused_files(program, folder, [b"merge", b"--backend", backend, *names[:12]])
-    halves = b"a\n" + b"b" * 60000, b"b" * 40000 + b"\nb\n"
+    halves = b"a\n" + b"b" * 70000, b"b" * 40000 + b"\nb\n"
     with tempfile.TemporaryDirectory() as folder:
         names = write_files(folder, halves)
         for word in b"encode", b"count":
@@ -111,12 +121,28 @@ def try_blocks(program):
 
 
 def try_many_lines(program):
-    """2^22 lines, of which each second one is new."""
-    data = b"".join(b"%d\nx\n" % number for number in range(1 << 21))
+    """More than 2^22 lines, of which each second one is new, also behind others."""
+    data = b"".join(b"%d\nx\n" % number for number in range((1 << 21) + 1))
     encoded = program.run([b"encode"], data)
     yield "2^22 lines, encoded", encoded, answer([b"encode"], data)
     yield "2^22 lines, decoded", program.run([b"decode"], encoded.output), (0, data, b"")
     yield "2^22 lines, counted", program.run([b"count", b"--sorted"], data), answer([b"count", b"--sorted"], data)
+    with tempfile.TemporaryDirectory() as folder:
+        names = write_files(folder, [answer([b"encode"], b"7\ny")[1], encoded.output])
+        yield "2^22 lines, merged", program.run([b"merge", *names], folder=folder), answer([b"encode"], b"7\ny" + data)
+        for words, before in (b"encode --plain new", ()), (b"encode --plain new --onto new", (b"0", b"x")):
+            yield f"2^22 lines, {words}", program.run(words.split(), data, folder=folder), OK
+            yield f"2^22 lines, {words}, files", files_in(f"{folder}/new"), columns_of(data, before)
+        yield "2^22 lines, decoded from plain columns", program.run([b"decode", b"new"], folder=folder), (0, data, b"")
+
+
+def try_long_lines(program):
+    """Lines of 5 MiB, of which no newline ends the last one, also mended."""
+    long = b"a" * (5 << 20)
+    for data, words in product((long, long + b"\n" + long, long + b"\xff\n" + long), ([b"encode"], [b"count"])):
+        for how in b"--invalid=replace", b"--invalid=skip":
+            name = f"{words}, {how!r} of {len(data)} bytes"
+            yield name, program.run([*words, how], data), answer([*words, how], data)
 
 
 def read_terminal(program, words, given, **streams):
@@ -153,6 +179,11 @@ def try_terminal(program):
             given.seek(0)
             found = read_terminal(program, words, given, stdout=True, stderr=False)
             yield f"{words} of {length} bytes to a terminal", found, answer(words, data)[:2]
+            with tempfile.TemporaryDirectory() as folder:
+                halves = data[:TOLD_FROM // 2], data[TOLD_FROM // 2:]
+                paths = [os.path.join(os.fsencode(folder), name) for name in write_files(folder, halves)]
+                shown = read_terminal(program, [*words, *paths], given, stdout=False, stderr=True)
+            yield f"{words}, progress of {length} bytes in two files", shown, (0, progress)
     for words, data in ([b"encode"], b"a\nb\n"), ([b"count"], b"a\na"), ([b"decode"], answer([b"encode"], b"a\n\nb")[1]):
         with tempfile.TemporaryFile() as given:
             given.write(data)
@@ -214,12 +245,16 @@ def try_encoded(program):
 
 # Lines that newlines end become lines that zero bytes end.
 EXCHANGED = bytes.maketrans(b"\n\0", b"\0\n")
+# Longer than a block of the input, and more newlines than a number of 16 bits counts.
+MANY_LINES = b"a\n" * 200000
 # Some files, and the one that is named for a line that is not UTF-8, with the number of the line there.
 BAD_LINES = (
     ((b"a\n\xff\n", b"b"), 0, 2), ((b"a", b"\xff\n"), 1, 1), ((b"a\nb\n", b"", b"c\n\xff", b""), 2, 2),
     ((b"a\n", b"\n\n\xff\n\n"), 1, 3),
     ((b"\xff", b""), 0, 1), ((b"", b"\xff"), 1, 1), ((b"a\n", b"\xc3", b"x\n"), 2, 1), ((b"a\n", b"\xc3\n", b"\xa9\n"), 1, 1),
     ((b"a\n" * 300, b"b\n" * 200 + b"\xff"), 1, 201),
+    ((b"a\n", MANY_LINES + b"\xff\n"), 1, 200001), ((MANY_LINES, b"a\n\xff\n"), 1, 2), ((b"\n" * 200000, b"\xff"), 1, 1),
+    ((MANY_LINES + b"\xff\n", b"a\n"), 0, 200001), ((b"\n" * 70000, MANY_LINES, b"\n" * 70000 + b"\xff"), 2, 70001),
 )
 
 
@@ -243,16 +278,17 @@ def try_files(program):
             words = [b"count", names[0], name, names[2]]
             yield f"{words}", program.run(words, folder=folder), (1, b"", unreadable(error, name + b": "))
     for files, place, line in BAD_LINES:
+        shown = [(file[:20], len(file)) for file in files]
         with tempfile.TemporaryDirectory() as folder:
             names = write_files(folder, files)
             for word in b"encode", b"count":
                 wanted = failed(2, b"%s: line %d is not UTF-8 (see --invalid)" % (names[place], line))
-                yield f"{word} of {files}", program.run([word, *names], folder=folder), wanted
+                yield f"{word} of {shown}", program.run([word, *names], folder=folder), wanted
             for words in [b"encode", b"--invalid=replace"], [b"count", b"--invalid=skip"]:
-                yield f"{words} of {files}", program.run([*words, *names], folder=folder), answer(words, b"".join(files))
+                yield f"{words} of {shown}", program.run([*words, *names], folder=folder), answer(words, b"".join(files))
             zero_ended = write_files(folder, [it.translate(EXCHANGED) for it in files])
             wanted = failed(2, b"%s: line %d is not UTF-8 (see --invalid)" % (zero_ended[place], line))
-            yield f"count -z of {files}", program.run([b"count", b"-z", *zero_ended], folder=folder), wanted
+            yield f"count -z of {shown}", program.run([b"count", b"-z", *zero_ended], folder=folder), wanted
 
 
 def try_counts_of_encoded(program):
@@ -276,6 +312,149 @@ def try_counts_of_encoded(program):
             words = [b"count", b"--encoded", *names[:place], b"bad", *names[place:]]
             yield f"{words}", program.run(words, folder=folder), failed(2, b'bad: no array "dictionary"')
         yield from try_refused_files(program, folder, [b"count", b"--encoded", b"--sorted", *names[:3]])
+
+
+def ended_names(names):
+    return b"".join(name + b"\0" for name in names)
+
+
+# Lists of names: the list and what is told of it.
+BAD_LISTS = (
+    (b"\0", b"1: invalid zero-length file name"),
+    (b"one\0\0one\0", b"2: invalid zero-length file name"),
+    (b"one\0one\0\0", b"3: invalid zero-length file name"),
+    (b"one\0\xff\0", b"2: the file name is not UTF-8 (a file with such a name can be standard input)"),
+    (b"one\0o\n\xc3", b"2: the file name is not UTF-8 (a file with such a name can be standard input)"),
+)
+
+
+def try_lists(program):
+    """Files that a list names are read as those that the arguments name."""
+    files = {b"one": b"red\ngreen", b"two lines\n\n": b"ish\nred\n", b"--sorted": b"blue", b"./-": b"\n\nblue\n"}
+    whole = b"".join(files.values())
+    with tempfile.TemporaryDirectory() as folder:
+        for name, data in files.items():
+            Path(folder, os.fsdecode(name)).write_bytes(data)
+        for listed in ended_names(files), ended_names(files)[:-1]:
+            Path(folder, "list").write_bytes(listed)
+            for words in [b"encode"], [b"count"], [b"count", b"--sorted", b"--backend=buffer"], [b"encode", b"--invalid=skip"]:
+                for option in [b"--files0-from=list"], [b"--files0-from", b"./list"], [b"--files0-from=one", b"--files0-from=list"]:
+                    yield f"{words} {option}", program.run([*option, *words], b"\xff", folder=folder), answer(words, whole)
+                ended = program.run([*words, b"--files0-from=-"], listed, folder=folder)
+                yield f"{words} of a list in standard input", ended, answer(words, whole)
+            yield "shards", program.run(b"shard 1 it --files0-from=list".split(), folder=folder), (0, b"", b"")
+            yield "shards of a list", Path(folder, "it", "0").read_bytes(), whole
+            Path(folder, "it", "0").unlink()
+            Path(folder, "it", "order").unlink()
+            Path(folder, "it").rmdir()
+            yield "columns", program.run(b"encode --plain columns --files0-from=list".split(), folder=folder), (0, b"", b"")
+            yield "columns of a list", program.run([b"decode", b"columns"], folder=folder), (0, whole, b"")
+        Path(folder, "list").write_bytes(b"one\0-\0two lines\n\n")
+        ended = program.run(b"count --files0-from=list".split(), files[b"--sorted"], folder=folder)
+        yield "a list with standard input", ended, answer([b"count"], b"".join([*files.values()][:1]) + b"blueish\nred\n")
+        Path(folder, "none").write_bytes(b"")
+        for words, given in ([b"--files0-from=none"], b"red\n"), ([b"--files0-from=-"], b""):
+            for word in [b"count"], [b"encode"], [b"count", b"--encoded"]:
+                wanted = answer([b"encode"], b"") if word == [b"encode"] else (0, b"", b"")
+                yield f"{word} of no file", program.run([*word, *words], given, folder=folder), wanted
+        names = write_files(folder, [answer([b"encode"], part)[1] for part in (b"red\ngreen", b"ish\nred\n")])
+        Path(folder, "7.json").write_bytes(ended_names(names))
+        words = [b"count", b"--encoded", b"--files0-from=7.json"]
+        yield "encoded files of a list", program.run(words, folder=folder), answer([b"count"], b"red\ngreenish\nred\n")
+        yield from try_refused_files(program, folder, words)
+        yield from try_refused_files(program, folder, [b"count", b"--files0-from=7.json", b"--invalid=replace"])
+
+
+def try_bad_lists(program):
+    """A list that names no file, files that are not there, and standard input where it is the list."""
+    with tempfile.TemporaryDirectory() as folder:
+        Path(folder, "one").write_bytes(b"red\n")
+        Path(folder, "bytes").write_bytes(b"red\n\xff\n")
+        Path(folder, "none").write_bytes(b"")
+        input_twice = b"2: standard input is named twice"
+        list_is_input = b"%d: no file name may be '-' if the names come from standard input"
+        for word in b"count", b"encode", b"shard 2 it", b"encode --plain it", b"count --encoded":
+            for data, message in (*BAD_LISTS, (b"-\0-\0", input_twice)):
+                Path(folder, "list").write_bytes(data)
+                words = [*word.split(), b"--files0-from=list"]
+                yield f"{words} of {data}", program.run(words, b"a\n", folder=folder), failed(2, b"list:" + message)
+            for data, message in (*BAD_LISTS, (b"-", list_is_input % 1), (b"one\0-\0one", list_is_input % 2)):
+                words = [*word.split(), b"--files0-from", b"-"]
+                yield f"{words} of {data}", program.run(words, data, folder=folder), failed(2, b"-:" + message)
+            for name, error in (b"missing", errno.ENOENT), (b".", errno.EISDIR), (b"one/", errno.ENOTDIR):
+                wanted = 1, b"", unreadable(error, name + b": ")
+                words = [*word.split(), b"--files0-from=-"]
+                front = b"" if b"--encoded" in words else b"none\0"
+                yield f"{words} of {name}", program.run(words, front + name, folder=folder), wanted
+                words = [*word.split(), b"--files0-from", name]
+                yield f"{words}", program.run(words, b"one\0", folder=folder), wanted
+        wanted = failed(2, b"bytes: line 2 is not UTF-8 (see --invalid)")
+        yield "a bad line in a list", program.run(b"count --files0-from=-".split(), b"one\0bytes\0one", folder=folder), wanted
+        yield "nothing is left", sorted(path.name for path in Path(folder).iterdir()), ["bytes", "list", "none", "one"]
+
+
+# More names than arguments may be, which take two megabytes.
+LISTED = 300000
+
+
+def try_long_list(program):
+    with tempfile.TemporaryDirectory() as folder:
+        Path(folder, "a line").write_bytes(b"red\n")
+        ended = program.run(b"count --files0-from=-".split(), b"a line\0" * LISTED, folder=folder)
+        yield f"a list of {LISTED} names", ended, (0, b"%d red\n" % LISTED, b"")
+
+
+# Words with control characters, and how Rust's `{:?}` writes them.
+CONTROLS = (
+    ("no\x1b[31msuch\nfile", r'"no\u{1b}[31msuch\nfile"'), ("\t", r'"\t"'), ("a\r", r'"a\r"'), ("\x7f", r'"\u{7f}"'),
+    ("\x9b31m", r'"\u{9b}31m"'), ("é\n", r'"é\n"'), ('"\\\x01', r'"\"\\\u{1}"'), ("'\n\n", r'''"'\n\n"'''),
+)
+
+
+def try_controls(program):
+    """No control character of a word or of the name of a file comes to the terminal. Other words are told as they are."""
+    encoded = answer([b"encode"], b"a\n")[1]
+    with tempfile.TemporaryDirectory() as folder:
+        plain = (("a b", "a b"), ('"', '"'), ("é\\n'", "é\\n'"))
+        for word, shown in (*CONTROLS, *plain):
+            name, told_name = word.encode(), shown.encode()
+            between = told_name if (word, shown) in CONTROLS else b"'%s'" % told_name
+            missing = 1, b"", unreadable(errno.ENOENT, told_name + b": ")
+            for words in ([b"count", name], [b"merge", name], [b"decode", name], [b"encode", b"--files0-from", name]):
+                yield f"{words}", program.run(words, folder=folder), missing
+            yield f"{word!r} in a list", program.run(b"count --files0-from=-".split(), name, folder=folder), missing
+            for words, message in (
+                ([name], b"unknown command %s" % between),
+                ([b"decode", b"a", name], b"extra operand %s" % between),
+                ([b"count", b"--backend=" + name], b"unknown backend %s" % between),
+                ([b"count", b"--invalid", name], b"option '--invalid' takes error, replace or skip, and not %s" % between),
+                ([b"shard", name, b"it"], b"shard takes a number of files, and not %s" % between),
+                ([b"count", b"--files0-from=a", name], b"extra operand %s: files are named by option '--files0-from'" % between),
+            ):
+                yield f"{words}", program.run(words, folder=folder), misused(message)
+            Path(folder, word).write_bytes(b"\0")
+            wanted = failed(2, told_name + b":1: invalid zero-length file name")
+            yield f"the list {word!r}", program.run([b"count", b"--files0-from", name], folder=folder), wanted
+            Path(folder, word).write_bytes(encoded)
+            wanted = *answer([b"count"], encoded)[:2], warned(encoded, told_name + b": ")
+            yield f"a warning of {word!r}", program.run([b"count", name], folder=folder), wanted
+            wanted = failed(1, b"%s: cannot write files: %s" % (told_name, told(errno.EEXIST)))
+            yield f"the folder {word!r}", program.run([b"shard", b"2", name], folder=folder), wanted
+        for words in [b"--a\nb"], [b"count", b"-\x1b"]:
+            shown = words[-1].replace(b"\n", b"\\n").replace(b"\x1b", b"\\u{1b}")
+            yield f"{words}", program.run(words), misused(b'unknown option "%s"' % shown)
+
+
+def try_folders(program):
+    """In the place of a file, a folder that encode --plain wrote is told as one."""
+    with tempfile.TemporaryDirectory() as folder:
+        yield "a folder", program.run(b"encode --plain it".split(), b"red\n", folder=folder), (0, b"", b"")
+        wanted = failed(1, b"it: a folder that encode --plain wrote; decode writes its text")
+        for words in (b"merge it", b"merge - it", b"count --encoded it", b"count it", b"encode it", b"shard 2 new it",
+                      b"encode --plain new it", b"count --files0-from=it"):
+            ended = program.run(words.split(), answer([b"encode"], b"a\n")[1], folder=folder)
+            yield f"{words}", ended, wanted
+        yield "decoded", program.run(b"decode it".split(), folder=folder), (0, b"red\n", b"")
 
 
 def try_refused_files(program, folder, words):
@@ -310,12 +489,11 @@ def try_invalid(program):
     """Lines that are not UTF-8 as a file has them, alone and among others, at its end and across blocks."""
     long = b"a" * 100000
     inputs = [b"", b"\n", b"a\nb", *BROKEN, *(line + b"\n" for line in BROKEN), b"\n".join(BROKEN), b"\na\n".join([*BROKEN, b""]),
-              b"\n".join([long, long + b"\xff", long, b"\xff" + long, b""]), b"\xc3\n" * 50000, b"\xe2" * 200000]
+              b"\n".join([long, long + b"\xff", long, b"\xff" + long, b""]), b"\xc3\n" * 70000, b"\xe2" * 200000]
     for data, words in product(inputs, ([b"encode"], [b"count"], [b"count", b"-z"])):
-        for how in b"--invalid=replace", b"--invalid=skip":
-            if how == b"--invalid=replace" or b"-z" not in words:
-                name = f"{words}, {how!r} of {len(data)} bytes, {data[:40]!r}"
-                yield name, program.run([*words, how], data), answer([*words, how], data)
+        for how, given in product((b"--invalid=replace", b"--invalid=skip"), (data, data.translate(EXCHANGED))):
+            name = f"{words}, {how!r} of {len(given)} bytes, {given[:40]!r}"
+            yield name, program.run([*words, how], given), answer([*words, how], given)
     for words, wanted in (([b"--invalid", b"skip"], (0, b"1 a\n", b"dictcol: lines left out that are not UTF-8: 1\n")),
                           ([b"--invalid=skip", b"--invalid=error"], failed(2, b"line 1 is not UTF-8 (see --invalid)"))):
         yield f"{words}", program.run([b"count", *words], b"\xff\na\n"), wanted
@@ -334,6 +512,20 @@ def try_random_bytes(program, seed):
         yield f"{words} of {data!r}", program.run(words, data), answer(words, data)
 
 
+def try_drawing(program):
+    """Two keys of eight random bytes each are drawn by what hashes lines under keys, and none by anything else."""
+    with tempfile.TemporaryDirectory() as folder:
+        encoded = answer([b"encode"], LINES)[1]
+        names = write_files(folder, [encoded, encoded])
+        for words, given, count in (
+                (b"encode", LINES, 16), (b"count", LINES, 16), (b"count --sorted -z", LINES, 16), (b"decode", encoded, 16),
+                (b"encode --invalid=skip", LINES, 16), (b"merge 0.json 1.json", b"", 16), (b"count --encoded", encoded, 16),
+                (b"encode --plain new", LINES, 16), (b"encode --plain new --onto new", LINES, 16), (b"decode new", b"", 0),
+                (b"shard 2 shards", LINES, 0), (b"--help", b"", 0)):
+            ended = program.run(words.split(), given, folder=folder, TELL_DRAWN=1)
+            yield f"{words}, the random bytes of {len(names)} files", (ended.status, ended.error), (0, b"draws %d\n" % count)
+
+
 def try_telling_to_a_full_disk(program):
     for word in b"--help", b"--version":
         with open("/dev/full", "wb") as full:
@@ -343,8 +535,8 @@ def try_telling_to_a_full_disk(program):
 def trials():
     return [(trial,) for trial in (
         try_telling_to_a_full_disk, try_operands, try_files, try_many_files, try_encoded, try_counts_of_encoded, try_merges,
-        try_invalid, try_blocks, try_help)]
+        try_invalid, try_blocks, try_drawing, try_help, try_lists, try_bad_lists, try_controls, try_folders)]
 
 
 def long_trials():
-    return [(try_many_lines,), (try_terminal,)]
+    return [(try_many_lines,), (try_long_lines,), (try_terminal,), (try_long_list,)]

@@ -99,8 +99,17 @@ class ClientsBuild(unittest.TestCase):
     def test_makes_the_module_again_after_an_edit(self):
         self.build()
         self.edit(self.top / "clients/python/setup.py")
-        self.build()
+        self.assertRegex(self.build().stderr, "making the module for Python by /usr/bin/python3\n")
         self.assertEqual((self.proofs, self.modules), (1, 2))
+
+    def test_makes_all_again_after_an_edit_with_an_older_time(self):
+        self.build()
+        for path in ("clients/c/string_interner.h", "clients/python/setup.py"):
+            with open(self.top / path, "a", encoding="utf-8") as file:
+                file.write("\n")
+            os.utime(self.top / path, (1, 1))
+            self.build()
+        self.assertEqual((self.proofs, self.modules), (2, 3))
 
     def test_shows_the_log_of_a_failed_proof(self):
         self.build()

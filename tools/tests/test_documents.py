@@ -139,6 +139,20 @@ class DocumentsTest(SmallRepository):
         self.write(page, "//! Halves.\n//!\n//! ```\n//! number / 3\n//! ```\n")
         self.assertEqual(list(documents.faults()), [f"{page}: in no crate: number / 3"])
 
+    def test_libraries_that_are_trusted(self):
+        page = "docs/promises.md"
+        self.write("crates.txt", "low: std_alloc json\nhigh: low\n")
+        row = "| `low` | `json`, `std_alloc` |\n"
+        self.write(page, row)
+        self.assertEqual(list(documents.faults()), [])
+        self.write(page, row.replace("`json`, ", ""))
+        self.assertEqual(list(documents.faults()), [f"{page}: does not name json, which low uses"])
+        self.write(page, f"{row}| `high` | `json` |\n")
+        self.assertEqual(list(documents.faults()), [f"{page}: names json, which high does not use"])
+        self.write(page, "")
+        missing = ["json", "std_alloc"]
+        self.assertEqual(list(documents.faults()), [f"{page}: does not name {it}, which low uses" for it in missing])
+
     def test_versions(self):
         places = {
             "CHANGELOG.md": "# Changes\n\n## [Unreleased]\n\n## [0.2.0] - 2030-01-02\n\n## [0.1.0] - 2029-01-02\n",

@@ -97,6 +97,21 @@ class Start(unittest.TestCase):
             self.edit(path, "new" if path == self.source else (self.top / "crates.txt").read_text())
             self.assertIn("proving and building", self.run_bin("string").stderr, path)
 
+    def test_builds_again_after_an_edit_with_an_older_time(self):
+        self.run_bin("string")
+        self.write(self.source, "new")
+        ran = self.run_bin("string")
+        self.assertEqual(ran.stdout, "new string\n")
+        self.assertIn("proving and building", ran.stderr)
+
+    def test_copies_and_links_are_current(self):
+        self.run_bin("string")
+        os.link(self.source, self.top / "rt/linked")
+        copy = shutil.copytree(self.top, self.top.with_name("copied"))
+        for top in (self.top, copy):
+            ran = subprocess.run([top / "bin/intern", "x"], stdin=subprocess.DEVNULL, capture_output=True, encoding="utf-8", check=False)
+            self.assertEqual((ran.returncode, ran.stdout, ran.stderr), (0, "old x\n", ""), top)
+
     def test_no_edit_of_another_crate_builds_again(self):
         self.run_bin("string")
         self.edit(self.top / "crates/dictcol/src/main.rt", "")

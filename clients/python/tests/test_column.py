@@ -18,7 +18,7 @@ from array import array
 from hypothesis import settings, strategies
 from hypothesis.stateful import RuleBasedStateMachine, initialize, invariant, rule
 from test_protocols import Number
-from test_safety import LyingStr, collecting, run_apart, running
+from test_safety import HANGS, LyingStr, collecting, run_apart, running
 
 from string_interner import Column, Interner, _column, _native
 
@@ -150,7 +150,7 @@ class BesideAList(RuleBasedStateMachine):
         before.extend(["only there", None])
 
     @rule(make=strategies.sampled_from((
-        lambda it: Column.from_buffers(*it.to_buffers()), lambda it: Column.from_parts(it.dictionary, it.codes),
+        lambda it: Column.from_buffers(*it.to_buffers()), lambda it: Column.from_parts(it.dictionary, it.codes), Column.from_arrow,
         lambda it: Column.from_buffers(it.to_buffers()[0], offsets=[0, *it.to_buffers()[1]], codes=it.codes),
         lambda it: Column.from_parts(Interner(it.dictionary), iter(it.codes)),
     )))
@@ -1116,7 +1116,7 @@ class SharedColumns(unittest.TestCase):
         for thread in threads:
             thread.start()
         for thread in threads:
-            thread.join(100)
+            thread.join(HANGS)
         self.assertEqual((len(seen), all(seen), len(column), column.distinct), (200, True, 4 * 50 * 103, 4 * 51))
         for name in "abcd":
             self.assertEqual(column.count(name), 100)
@@ -1168,7 +1168,7 @@ class SharedColumns(unittest.TestCase):
         for thread in threads:
             thread.start()
         for thread in threads:
-            thread.join(60)
+            thread.join(HANGS)
         self.assertEqual((len(one), len(other)), (1002, 1002))
         self.assertEqual((list(one), list(other)), (["a", "b"] + ["b", "c"] * 500, ["b", "c"] + ["a", "b"] * 500))
 
@@ -1208,7 +1208,7 @@ class SharedColumns(unittest.TestCase):
             if not child:
                 status = 1
                 try:
-                    signal.alarm(5)
+                    signal.alarm(HANGS)
                     rows = list(column)
                     column.append("new")
                     status = int(len(rows) % 3 or column[-1] != "new" or rows[:2] != ["a", None][: len(rows)])
@@ -1216,7 +1216,7 @@ class SharedColumns(unittest.TestCase):
                     os._exit(status)
             bad += os.waitpid(child, 0)[1] != 0
         ended.set()
-        filler.join(20)
+        filler.join(HANGS)
         self.assertEqual(bad, 0)
 
 

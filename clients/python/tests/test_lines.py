@@ -6,6 +6,7 @@ import io
 import os
 import pathlib
 import random
+import select
 import signal
 import tempfile
 import threading
@@ -200,20 +201,35 @@ class OfFiles(unittest.TestCase):
 
     def test_a_handler_ends_the_reading(self):
         reader, writer = os.pipe()
-        before = signal.signal(signal.SIGALRM, lambda *_: 1 // 0)
-        end = threading.Timer(20, os.close, (writer,))
-        end.start()
+        handled, has_ended = [], threading.Event()
+
+        def handle(*_):
+            if not handled:
+                handled.append(True)
+                raise ZeroDivisionError
+
+        def interrupt():
+            os.write(writer, b"a\n")
+            # The reading has begun once nothing is left in the pipe. A signal may still come just before the next read.
+            while select.select([reader], [], [], 0)[0] and not has_ended.wait(0.001):
+                pass
+            for _ in range(20_000):
+                signal.pthread_kill(threading.main_thread().ident, signal.SIGALRM)
+                if has_ended.wait(0.01):
+                    break
+            os.close(writer)
+
+        before = signal.signal(signal.SIGALRM, handle)
+        interrupter = threading.Thread(target=interrupt)
+        interrupter.start()
         try:
-            signal.setitimer(signal.ITIMER_REAL, 0.05)
             with self.assertRaises(ZeroDivisionError):
                 Column.from_file(reader)
         finally:
-            signal.setitimer(signal.ITIMER_REAL, 0)
+            has_ended.set()
+            interrupter.join()
             signal.signal(signal.SIGALRM, before)
             os.close(reader)
-            if end.is_alive():
-                end.cancel()
-                os.close(writer)
 
     def test_what_cannot_be_read(self):
         for wrong, error in ((self.path, FileNotFoundError), (self.path.parent, IsADirectoryError), (10**6, OSError), (-1, OSError),

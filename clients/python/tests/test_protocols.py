@@ -276,7 +276,7 @@ class Closing(unittest.TestCase):
             thread.start()
         interner.close()
         for thread in threads:
-            thread.join(20)
+            thread.join(600)
         self.assertEqual(raised, ["the interner is closed"] * 3)
 
     def test_an_error_closes_too(self):

@@ -12,6 +12,7 @@ pub mod StringTokens
 pub mod IsFileText
 pub mod StreamTokens
 pub mod Taken
+pub mod TrimEnd
 pub mod Counted
 pub mod CountRows
 pub mod PlainColumns

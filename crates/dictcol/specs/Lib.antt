@@ -5,7 +5,9 @@ pub mod Fault
 pub mod File
 pub mod Hasher
 pub mod Lines
+pub mod Names
 pub mod Plain
 pub mod Shards
+pub mod Shown
 pub mod StreamTokens
 pub mod Writes

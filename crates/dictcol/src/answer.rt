@@ -45,7 +45,8 @@ fn read_more<R: Read>(
     }
 }
 
-/// Reads the whole input.
+/// Reads the whole input, a block at a time: `read_to_end` would write zeros to all room before it reads there, and take a third
+/// longer than these copies.
 pub fn read<R: Read>(alloc: Global, input: &mut R) -> Result<Vec<u8>, Fault>
     ensures whole { IfOk result (λ bytes.
         IfSome (R.remaining input.old) (λ all. bytes.items ≡ all)) }

@@ -1,6 +1,10 @@
 //! The arguments.
 
+ghost use Rattle.std.specs.Prelude.{◌≡◌};
+ghost use Rattle.dictcol.specs.Names.{name_of};
+
 use crate::mend::Mending;
+use crate::shown::ShownWord;
 use std::alloc::Global;
 use std::num::NonZeroUsize;
 use thiserror::Error;
@@ -68,19 +72,47 @@ pub enum Source<'a> {
     File(&'a str),
 }
 
+impl<'a> Source<'a> {
+    /// Returns the file that a word names.
+    pub fn of_word(word: &'a str) -> Source<'a>
+        ensures { name_of result ≡ word.now }
+    {
+        if word == "-" {
+            Source::StandardInput
+        } else {
+            Source::File(word)
+        }
+    }
+}
+
+/// What is done with files.
+#[derive(Clone, Copy)]
+pub enum Action<'a> {
+    /// They are read one after another.
+    Do(Task, Reading),
+    /// Their lines are written as plain columns.
+    WriteColumns(Choice, Columns<'a>, Reading),
+    /// Their lines are written in shards.
+    WriteShards(Parts<'a>, Reading),
+    /// The files, which `encode` wrote, are merged in this order, and this is written of the lines.
+    Merge(Form, Choice),
+}
+
+/// Where the files are named.
+#[derive(Drop)]
+pub enum Files<'a> {
+    /// By the arguments. If there are none, standard input is read.
+    Named(Vec<Source<'a>>),
+    /// In this list. If there are none, nothing is read.
+    Listed(Source<'a>),
+}
+
 /// What the arguments ask for.
 #[derive(Drop)]
 pub enum Request<'a> {
     Help,
     Version,
-    /// The files are read one after another, or standard input if there are none.
-    Do(Task, Reading, Vec<Source<'a>>),
-    /// Their lines are written as plain columns.
-    WriteColumns(Choice, Columns<'a>, Reading, Vec<Source<'a>>),
-    /// Their lines are written in shards.
-    WriteShards(Parts<'a>, Reading, Vec<Source<'a>>),
-    /// The files, which `encode` wrote, are merged in this order, and this is written of the lines.
-    Merge(Form, Choice, Vec<Source<'a>>),
+    Act(Action<'a>, Files<'a>),
 }
 
 /// What is wrong with the arguments. It is displayed as the message for standard error.
@@ -88,32 +120,34 @@ pub enum Request<'a> {
 pub enum Misuse<'a> {
     #[error("missing command")]
     NoCommand,
-    #[error("unknown command '{0}'")]
-    UnknownCommand(&'a str),
-    #[error("unknown option '{0}'")]
-    UnknownOption(&'a str),
+    #[error("unknown command {0}")]
+    UnknownCommand(ShownWord<'a>),
+    #[error("unknown option {0}")]
+    UnknownOption(ShownWord<'a>),
     #[error("{0} takes no option '{1}'")]
     OptionOfAnother(&'static str, &'static str),
     #[error("option '{0}' needs a value")]
     NoValue(&'static str),
     #[error("option '{0}' needs option '{1}'")]
     NeedsOption(&'static str, &'static str),
-    #[error("option '{0}' takes no value")]
-    HasValue(&'a str),
-    #[error("unknown backend '{0}'")]
-    UnknownBackend(&'a str),
-    #[error("option '--invalid' takes error, replace or skip, and not '{0}'")]
-    UnknownMending(&'a str),
-    #[error("extra operand '{0}'")]
-    ExtraOperand(&'a str),
+    #[error("option {0} takes no value")]
+    HasValue(ShownWord<'a>),
+    #[error("unknown backend {0}")]
+    UnknownBackend(ShownWord<'a>),
+    #[error("option '--invalid' takes error, replace or skip, and not {0}")]
+    UnknownMending(ShownWord<'a>),
+    #[error("extra operand {0}")]
+    ExtraOperand(ShownWord<'a>),
+    #[error("extra operand {0}: files are named by option '--files0-from'")]
+    FileBesideList(ShownWord<'a>),
     #[error("option '{0}' excludes option '{1}'")]
     Excluded(&'static str, &'static str),
     #[error("merge needs a FILE")]
     NoFile,
     #[error("shard needs a number and a DIR")]
     NoParts,
-    #[error("shard takes a number of files, and not '{0}'")]
-    NoCount(&'a str),
+    #[error("shard takes a number of files, and not {0}")]
+    NoCount(ShownWord<'a>),
     #[error("standard input is named twice")]
     InputTwice,
     /// An allocation failed, which is no fault of the arguments.
@@ -147,13 +181,20 @@ impl Command {
             Command::Encode => {
                 option == "--plain"
                     || option == "--onto"
+                    || option == "--files0-from"
                     || option == "--backend"
                     || option == "--invalid"
             }
             Command::Decode => false,
-            Command::Count => option != "--plain" && option != "--onto",
+            Command::Count => {
+                option == "--sorted"
+                    || option == "--encoded"
+                    || option == "--files0-from"
+                    || option == "--backend"
+                    || is_of_lines(option)
+            }
             Command::Merge => option == "--backend",
-            Command::Shard => is_of_lines(option),
+            Command::Shard => option == "--files0-from" || is_of_lines(option),
         }
     }
 }
@@ -170,6 +211,8 @@ enum Next {
     Folder,
     /// The value of `--onto`.
     Onto,
+    /// The value of `--files0-from`.
+    List,
     /// Behind `--`.
     Operand,
 }
@@ -191,6 +234,8 @@ struct Given<'a> {
     folder: Option<&'a str>,
     /// What `--onto` says.
     onto: Option<&'a str>,
+    /// What `--files0-from` says.
+    list: Option<&'a str>,
     /// How many shards `shard` writes.
     count: Option<NonZeroUsize>,
     /// Where it writes them.
@@ -204,7 +249,7 @@ impl<'a> Given<'a> {
             "string" => Choice::String,
             "bucket" => Choice::Bucket,
             "buffer" => Choice::Buffer,
-            _ => return Err(Misuse::UnknownBackend(name)),
+            _ => return Err(Misuse::UnknownBackend(ShownWord(name))),
         });
         Ok(())
     }
@@ -215,7 +260,7 @@ impl<'a> Given<'a> {
             "error" => None,
             "replace" => Some(Mending::Replace),
             "skip" => Some(Mending::Skip),
-            _ => return Err(Misuse::UnknownMending(word)),
+            _ => return Err(Misuse::UnknownMending(ShownWord(word))),
         });
         Ok(())
     }
@@ -232,6 +277,12 @@ impl<'a> Given<'a> {
         Ok(())
     }
 
+    /// Takes the file that names the files. Of several the last decides.
+    fn take_list(&mut self, path: &'a str) -> Result<(), Misuse<'a>> {
+        self.list = Some(check_value("--files0-from", path)?);
+        Ok(())
+    }
+
     /// Takes the command.
     fn take_command(&mut self, word: &'a str) -> Result<(), Misuse<'a>> {
         self.command = Some(match word {
@@ -240,7 +291,7 @@ impl<'a> Given<'a> {
             "count" => Command::Count,
             "merge" => Command::Merge,
             "shard" => Command::Shard,
-            _ => return Err(Misuse::UnknownCommand(word)),
+            _ => return Err(Misuse::UnknownCommand(ShownWord(word))),
         });
         Ok(())
     }
@@ -252,7 +303,7 @@ impl<'a> Given<'a> {
                 let folder = word;
                 self.parts = Some(Parts { count, folder });
             }
-            None => self.count = Some(word.parse().map_err(|_| Misuse::NoCount(word))?),
+            None => self.count = Some(word.parse().map_err(|_| Misuse::NoCount(ShownWord(word)))?),
         }
         Ok(())
     }
@@ -264,11 +315,7 @@ impl<'a> Given<'a> {
             return Err(Misuse::InputTwice);
         }
         self.has_input |= is_input;
-        let file = if is_input {
-            Source::StandardInput
-        } else {
-            Source::File(word)
-        };
+        let file = Source::of_word(word);
         self.files.push(file).map_err(|_| Misuse::Memory)
     }
 
@@ -276,7 +323,9 @@ impl<'a> Given<'a> {
     fn take_operand(&mut self, word: &'a str) -> Result<(), Misuse<'a>> {
         match self.command {
             None => self.take_command(word),
-            Some(Command::Decode) if !self.files.is_empty() => Err(Misuse::ExtraOperand(word)),
+            Some(Command::Decode) if !self.files.is_empty() => Err(Misuse::ExtraOperand(ShownWord(
+                word,
+            ))),
             Some(Command::Shard) if self.parts.is_none() => self.take_parts(word),
             Some(_) => self.take_file(word),
         }
@@ -304,8 +353,11 @@ impl<'a> Given<'a> {
             Some(("--invalid", how)) => self.take_mending(how),
             Some(("--plain", path)) => self.take_folder(path),
             Some(("--onto", path)) => self.take_onto(path),
-            Some((option, _)) if is_flag(option) => Err(Misuse::HasValue(option)),
-            _ if word.starts_with('-') && word != "-" => Err(Misuse::UnknownOption(word)),
+            Some(("--files0-from", path)) => self.take_list(path),
+            Some((option, _)) if is_flag(option) => Err(Misuse::HasValue(ShownWord(option))),
+            _ if word.starts_with('-') && word != "-" => Err(Misuse::UnknownOption(ShownWord(
+                word,
+            ))),
             _ => self.take_operand(word),
         }
     }
@@ -315,6 +367,7 @@ impl<'a> Given<'a> {
         let given = [
             ("--plain", self.folder.is_some()),
             ("--onto", self.onto.is_some()),
+            ("--files0-from", self.list.is_some()),
             ("--sorted", self.is_sorted),
             ("--backend", self.choice.is_some()),
             ("--invalid", self.mending.is_some()),
@@ -342,6 +395,7 @@ impl<'a> Given<'a> {
             (Next::Mending, how) => self.take_mending(how)?,
             (Next::Folder, path) => self.take_folder(path)?,
             (Next::Onto, path) => self.take_onto(path)?,
+            (Next::List, path) => self.take_list(path)?,
             (Next::Operand, word) => {
                 self.take_operand(word)?;
                 return Ok(Next::Operand);
@@ -350,6 +404,7 @@ impl<'a> Given<'a> {
             (Next::OptionOrOperand, "--invalid") => return Ok(Next::Mending),
             (Next::OptionOrOperand, "--plain") => return Ok(Next::Folder),
             (Next::OptionOrOperand, "--onto") => return Ok(Next::Onto),
+            (Next::OptionOrOperand, "--files0-from") => return Ok(Next::List),
             (Next::OptionOrOperand, "--") => return Ok(Next::Operand),
             (Next::OptionOrOperand, word) => self.take_word(word)?,
         }
@@ -364,38 +419,48 @@ impl<'a> Given<'a> {
         }
     }
 
+    /// Returns what the command does with the files.
+    fn action(&self, command: Command) -> Result<Action<'a>, Misuse<'a>> {
+        let choice = self.choice.unwrap_or(Choice::String);
+        let reading = self.reading();
+        let counts = if self.is_sorted {
+            Form::SortedCounts
+        } else {
+            Form::Counts
+        };
+        Ok(match (command, self.folder) {
+            (Command::Encode, Some(folder)) => {
+                let onto = self.onto;
+                Action::WriteColumns(choice, Columns { folder, onto }, reading)
+            }
+            (Command::Encode, None) => Action::Do(Task::Write(Form::File, choice), reading),
+            (Command::Decode, _) => Action::Do(Task::Decode, reading),
+            (Command::Count, _) if self.is_encoded => Action::Merge(counts, choice),
+            (Command::Count, _) => Action::Do(Task::Write(counts, choice), reading),
+            (Command::Merge, _) if self.files.is_empty() => return Err(Misuse::NoFile),
+            (Command::Merge, _) => Action::Merge(Form::File, choice),
+            (Command::Shard, _) => {
+                Action::WriteShards(self.parts.ok_or(Misuse::NoParts)?, reading)
+            }
+        })
+    }
+
+    /// Returns where the files are named.
+    fn files(self) -> Result<Files<'a>, Misuse<'a>> {
+        match (self.list, self.files.first()) {
+            (None, _) => Ok(Files::Named(self.files)),
+            (Some(path), None) => Ok(Files::Listed(Source::of_word(path))),
+            (Some(_), Some(Source::File(path))) => Err(Misuse::FileBesideList(ShownWord(path))),
+            (Some(_), Some(Source::StandardInput)) => Err(Misuse::FileBesideList(ShownWord("-"))),
+        }
+    }
+
     /// Returns what all the words ask for.
-    fn decide(mut self) -> Result<Request<'a>, Misuse<'a>> {
+    fn decide(self) -> Result<Request<'a>, Misuse<'a>> {
         let command = self.command.ok_or(Misuse::NoCommand)?;
         self.check_options(command)?;
-        let choice = self.choice.unwrap_or(Choice::String);
-        let task = match command {
-            Command::Encode => Task::Write(Form::File, choice),
-            Command::Count if self.is_sorted => Task::Write(Form::SortedCounts, choice),
-            Command::Count => Task::Write(Form::Counts, choice),
-            Command::Decode => Task::Decode,
-            Command::Merge if self.files.is_empty() => return Err(Misuse::NoFile),
-            Command::Merge => return Ok(Request::Merge(Form::File, choice, self.files)),
-            Command::Shard => {
-                let parts = self.parts.ok_or(Misuse::NoParts)?;
-                return Ok(Request::WriteShards(parts, self.reading(), self.files));
-            }
-        };
-        if let (true, Task::Write(form, _)) = (self.is_encoded, task) {
-            if self.files.is_empty() {
-                self.take_file("-")?;
-            }
-            return Ok(Request::Merge(form, choice, self.files));
-        }
-        let reading = self.reading();
-        match self.folder {
-            Some(folder) => {
-                let onto = self.onto;
-                let columns = Columns { folder, onto };
-                Ok(Request::WriteColumns(choice, columns, reading, self.files))
-            }
-            None => Ok(Request::Do(task, reading, self.files)),
-        }
+        let action = self.action(command)?;
+        Ok(Request::Act(action, self.files()?))
     }
 }
 
@@ -434,6 +499,7 @@ pub fn parse_arguments(alloc: Global, arguments: &[String]) -> Result<Request<'_
         is_encoded: false,
         folder: None,
         onto: None,
+        list: None,
         count: None,
         parts: None,
     };
@@ -450,6 +516,7 @@ pub fn parse_arguments(alloc: Global, arguments: &[String]) -> Result<Request<'_
         Next::Mending => Err(Misuse::NoValue("--invalid")),
         Next::Folder => Err(Misuse::NoValue("--plain")),
         Next::Onto => Err(Misuse::NoValue("--onto")),
+        Next::List => Err(Misuse::NoValue("--files0-from")),
         Next::OptionOrOperand | Next::Operand => given.decide(),
     }
 }

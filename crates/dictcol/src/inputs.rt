@@ -31,8 +31,7 @@ struct Begin<'a> {
     newlines: usize,
 }
 
-/// Reads some files one after another, or standard input if there are none. If a file does not end in a newline, its last line
-/// and the first of the next file are one.
+/// Reads some files one after another. If a file does not end in a newline, its last line and the first of the next file are one.
 #[derive(Drop)]
 pub struct Inputs<'a> {
     rt: &'a HostRuntime,
@@ -163,9 +162,6 @@ impl Inputs<'_> {
     fn read_plain(&mut self, buf: &mut [u8]) -> io::Result<usize>
         ensures { IfOk result (λ count. count ≤ length buf.new) }
     {
-        if self.sources.is_empty() {
-            return self.rt.stdin().read(buf);
-        }
         let sources = self.sources;
         for index in self.at..sources.len() {
             let count = self.read_source(sources[index], buf)?;

@@ -16,21 +16,25 @@ mod help;
 mod inputs;
 mod mend;
 mod merge;
+mod names;
 mod plain;
 mod quoted;
 mod shards;
+mod shown;
 mod split;
 mod stream;
 mod zero;
 
-use arguments::{Choice, Form, Misuse, Reading, Request, Source, Task};
+use arguments::{Action, Choice, Files, Form, Misuse, Reading, Request, Source, Task};
 use fault::Fault;
 use hasher::LineHasher;
 use help::{HELP, USAGE};
 use inputs::{Inputs, report_progress};
 use mend::{Mended, Mending};
 use merge::Merged;
+use names::NameFault;
 use plain::folder;
+use shown::ShownPath;
 use std::env;
 use std::env::{Env, FillError};
 use std::io::{BufWriter, Read, Write};
@@ -49,6 +53,9 @@ const NAME_ADVICE: &str = " (a file with such a name can be standard input)";
 
 /// What is said of lines that look like what `encode` writes.
 const LOOKS_ENCODED: &str = "lines were read from what encode wrote (see decode, count --encoded)";
+
+/// What is said of a folder in the place of a file.
+const IS_FOLDER: &str = "a folder that encode --plain wrote; decode writes its text";
 
 /// How many bytes are written at once.
 const BUFFER: usize = 1 << 16;
@@ -164,7 +171,10 @@ fn work_on<'a>(
 fn warn_of_encoded(rt: &HostRuntime, inputs: &Inputs<'_>) {
     // Nothing is lost if standard error is closed.
     let _ = match inputs.find_encoded() {
-        Some(Source::File(path)) => { eprintln!(rt; "dictcol: {path}: warning: {LOOKS_ENCODED}") }
+        Some(Source::File(path)) => {
+            let path = ShownPath(path);
+            eprintln!(rt; "dictcol: {path}: warning: {LOOKS_ENCODED}")
+        }
         Some(Source::StandardInput) => eprintln!(rt; "dictcol: warning: {LOOKS_ENCODED}"),
         None => Ok(()),
     };
@@ -263,9 +273,59 @@ fn end_task(
         (Source::StandardInput, _) | (_, Fault::NoKeys(_) | Fault::Output(_)) => {
             eprintln!(rt; "dictcol: {fault}{advice}")
         }
-        (Source::File(path), _) => eprintln!(rt; "dictcol: {path}: {fault}{advice}"),
+        (Source::File(path), Fault::Input(_)) if folder::has_columns(rt, path) => {
+            let path = ShownPath(path);
+            eprintln!(rt; "dictcol: {path}: {IS_FOLDER}")
+        }
+        (Source::File(path), _) => {
+            let path = ShownPath(path);
+            eprintln!(rt; "dictcol: {path}: {fault}{advice}")
+        }
     };
     ExitCode::from(fault.status())
+}
+
+/// Does what is asked for with files, prints what failed, and returns the status.
+fn act(rt: &HostRuntime, action: Action<'_>, files: &[Source<'_>]) -> ExitCode {
+    let lines = Task::Write(Form::File, Choice::String);
+    let (task, (source, outcome)) = match action {
+        Action::Do(task, reading) => (task, work_on(rt, task, reading, files)),
+        Action::WriteColumns(choice, columns, reading) => {
+            (lines, columns::write(rt, choice, columns, reading, files))
+        }
+        Action::WriteShards(parts, reading) => {
+            (lines, shards::folder::write(rt, parts, reading, files))
+        }
+        Action::Merge(form, choice) => (Task::Decode, merge_files(rt, form, choice, files)),
+    };
+    end_task(rt, task, source, outcome)
+}
+
+/// Prints what is wrong with a list of names, and returns the status.
+fn end_list(rt: &HostRuntime, list: Source<'_>, fault: NameFault) -> ExitCode {
+    let path = match list {
+        Source::StandardInput => "-",
+        Source::File(path) => path,
+    };
+    let path = ShownPath(path);
+    // Nothing is left to do if standard error is closed.
+    let _ = eprintln!(rt; "dictcol: {path}:{fault}");
+    ExitCode::from(MISUSED)
+}
+
+/// Does what is asked for with the files that a list names.
+fn act_on_listed(rt: &HostRuntime, action: Action<'_>, list: Source<'_>) -> ExitCode {
+    let sources = [list];
+    let bytes = match answer::read(rt.alloc(), &mut Inputs::new(rt, &sources, false)) {
+        Ok(bytes) => bytes,
+        Err(fault) => return end(rt, list, Err(fault)),
+    };
+    let has_input = matches!(list, Source::StandardInput);
+    match names::find_files(rt.alloc(), &bytes, has_input) {
+        Ok(files) => act(rt, action, &files),
+        Err(NameFault::Memory) => end(rt, list, Err(Fault::Memory)),
+        Err(fault) => end_list(rt, list, fault),
+    }
 }
 
 fn main(rt: HostRuntime) -> ExitCode {
@@ -276,27 +336,11 @@ fn main(rt: HostRuntime) -> ExitCode {
     match arguments::parse_arguments(rt.alloc(), &arguments) {
         Ok(Request::Help) => end(&rt, Source::StandardInput, print(&rt, HELP)),
         Ok(Request::Version) => end(&rt, Source::StandardInput, print(&rt, VERSION)),
-        Ok(Request::Do(task, reading, files)) => {
-            let (source, outcome) = work_on(&rt, task, reading, &files);
-            end_task(&rt, task, source, outcome)
+        Ok(Request::Act(action, Files::Named(files))) if files.is_empty() => {
+            act(&rt, action, &[Source::StandardInput])
         }
-        Ok(Request::WriteColumns(choice, columns, reading, files)) => {
-            let (source, outcome) = columns::write(&rt, choice, columns, reading, &files);
-            end_task(&rt, Task::Write(Form::File, choice), source, outcome)
-        }
-        Ok(Request::WriteShards(parts, reading, files)) => {
-            let (source, outcome) = shards::folder::write(&rt, parts, reading, &files);
-            end_task(
-                &rt,
-                Task::Write(Form::File, Choice::String),
-                source,
-                outcome,
-            )
-        }
-        Ok(Request::Merge(form, choice, files)) => {
-            let (source, outcome) = merge_files(&rt, form, choice, &files);
-            end(&rt, source, outcome)
-        }
+        Ok(Request::Act(action, Files::Named(files))) => act(&rt, action, &files),
+        Ok(Request::Act(action, Files::Listed(list))) => act_on_listed(&rt, action, list),
         Err(Misuse::Memory) => end(&rt, Source::StandardInput, Err(Fault::Memory)),
         Err(misuse) => {
             let _ = eprintln!(rt; "dictcol: {misuse}\n{USAGE}");

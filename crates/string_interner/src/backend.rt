@@ -10,7 +10,7 @@ mod iter;
 pub(crate) mod reserve;
 mod string;
 
-ghost use Rattle.std.specs.Prelude.{◌≡◌, ℕ, ◌+◌, ◌^◌, ◌<◌, ◌≤◌, List, [], ◌∷◌, ◌++◌, length, take, slice_get, Option, Some, IfOk, OnOk};
+ghost use Rattle.std.specs.Prelude.{◌≡◌, ℕ, ◌+◌, ◌^◌, ◌<◌, ◌≤◌, List, [], ◌∷◌, ◌++◌, length, take, slice_get, Option, Some, None, IfOk, OnOk, IsTrue, ◌↔◌};
 ghost use Rattle.std.specs.Option.{option_copied};
 ghost use Rattle.string_interner.specs.Text.{Text};
 ghost use Rattle.string_interner.specs.Iter.{iter_over};
@@ -95,6 +95,14 @@ pub trait Backend {
     /// Returns the symbol of the next place: `None` exactly if the symbol type has no symbol with that number.
     fn next_symbol(&self) -> Option<Self::Symbol>
         ensures { result ≡ numbering.symbol_of (numbering.place (texts self.now)) };
+
+    /// Reports whether the symbol type has no symbol for the next place.
+    #[inline(always)]
+    fn is_full(&self) -> bool
+        ensures { IsTrue result ↔ (numbering.symbol_of (numbering.place (texts self.now)) ≡ None) }
+    {
+        self.next_symbol().is_none()
+    }
 
     /// Appends a text, without looking for an equal one, and returns the symbol of its place.
     ///

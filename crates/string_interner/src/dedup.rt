@@ -14,7 +14,6 @@
 mod count;
 mod index;
 mod layout;
-mod looks;
 mod probe;
 mod slots;
 mod table;
@@ -26,6 +25,6 @@ pub use crate::hash::{
     SeededState, StdHasher, TextHasher,
 };
 pub use index::{DefaultIndex, Index, TaggedIndex};
-pub use looks::Looks;
+pub use slots::Looks;
 pub use table::Table;
 pub use text_index::{CopyIndex, Entry, TextIndex};

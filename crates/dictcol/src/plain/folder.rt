@@ -54,6 +54,14 @@ pub fn is_folder(rt: &HostRuntime, path: &str) -> bool {
     }
 }
 
+/// Returns whether this is the path of a folder with plain columns.
+pub fn has_columns(rt: &HostRuntime, path: &str) -> bool {
+    match join(rt.alloc(), path, NUMBERS) {
+        Ok(numbers) => fs::metadata(rt, numbers.as_str()).is_ok(),
+        Err(_) => false,
+    }
+}
+
 /// Opens a file of a folder.
 fn open(rt: &HostRuntime, folder: &str, name: &str) -> Result<File, Fault> {
     let path = join(rt.alloc(), folder, name)?;

@@ -46,21 +46,22 @@ pub trait Layout<S: Symbol>: Drop {
 
     /// Returns the symbol of a slot, if any, and a code that has the same home among `count` slots as its text's.
     ///
-    /// Takes a backend that the slots fit, so that `Table::find`, which has it in its `Looks` alone, cannot call this.
+    /// Takes `&mut self`, so that a look-up, which borrows the slots, cannot call this: it is no look.
     fn rehash_slot<H: TextHasher, B: Backend<Symbol = S>>(
-        &self,
+        &mut self,
         at: usize,
         count: usize,
         hasher: &H,
         backend: &B,
     ) -> Option<(u64, S)>
-        requires within { at < length (layout.slots self.now) }
+        requires within { at < length (layout.slots self.old) }
         requires fits { layout.fits (entry_text B.numbering (B.texts backend.now))
-            (H.code hasher.now) self.now }
+            (H.code hasher.now) self.old }
         requires some { 0 < count }
         requires count { IsSlotCount count }
-        ensures empty { IfNone result (slice_index_or (layout.slots self.now) at None ≡ None) }
-        ensures symbol { IfSome result (λ moved. slice_index_or (layout.slots self.now) at None
+        ensures same { self.new ≡ self.old }
+        ensures empty { IfNone result (slice_index_or (layout.slots self.old) at None ≡ None) }
+        ensures symbol { IfSome result (λ moved. slice_index_or (layout.slots self.old) at None
             ≡ Some moved.1) }
         ensures home { IfSome result (λ moved. moved.0 % count
             ≡ H.code hasher.now
@@ -71,7 +72,8 @@ pub trait Layout<S: Symbol>: Drop {
 
     /// Returns the symbol that a probe for a text with this code is likely to look at first, if any. Reads no text.
     ///
-    /// Takes the backend for the same reason as `rehash_slot`: neither is a look.
+    /// Takes a backend that the slots fit, so that `Table::find`, which has it in its `Looks` alone, cannot call this: it is
+    /// no look.
     fn guess<B: Backend<Symbol = S>>(&self, code: u64, backend: &B) -> Option<S>
         requires some { 0 < length (layout.slots self.now) }
         requires count { IsSlotCount (length (layout.slots self.now)) }

@@ -13,8 +13,7 @@ ghost use Rattle.string_interner.specs.TextIndex.{found_by};
 
 use crate::backend::Backend;
 use crate::dedup::layout::Layout;
-use crate::dedup::looks::Looks;
-use crate::dedup::slots::Slots;
+use crate::dedup::slots::{Looks, Slots};
 use crate::dedup::text_index::Entry;
 use crate::symbol::Symbol;
 
@@ -211,7 +210,7 @@ impl<S: Symbol> Probe<S> for Slots<S> {
         looks: &mut Looks<'_, B>,
         text: &str,
     ) -> Step<S> {
-        match looks.look(self.slot(at), text) {
+        match looks.look(self, at, text) {
             None => Step::Free(at),
             Some(seen) if seen.matches => Step::Found(seen.symbol),
             Some(_) => Step::On(slot_after(at, self.len())),

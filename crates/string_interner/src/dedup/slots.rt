@@ -1,12 +1,16 @@
-//! Slots with symbols alone.
+//! Slots with symbols alone, and looks, by which alone a look-up reads them.
 
-ghost use Rattle.std.specs.Prelude.{◌≡◌, ◌<◌, ◌^◌, ◌-◌, ◌↔◌, length, slice_index_or, IfNone, IfSome, IsNone, IsTrue, None, Some};
+ghost use Rattle.std.specs.Prelude.{◌≡◌, ◌<◌, ◌^◌, ◌+◌, ◌-◌, ◌↔◌, length, slice_index_or, IfNone, IfSome, IsNone, IsSome, IsTrue, None, Some};
+ghost use Rattle.std.specs.Option.{ForSome};
+ghost use Rattle.string_interner.specs.Entry.{entry_text};
+ghost use Rattle.string_interner.specs.Index.{has_text};
 ghost use Rattle.string_interner.specs.Symbol.{AreNarrow};
 
 use crate::backend::Backend;
+use crate::dedup::count::Count;
 use crate::dedup::layout::Layout;
-use crate::dedup::looks::Slot;
 use crate::dedup::probe::{home_of, slot_after};
+use crate::equal_texts::texts_are_equal;
 use crate::hash::TextHasher;
 use crate::symbol::Symbol;
 use std::alloc::{AllocError, Global};
@@ -58,16 +62,7 @@ fn narrow_number<S: Symbol>(symbol: S) -> Option<u32>
 }
 
 impl<S: Symbol> Slots<S> {
-    /// Returns a slot, which is read by a look.
-    #[inline(always)]
-    pub fn slot(&self, at: usize) -> Slot<S>
-        requires { at < length self.now }
-        ensures { result ≡ slice_index_or self.now at None }
-    {
-        Slot::new(self.symbol_at(at))
-    }
-
-    /// Returns the symbol of a slot, if any. Growth, insertion and guesses read slots by this; a look-up gets a `Slot`.
+    /// Returns the symbol of a slot, if any. Only this module can call it, so a look-up reads slots by [`Looks::look`].
     #[inline(always)]
     fn symbol_at(&self, at: usize) -> Option<S>
         requires { at < length self.now }
@@ -81,6 +76,88 @@ impl<S: Symbol> Slots<S> {
             None if S::has_narrow_numbers() || self.others.is_empty() => None,
             None => self.others[at],
         }
+    }
+}
+
+/// Borrows a backend for look-ups and counts their looks. A look reads one slot of an `Index`, with the text of its
+/// symbol, and compares one text for a `TaggedIndex`.
+///
+/// The count is ghost state: no method returns it, and it takes no space.
+#[derive(Drop)]
+pub struct Looks<'a, B> {
+    backend: &'a B,
+    count: Count,
+}
+
+/// Contracts see the backend and the count of looks.
+impl<'a, B> Model for Looks<'a, B> {
+    ghost use Rattle.string_interner.specs.Slots.{LooksContents};
+
+    ghost Value = { LooksContents B };
+
+    ghost view = { λ l. record { backend = l.backend.now; count = l.count.value } };
+}
+
+impl<'a, B> Looks<'a, B> {
+    /// Borrows a backend, with no looks so far.
+    #[inline(always)]
+    pub fn new(backend: &'a B) -> Self
+        ensures backend { result.backend ≡ backend.now }
+        ensures count { result.count ≡ 0 }
+    {
+        Looks {
+            backend,
+            count: Count::new(),
+        }
+    }
+}
+
+/// A filled slot that was read: its symbol, and whether that symbol's text is the one looked for.
+#[derive(Drop)]
+pub struct Seen<S> {
+    pub symbol: S,
+    pub matches: bool,
+}
+
+impl<'a, B: Backend> Looks<'a, B> {
+    /// Reports whether the text of a symbol is this one. That is one look.
+    #[inline(always)]
+    pub fn has_text(&mut self, symbol: B::Symbol, text: &str) -> bool
+        requires { IsSome (entry_text B.numbering (B.texts self.old.backend) symbol) }
+        ensures value { result
+            ≡ has_text (entry_text B.numbering (B.texts self.old.backend)) text.now symbol }
+        ensures backend { self.new.backend ≡ self.old.backend }
+        ensures count { self.new.count ≡ self.old.count + 1 }
+    {
+        self.count.add_one();
+        // The caller compared tags, so the texts are nearly always equal.
+        texts_are_equal(self.backend.resolve_unchecked(symbol), text)
+    }
+
+    /// Reads a slot for a text: its symbol, if any, and whether that symbol's text is this one. That is one look.
+    #[inline(always)]
+    pub(super) fn look(
+        &mut self,
+        slots: &Slots<B::Symbol>,
+        at: usize,
+        text: &str,
+    ) -> Option<Seen<B::Symbol>>
+        requires within { at < length slots.now }
+        requires entry { ForSome (slice_index_or slots.now at None) (λ symbol.
+            IsSome (entry_text B.numbering (B.texts self.old.backend) symbol)) }
+        ensures empty { IfNone result (slice_index_or slots.now at None ≡ None) }
+        ensures symbol { IfSome result (λ seen. slice_index_or slots.now at None
+            ≡ Some seen.symbol) }
+        ensures matches { IfSome result (λ seen. seen.matches
+            ≡ has_text (entry_text B.numbering (B.texts self.old.backend)) text.now seen.symbol) }
+        ensures backend { self.new.backend ≡ self.old.backend }
+        ensures count { self.new.count ≡ self.old.count + 1 }
+    {
+        self.count.add_one();
+        let symbol = slots.symbol_at(at)?;
+        // Most texts here are others, of other lengths.
+        let matches = self.backend.resolve_unchecked(symbol) == text;
+        Some(Seen { symbol, matches })
     }
 }
 
@@ -131,7 +208,7 @@ impl<S: Symbol> Layout<S> for Slots<S> {
 
     #[inline(always)]
     fn rehash_slot<H: TextHasher, B: Backend<Symbol = S>>(
-        &self,
+        &mut self,
         at: usize,
         _count: usize,
         hasher: &H,

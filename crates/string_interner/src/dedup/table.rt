@@ -16,8 +16,8 @@ ghost use Rattle.string_interner.specs.Table.{CountsLooks, FitsAll, Grows, HasRo
 
 use crate::backend::Backend;
 use crate::dedup::layout::Layout;
-use crate::dedup::looks::Looks;
 use crate::dedup::probe::{Find, Vacancy, probe_for};
+use crate::dedup::slots::Looks;
 use crate::dedup::text_index::{CopyIndex, Entry, TextIndex};
 use crate::hash::TextHasher;
 use crate::symbol::Symbol;
@@ -228,7 +228,7 @@ impl<S: Symbol, L: Find<S>> Table<S, L> {
         }
         let count = next_slot_count(self.slots.len()).ok_or(AllocError)?;
         // The bigger slots are filled before the old ones go, so that nothing changes on `Err`.
-        let bigger = rehash(&self.slots, count, hasher, backend, self.alloc)?;
+        let bigger = rehash(&mut self.slots, count, hasher, backend, self.alloc)?;
         self.grow(bigger);
         Ok(())
     }

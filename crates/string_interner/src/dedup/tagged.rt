@@ -13,8 +13,8 @@ ghost use Rattle.string_interner.specs.declared.dedup.probe.Step.TheVariants.{On
 
 use crate::backend::Backend;
 use crate::dedup::layout::Layout;
-use crate::dedup::looks::Looks;
 use crate::dedup::probe::{Find, Probe, Step, home_of, probe_on, slot_after};
+use crate::dedup::slots::Looks;
 use crate::hash::TextHasher;
 use crate::symbol::Symbol;
 use std::alloc::{AllocError, Global};
@@ -202,7 +202,7 @@ impl<S: Symbol> Layout<S> for TaggedSlots<S> {
 
     #[inline(always)]
     fn rehash_slot<H: TextHasher, B: Backend<Symbol = S>>(
-        &self,
+        &mut self,
         at: usize,
         count: usize,
         hasher: &H,

@@ -42,7 +42,7 @@ pub fn intern_coded<B: Backend, H: TextHasher, I: TextIndex<B::Symbol>>(
         Entry::Vacant(vacancy) => vacancy,
     };
     // Asks for the symbol before it allocates anything.
-    if backend.next_symbol().is_none() {
+    if backend.is_full() {
         return Err(InternError::NoSymbol);
     }
     index.reserve_one(hasher, backend)?;

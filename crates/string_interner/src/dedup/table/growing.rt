@@ -77,19 +77,20 @@ pub fn occupy<S: Symbol, L: Layout<S>>(slots: &mut L, vacancy: Vacancy, symbol: 
 /// fails.
 #[inline(never)]
 pub fn rehash<S: Symbol, L: Layout<S>, H: TextHasher, B: Backend<Symbol = S>>(
-    slots: &L,
+    slots: &mut L,
     count: usize,
     hasher: &H,
     backend: &B,
     alloc: Global,
 ) -> Result<L, AllocError>
     requires fits { L.layout.fits (entry_text B.numbering (B.texts backend.now))
-        (H.code hasher.now) slots.now }
-    requires more { length (L.layout.slots slots.now) < count }
+        (H.code hasher.now) slots.old }
+    requires more { length (L.layout.slots slots.old) < count }
     requires count { IsSlotCount count }
+    ensures same { slots.new ≡ slots.old }
     ensures made { IfOk result (λ bigger. Rebuilt
         (entry_text B.numbering (B.texts backend.now)) (H.code hasher.now)
-        (L.layout.slots slots.now) (L.layout.slots bigger)) }
+        (L.layout.slots slots.old) (L.layout.slots bigger)) }
     ensures fits { IfOk result (λ bigger. L.layout.fits
         (entry_text B.numbering (B.texts backend.now)) (H.code hasher.now) bigger) }
     ensures count { IfOk result (λ bigger. length (L.layout.slots bigger) ≡ count) }

@@ -24,8 +24,8 @@ returns-in-Some-clause-interns g c = into-known g.B.Backend.numbering g.I.TextIn
 is_new : (g : Over) (c : In-Vacant g) → first (g.B.Backend.texts c.args.backend.now) (given_text c.args.given) ≡ None
 is_new g c = rw (← c.text.ensures) (new-text g.B.Backend.numbering (numbered g.B.Backend.numbering g.met.B.Backend.symbols g.met.B.Symbol.Symbol.numbered) (injective g.B.Backend.numbering g.met.B.Backend.symbols g.met.B.Symbol.Symbol.injective) g.met.B.Backend.grows _ c.requires.sound.texts.distinct c.requires.sound.texts.valid _ c.in-Vacant.ensures.new_text)
 
-pub returns-then-is_none-clause-interns : goal.returns-then-is_none-clause-interns
-returns-then-is_none-clause-interns g c = (into-unnamed g.B.Backend.numbering g.I.TextIndex.rule _ _ c.requires.sound.texts (is_new g (goal.at.returns-then-is_none-clause-interns g c).In-Vacant) (search rules))
+pub returns-then-is_full-clause-interns : goal.returns-then-is_full-clause-interns
+returns-then-is_full-clause-interns g c = (into-unnamed g.B.Backend.numbering g.I.TextIndex.rule _ _ c.requires.sound.texts (is_new g (goal.at.returns-then-is_full-clause-interns g c).In-Vacant) (search rules))
 
 pub returns-in_err-reserve_one-clause-interns : goal.returns-in_err-reserve_one-clause-interns
 returns-in_err-reserve_one-clause-interns g c =

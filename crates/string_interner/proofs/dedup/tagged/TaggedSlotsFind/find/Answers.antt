@@ -1,9 +1,8 @@
-use Rattle.std.proofs.Common.{◌≡◌, ℕ, ◌+◌, ◌<◌, ◌%◌, None, length, slice_index_or, arith, refl, sym, ap, subst, ◌∙◌}
+use Rattle.std.proofs.Common.{◌≡◌, ℕ, ◌<◌, ◌%◌, None, length, slice_index_or, arith, sym, ap, subst, ◌∙◌}
 use Rattle.std.proofs.lemmas.List.{length-map}
 use Rattle.string_interner.specs.Entry.{entry_text}
 use Rattle.string_interner.specs.Index.{has_text}
 use Rattle.string_interner.specs.Probe.{Passes, StepsTo}
-use Rattle.string_interner.specs.Slots.{LooksContents}
 use Rattle.string_interner.specs.Tagged.{HasAnotherTag, symbol_in, symbols_in, tag_of}
 use Rattle.string_interner.specs.declared.dedup.probe.Step.TheVariants.{Found, Free, On}
 use Rattle.string_interner.proofs.Lemmas.Index.ProbeLoop.{Stands-start, Stands-on, Stands-found, Stands-free_to, empty_from}

@@ -1,7 +1,7 @@
 use Rattle.std.proofs.Common.{ap, ◌∙◌}
 use Rattle.string_interner.specs.EntryLaws.{entry_text-IsPlace}
 use Rattle.string_interner.proofs.Lemmas.Index.EntryText.{has_text-resolved}
-use Rattle.string_interner.proofs.dedup.looks.Looks.has_text.Goals as goal
+use Rattle.string_interner.proofs.dedup.slots.Looks.has_text.Goals as goal
 
 pub resolve_unchecked-requires : goal.resolve_unchecked-requires
 resolve_unchecked-requires g c = entry_text-IsPlace g.B.Backend.numbering _ c.args.symbol (rw (ap (λ x. x.backend) c.self.view_is) c.requires)
