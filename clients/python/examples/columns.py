@@ -10,6 +10,9 @@ assert colors.dictionary == ["red", "green", "blue"]
 assert colors.codes.tolist() == [0, 1, -1, 0, 2, 1]
 assert colors.counts().tolist() == [2, 2, 1]
 assert list(colors[3:]) == ["red", "blue", "green"]
+assert colors.unique() == ["red", "green", None, "blue"]
+assert colors.value_counts(dropna=False) == {"red": 2, "green": 2, "blue": 1, None: 1}
+assert list(colors[colors.isin(["red", "blue"])]) == ["red", "red", "blue"]
 # As numpy chooses rows of an array: by their numbers, or by a mask.
 assert list(colors[[0, 2, -1]]) == ["red", None, "green"]
 assert list(colors[[code == 0 for code in colors.codes]]) == ["red", "red"]

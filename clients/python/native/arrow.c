@@ -171,10 +171,13 @@ PyObject *column_arrow_array(Column *self, PyObject *args, PyObject *keywords) {
   PyObject *requested = NULL, *schema, *array, *both = NULL;
   /* A schema that is asked for is a wish, which the specification lets a producer pass over. */
   if (!PyArg_ParseTupleAndKeywords(args, keywords, "|O:__arrow_c_array__", words, &requested)) return NULL;
-  if (!is_made(self) || !(schema = make_schema(column_width(self)))) return NULL;
-  if ((array = make_capsule(self))) both = PyTuple_Pack(2, schema, array);
-  Py_XDECREF(array);
-  Py_DECREF(schema);
+  Column *lent = without_the_rest(self);
+  if (lent && (schema = make_schema(column_width(lent)))) {
+    if ((array = make_capsule(lent))) both = PyTuple_Pack(2, schema, array);
+    Py_XDECREF(array);
+    Py_DECREF(schema);
+  }
+  Py_XDECREF((PyObject *)lent);
   return both;
 }
 
@@ -235,8 +238,10 @@ PyObject *column_arrow_stream(Column *self, PyObject *args, PyObject *keywords) 
   static char *words[] = {"requested_schema", NULL};
   PyObject *requested = NULL;
   if (!PyArg_ParseTupleAndKeywords(args, keywords, "|O:__arrow_c_stream__", words, &requested)) return NULL;
-  if (!is_made(self)) return NULL;
-  struct ArrowArrayStream *stream = make_stream(self);
+  Column *lent = without_the_rest(self);
+  if (!lent) return NULL;
+  struct ArrowArrayStream *stream = make_stream(lent);
+  Py_DECREF((PyObject *)lent);
   if (!stream) return PyErr_NoMemory();
   PyObject *capsule = PyCapsule_New(stream, "arrow_array_stream", free_stream);
   if (!capsule) {

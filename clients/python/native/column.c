@@ -187,13 +187,16 @@ static PyObject *column_index(Column *self, PyObject *args, PyObject *keywords) 
 
 /* Marks the codes of values, and before the first whether None is among them. */
 static bool mark_codes(Column *self, PyObject *values, bool *is_wanted) {
-  for (Py_ssize_t at = 0; at < PyTuple_Size(values); at++) {
+  bool is_done = true;
+  int collects = PyGC_Disable(); /* An exception is made, and dropped, for a text without a UTF-8 form. */
+  for (Py_ssize_t at = 0; is_done && at < PyTuple_Size(values); at++) {
     int64_t code;
     int found = find_code(self, PyTuple_GetItem(values, at), &code);
-    if (found < 0) return false;
-    if (found) is_wanted[code + 1] = true;
+    if (found > 0) is_wanted[code + 1] = true;
+    is_done = found >= 0;
   }
-  return true;
+  if (collects) PyGC_Enable();
+  return is_done;
 }
 
 /* A byte for each row: whether it has one of the values. */
@@ -440,13 +443,16 @@ static PyMethodDef column_methods[] = {
     {"_buffers", (PyCFunction)column_buffers, METH_NOARGS, NULL},
     {"_isin", (PyCFunction)column_isin, METH_O, NULL},
     {"_in_order", (PyCFunction)column_in_order, METH_NOARGS, NULL},
+    {"_checksum", (PyCFunction)column_checksum, METH_O | METH_STATIC, NULL},
+    {"_lines", (PyCFunction)column_lines, METH_NOARGS, NULL},
     {"_with_dictionary", (PyCFunction)column_with_dictionary, METH_VARARGS | METH_CLASS, NULL},
     {"__reversed__", (PyCFunction)column_reversed, METH_NOARGS, "The rows in reverse order, as they are now."},
     {"__arrow_c_schema__", (PyCFunction)column_arrow_schema, METH_NOARGS,
      "__arrow_c_schema__($self, /)\n--\n\nThe type of the column for Arrow: a dictionary of large_utf8."},
     {"__arrow_c_array__", (PyCFunction)(void (*)(void))column_arrow_array, METH_VARARGS | METH_KEYWORDS,
      "__arrow_c_array__($self, /, requested_schema=None)\n--\n\n"
-     "The column for Arrow, by its PyCapsule interface. Lends the codes, and copies the dictionary."},
+     "The column for Arrow, by its PyCapsule interface. Lends the codes, and copies the dictionary: of a slice with few rows, less than\n"
+     "one for eight texts, only the texts that they have."},
     {"__arrow_c_stream__", (PyCFunction)(void (*)(void))column_arrow_stream, METH_VARARGS | METH_KEYWORDS,
      "__arrow_c_stream__($self, /, requested_schema=None)\n--\n\nThe same as a stream of one array."},
     {NULL, NULL, 0, NULL}};

@@ -75,6 +75,11 @@ PyObject *column_compact(Column *self, PyObject *unused) {
   return (PyObject *)compact;
 }
 
+Column *without_the_rest(Column *self) {
+  if (!is_made(self)) return NULL;
+  return (Column *)(self->is_part && has_few_rows(self) ? column_compact(self, NULL) : Py_NewRef((PyObject *)self));
+}
+
 /* Encodes the rows under the dictionary of a column that has none yet. */
 static bool add_in_order(const Column *self, Column *ordered, Block *block) {
   size_t distinct = interner_len(self->dictionary->h);

@@ -101,6 +101,54 @@ PyObject *column_buffers(Column *self, PyObject *unused) {
   return all;
 }
 
+/* The texts of a dictionary, each with a newline. Raises ValueError for a text that has one itself. */
+static PyObject *join_lines(const Dictionary *dictionary) {
+  size_t count = interner_len(dictionary->h), length = count;
+  interner_text text;
+  for (size_t code = 0; code < count; code++) {
+    interner_resolve(dictionary->h, code, &text);
+    if (text.len && memchr(text.bytes, '\n', text.len)) return PyErr_Format(PyExc_ValueError, "text %zu has a newline", code);
+    length += text.len;
+  }
+  PyObject *joined = PyBytes_FromStringAndSize(NULL, length);
+  char *at = joined ? PyBytes_AsString(joined) : NULL;
+  for (size_t code = 0; joined && code < count; code++) {
+    interner_resolve(dictionary->h, code, &text);
+    memcpy(at, text.bytes, text.len);
+    at += text.len;
+    *at++ = '\n';
+  }
+  return joined;
+}
+
+PyObject *column_lines(Column *self, PyObject *unused) {
+  (void)unused;
+  if (!is_made(self)) return NULL;
+  /* The dictionary first, because a collection may give the column another while the view is made. */
+  Dictionary *dictionary = share_dictionary(self->dictionary);
+  PyObject *codes = column_codes(self, NULL), *lines = codes ? join_lines(dictionary) : NULL;
+  PyObject *both = lines ? PyTuple_Pack(2, lines, codes) : NULL;
+  drop_dictionary(dictionary);
+  Py_XDECREF(codes);
+  Py_XDECREF(lines);
+  return both;
+}
+
+/* The checksum of numbers of 4 bytes each that a folder of dictcol has: FNV-1a over numbers. */
+PyObject *column_checksum(PyObject *unused, PyObject *given) {
+  Bytes bytes;
+  uint64_t checksum = 14695981039346656037u;
+  (void)unused;
+  if (!read_bytes(given, &bytes)) return NULL;
+  for (Py_ssize_t at = 0; bytes.length - at >= (Py_ssize_t)sizeof(uint32_t); at += sizeof(uint32_t)) {
+    uint32_t number;
+    memcpy(&number, bytes.at + at, sizeof number);
+    checksum = (checksum ^ number) * 1099511628211u;
+  }
+  drop_bytes(&bytes);
+  return PyLong_FromUnsignedLongLong(checksum);
+}
+
 PyObject *column_parts(Column *self, void *unused) {
   (void)unused;
   Parts *parts = (Parts *)new_parts(self->state, NULL, NULL, 0);

@@ -65,18 +65,6 @@ PyObject *method_intern_column(Interner *self, PyObject *args, PyObject *keyword
   return array;
 }
 
-/* Looks up or interns texts of which some may be missing, and writes numbers of 8 bytes. */
-static bool encode_some(Interner *self, Rows *rows, bool only_looks, int64_t missing, int64_t *numbers) {
-  Batch *batch = is_open(self) ? new_batch(self, NULL, self->h, rows->n) : NULL;
-  if (!batch) return false;
-  batch->only_looks = only_looks;
-  batch->takes_none = true, batch->missing = missing;
-  batch->out = numbers, batch->width = 8;
-  bool is_done = encode_rows(batch, rows);
-  free_batch(batch);
-  return is_done;
-}
-
 static PyObject *pack_signed(const State *state, const int64_t *numbers, Py_ssize_t n) {
   Py_buffer view;
   bool is_narrow = true;
@@ -90,15 +78,36 @@ static PyObject *pack_signed(const State *state, const int64_t *numbers, Py_ssiz
   return array;
 }
 
+/* Encodes texts of which some may be missing, with a batch. The texts stay only if there is memory for their numbers. */
+static PyObject *encode_some(Batch *batch, Rows *rows, int64_t missing) {
+  int64_t *numbers = PyMem_Malloc(rows->n * sizeof *numbers + 1);
+  PyObject *array = NULL;
+  if (!numbers) return PyErr_NoMemory();
+  batch->takes_none = true, batch->missing = missing;
+  batch->out = numbers, batch->width = 8;
+  if (encode_rows(batch, rows)) {
+    note_changes(batch);
+    array = pack_signed(batch->interner->state, numbers, rows->n);
+    if (!array) {
+      adopt_changes(batch);
+      undo_batch(batch);
+    }
+  }
+  PyMem_Free(numbers);
+  return array;
+}
+
 /* The number of each text, with a sign, and another number for what is missing. */
 static PyObject *encode_signed(Interner *self, PyObject *texts, bool only_looks, int64_t missing) {
   Rows rows;
   PyObject *array = NULL;
   if (!open_rows(texts, &rows)) return NULL;
-  int64_t *numbers = PyMem_Malloc(rows.n * sizeof *numbers + 1);
-  if (!numbers) PyErr_NoMemory();
-  else if (encode_some(self, &rows, only_looks, missing, numbers)) array = pack_signed(self->state, numbers, rows.n);
-  PyMem_Free(numbers);
+  Batch *batch = is_open(self) ? new_batch(self, NULL, self->h, rows.n) : NULL;
+  if (batch) {
+    batch->only_looks = only_looks;
+    array = encode_some(batch, &rows, missing);
+  }
+  free_batch(batch);
   close_rows(&rows);
   return array;
 }

@@ -319,6 +319,8 @@ PyObject *column_from_buffers(PyTypeObject *type, PyObject *args, PyObject *keyw
 PyObject *column_buffers(Column *self, PyObject *unused);
 PyObject *column_parts(Column *self, void *unused);
 int column_set_parts(Column *self, PyObject *value, void *unused);
+PyObject *column_lines(Column *self, PyObject *unused);
+PyObject *column_checksum(PyObject *unused, PyObject *given);
 PyObject *column_with_dictionary(PyTypeObject *type, PyObject *args);
 
 /* compact.c: columns without the texts that no row has. */
@@ -344,6 +346,12 @@ static inline size_t next_used(const Used *used, size_t code, size_t end) {
 
 /** The codes of rows in a dictionary that has only what is used. */
 Block *renumber_used(const Used *used, const Block *block, Py_ssize_t n);
+
+/** Whether there are so few rows that to do something for each text of the dictionary would take longer than all else. */
+static inline bool has_few_rows(const Column *self) { return (size_t)self->n < interner_len(self->dictionary->h) / 8; }
+
+/** The column, or if it is a part with few rows, a compact one. */
+Column *without_the_rest(Column *self);
 
 PyObject *column_compact(Column *self, PyObject *unused);
 PyObject *column_in_order(Column *self, PyObject *unused);

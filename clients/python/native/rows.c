@@ -8,9 +8,6 @@ typedef struct RowsWalk {
   Py_ssize_t at, step, left;
 } RowsWalk;
 
-/* Whether there are so few rows that a place for the str of each text would take longer than all else. */
-static bool has_few_rows(const Column *self) { return (size_t)self->n < interner_len(self->dictionary->h) / 8; }
-
 static PyObject *walk_rows(Column *self, bool is_reversed) {
   RowsWalk *walk = (RowsWalk *)PyType_GenericAlloc(self->state->rows_walk, 0);
   if (walk && is_made(self)) {

@@ -33,7 +33,7 @@ dict                                              Interner
 `d.setdefault(text, len(d))`                      `i.intern(text)`
 `[d.setdefault(text, len(d)) for text in texts]`  `i.intern_all(texts)`
 `d.get(text)`, `d.get(text, -1)`                  `i.get(text)`, `i.get(text, -1)`
-`[d.get(text, -1) for text in texts]`             `i.get_all(texts)`
+`[d.get(text, -1) for text in texts]`             `i.get_all(texts)`; a text may be None
 `text in d`, `len(d)`, `list(d)`                  `text in i`, `len(i)`, `list(i)`
 `d.items()`                                       `((text, number) for number, text in i.items())`
 a list for the way back: `texts[number]`          `i[number]`

@@ -64,6 +64,31 @@ class Column(_native.Column):
         return cls.from_values(values, hasher=hasher)
 
     @classmethod
+    def from_plain(cls, folder: _types.Path, *, hasher: _types.Hasher = "seeded") -> _types.Self:
+        """Makes a column of the lines that `dictcol encode --plain` wrote into a folder, or `to_plain`.
+
+        The dictionary is that of the folder. Raises ValueError if the files are damaged or do not belong together,
+        BlockingIOError if another run writes there, and OSError.
+        """
+        from os import fsdecode
+
+        from . import _plain
+
+        return _plain.read(cls, fsdecode(folder), hasher)
+
+    def to_plain(self, folder: _types.Path) -> None:
+        """Writes the rows as lines into a folder, as `dictcol encode --plain` does: `dictcol decode` reads it, and numpy the codes.
+
+        The folder is made if it is not there, and files of these names are replaced. Raises ValueError for a row that is None, and
+        for a text with a newline, BlockingIOError if another run writes there, and OSError. Then the files that were there stay.
+        """
+        from os import fsdecode
+
+        from . import _plain
+
+        _plain.write(self, fsdecode(folder))
+
+    @classmethod
     def from_pandas(cls, values: _types.Any, *, hasher: _types.Hasher = "seeded") -> _types.Self:
         """Makes a column of a Series, Index, Categorical or other array of pandas. What pandas counts as missing becomes None.
 

@@ -5,16 +5,22 @@ from __future__ import annotations
 TYPE_CHECKING = False
 if TYPE_CHECKING:
     from collections.abc import Iterable as Iterable
+    from os import PathLike
     from typing import Any as Any
     from typing import Literal as Literal
     from typing import Self as Self
 
     from . import Hasher as Hasher
+
+    Path = str | bytes | PathLike[str] | PathLike[bytes]
 else:
 
     def __getattr__(name):
         import typing
+        from os import PathLike
 
         import string_interner
 
+        if name == "Path":
+            return str | bytes | PathLike[str] | PathLike[bytes]
         return getattr(string_interner if name in string_interner.__all__ else typing, name)

@@ -166,6 +166,13 @@ class BesideAList(RuleBasedStateMachine):
         self.go_on_with_its_parts(lambda it: pickle.loads(pickle.dumps(it, protocol)))
 
     @rule()
+    def go_on_with_what_arrow_reads(self):
+        # Of a part with few rows only their texts.
+        if self.is_part and len(self.rows) < len(self.texts) // 8:
+            self.texts = [text for text in self.texts if text in self.rows]
+        self.go_on_with_its_parts(Column.from_arrow)
+
+    @rule()
     def compact(self):
         texts, part = [text for text in self.texts if text in self.rows], self.column.compact()
         assert (list(part), part.dictionary, part.hasher) == (self.rows, texts, self.column.hasher)
@@ -512,6 +519,10 @@ class Calls(unittest.TestCase):
             tracemalloc.stop()
         if numpy:
             self.assertEqual(part.to_numpy().tolist(), texts)
+        self.assertEqual([it.dictionary for it in map(Column.from_arrow, (part, column[:3], part[:0]))], [texts, ["text 0", "text 1", "text 2"], []])
+        # What is no part has all texts there.
+        categories = list(map(str, range(100)))
+        self.assertEqual(Column.from_arrow(Column.from_parts(categories, [7, 1])).dictionary, categories)
 
     def test_strings_are_told_and_let_go(self):
         column = Column(f"text {number}" for number in range(10_000))
@@ -549,7 +560,7 @@ class Calls(unittest.TestCase):
 
         def values():
             yield from map(str, range(rows))
-            self.assertIn("7", column.dictionary)
+            self.assertIn("1", column.dictionary)
             column.shrink()
             raise ZeroDivisionError
 

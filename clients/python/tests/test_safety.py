@@ -393,6 +393,25 @@ class CallsBetweenSteps(unittest.TestCase):
                 joined, _, codes = column.to_buffers()
                 self.assertIn((joined, codes.tolist()), ((b"ab", [0, 1]), (b"x", [0])))
 
+    def test_a_finalizer_adds_rows_while_values_are_looked_up(self):
+        self.assertEqual(run_apart("""
+            import gc
+            from string_interner import Column
+            column, kept = Column(["a"]), []
+            def grow(phase, _):
+                if phase == "start":
+                    column.extend([f"text {number}" for number in range(column.distinct, column.distinct + 1000)])
+            gc.callbacks.append(grow)
+            gc.set_threshold(1)
+            for _ in range(100):
+                kept.append([])
+                values = [*["\\ud800"] * 10, *[f"text {number}" for number in range(column.distinct - 10, column.distinct + 2000)]]
+                found = column.isin(values)
+                assert not found[0] and len(found) <= len(column)
+            gc.callbacks.clear()
+            print(column.distinct > 10_000)
+            """), (0, "True", ""))
+
     def test_an_audit_hook_adds_rows(self):
         self.assertEqual(run_apart("""
             import sys
@@ -912,6 +931,26 @@ class Limits(unittest.TestCase):
                 if failed == request + 1:
                     self.assertEqual((list(interner), "new" in interner), (before, False))
             self.assertGreater(failed, 0)
+
+    def test_texts_whose_numbers_find_no_memory(self):
+        try:
+            from _testcapi import remove_mem_hooks, set_nomemory
+        except ImportError:
+            self.skipTest("no _testcapi")
+        for backend in BACKENDS:
+            failed = 0
+            for request in range(40):
+                interner = Interner(["a"], backend=backend)
+                set_nomemory(request, request + 1)
+                try:
+                    interner.intern_all(["new", None, "a"], missing=-1)
+                except MemoryError:
+                    failed += 1
+                    remove_mem_hooks()
+                    self.assertEqual((list(interner), "new" in interner), (["a"], False))
+                finally:
+                    remove_mem_hooks()
+            self.assertGreater(failed, 5)
 
     def test_a_short_iterator_takes_little_longer_than_a_short_list(self):
         def time_of(form):

@@ -1,0 +1,159 @@
+"""Folders of plain columns, as `dictcol encode --plain` writes them. `man dictcol` says what is in the files."""
+
+from __future__ import annotations
+
+import errno
+import fcntl
+import os
+import shutil
+from array import array
+from contextlib import contextmanager
+
+from . import _native, _types
+
+TYPE_CHECKING = False
+if TYPE_CHECKING:
+    from collections.abc import Iterator
+    from typing import TypeVar
+
+    from _typeshed import ReadableBuffer
+
+    from ._column import Column
+
+    Columns = TypeVar("Columns", bound=Column)
+
+DICTIONARY, CODES, PAIR, CUT = "dict.txt", "codes.npy", "pair.txt", "no_final_newline"
+UNFINISHED = "dictcol-unfinished"
+HEADER = 128
+
+
+def busy(folder: str) -> BlockingIOError:
+    return BlockingIOError(errno.EBUSY, "another run writes there", folder)
+
+
+def format_header(rows: int) -> bytes:
+    """What NumPy's format 1.0 has before so many numbers of 4 bytes."""
+    words = f"{{'descr': '<u4', 'fortran_order': False, 'shape': ({rows},), }}".encode()
+    return b"\x93NUMPY\x01\x00v\x00" + words.ljust(HEADER - 11) + b"\n"
+
+
+def read_codes(content: bytes) -> memoryview:
+    """The numbers of a file in NumPy's format."""
+    rows, rest = divmod(len(content) - HEADER, 4)
+    if rest or content[:HEADER] != format_header(rows):
+        raise ValueError(f"{CODES} is no array of '<u4' in NumPy's format 1.0")
+    return memoryview(content)[HEADER:].cast("I")
+
+
+def read_lines(descriptor: int, hasher: _types.Hasher) -> _native.Column:
+    """The lines of a dictionary."""
+    size = os.fstat(descriptor).st_size
+    if size and os.pread(descriptor, 1, size - 1) != b"\n":
+        raise ValueError(f"{DICTIONARY} does not end in a newline")
+    return _native.Column.from_file(descriptor, hasher=hasher)
+
+
+def format_pair(lines: int, codes: memoryview) -> bytes:
+    """What a dictionary and codes of one run have."""
+    return f"lines {lines}\nnumbers {len(codes)}\nchecksum {_native.Column._checksum(codes)}\n".encode()
+
+
+def read_pair(folder: str) -> bytes | None:
+    """What `pair.txt` says. Earlier versions wrote none."""
+    try:
+        with open(os.path.join(folder, PAIR), "rb") as file:
+            return file.read()
+    except FileNotFoundError:
+        return None
+
+
+def make_column(cls: type[Columns], lines: _native.Column, codes: memoryview) -> Columns:
+    if lines.distinct == len(lines):
+        return cls._with_dictionary(lines, codes)
+    # Lines that were changed may be equal: then both are the first of them.
+    try:
+        return cls._with_dictionary(lines, lines.take(codes).codes)
+    except IndexError as error:
+        raise ValueError(f"{CODES} has a number that is no line of {DICTIONARY}: {error}") from None
+
+
+def read(cls: type[Columns], folder: str, hasher: _types.Hasher) -> Columns:
+    path = os.path.join(folder, CODES)
+    with open(path, "rb") as codes_file, open(os.path.join(folder, DICTIONARY), "rb") as dictionary:
+        pair = read_pair(folder)
+        # While it is there, the other files are of its run. So all are of one run if it still is in its place.
+        if not os.path.samestat(os.fstat(codes_file.fileno()), os.stat(path)):
+            raise busy(folder)
+        codes, lines = read_codes(codes_file.read()), read_lines(dictionary.fileno(), hasher)
+    column = make_column(cls, lines, codes)
+    if pair not in (None, format_pair(len(lines), codes)):
+        raise ValueError(f"{DICTIONARY} and {CODES} are of two runs")
+    return column
+
+
+def lock(folder: str) -> int:
+    """Locks a folder for this run, until the descriptor is closed or the process ends."""
+    descriptor = os.open(folder, os.O_RDONLY | os.O_DIRECTORY | os.O_NOFOLLOW | os.O_CLOEXEC)
+    try:
+        fcntl.flock(descriptor, fcntl.LOCK_EX | fcntl.LOCK_NB)
+        if not os.path.samestat(os.fstat(descriptor), os.lstat(folder)):
+            raise busy(folder)
+    except BaseException as error:
+        os.close(descriptor)
+        raise busy(folder) if isinstance(error, BlockingIOError) else error
+    return descriptor
+
+
+@contextmanager
+def unfinished(folder: str) -> Iterator[str]:
+    """A folder in this one that this run alone writes into. What a killed run left has no lock, and is removed."""
+    path = os.path.join(folder, UNFINISHED)
+    try:
+        left = lock(path)
+    except FileNotFoundError:
+        pass
+    else:
+        shutil.rmtree(path)
+        os.close(left)
+    try:
+        os.mkdir(path)
+        descriptor = lock(path)
+    except (FileExistsError, FileNotFoundError):
+        raise busy(path) from None
+    try:
+        yield path
+    finally:
+        shutil.rmtree(path)
+        os.close(descriptor)
+
+
+def write_file(folder: str, name: str, *parts: ReadableBuffer) -> None:
+    """Writes a new file, and waits until it is stored."""
+    with open(os.path.join(folder, name), "xb") as file:
+        for part in parts:
+            file.write(part)
+        file.flush()
+        os.fsync(file.fileno())
+
+
+def write(column: Column, folder: str) -> None:
+    # As it is now, whatever others add.
+    column = column[:]
+    if None in column:
+        raise ValueError(f"row {column.index(None)} is None, which no line of {DICTIONARY} is")
+    lines, codes = column._lines()
+    if codes.itemsize != 4:
+        codes = memoryview(array("I", codes))
+    os.makedirs(folder, exist_ok=True)
+    with unfinished(folder) as new:
+        write_file(new, DICTIONARY, lines)
+        write_file(new, CODES, format_header(len(codes)), codes)
+        write_file(new, PAIR, format_pair(column.distinct, codes))
+        # There is no codes.npy while the other files are not those of the new one.
+        for name in (CODES, CUT):
+            try:
+                os.remove(os.path.join(folder, name))
+            except FileNotFoundError:
+                pass
+        for name in (PAIR, DICTIONARY, CODES):
+            os.rename(os.path.join(new, name), os.path.join(folder, name))
