@@ -185,12 +185,12 @@ static bool move_stream(PyObject *capsule, struct ArrowArrayStream *stream) {
   return true;
 }
 
-/* Releases a struct, whose function may run Python code, which must not find an exception. */
+/* Releases a struct. Its function may run Python code, which must not find an exception. A schema of a stream may lack it. */
 #define RELEASE(it) \
   do { \
     PyObject *type, *value, *trace; \
     PyErr_Fetch(&type, &value, &trace); \
-    (it)->release(it); \
+    if ((it)->release) (it)->release(it); \
     PyErr_Restore(type, value, trace); \
   } while (0)
 

@@ -422,6 +422,15 @@ class Producers(unittest.TestCase):
             for schema, arrays in ((None, []), (producer.schema("u"), []), (producer.schema("u"), arrays)):
                 self.refuse(error, text, producer.stream(schema, arrays, status, said))
 
+    def test_a_schema_that_is_not_to_be_released(self):
+        producer = self.producer
+        for form, said in (("u", None), ("z", "^Arrow's type 'z' is not read: ")):
+            given = producer.stream(Schema(format=form.encode()), [producer.texts(["a", None])])
+            if said:
+                self.refuse(TypeError, said, given)
+            else:
+                self.assertEqual(list(Column.from_arrow(given)), ["a", None])
+
     def test_other_threads_run_while_a_stream_is_asked(self):
         has_begun, may_end = threading.Event(), threading.Event()
         producer = self.producer
