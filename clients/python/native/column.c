@@ -321,10 +321,11 @@ static bool is_for_many(PyObject *key) {
 }
 
 static PyObject *column_subscript(Column *self, PyObject *key) {
-  bool is_number = PyLong_CheckExact(key);
   if (PySlice_Check(key)) return column_slice(self, key);
-  if (!is_number && is_for_many(key)) return column_select(self, key);
-  if (!is_number && !PyIndex_Check(key)) return raise_type("rows are chosen by a number, a slice, a list, an array or a mask, not by ", key, "");
+  if (!PyLong_CheckExact(key)) {
+    if (is_for_many(key)) return column_select(self, key);
+    if (!PyIndex_Check(key)) return raise_type("rows are chosen by a number, a slice, a list, an array or a mask, not by ", key, "");
+  }
   Py_ssize_t row = PyNumber_AsSsize_t(key, PyExc_IndexError);
   if (row == -1 && PyErr_Occurred()) return NULL;
   return column_item(self, row < 0 ? row + self->n : row);
