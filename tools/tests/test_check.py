@@ -34,6 +34,7 @@ class PartTest(unittest.TestCase):
             part = CHECK["Part"]("proofs", ["sleep", "60"])
         self.assertRegex(printed.getvalue(), r"^== proofs: begins, and takes \d+ to \d+ minutes\n$")
         self.assertTrue(part.end())
+        part.log.close()
 
     def test_what_failed(self):
         self.assertEqual(self.run_part("echo '3 passed, 2 failed'; exit 1")[0], False)
@@ -84,6 +85,13 @@ class ProofsTest(unittest.TestCase):
         status, printed, told = self.run_proofs(script)
         self.assertEqual((status, printed), (0, "\n".join([*said, "ci", "3 passed, 0 failed"])))
         self.assertRegex(told, r"^proofs: 2 of 3 crates are proved, 1 min \d s\n$")
+
+    def test_the_gate_says_it_too(self):
+        words = ["import runpy", f"CHECK = runpy.run_path({str(edits.TOP / 'check')!r})", "gate = CHECK['Gate'](None)",
+                 "CHECK['prove'].__globals__.update(copy_crates=lambda *_: None, PROVE='echo said >&2; echo 0 passed, 1 failed; exit 1')",
+                 "CHECK['prove'](gate, '.')"]
+        ended = subprocess.run([sys.executable, "-c", "\n".join(words)], capture_output=True, encoding="utf-8", check=True)
+        self.assertEqual(ended.stderr, "said\n")
 
     def test_proofs_that_fail(self):
         self.assertEqual(self.run_proofs("echo '2 passed, 1 failed'; exit 3"), (3, "2 passed, 1 failed\n", ""))
