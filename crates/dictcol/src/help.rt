@@ -16,7 +16,7 @@ merge   writes one file for several that encode wrote, one after another
 shard   writes DIR/0 to DIR/N-1, equal lines into one file, and DIR/order
 
   --plain DIR      writes DIR/dict.txt and DIR/codes.npy, which NumPy maps
-  --onto OLD       begins with the lines of OLD/dict.txt, which keep their codes
+  --onto OLD, --onto-dictionary OLD  the lines of OLD/dict.txt keep their codes
   --files0-from F  reads the files that F names; a zero byte ends each name
   --sorted         the most frequent line comes first
   --encoded        each FILE is what encode wrote, and its lines are counted
