@@ -651,23 +651,22 @@ class Batches(unittest.TestCase):
         handled = []
 
         def note(*_):
-            # Once this thread has worked so long, it is within the call, however long the machine has put it aside before.
-            if not handled and time.thread_time() - begun > 0.004:
-                handled.append(True)
-                handle()
+            handled.append(True)
+            handle()
 
-        before = signal.signal(signal.SIGALRM, note)
+        before = signal.signal(signal.SIGVTALRM, note)
         try:
-            begun = time.thread_time()
-            signal.setitimer(signal.ITIMER_REAL, 0.001, 0.001)
+            # By processor time, because on a busy machine much real time may pass before the call begins. Once, because a second
+            # signal may come while the handler is at its first line.
+            signal.setitimer(signal.ITIMER_VIRTUAL, 0.008)
             try:
                 found = call()
             except (RuntimeError, ValueError, ZeroDivisionError) as error:
                 found = error
             self.assertEqual(handled, [True], "the call ended before the signal came")
         finally:
-            signal.setitimer(signal.ITIMER_REAL, 0)
-            signal.signal(signal.SIGALRM, before)
+            signal.setitimer(signal.ITIMER_VIRTUAL, 0)
+            signal.signal(signal.SIGVTALRM, before)
         return found
 
     def test_a_handler_within_a_batch(self):
