@@ -81,7 +81,11 @@ class Program:
         environment = {"LD_PRELOAD": self.library, "STOP_AT": str(call)}
         with holding(data) as given, subprocess.Popen([self.path, *words], stdin=given, stdout=subprocess.PIPE,
                                                       stderr=subprocess.PIPE, env=environment, cwd=folder) as started:
-            yield Stopped(started)
+            try:
+                yield Stopped(started)
+            finally:
+                # A stopped one would be waited for without end.
+                started.kill()
 
 
 class Stopped:
