@@ -3,6 +3,7 @@ of a module in C if it was built by it. clients/check does that."""
 
 import copy
 import gc
+import io
 import pickle
 import sys
 import tempfile
@@ -110,6 +111,9 @@ def calls_of_columns():
         lambda: Column.from_file(-1), lambda: Column.from_file([]), lambda: column.__arrow_c_array__(), lambda: column.__arrow_c_schema__(),
         lambda: column.compact(), lambda: column[1:3].compact(), lambda: column.shrink(), lambda: pickle.dumps(column[1:3]), lambda: next(iter(column)),
         lambda: column.isin(["a", None, 1]), lambda: column.isin("a"), lambda: column.unique(), lambda: column.value_counts(dropna=False),
+        lambda: Column.from_file(io.BytesIO(b"a\nb")), lambda: Column.from_file(io.StringIO("a")), lambda: Column.from_file(io.BytesIO(b"\x1f\x8b")),
+        lambda: Column.from_file(file.name, encoding="utf-8-sig", newline=None), lambda: Column.from_file(file.name, newline="x"),
+        lambda: column._lines(), lambda: Column(["a\nb"])._lines(), lambda: Column._checksum(b"abcd"), lambda: Column._checksum("a"), lambda: column._kept,
         lambda: Column._with_dictionary(column, [0, -1]), lambda: Column._with_dictionary(column, [99]),
         lambda: column.__arrow_c_stream__(), lambda: Column.from_arrow(column), lambda: Column.from_arrow(HasStream(column)), lambda: Column.from_arrow(1),
         lambda: Column.from_arrow(HasStream(1)), lambda: Column.from_arrow(column, hasher="none"), lambda: take_twice(column),
