@@ -15,6 +15,7 @@ pub mod Taken
 pub mod TrimEnd
 pub mod Counted
 pub mod CountRows
+pub mod Places
 pub mod PlainColumns
 pub mod LineBounds
 pub mod AreRows

@@ -6,6 +6,7 @@ pub mod File
 pub mod Hasher
 pub mod Lines
 pub mod Names
+pub mod Places
 pub mod Plain
 pub mod Shards
 pub mod Shown

@@ -33,7 +33,7 @@ pub trait TakesLines {
 }
 
 /// Returns how many newlines there are.
-fn count_newlines(bytes: &[u8]) -> usize
+pub fn count_newlines(bytes: &[u8]) -> usize
     ensures { result ≡ count_by is_newline bytes.now }
 {
     let mut count = 0;

@@ -1,6 +1,6 @@
 //! The file: a JSON object with the dictionary, a number for each line, and whether the last line ends in a newline.
 
-ghost use Rattle.std.specs.Prelude.{◌≡◌, ◌≢◌, ◌<◌, ◌++◌, ◌⊎◌, List, All, length, Bool, true, false, codes, Some, None, IfOk, IfErr, OnOk};
+ghost use Rattle.std.specs.Prelude.{◌≡◌, ◌≢◌, ◌<◌, ◌≤◌, ◌++◌, ◌⊎◌, List, All, length, Bool, true, false, codes, Some, None, IfOk, IfErr, OnOk};
 ghost use Rattle.std.specs.Io.KnownBytes.{Appends};
 ghost use Rattle.std.specs.List.{join_with_byte, list_any};
 ghost use Rattle.serde_json.specs.Data.{boolean, array, Items};
@@ -14,12 +14,14 @@ ghost use Rattle.string_column.specs.Column.{rows_of};
 ghost use Rattle.dictcol.specs.Fault.{IsDamage, IsParseFault, IsTakeFault, IsWriteFault, WritesLast};
 ghost use Rattle.dictcol.specs.File.{indexed_texts, AreWithin, HaveEntries, HoldsLines, HoldsText, IsFileFault, IsNoFile, FileHolds, DecodesFile};
 ghost use Rattle.dictcol.specs.Lines.{has_newline, newline_if, text_of_lines};
+ghost use Rattle.dictcol.specs.Places.{IsEarlyEnd, IsLastLine};
 ghost use Rattle.dictcol.specs.Writes.{Writes};
 
-use crate::blocks::check_utf8;
+use crate::blocks::{check_utf8, count_newlines};
 use crate::fault::Fault;
 use crate::hasher::LineHasher;
 use crate::stream;
+use memchr::memrchr;
 use serde_json::Value;
 use std::alloc::Global;
 use std::io;
@@ -217,14 +219,27 @@ fn read_value<B: Backend + Drop>(
     })
 }
 
-/// Returns the fault of a file that ends within its JSON.
-fn locate_early_end(file: &str) -> Fault
-    ensures { IsDamage result }
+/// Returns where the last line of a file begins.
+#[tactic(auto, using(crate::proofs::Places::line_behind, crate::proofs::Places::line_of_all))]
+fn find_last_line(file: &[u8]) -> usize
+    ensures within { result ≤ length file.now }
+    ensures line { IsLastLine file.now result }
 {
-    let newlines = file.bytes().filter(|byte| *byte == b'\n').count();
-    let last_line = file.rsplit('\n').next().unwrap_or("");
+    match memrchr(b'\n', file) {
+        Some(at) => at + 1,
+        None => 0,
+    }
+}
+
+/// Returns the fault of a file that ends within its JSON.
+#[tactic(auto, using(crate::proofs::Places::early_end))]
+fn locate_early_end(file: &[u8]) -> Fault
+    ensures damage { IsDamage result }
+    ensures place { IsEarlyEnd file.now result }
+{
+    let last_line = &file[find_last_line(file)..];
     Fault::EndsEarly {
-        line: newlines.saturating_add(1),
+        line: count_newlines(file).saturating_add(1),
         column: last_line.len().saturating_add(1),
     }
 }
@@ -237,7 +252,7 @@ fn parse(alloc: Global, file: &str) -> Result<Value, Fault>
     match Value::from_str(alloc, file) {
         Ok(value) => Ok(value),
         Err(error) if error.is_memory() => Err(Fault::Memory),
-        Err(error) if error.is_eof() => Err(locate_early_end(file)),
+        Err(error) if error.is_eof() => Err(locate_early_end(file.as_bytes())),
         Err(_) if file.starts_with('\u{feff}') => Err(Fault::ByteOrderMark),
         Err(error) => Err(Fault::NotJson(error)),
     }

@@ -1,5 +1,9 @@
 //! The hasher of lines.
 
+ghost use Rattle.std.specs.Prelude.{◌≡◌, ◌∷◌, []};
+ghost use Rattle.std.specs.Int.{w64, from_le_bytes};
+ghost use Rattle.string_interner.specs.Text.{Text};
+
 use crate::fault::Fault;
 use std::random::RandomSource;
 use string_interner::dedup::{SeededHasher, SeededState, TextHasher};
@@ -14,18 +18,23 @@ pub struct LineHasher {
 impl LineHasher {
     /// Draws keys, and returns the hasher with them.
     pub fn draw(rt: &HostRuntime) -> Result<LineHasher, Fault> {
-        let keys = SeededState::new(draw_key(rt)?, draw_key(rt)?);
-        Ok(LineHasher {
-            seeded: SeededHasher::new(keys),
-        })
+        let mut keys = [[0; 8]; 2];
+        rt.fill_bytes(keys.as_flattened_mut())
+            .map_err(Fault::NoKeys)?;
+        Ok(LineHasher::with_keys(keys))
     }
-}
 
-/// Draws a key.
-fn draw_key(rt: &HostRuntime) -> Result<u64, Fault> {
-    let mut key = [0; 8];
-    rt.fill_bytes(&mut key).map_err(Fault::NoKeys)?;
-    Ok(u64::from_le_bytes(key))
+    /// Returns the hasher whose keys these bytes are, the lowest first.
+    fn with_keys(keys: [[u8; 8]; 2]) -> LineHasher
+        ensures { (one other : Text) → keys ≡ one ∷ other ∷ [] → result.seeded.builder
+            ≡ record { key0 = from_le_bytes w64 one; key1 = from_le_bytes w64 other } }
+    {
+        let [one, other] = keys;
+        let keys = SeededState::new(u64::from_le_bytes(one), u64::from_le_bytes(other));
+        LineHasher {
+            seeded: SeededHasher::new(keys),
+        }
+    }
 }
 
 impl TextHasher for LineHasher {

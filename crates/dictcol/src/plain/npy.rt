@@ -5,6 +5,7 @@ ghost use Rattle.std.specs.Io.KnownBytes.{Appends};
 ghost use Rattle.std.specs.List.{flat_map};
 ghost use Rattle.dictcol.specs.Fault.{IsDamage, IsParseFault, IsWriteFault};
 ghost use Rattle.string_interner.specs.Text.{Text};
+ghost use Rattle.dictcol.specs.Places.{IsNotALine};
 ghost use Rattle.dictcol.specs.Plain.{code_bytes, npy_header, AreNumbers, IsNpy};
 ghost use Rattle.dictcol.specs.Writes.{Writes};
 
@@ -122,6 +123,7 @@ fn check_numbers(bytes: &[u8], limit: usize) -> Result<(), Fault>
     ensures ok { OnOk result ((numbers : List ℕ) × AreNumbers limit numbers bytes.now) }
     ensures err { IfErr result (λ fault. IsDamage fault × ((numbers : List ℕ)
         → ¬ (AreNumbers limit numbers bytes.now))) }
+    ensures place { IfErr result (IsNotALine limit bytes.now) }
 {
     let mut rest = bytes;
     'numbers: while let Some((first, behind)) = rest.split_first_chunk::<4>() {

@@ -1,6 +1,7 @@
-use Rattle.std.proofs.Common.{◌≡◌, ℕ, ◌<◌, ◌^◌, ◌≤◌, length, take, drop, get_or, w32, arith, rules}
+use Rattle.std.proofs.Common.{◌≡◌, ℕ, ◌<◌, ◌^◌, ◌≤◌, length, take, drop, get_or, w32, refl, arith, rules}
 use Rattle.std.specs.Int.{from_le_bytes}
 use Rattle.dictcol.proofs.PlainColumns.{next-number, no-numbers-yet, one-number, not-below, all-numbers}
+use Rattle.dictcol.proofs.Places.{first-above}
 use Rattle.dictcol.proofs.plain.npy.check_numbers.Goals as goal
 
 pub numbers-init : goal.numbers-init
@@ -33,6 +34,14 @@ returns-then-from_le_bytes-limit-clause-err c =
     let to = c.numbers.invariant in
     let next = next-number c.args.bytes.now c.numbers.rest.now c.in-Some.first.now c.in-Some.behind.now to.numbers number small to.so_far enough first behind is in
     (tt, λ numbers. not-below c.args.limit number numbers c.args.bytes.now c.numbers.rest.now c.in-Some.first.now c.in-Some.behind.now to next.0 next.1 fits above)
+
+pub returns-then-from_le_bytes-limit-clause-place : goal.returns-then-from_le_bytes-limit-clause-place
+returns-then-from_le_bytes-limit-clause-place c =
+    let above : c.args.limit ≤ c.from_le_bytes.result = search rules in
+    let enough : 4 ≤ length c.numbers.rest.now = search rules in
+    let first : c.in-Some.first.now ≡ take 4 c.numbers.rest.now = search rules in
+    let is : c.from_le_bytes.result ≡ from_le_bytes w32 c.in-Some.first.now = c.from_le_bytes.ensures in
+    first-above c.args.limit c.from_le_bytes.result _ c.args.bytes.now c.numbers.rest.now c.in-Some.first.now c.numbers.invariant above is first enough refl
 
 pub returns-clause-ok : goal.returns-clause-ok
 returns-clause-ok c =
