@@ -27,17 +27,20 @@ typedef struct Held {
   Block *block;
 } Held;
 
-/* May be called without the GIL. */
-static void release_array(struct ArrowArray *array) {
-  Held *held = array->private_data;
-  if (array->dictionary) {
-    if (array->dictionary->release) array->dictionary->release(array->dictionary);
-    free(array->dictionary);
-  }
+static void drop_held(Held *held) {
   free(held->owned[0]);
   free(held->owned[1]);
   drop_block(held->block);
   free(held);
+}
+
+/* May be called without the GIL. */
+static void release_array(struct ArrowArray *array) {
+  if (array->dictionary) {
+    if (array->dictionary->release) array->dictionary->release(array->dictionary);
+    free(array->dictionary);
+  }
+  drop_held(array->private_data);
   array->release = NULL;
 }
 
@@ -83,14 +86,6 @@ static struct ArrowArray *make_array(int64_t length, int64_t buffers, Held *held
     *array = (struct ArrowArray){
         .length = length, .n_buffers = buffers, .buffers = held->buffers, .release = release_array, .private_data = held};
   return array;
-}
-
-static void drop_held(Held *held) {
-  if (!held) return;
-  free(held->owned[0]);
-  free(held->owned[1]);
-  drop_block(held->block);
-  free(held);
 }
 
 /* A copy of the dictionary. */

@@ -31,19 +31,19 @@ static bool encode_lines(Batch *batch, const char *at, const char *end) {
   while (at < end) {
     const char *newline = memchr(at, '\n', end - at), *stop = newline ? newline : end;
     if (!encode_line(batch, at, stop - at)) return false;
-    at = stop + 1;
+    at = stop + (stop < end);
   }
   return true;
 }
 
 /* The same for lines that "\n", "\r" or "\r\n" ends. */
 static bool encode_any_lines(Batch *batch, const char *at, const char *end) {
-  const char *newline = memchr(at, '\n', end - at);
+  const char *newline = at < end ? memchr(at, '\n', end - at) : NULL;
   while (at < end) {
     if (newline && newline < at) newline = memchr(at, '\n', end - at);
     const char *stop = newline ? newline : end, *carriage = memchr(at, '\r', stop - at);
     if (!encode_line(batch, at, (carriage ? carriage : stop) - at)) return false;
-    at = carriage && carriage + 1 < stop ? carriage + 1 : stop + 1;
+    at = carriage && carriage + 1 < stop ? carriage + 1 : stop + (stop < end);
   }
   return true;
 }
@@ -159,10 +159,10 @@ static Py_ssize_t read_more(Reader *reader) {
   return count;
 }
 
-/* Drops bytes at the front. */
+/* Drops bytes at the front. There is no memory for them before the first are read. */
 static void drop_front(Reader *reader, size_t count) {
   reader->used -= count;
-  memmove(reader->bytes, reader->bytes + count, reader->used);
+  if (reader->used) memmove(reader->bytes, reader->bytes + count, reader->used);
 }
 
 /* Encodes the lines that are read to their ends, or at the end of the file all. Only the last `count` bytes may have newlines. */
