@@ -141,6 +141,7 @@ static struct ArrowArray *make_codes(const Column *self) {
 
 /* Null without an exception if there is no memory. */
 static struct ArrowArray *make_rows(const Column *self) {
+  self->dictionary->uses++;
   struct ArrowArray *texts = make_texts(self->dictionary->h), *array = texts ? make_codes(self) : NULL;
   if (array) array->dictionary = texts;
   else if (texts) {

@@ -92,6 +92,7 @@ PyObject *column_buffers(Column *self, PyObject *unused) {
   if (!is_made(self)) return NULL;
   /* The dictionary first, because a collection may give the column another while the view is made. */
   Dictionary *dictionary = share_dictionary(self->dictionary);
+  dictionary->uses++;
   PyObject *codes = column_codes(self, NULL);
   if (codes && join_texts(dictionary, NULL, &joined, &ends)) all = PyTuple_Pack(3, joined, ends, codes);
   drop_dictionary(dictionary);
@@ -126,6 +127,7 @@ PyObject *column_lines(Column *self, PyObject *unused) {
   if (!is_made(self)) return NULL;
   /* The dictionary first, because a collection may give the column another while the view is made. */
   Dictionary *dictionary = share_dictionary(self->dictionary);
+  dictionary->uses++;
   PyObject *codes = column_codes(self, NULL), *lines = codes ? join_lines(dictionary) : NULL;
   PyObject *both = lines ? PyTuple_Pack(2, lines, codes) : NULL;
   drop_dictionary(dictionary);
@@ -154,6 +156,7 @@ PyObject *column_parts(Column *self, void *unused) {
   Parts *parts = (Parts *)new_parts(self->state, NULL, NULL, 0);
   if (parts && is_made(self)) {
     parts->dictionary = share_dictionary(self->dictionary);
+    parts->dictionary->uses++;
     parts->block = share_block(self->block), parts->n = self->n, parts->is_part = self->is_part;
   } else Py_CLEAR(parts);
   return (PyObject *)parts;

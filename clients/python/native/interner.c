@@ -268,6 +268,7 @@ static PyObject *method_parts(Interner *self, void *unused) {
   interner *h = NULL;
   Parts *parts = (Parts *)new_parts(self->state, NULL, NULL, -1);
   if (!parts || !is_open(self)) goto failed;
+  self->uses++;
   if (interner_clone(self->h, &h) != INTERNER_OK) {
     PyErr_NoMemory();
     goto failed;

@@ -10,6 +10,7 @@ import os
 import pickle
 import signal
 import sys
+import tempfile
 import threading
 import tracemalloc
 import unittest
@@ -662,6 +663,22 @@ class Calls(unittest.TestCase):
         column.append("new")
         self.assertEqual((list(column), column.dictionary[column.code("new")]), (["x", "new"], "new"))
         self.assertEqual(len(column.dictionary), column.distinct)
+
+    def test_an_iterator_that_gives_the_texts_away_before_it_fails(self):
+        def values(give):
+            yield from (str(row % 7) for row in range(_native._VALUES_AT_ONCE))
+            given.append(give())
+            raise ZeroDivisionError
+
+        with tempfile.TemporaryDirectory() as folder:
+            for give in (lambda: bytes(column.to_buffers()[0]), lambda: Column.from_arrow(column).dictionary,
+                         lambda: pickle.loads(pickle.dumps(column)).dictionary, lambda: column.to_plain(folder)):
+                column, given = Column(["x"]), []
+                with self.assertRaises(ZeroDivisionError):
+                    column.extend(values(give))
+                column.append("new")
+                self.assertEqual((list(column), column.code("0"), column.code("new")), (["x", "new"], 1, 8))
+                self.assertIn(given, ([b"x0123456"], [["x", *"0123456"]], [None]))
 
     def test_an_iterator_that_uses_its_texts_before_it_fails(self):
         last = str(2 * _native._VALUES_AT_ONCE - 1)

@@ -714,7 +714,8 @@ class Batches(unittest.TestCase):
         rows = [*texts, 1]
         for look in (lambda it, last: it.get(texts[last]), lambda it, last: texts[last] in it and last, lambda it, last: it[last] and last,
                      lambda it, last: it.resolve(last) and last, lambda it, last: it.resolve_all([last]) and last,
-                     lambda it, last: it.to_json() and last, lambda it, last: it.get_all([texts[last]])[0]):
+                     lambda it, last: it.to_json() and last, lambda it, last: it.get_all([texts[last]])[0],
+                     lambda it, last: it.copy().get(texts[last])):
             interner = Interner()
             self.run_with_handler(lambda: seen.append(look(interner, len(interner) - 1)), lambda: self.refuse(interner.intern_all, rows))
             self.assertEqual((interner[seen[-1]], interner.get(texts[seen[-1]])), (texts[seen[-1]], seen[-1]))
