@@ -251,6 +251,12 @@ def try_missing(program):
             ended = program.run([*b"encode --plain new --onto".split(), where], LINES, folder=folder)
             advice = b" (see --onto-dictionary)" if name == "codes.npy" else b""
             yield f"onto one without {name}", ended, failed(1, message + advice)
+        # Only a file that is not there can be done without.
+        write_files(f"{folder}/unread", files)
+        Path(folder, "unread/codes.npy").unlink()
+        Path(folder, "unread/codes.npy").mkdir()
+        ended = program.run(b"encode --plain new --onto unread".split(), LINES, folder=folder)
+        yield "onto one whose codes cannot be read", ended, failed(1, b"unread: cannot read codes.npy: " + told(errno.EISDIR))
         # As earlier versions wrote it.
         yield "without pair.txt", program.run([b"decode", b"without pair.txt"], folder=folder), (0, LINES, b"")
         alone = b"without codes.npy"

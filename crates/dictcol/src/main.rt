@@ -39,7 +39,7 @@ use plain::folder;
 use shown::ShownPath;
 use std::env;
 use std::env::{Env, FillError};
-use std::io::{BufWriter, Read, Write};
+use std::io::{BufWriter, ErrorKind, Read, Write};
 use std::process::ExitCode;
 use string_interner::backend::{Backend, BucketBackend, BufferBackend, StringBackend};
 use zero::Exchanged;
@@ -247,7 +247,9 @@ fn print(rt: &HostRuntime, text: &str) -> Result<(), Fault> {
 fn advice(task: Task, fault: &Fault) -> &'static str {
     match (task, fault) {
         (Task::Write(..), Fault::NotUtf8(_)) => " (see --invalid)",
-        (Task::Write(..), Fault::NumbersFile(_)) => " (see --onto-dictionary)",
+        (Task::Write(..), Fault::NumbersFile(error)) if error.kind() == ErrorKind::NotFound => {
+            " (see --onto-dictionary)"
+        }
         _ => "",
     }
 }
