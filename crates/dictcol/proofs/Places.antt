@@ -1,11 +1,12 @@
 -- Where a file is damaged.
-use Rattle.std.proofs.Common.{◌≡◌, ℕ, ◌+◌, ◌-◌, ◌^◌, ◌/◌, ◌≤◌, List, [], ◌∷◌, ◌++◌, length, take, drop, Some, None, w32, refl, sym, ap, ap₂, ◌∙◌, arith}
+use Rattle.std.proofs.Common.{◌≡◌, ℕ, ◌+◌, ◌-◌, ◌^◌, ◌/◌, ◌≤◌, List, [], ◌∷◌, ◌++◌, length, take, drop, Some, None, w32, refl, sym, ap, ap₂, subst, ◌∙◌, arith}
 use Rattle.std.specs.Prelude.{min, count_by}
 use Rattle.std.specs.Int.{from_le_bytes}
 use Rattle.std.specs.List.{flat_map}
 use Rattle.std.proofs.lemmas.List.{append_assoc, append-nil, length-append}
 use Rattle.memchr.specs.Find.{is_byte, IsLastByte}
 use Rattle.string_interner.specs.Text.{Text}
+use Rattle.dictcol.specs.Blocks.{EndsAtNewline}
 use Rattle.dictcol.specs.Lines.{is_newline}
 use Rattle.dictcol.specs.Places.{IsEarlyEnd, IsLastLine, IsNotALine}
 use Rattle.dictcol.specs.Plain.{code_bytes}
@@ -16,7 +17,8 @@ use Rattle.dictcol.proofs.Taken.{last-none, last-some}
 -- the last line is behind the last newline
 pub line_behind : (text : Text) (at : ℕ) → IsLastByte (is_byte 10) text (Some at) → IsLastLine text (at + 1)
 line_behind text at last =
-    let ends = last-some text 0 at last in
+    let from_start : 0 + at ≡ at = omega arith in
+    let ends = subst (λ end. EndsAtNewline text end) from_start (last-some text 0 at last) in
     let behind = drop (at + 1) text in (
       take at text ∷ [],
       ends.0 ∙ sym (append_assoc (take at text) (10 ∷ []) behind) ∙ sym (ap (λ front. front ++ behind) (append-nil (take at text ++ 10 ∷ []))),
