@@ -17,8 +17,8 @@ extensions = ["myst_parser", "sphinx.ext.autodoc"]
 autodoc_default_options = {"members": True, "inherited-members": True, "exclude-members": "_parts"}
 # In a docstring a word of code has one backtick on each side, as in Markdown.
 default_role = "code"
-# A type of options, which is made on demand.
-nitpick_ignore = [("py:class", "Hasher")]
+# A type of options, which is made on demand, and one of Python's own, whose pages the site does not have.
+nitpick_ignore = [("py:class", "Hasher"), ("py:class", "os.PathLike")]
 # Links lead to headings by their words, as on a forge.
 myst_heading_anchors = 6
 html_theme = "furo"
@@ -85,5 +85,6 @@ class RattleLexer(RegexLexer):
 
 
 def setup(app):
-    app.add_lexer("rattle", RattleLexer)
+    for language in ("rattle", "antt"):
+        app.add_lexer(language, RattleLexer)
     app.connect("build-finished", put_in_imports)
