@@ -220,7 +220,6 @@ fn read_value<B: Backend + Drop>(
 }
 
 /// Returns where the last line of a file begins.
-#[tactic(auto, using(crate::proofs::Places::line_behind, crate::proofs::Places::line_of_all))]
 fn find_last_line(file: &[u8]) -> usize
     ensures within { result ≤ length file.now }
     ensures line { IsLastLine file.now result }
@@ -232,7 +231,6 @@ fn find_last_line(file: &[u8]) -> usize
 }
 
 /// Returns the fault of a file that ends within its JSON.
-#[tactic(auto, using(crate::proofs::Places::early_end))]
 fn locate_early_end(file: &[u8]) -> Fault
     ensures damage { IsDamage result }
     ensures place { IsEarlyEnd file.now result }
