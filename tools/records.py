@@ -170,7 +170,8 @@ def facts(verdict):
 
 
 def compare_crate(crate, record, verdict):
-    """What of a crate's record is other than the proof made anew, whose program is in the crate's folder, or nothing."""
+    """What of a crate's record is other than the proof made anew, whose program is in the crate's folder, or nothing. There is no
+    verdict to compare if `rt ci` took the proof of an earlier run."""
     with tempfile.TemporaryDirectory() as folder:
         made, recorded = made_of(crate), Path(folder, made_of(crate).name)
         try:
@@ -178,7 +179,7 @@ def compare_crate(crate, record, verdict):
             said = Path(record, "verdict").read_text(encoding="utf-8").strip()
         except (OSError, Refused) as error:
             return f"the prover refuses it:\n{error}"
-        if facts(said) != facts(verdict):
+        if verdict is not None and facts(said) != facts(verdict):
             return f"it says {said}, and the proof made anew {verdict}"
         if not made.exists():
             # A library has no code of its own, and the clients' part builds the archive for C.
@@ -189,7 +190,8 @@ def compare_crate(crate, record, verdict):
 
 def compare(tree, log):
     """Compares each record that fits a copy of the sources with what `rt ci` proved and built there. Returns the status."""
-    verdicts = verdicts_in(Path(log).read_text(encoding="utf-8", errors="replace"))
+    said = Path(log).read_text(encoding="utf-8", errors="replace")
+    verdicts = dict.fromkeys(re.findall(r"^rt: (\w+) is kept: ", said, re.M)) | verdicts_in(said)
     crates = crates_for(BUILT, Path(tree))
     with no_other_run_in(crates):
         left_out, counts = set(), {True: 0, False: 0}
@@ -199,7 +201,10 @@ def compare(tree, log):
             if why := stale(crate, record) or below and f"{crate.name} stands on {below[0]}":
                 print(f"no record of these sources: {why}")
             else:
-                fault = compare_crate(crate, record, verdicts.get(crate.name, ""))
+                verdict = verdicts.get(crate.name, "")
+                if verdict is None:
+                    print(f"no verdict made anew: {crate.name} was proved by an earlier run on this machine")
+                fault = compare_crate(crate, record, verdict)
                 counts[not fault] += 1
                 print(f"{record.relative_to(TOP)}: {fault}\n" if fault else "", end="")
             if why or fault and crate.makes_rlib():

@@ -205,6 +205,11 @@ class Records(unittest.TestCase):
         write(self.top / "crates/intern/out/intern", "other code")
         self.assertEqual(self.compare(1), "proved/kit-1/intern: its code is other than that of the proof made anew\n3 passed, 1 failed\n")
 
+    def test_a_crate_that_an_earlier_run_proved_has_no_verdict(self):
+        self.build_programs()
+        said = self.compare(intern="rt: intern is kept: an earlier run on this machine proved the same files")
+        self.assertEqual(said, "no verdict made anew: intern was proved by an earlier run on this machine\n4 passed, 0 failed\n")
+
     def test_a_record_that_the_prover_refuses_fails(self):
         self.build_programs()
         write(self.record("intern") / "verdict", "logic=proved functions=3")
