@@ -89,6 +89,11 @@ static PyObject *column_distinct(Column *self, void *unused) {
   return is_made(self) ? PyLong_FromSize_t(interner_len(self->dictionary->h)) : NULL;
 }
 
+static PyObject *column_has_few_rows(Column *self, void *unused) {
+  (void)unused;
+  return is_made(self) ? PyBool_FromLong(has_few_rows(self)) : NULL;
+}
+
 /* About how many bytes the strings take that were made of its texts. */
 static PyObject *column_kept(Column *self, void *unused) {
   (void)unused;
@@ -470,6 +475,7 @@ static PyGetSetDef column_getset[] = {
      NULL},
     {"distinct", (getter)column_distinct, NULL, "The number of texts in the dictionary.", NULL},
     {"hasher", (getter)column_hasher, NULL, "How texts are hashed: `seeded`, `siphash` or `fixed`.", NULL},
+    {"_has_few_rows", (getter)column_has_few_rows, NULL, NULL, NULL},
     {"_kept", (getter)column_kept, NULL, NULL, NULL},
     {"_parts", (getter)column_parts, (setter)column_set_parts, NULL, NULL},
     {NULL, NULL, NULL, NULL, NULL}};

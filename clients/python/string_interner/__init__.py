@@ -133,10 +133,11 @@ class Interner(_native.Interner):
         return object.__sizeof__(self) + 64 * self._count
 
     def __dask_tokenize__(self) -> object:
-        """The same for interners that are equal."""
+        """The same for interners of one class that are equal and have the same attributes."""
         from hashlib import sha256
 
-        return "string_interner.Interner", self.backend, sha256(self.to_json().encode()).hexdigest()
+        digest = sha256(self.to_json().encode()).hexdigest()
+        return type(self), super().__getstate__(), self.backend, digest  # type: ignore[misc]
 
     def __reduce_ex__(self, protocol: _types.Any) -> _types.Any:
         # Older protocols have no way to make an object of a class that is written in C.

@@ -122,8 +122,8 @@ class Column(_native.Column):
         return pandas.Categorical.from_codes(codes, categories=pandas.Index(self.dictionary, dtype=object))
 
     def _with_few_texts(self) -> Column:
-        # Few rows of a long column: to read the whole dictionary for them takes longer than to leave it.
-        return self.compact() if len(self) < self.distinct // 8 else self
+        # To read the whole dictionary for few rows takes longer than to leave it.
+        return self.compact() if self._has_few_rows else self
 
     def to_numpy(self) -> _types.Any:
         """Returns the rows in an array of objects of numpy. Raises ImportError without numpy."""
@@ -202,14 +202,14 @@ class Column(_native.Column):
         return object.__sizeof__(self) + self.codes.nbytes + 64 * self.distinct + self._kept
 
     def __dask_tokenize__(self) -> object:
-        """The same for columns with the same rows, whatever their dictionaries are."""
+        """The same for columns of one class with the same rows and attributes, whatever their dictionaries are."""
         from hashlib import sha256
 
         digest = sha256()
         for part in self.compact()._in_order()._buffers():
             digest.update(memoryview(part).nbytes.to_bytes(8, "little"))
             digest.update(part)
-        return "string_interner.Column", digest.hexdigest()
+        return type(self), super().__getstate__(), digest.hexdigest()  # type: ignore[misc]
 
 
 Sequence.register(Column)

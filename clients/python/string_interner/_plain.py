@@ -104,6 +104,14 @@ def lock(folder: str) -> int:
     return descriptor
 
 
+def remove(folder: str, descriptor: int) -> None:
+    """Removes a folder that this run has locked."""
+    try:
+        shutil.rmtree(folder)
+    finally:
+        os.close(descriptor)
+
+
 @contextmanager
 def unfinished(folder: str) -> Iterator[str]:
     """A folder in this one that this run alone writes into. What a killed run left has no lock, and is removed."""
@@ -113,8 +121,7 @@ def unfinished(folder: str) -> Iterator[str]:
     except FileNotFoundError:
         pass
     else:
-        shutil.rmtree(path)
-        os.close(left)
+        remove(path, left)
     try:
         os.mkdir(path)
         descriptor = lock(path)
@@ -123,8 +130,7 @@ def unfinished(folder: str) -> Iterator[str]:
     try:
         yield path
     finally:
-        shutil.rmtree(path)
-        os.close(descriptor)
+        remove(path, descriptor)
 
 
 def write_file(folder: str, name: str, *parts: ReadableBuffer) -> None:

@@ -806,6 +806,11 @@ class Copies(unittest.TestCase):
         self.assertEqual(tokenize(other), tokenize(Column(rows, hasher="fixed")))
         self.assertEqual(len({*map(tokenize, (other, other[1:], Column(["ba"]), Column(["b", "a"]), Column([None]), Column()))}), 6)
 
+    def test_tokens_of_dask_tell_classes_and_attributes(self):
+        tokens = [it.__dask_tokenize__() for it in (Named("n", ["a"]), Named("n", ["a"]), Named("m", ["a"]), Column(["a"]))]
+        self.assertEqual(tokens[0], tokens[1])
+        self.assertTrue(all(tokens[0] != it for it in tokens[2:]))
+
     def test_changed_pickles(self):
         # Each byte of a small pickle, changed to others: refused when it is read, or a column whose rows are in its dictionary. A
         # changed pickle may also ask for much memory, of pickle itself.

@@ -8,6 +8,7 @@ import subprocess
 import tempfile
 import threading
 import unittest
+from unittest import mock
 
 from string_interner import Column
 
@@ -194,6 +195,12 @@ class Plain(unittest.TestCase):
         with self.assertRaises(OSError):
             Column(["new"]).to_plain(self.folder)
         self.assertEqual((self.top / "target").read_text(), "stays")
+
+    def test_a_folder_that_cannot_be_removed_is_not_kept_open(self):
+        before = os.listdir("/proc/self/fd")
+        with mock.patch("shutil.rmtree", side_effect=PermissionError), self.assertRaises(PermissionError):
+            Column(["a"]).to_plain(self.folder)
+        self.assertEqual(os.listdir("/proc/self/fd"), before)
 
     @unittest.skipUnless(DICTCOL, "no dictcol")
     def test_dictcol_reads_and_writes_the_same(self):

@@ -328,6 +328,16 @@ class Subclasses(unittest.TestCase):
             self.assertIs(type(other), Slotted)
             self.assertEqual((other.note, hasattr(other, "unset"), list(other)), ("n", False, ["a", "b"]))
 
+    def test_tokens_of_dask_tell_classes_and_attributes(self):
+        def token(interner):
+            return interner.__dask_tokenize__()
+
+        named = Named("n", ["a"])
+        self.assertEqual(token(named), token(Named("n", ["a"])))
+        self.assertNotEqual(token(named), token(Named("m", ["a"])))
+        self.assertNotEqual(token(named), token(Interner(["a"], backend="buffer")))
+        self.assertNotEqual(token(Slotted("n")), token(Slotted("m")))
+
     def test_deep_copies_of_cycles(self):
         interner = Named("n", ["a"])
         interner.notes.append(interner)
