@@ -112,10 +112,10 @@ class BeforehandTest(unittest.TestCase):
         self.assertEqual(self.told("./check quick"), [])
 
     def test_what_the_machine_lacks(self):
-        with mock.patch("needs.is_there", lambda need: need not in ("cc", "mandoc")):
-            lines = self.told("./check quick", ("cc", "mandoc"))
-        self.assertEqual([line.partition(":")[0] for line in lines[:2]], ["no cc on this machine", "no mandoc on this machine"])
-        self.assertRegex(lines[2], r"^\.ci/run installs them first, or: apt-get install .* gcc libc6-dev binutils mandoc$")
+        with mock.patch("needs.is_there", lambda need: need not in ("cc", "mypy")):
+            lines = self.told("./check quick", ("cc", "mypy"))
+        self.assertEqual([line.partition(":")[0] for line in lines[:2]], ["no cc on this machine", "no mypy on this machine"])
+        self.assertRegex(lines[2], r"^\.ci/run installs them first, or: apt-get install .* gcc libc6-dev binutils mypy$")
 
     def test_it_comes_before_the_first_part(self):
         """And the command is printed at the end, for tools/release."""
@@ -142,20 +142,6 @@ class EndedTest(unittest.TestCase):
         self.assertIn("ended by SIGTERM. Cut: two. What comes after was not begun", lines)
 
 
-class SiteTest(unittest.TestCase):
-    def begin_site(self, lacking):
-        """What is left out, and which parts run, if this is lacking."""
-        gate = CHECK["Gate"](None)
-        named = mock.patch.dict(CHECK["begin_site"].__globals__, {"missing": lambda needs: lacking})
-        with named, mock.patch.object(gate, "begin") as begin:
-            CHECK["begin_site"](gate, "folder")
-        return gate.left_out, [call.args[0] for call in begin.call_args_list]
-
-    def test_what_is_left_out(self):
-        self.assertEqual(self.begin_site(["no sphinx"]), (["no sphinx"], []))
-        self.assertEqual(self.begin_site([]), ([], ["the site of the documents"]))
-
-
 class CheckTest(unittest.TestCase):
     def parts_of_check(self, is_proved):
         """The parts that ./check runs in order, and whether the libraries that it proved are kept."""
@@ -176,14 +162,14 @@ class CheckTest(unittest.TestCase):
     def test_the_parts(self):
         names, words, kept, left_out = self.parts_of_check(True)
         self.assertEqual(names, ["proofs", "the library for C and its clients", "scenarios", "the program", "the program dictcol",
-                                 "records of proofs", "the steps of the pages for users", "the site of the documents",
+                                 "records of proofs", "the steps of the pages for users",
                                  "texts chosen without keys", "what was measured"])
         self.assertEqual((words, kept), (["bash", "-c"], 2))
         self.assertIn("no pip on this machine: it", left_out)
 
     def test_nothing_runs_that_is_not_proved(self):
         names, _, kept, _ = self.parts_of_check(False)
-        self.assertEqual((names, kept), (["proofs", "the site of the documents", "texts chosen without keys", "what was measured"], 0))
+        self.assertEqual((names, kept), (["proofs", "texts chosen without keys", "what was measured"], 0))
 
 
 if __name__ == "__main__":
