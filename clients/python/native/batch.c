@@ -161,12 +161,26 @@ bool put_number(Batch *batch, Py_ssize_t row, int64_t number) {
   return true;
 }
 
-static bool raise_row(const Batch *batch, Py_ssize_t row, PyObject *object) {
+/* What a value is that pandas counts as missing, or null. */
+static const char *name_missing(PyObject *object) {
+  if (PyFloat_Check(object)) return PyFloat_AsDouble(object) != PyFloat_AsDouble(object) ? "NaN" : NULL;
   PyObject *name = PyType_GetName(Py_TYPE(object));
-  bool is_nan = PyFloat_CheckExact(object) && PyFloat_AsDouble(object) != PyFloat_AsDouble(object);
-  if (name)
-    PyErr_Format(PyExc_TypeError, "%s %zd is of type %U, not str%s%s", batch->column ? "row" : "text", row, name,
-                 batch->takes_none ? " or None" : "", is_nan ? ": it is NaN, which Column.from_pandas makes None" : "");
+  const char *missing = !name                                                  ? NULL
+                        : !PyUnicode_CompareWithASCIIString(name, "NAType")  ? "NA"
+                        : !PyUnicode_CompareWithASCIIString(name, "NaTType") ? "NaT"
+                                                                               : NULL;
+  Py_XDECREF(name);
+  return missing;
+}
+
+static bool raise_row(const Batch *batch, Py_ssize_t row, PyObject *object) {
+  const char *missing = name_missing(object), *maker = batch->column ? "Column.from_pandas" : "values.where(values.notna(), None)";
+  PyObject *name = PyErr_Occurred() ? NULL : PyType_GetName(Py_TYPE(object));
+  PyObject *advice = !name ? NULL : missing ? PyUnicode_FromFormat(": it is %s, which %s makes None", missing, maker) : PyUnicode_FromString("");
+  if (advice)
+    PyErr_Format(PyExc_TypeError, "%s %zd is of type %U, not str%s%U", batch->column ? "row" : "text", row, name,
+                 batch->takes_none ? " or None" : "", advice);
+  Py_XDECREF(advice);
   Py_XDECREF(name);
   return false;
 }

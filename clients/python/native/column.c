@@ -89,6 +89,11 @@ static PyObject *column_distinct(Column *self, void *unused) {
   return is_made(self) ? PyLong_FromSize_t(interner_len(self->dictionary->h)) : NULL;
 }
 
+static PyObject *column_is_part(Column *self, void *unused) {
+  (void)unused;
+  return is_made(self) ? PyBool_FromLong(self->is_part) : NULL;
+}
+
 static PyObject *column_has_few_rows(Column *self, void *unused) {
   (void)unused;
   return is_made(self) ? PyBool_FromLong(has_few_rows(self)) : NULL;
@@ -196,7 +201,9 @@ static bool mark_codes(Column *self, PyObject *values, bool *is_wanted) {
   int collects = PyGC_Disable(); /* An exception is made, and dropped, for a text without a UTF-8 form. */
   for (Py_ssize_t at = 0; is_done && at < PyTuple_Size(values); at++) {
     int64_t code;
-    int found = find_code(self, PyTuple_GetItem(values, at), &code);
+    PyObject *value = PyTuple_GetItem(values, at);
+    int found = value ? find_code(self, value, &code) : -1;
+    if (!value) PyErr_Format(PyExc_SystemError, "row %zd is not filled yet", at);
     if (found > 0) is_wanted[code + 1] = true;
     is_done = found >= 0;
   }
@@ -329,7 +336,9 @@ static PyObject *column_subscript(Column *self, PyObject *key) {
   if (PySlice_Check(key)) return column_slice(self, key);
   if (!PyLong_CheckExact(key)) {
     if (is_for_many(key)) return column_select(self, key);
-    if (!PyIndex_Check(key)) return raise_type("rows are chosen by a number, a slice, a list, an array or a mask, not by ", key, "");
+    const char *rest = is_flag(key) ? ": column.isin([value]) makes a mask" : "";
+    if (*rest || !PyIndex_Check(key))
+      return raise_type("rows are chosen by a number, a slice, a list, an array or a mask, not by ", key, rest);
   }
   Py_ssize_t row = PyNumber_AsSsize_t(key, PyExc_IndexError);
   if (row == -1 && PyErr_Occurred()) return NULL;
@@ -476,6 +485,7 @@ static PyGetSetDef column_getset[] = {
     {"distinct", (getter)column_distinct, NULL, "The number of texts in the dictionary.", NULL},
     {"hasher", (getter)column_hasher, NULL, "How texts are hashed: `seeded`, `siphash` or `fixed`.", NULL},
     {"_has_few_rows", (getter)column_has_few_rows, NULL, NULL, NULL},
+    {"_is_part", (getter)column_is_part, NULL, NULL, NULL},
     {"_kept", (getter)column_kept, NULL, NULL, NULL},
     {"_parts", (getter)column_parts, (setter)column_set_parts, NULL, NULL},
     {NULL, NULL, NULL, NULL, NULL}};

@@ -338,8 +338,8 @@ static PyMethodDef method_methods[] = {
     {"resolve_all", (PyCFunction)(void (*)(void))method_resolve_all, METH_VARARGS | METH_KEYWORDS,
      "resolve_all($self, numbers, /, *, missing=None)\n--\n\n"
      "Returns the text with each number, in order. Raises KeyError at a number without one.\n\n"
-     "Undoes `intern_all`. With a number for `missing`, as -1, it returns None for this number, and so undoes `get_all`. With the backend `buffer`, a number that belongs to no text may return a piece of other texts, or\n"
-     "raise KeyError."},
+     "Undoes `intern_all`. With a number for `missing`, as -1, it returns None for this number, and so undoes `get_all`. With the\n"
+     "backend `buffer`, a number that belongs to no text may return a piece of other texts, or raise KeyError."},
     {"entries", (PyCFunction)method_entries, METH_NOARGS,
      "entries($self, /)\n--\n\nReturns an iterator of each number with its text, in insertion order, as they are now."},
     {"items", (PyCFunction)method_entries, METH_NOARGS,

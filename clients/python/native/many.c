@@ -221,7 +221,7 @@ PyObject *method_resolve_all(Interner *self, PyObject *args, PyObject *keywords)
   PyObject *list = NULL;
   if (!PyArg_ParseTupleAndKeywords(args, keywords, "O|$O:resolve_all", words, &given, &given_missing)) return NULL;
   if (given_missing != Py_None && !read_missing(given_missing, &missing)) return NULL;
-  if (!read_numbers(given, &numbers)) return NULL;
+  if (!read_indices(given, &numbers)) return NULL;
   PyObject **texts = PyMem_Malloc(numbers.n * sizeof *texts + 1);
   if (!texts) PyErr_NoMemory();
   else if (is_open(self) && make_table(self, numbers.n, &table)) {

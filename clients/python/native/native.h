@@ -142,6 +142,7 @@ typedef struct Numbers {
   bool is_unsigned;  /* whether those of a buffer that are INT64_MIN or more are great */
   Py_ssize_t booleans; /* how many are booleans, which are 0 and 1 as in Python */
   bool is_mask;      /* whether all are */
+  bool has_flags;    /* whether some are booleans of an array, which are no integers of Python */
 } Numbers;
 
 /** An integer of 1, 2, 4 or 8 bytes, which need not be aligned. One of 8 bytes without a sign is as its bytes are with one. */
@@ -151,6 +152,12 @@ bool read_numbers(PyObject *given, Numbers *numbers);
 
 /** The same, but raises TypeError for a boolean. */
 bool read_integers(PyObject *given, Numbers *numbers);
+
+/** The same, but takes True for 1 and False for 0, as an index of a list. A mask is an array of other booleans. */
+bool read_indices(PyObject *given, Numbers *numbers);
+
+/** Whether an object is a boolean of numpy, whose scalars have a buffer without dimensions. */
+bool is_flag(PyObject *item);
 void drop_numbers(Numbers *numbers);
 PyObject *exact_number(const Numbers *numbers, Py_ssize_t row);
 

@@ -36,7 +36,8 @@ static bool copy_view(const Py_buffer *view, Numbers *numbers) {
   for (Py_ssize_t row = 0; is_done && row < n; row++) at[row] = widen(raw + row * width, width, is_unsigned);
   PyMem_Free(raw);
   if (is_done) {
-    *numbers = (Numbers){.n = n, .at = at, .is_unsigned = is_unsigned, .booleans = is_mask ? n : 0, .is_mask = is_mask};
+    *numbers = (Numbers){.n = n, .at = at, .is_unsigned = is_unsigned, .booleans = is_mask ? n : 0, .is_mask = is_mask,
+                         .has_flags = is_mask};
     return true;
   }
   PyMem_Free(at);
@@ -44,12 +45,9 @@ static bool copy_view(const Py_buffer *view, Numbers *numbers) {
   return false;
 }
 
-/* Whether an object is a boolean, of Python or of numpy, whose scalars have a buffer without dimensions. */
-static bool is_boolean(PyObject *item) {
+bool is_flag(PyObject *item) {
   Py_buffer view;
-  if (!item || PyLong_CheckExact(item)) return false;
-  if (PyBool_Check(item)) return true;
-  if (!PyObject_CheckBuffer(item)) return false;
+  if (!item || PyLong_Check(item) || !PyObject_CheckBuffer(item)) return false;
   if (PyObject_GetBuffer(item, &view, PyBUF_FULL_RO)) return PyErr_Clear(), false;
   bool is_one = !view.ndim && view.format && !strcmp(view.format, "?");
   PyBuffer_Release(&view);
@@ -57,9 +55,11 @@ static bool is_boolean(PyObject *item) {
 }
 
 /* The integer that an item is: 0 or 1 of a boolean. */
-static PyObject *read_item(PyObject *item, Py_ssize_t *booleans) {
-  if (!is_boolean(item)) return PyNumber_Index(item);
-  ++*booleans;
+static PyObject *read_item(PyObject *item, Numbers *numbers) {
+  const bool is_one = is_flag(item);
+  if (is_one || (item && PyBool_Check(item))) numbers->booleans++;
+  if (!is_one) return PyNumber_Index(item);
+  numbers->has_flags = true;
   int is_true = PyObject_IsTrue(item);
   return is_true < 0 ? NULL : PyBool_FromLong(is_true);
 }
@@ -72,7 +72,7 @@ static bool read_items(PyObject *items, Numbers *numbers) {
   if (!is_done) PyErr_NoMemory();
   for (Py_ssize_t row = 0; is_done && row < n; row++) {
     int overflow;
-    PyObject *number = read_item(PyTuple_GetItem(items, row), &numbers->booleans);
+    PyObject *number = read_item(PyTuple_GetItem(items, row), numbers);
     if (!(is_done = number != NULL)) break;
     numbers->exact[numbers->n++] = number;
     numbers->at[row] = PyLong_AsLongLongAndOverflow(number, &overflow);
@@ -83,12 +83,18 @@ static bool read_items(PyObject *items, Numbers *numbers) {
   return is_done;
 }
 
-bool read_integers(PyObject *given, Numbers *numbers) {
-  if (!read_numbers(given, numbers)) return false;
-  if (!numbers->booleans && !numbers->is_mask) return true;
+static bool refuse_booleans(Numbers *numbers) {
   drop_numbers(numbers);
   PyErr_SetString(PyExc_TypeError, "booleans, where numbers belong: numpy.flatnonzero(mask) has the numbers of a mask's rows");
   return false;
+}
+
+bool read_integers(PyObject *given, Numbers *numbers) {
+  return read_numbers(given, numbers) && ((!numbers->booleans && !numbers->is_mask) || refuse_booleans(numbers));
+}
+
+bool read_indices(PyObject *given, Numbers *numbers) {
+  return read_numbers(given, numbers) && (!numbers->has_flags || refuse_booleans(numbers));
 }
 
 bool read_numbers(PyObject *given, Numbers *numbers) {
@@ -206,7 +212,7 @@ bool read_joined(PyObject *given, PyObject *ends, PyObject *offsets, Joined *joi
   const bool has_ends = ends && ends != Py_None, has_offsets = offsets && offsets != Py_None;
   if (has_ends == has_offsets) return PyErr_SetString(PyExc_TypeError, "exactly one of ends and offsets is wanted"), false;
   if (!read_bytes(given, &joined->bytes)) return false;
-  if (read_numbers(has_ends ? ends : offsets, &joined->ends)) {
+  if (read_indices(has_ends ? ends : offsets, &joined->ends)) {
     if (has_ends || take_offsets(joined)) return true;
     drop_numbers(&joined->ends);
   }

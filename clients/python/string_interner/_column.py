@@ -67,8 +67,9 @@ class Column(_native.Column):
     def from_plain(cls, folder: _types.Path, *, hasher: _types.Hasher = "seeded") -> _types.Self:
         """Makes a column of the lines that `dictcol encode --plain` wrote into a folder, or `to_plain`.
 
-        The dictionary is that of the folder. Raises ValueError if the files are damaged or do not belong together,
-        BlockingIOError if another run writes there, and OSError.
+        The dictionary is that of the folder, and has equal lines once. Raises ValueError if the files are damaged or do not belong
+        together, and OSError: FileNotFoundError if there is no codes.npy, as for a moment while a run replaces the files,
+        BlockingIOError if one replaced them meanwhile.
         """
         from os import fsdecode
 
@@ -80,7 +81,8 @@ class Column(_native.Column):
         """Writes the rows as lines into a folder, as `dictcol encode --plain` does: `dictcol decode` reads it, and numpy the codes.
 
         The folder is made if it is not there, and files of these names are replaced. Raises ValueError for a row that is None, and
-        for a text with a newline, BlockingIOError if another run writes there, and OSError. Then the files that were there stay.
+        for a text of the dictionary with a newline, BlockingIOError if another run writes there, and OSError. Then the files that
+        were there stay. Only if they could not be replaced, there may be no codes.npy, so that no one reads those of two runs.
         """
         from os import fsdecode
 
@@ -152,8 +154,8 @@ class Column(_native.Column):
 
         Counts rows that are None only if `dropna` is false.
         """
-        column = self._with_few_texts()
-        # The counts first, because the dictionary may grow in between.
+        # As it is now, whatever others add.
+        column = self[:]._with_few_texts()
         counts = column.counts()
         found: list[tuple[str | None, int]] = [(text, count) for text, count in zip(column.dictionary, counts) if count]
         if not dropna and None in column:
@@ -163,9 +165,11 @@ class Column(_native.Column):
 
     def unique(self) -> list[str | None]:
         """Returns the distinct values of the rows, in order of first appearance. None is one of them if a row is None."""
-        found: list[str | None] = [*self._in_order().dictionary]
-        if None in self:
-            found.insert(self[: self.index(None)]._in_order().distinct, None)
+        # As it is now, whatever others add.
+        column = self[:]
+        found: list[str | None] = [*column._in_order().dictionary]
+        if None in column:
+            found.insert(column[: column.index(None)]._in_order().distinct, None)
         return found
 
     def isin(self, values: _types.Iterable[object]) -> memoryview:
@@ -199,7 +203,9 @@ class Column(_native.Column):
 
         dask decides by it what to move.
         """
-        return object.__sizeof__(self) + self.codes.nbytes + 64 * self.distinct + self._kept
+        # Of a part with few rows `pickle` has only their texts.
+        texts, kept = (len(self), 0) if self._is_part and self._has_few_rows else (self.distinct, self._kept)
+        return object.__sizeof__(self) + self.codes.nbytes + 64 * texts + kept
 
     def __dask_tokenize__(self) -> object:
         """The same for columns of one class with the same rows and attributes, whatever their dictionaries are."""

@@ -15,6 +15,7 @@ import threading
 import tracemalloc
 import unittest
 from array import array
+from unittest import mock
 
 from hypothesis import settings, strategies
 from hypothesis.stateful import RuleBasedStateMachine, initialize, invariant, rule
@@ -316,6 +317,11 @@ class Refusals(unittest.TestCase):
                     said = f"^row {rows.index(wrong)} is of type {type(wrong).__name__}, not str or None{why}$"
                     with self.assertRaisesRegex(TypeError, said):
                         Column(make(rows))
+        for missing in () if pandas is None else (pandas.NA, pandas.NaT, numpy.float64("nan")):
+            with self.assertRaisesRegex(TypeError, ": it is (NA|NaN|NaT), which Column.from_pandas makes None$"):
+                Column(["a", missing])
+            with self.assertRaisesRegex(TypeError, r"^text 1 is of type \w+, not str or None: it is N\w+, which values\.where\(values\.notna\(\), None\) makes"):
+                Interner().get_all(["a", missing])
         for before in (["a"] * 300000, ["a", None] * 150000):
             for make in (list, iter):
                 column = Column(["b"])
@@ -484,6 +490,9 @@ class Calls(unittest.TestCase):
         self.assertEqual(sys.getsizeof(column) - empty, 4000)
         column.extend(map(str, range(1000)))
         self.assertEqual(sys.getsizeof(column) - empty, 2000 * WIDTH + 64 * 1000)
+        # Of a part with few rows what a pickle of it has.
+        self.assertEqual(sys.getsizeof(column[1500:1503]) - empty, 3 * WIDTH + 64 * 3)
+        self.assertEqual(sys.getsizeof(Column.from_parts(column.dictionary, [0])) - empty, WIDTH + 64 * 1000)
 
     def test_a_part_has_the_texts_of_its_rows(self):
         column = Column((f"text {number}" for number in range(100_000)), hasher="fixed")
@@ -544,6 +553,21 @@ class Calls(unittest.TestCase):
             # An iterator goes on, and so do codes that were lent.
             self.assertEqual(list(walk), [f"text {number}" for number in range(1, 10_000)])
             self.assertEqual((bytes(column.codes), column[-1]), (codes, "text 9999"))
+
+    def test_what_is_read_in_steps_is_of_the_rows_that_there_were(self):
+        """Another thread may add rows after each step."""
+        for read in (Column.unique, lambda it: it.value_counts(dropna=False)):
+            for step in ("_in_order", "counts", "__contains__"):
+                column = Column(["a", "b"])
+                taken = getattr(Column, step)
+
+                def take(it, *words, column=column, taken=taken):
+                    found = taken(it, *words)
+                    column.extend(["c", None])
+                    return found
+
+                with mock.patch.object(Column, step, take, create=True):
+                    self.assertEqual([*read(column)], ["a", "b"])
 
     def test_a_walk_shows_the_rows_that_there_were(self):
         column = Column(["a", None, "b"])

@@ -14,6 +14,8 @@ import typing
 import unittest
 from pathlib import Path
 
+from test_safety import HANGS
+
 import string_interner
 from string_interner import Column, Interner, _native
 
@@ -36,7 +38,7 @@ class Metadata(unittest.TestCase):
 
     def run_setup(self, *words, **environment):
         return subprocess.run([sys.executable, "-B", "-W", "ignore", "setup.py", "--quiet", *words], cwd=PACKAGE.parent, env=os.environ | environment,
-                              capture_output=True, text=True, timeout=60)
+                              capture_output=True, text=True, timeout=HANGS)
 
     def test_the_page_stands_by_itself(self):
         with tempfile.TemporaryDirectory() as folder:
@@ -72,7 +74,7 @@ class Imports(unittest.TestCase):
         """What lines print in a Python of its own, which has this package and no library of its environment."""
         kept = {name: value for name, value in os.environ.items() if name != "STRING_INTERNER_LIB"}
         ended = subprocess.run([sys.executable, "-B", "-c", lines], env=kept | {"PYTHONPATH": str(package.parent)}, cwd="/",
-                               capture_output=True, text=True, timeout=60)
+                               capture_output=True, text=True, timeout=HANGS)
         self.assertEqual(ended.stderr, "")
         return ended.stdout.strip()
 

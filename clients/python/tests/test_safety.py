@@ -861,14 +861,14 @@ class OthersObjects(unittest.TestCase):
                 tuple(fill("mark" + str(gc)))
             except KeyboardInterrupt:
                 pass
-            for call in (interner.intern_all, interner.get_all, column.extend, column.take, lambda it: Column.from_parts(it, [])):
+            for call in (interner.intern_all, interner.get_all, column.extend, column.take, lambda it: Column.from_parts(it, []), column.isin):
                 try:
                     call(found[0])
                 except SystemError as error:
                     print(error.args[0][:5], list(interner), list(column))
                 except TypeError:
                     print("a text where a number belongs")
-            """), (0, "\n".join([*["row 1 ['first'] ['first']"] * 3, "a text where a number belongs", "row 1 ['first'] ['first']"]), ""))
+            """), (0, "\n".join([*["row 1 ['first'] ['first']"] * 3, "a text where a number belongs", *["row 1 ['first'] ['first']"] * 2]), ""))
 
     def test_another_function_in_the_place_of_array(self):
         for instead in ("bytearray(1)", "memoryview(bytearray(1))[:0]", "[b'']", "b''", "None"):

@@ -97,10 +97,20 @@ class Selections(unittest.TestCase):
                 with self.assertRaisesRegex(TypeError, r"^booleans, where numbers belong: numpy\.flatnonzero\(mask\) "):
                     call(make())
 
-    def test_elsewhere_booleans_are_numbers(self):
-        # As in a list of Python.
-        for mask in masks():
-            self.assertEqual(Interner(["no", "yes"]).resolve_all(mask), ["yes", "no", "yes", "no", "no"])
+    @unittest.skipUnless(numpy, "no numpy")
+    def test_one_boolean_of_numpy_is_no_number_of_a_row(self):
+        for key in (numpy.bool_(True), numpy.array(True)):
+            with self.assertRaisesRegex(TypeError, rf"not by {type(key).__name__}: column\.isin\(\[value\]\) makes a mask$"):
+                Column(ROWS)[key]
+
+    def test_a_mask_of_an_array_is_nowhere_taken_for_numbers(self):
+        for mask in (memoryview(bytes(MASK)).cast("?"), *(() if numpy is None else (numpy.array(MASK), [numpy.bool_(True)]))):
+            for call in (Interner(["no", "yes"]).resolve_all, lambda it: Interner().intern_column(b"a", it),
+                         lambda it: Interner().intern_column(b"a", offsets=it)):
+                with self.assertRaisesRegex(TypeError, r"^booleans, where numbers belong: numpy\.flatnonzero\(mask\) "):
+                    call(mask)
+        # A boolean of Python is an integer.
+        self.assertEqual(Interner(["no", "yes"]).resolve_all([True, False]), ["yes", "no"])
 
     def test_a_mask_that_changes_the_column(self):
         class Mask(Plain):
