@@ -149,7 +149,7 @@ class Plain(unittest.TestCase):
         self.assertEqual(list(Column.from_plain(self.folder)), ["old"])
 
         # Each folder that a reader finds whole is of one run.
-        wrong, done = [], threading.Event()
+        found, done = [], threading.Event()
 
         def write(name):
             rows = [f"{name} {number}" for number in range(len(name))]
@@ -160,13 +160,11 @@ class Plain(unittest.TestCase):
                     pass
 
         def read():
-            for _ in range(300):
+            while len(found) < 300:
                 try:
-                    names = {row.partition(" ")[0] for row in Column.from_plain(self.folder)}
+                    found.append({row.partition(" ")[0] for row in Column.from_plain(self.folder)})
                 except (BlockingIOError, FileNotFoundError):
                     continue
-                if len(names) != 1:
-                    wrong.append(names)
 
         threads = [threading.Thread(target=write, args=("one" * 7,)), threading.Thread(target=write, args=("other" * 9,)), threading.Thread(target=read)]
         for thread in threads:
@@ -175,7 +173,7 @@ class Plain(unittest.TestCase):
         done.set()
         for thread in threads:
             thread.join()
-        self.assertEqual(wrong, [])
+        self.assertTrue(all(len(names) == 1 for names in found))
 
     def test_a_run_that_fails_leaves_nothing(self):
         Column(["old"]).to_plain(self.folder)
