@@ -5,6 +5,7 @@ import re
 from collections import Counter
 from collections.abc import Iterable, Iterator
 from dataclasses import dataclass, replace
+from functools import cache
 from itertools import product
 from pathlib import Path
 
@@ -20,6 +21,8 @@ RUNS = (b"run", b"tagged_run")
 # Backends and hashers of scenarios that are run again with a tagged index: those that count what is asked for or hashed would
 # print other counts.
 COUNT_NOTHING = set(product((b"string", b"bucket", b"buffer"), (b"default", b"constant", b"length", b"salted", b"fold", b"sip")))
+# What the suite's source says that it does for a first line.
+ARM = re.compile(r'^        "(\w+ \w+ \w+ \w+)" => ((?:.+\n(?=        [ )>}]))*.+\n)', re.M)
 # A block of a file: its first lines, and what stands below them. There, what is printed for a call.
 BLOCK = re.compile(rb"^((?:on .*\n)+)((?:.+\n)*)", re.M)
 PRINTED = rb"((?:(?!> ).+\n)*)"
@@ -34,6 +37,12 @@ def cut(text: bytes) -> list[bytes]:
 
 def join(lines: Iterable[bytes]) -> bytes:
     return b"".join(line + b"\n" for line in lines)
+
+
+@cache
+def built_firsts() -> set[bytes]:
+    """The first lines for which the suite is built."""
+    return {first.encode() for first, _ in ARM.findall((CRATE / "src/scenario.rt").read_text(encoding="utf-8"))}
 
 
 def word_of(line: bytes) -> bytes:
@@ -104,13 +113,17 @@ class Scenario:
         return replace(self, first=first, parts=[replace(part, printed=without_asks(part.printed)) for part in self.parts])
 
     def again(self) -> Iterator["Scenario"]:
-        """The same with a tagged index, and on a fast type, which has one and hashes by `fold`, where there are these."""
+        """The same with a tagged index, and on a fast type, which has one and hashes by `fold`, where the suite is built for these."""
+        yield from (self.on(first) for first in self.firsts_again() if first in built_firsts())
+
+    def firsts_again(self) -> Iterator[bytes]:
+        """The first lines on which the calls print the same, with a tagged index in the place of the other."""
         level, *types = self.first.split(b" ", 3)
         if level in WITH_INDEX and tuple(types[::2]) in COUNT_NOTHING:
             tagged = WITH_INDEX[level] + self.first.removeprefix(level)
-            yield self.on(tagged)
+            yield tagged
             if tagged.endswith(b" SymbolU32 default"):
-                yield self.on(tagged.removesuffix(b"default") + b"fold")
+                yield tagged.removesuffix(b"default") + b"fold"
 
 
 def read_blocks(text: bytes) -> Iterator[tuple[list[bytes], list[Part]]]:

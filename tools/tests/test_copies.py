@@ -1,5 +1,6 @@
 """What a program with copies for planted bugs is made of."""
 
+import re
 import subprocess
 from pathlib import Path
 from unittest import main, mock
@@ -15,9 +16,19 @@ pub fn read_scenario(text: &str) -> Option<Scenario<'_>> {
     None
 }
 
-/// Runs a scenario of any kind.
-fn run_with<B: SuiteBackend>(scenario: Scenario<'_>) -> Result<(), Fault> {
-    run_calls(scenario)
+/// Runs a scenario of level `run` or `tagged_run`.
+fn choose_run(rt: &HostRuntime, scenario: Scenario<'_>) -> Result<(), Fault> {
+    match scenario.first {
+        "run string SymbolU16 default" => run_commands::<StringBackend<SymbolU16>>(rt, scenario),
+        "run counting SymbolU32 default" => run_commands_with::<
+            Counting,
+            Index<SymbolU32>,
+        >(rt, scenario),
+        "tagged_run string Bit default" => run_tagged_commands::<StringBackend<Bit>, FixedState>(
+            rt, scenario,
+        ),
+        _ => blame_words(scenario),
+    }
 }
 """
 
@@ -66,12 +77,14 @@ class CopiesTest(SmallRepository):
         self.assertEqual([it.name for it in (self.room / "crates/low_1").iterdir()], ["src"])
 
     def test_the_suite_is_cut_to_what_a_bug_runs_on(self):
-        kept = copies.cut_suite(SCENARIO, {("run", "string", "SymbolU16", "default"), ("tagged", "counting", "SymbolU32", "counting")})
-        self.assertTrue(kept.startswith(SCENARIO.partition("/// Runs")[0]))
-        self.assertNotIn("run_with", kept)
-        self.assertIn('("run", "string", "SymbolU16", "default") => run_blocks(rt, scenario, &mut '
-                      "Runs::<StringBackend<SymbolU16>, FixedState, Index<SymbolU16>>::new(rt.alloc(), FixedState)),\n", kept)
-        self.assertIn("Interners::<Counting, CountingHasher<'_>, TaggedIndex<SymbolU32>>::new(", kept)
+        kept = copies.cut_suite(SCENARIO, {("tagged_run", "string", "Bit", "default"), ("run", "string", "SymbolU16", "default")})
+        arm = re.search(r'^        "run counting(?s:.*?)>\(rt, scenario\),\n', SCENARIO, re.M)[0]
+        self.assertEqual(kept, SCENARIO.replace(arm, ""))
+        self.assertEqual(copies.cut_suite(SCENARIO, {("run", "counting", "SymbolU32", "default")}).count(" => "), 2)
+
+    def test_the_suite_is_not_cut_to_what_it_is_not_built_for(self):
+        with self.assertRaisesRegex(copies.Unbuilt, "not built for run bucket Even default"):
+            copies.cut_suite(SCENARIO, {("run", "bucket", "Even", "default")})
 
     def test_the_module_of_the_program_is_kept(self):
         kept = copies.write_toolchain(self.room)

@@ -8,10 +8,12 @@ import subprocess
 import sys
 import tempfile
 import unittest
-from itertools import accumulate, islice
+from itertools import accumulate, combinations, islice
 from pathlib import Path
+from unittest import mock
 
 sys.path.insert(0, str(Path(__file__).resolve().parent.parent))
+import scenarios
 from scenarios import CRATE, LARGE, Part, Scenario, cut, digest_of, file_faults, find_scenarios, read_blocks, write_block
 
 FILE = b"""\
@@ -39,6 +41,10 @@ PARTS = [Part(b"get_or_intern", [b"get_or_intern a b"], [b"asks 8", b"symbol 0"]
          Part(b"iter", [b"iter"], [b"  1 left, symbol 0, text a b", b"0 left"]),
          Part(b"", [b""], [b"line 4: unknown call"]), Part(b"len", [b"len"], [])]
 RUN = b"on run string SymbolU32 default\n> Intern a\n> Shrink\nsymbol 0\nok\n1\n> Shrink\n> Shrink\nok\nok\n1\n"
+
+
+def pairs_of(first):
+    return combinations(enumerate(first.split()), 2)
 
 
 def scenario(text, at=0):
@@ -85,11 +91,37 @@ class ReadTest(unittest.TestCase):
         none = "backend string SymbolU32 default", "run counting SymbolU32 default", "scopes string SymbolU32 counting", "interner"
         again = {"interner bucket SymbolU32 default": "tagged bucket SymbolU32 default, tagged bucket SymbolU32 fold",
                  "scopes bucket Even default": "tagged_scopes bucket Even default", **dict.fromkeys(none, "")}
+        every = {first.encode() for firsts in again.values() for first in firsts.split(", ")}
         for first, firsts in again.items():
-            with self.subTest(first):
+            with self.subTest(first), mock.patch.object(scenarios, "built_firsts", return_value=every):
                 found = list(scenario(FILE.replace(b"interner string SymbolU32 default", first.encode())).again())
                 self.assertEqual(", ".join(it.first.decode() for it in found), firsts)
                 self.assertEqual([(it.has_sizes, it.end()) for it in found], [(False, scenario(FILE).end())] * len(found))
+
+    def test_not_on_what_the_suite_is_not_built_for(self):
+        with mock.patch.object(scenarios, "built_firsts", return_value={b"tagged string SymbolU32 fold"}):
+            self.assertEqual([it.first for it in scenario(FILE).again()], [b"tagged string SymbolU32 fold"])
+
+
+class BuiltTest(unittest.TestCase):
+    """What the suite is built for, by its source."""
+
+    def test_first_lines(self):
+        built = scenarios.built_firsts()
+        for first in b"interner string SymbolU32 default", b"tagged string SymbolU32 counting", b"symbol none usize default":
+            self.assertIn(first, built)
+        self.assertNotIn(b"interner none SymbolU32 default", built)
+
+    def test_scenarios_use_each(self):
+        found = list(find_scenarios())
+        firsts = {it.first for it in found if not it.parts[0].is_bad}
+        self.assertEqual(scenarios.built_firsts(), firsts | {again.first for it in found for again in it.again()})
+
+    def test_words_that_scenarios_put_together(self):
+        """Any two words of a first line, also with a tagged index in the place of another, are together in one that is built."""
+        found = [it for it in find_scenarios() if it.first in scenarios.built_firsts()]
+        pairs = {pair for it in found for first in (it.first, *it.firsts_again()) for pair in pairs_of(first)}
+        self.assertEqual(pairs - {pair for first in scenarios.built_firsts() for pair in pairs_of(first)}, set())
 
 
 class ChosenTest(unittest.TestCase):
