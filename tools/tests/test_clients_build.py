@@ -124,6 +124,11 @@ class ClientsBuild(unittest.TestCase):
         shutil.copy(self.out / "libstring_interner.a", self.top / "whole.a")
         shutil.rmtree(self.out)
         self.build("crate.a")
+        made = os.stat(self.out / "libstring_interner.a").st_ino
+        self.build("crate.a", has_rt=False)
+        self.assertEqual(os.stat(self.out / "libstring_interner.a").st_ino, made)
+        future = os.stat(self.out / "archive.stamp").st_mtime + 10
+        os.utime(self.top / "crate.a", (future, future))
         self.assertIn("no rt", self.build("crate.a", has_rt=False, fails=True).stderr)
         self.build("whole.a", has_rt=False)
         self.build("clients/out/libstring_interner.a", has_rt=False)
