@@ -3,8 +3,10 @@
 
     tools/records.py build CRATE         builds a program or the library for C, and proves nothing. Status 3 says that no record fits, so
                                          that the crate is to be proved
-    tools/records.py compare TREE LOG    builds all of them in a copy in which `rt ci` passed, and compares code and verdicts with what
-                                         `rt ci` built there and said in its log. A record of other sources is named and passed over
+    tools/records.py compare TREE LOG [--committed]
+                                         builds all of them in a copy in which `rt ci` passed, and compares code and verdicts with what
+                                         `rt ci` built there and said in its log. A record of other sources is named and passed over, or
+                                         fails if what is compared is a commit
 
 proved/README.md says what a record is. `rattle build --crate-checked` compares it with what it reads, and stops where anything
 differs. tools/record-proofs writes the records.
@@ -188,35 +190,55 @@ def compare_crate(crate, record, verdict):
         return "its code is other than that of the proof made anew" if is_other else None
 
 
-def compare(tree, log):
+def others_of_records():
+    """What stands in proved/ beside the records of this build of the toolchain: nothing compares it."""
+    return sorted(it.name for it in folder_of_records().parent.iterdir() if it.name not in ("README.md", folder_of_records().name))
+
+
+def compare_crates(crates, verdicts):
+    """Compares the records of crates, each below those that use it. Yields of each its record, what is wrong with it, or nothing, and
+    whether that is only that it is of other sources."""
+    left_out = set()
+    for crate in crates:
+        record = folder_of_records() / crate.name
+        below = [it.name for it in crate.below() if it.name in left_out]
+        why = stale(crate, record) or below and f"{crate.name} stands on {below[0]}"
+        verdict = verdicts.get(crate.name, "")
+        if verdict is None and not why:
+            print(f"no verdict made anew: {crate.name} was proved by an earlier run on this machine")
+        fault = why or compare_crate(crate, record, verdict)
+        if fault and crate.makes_rlib():
+            left_out.add(crate.name)
+        yield record.relative_to(TOP), fault, bool(why)
+
+
+def compare(tree, log, *words):
     """Compares each record that fits a copy of the sources with what `rt ci` proved and built there. Returns the status."""
+    if not folder_of_records().is_dir():
+        others = " and ".join(others_of_records()) or "none"
+        print(f"no record of these sources: none is by this build of the toolchain, but by {others}")
+        return 0
     said = Path(log).read_text(encoding="utf-8", errors="replace")
     verdicts = dict.fromkeys(re.findall(r"^rt: (\w+) is kept: ", said, re.M)) | verdicts_in(said)
-    crates = crates_for(BUILT, Path(tree))
+    crates, passed = crates_for(BUILT, Path(tree)), 0
+    faults = [f"proved/{it}: nothing compares this: remove it" for it in others_of_records()]
     with no_other_run_in(crates):
-        left_out, counts = set(), {True: 0, False: 0}
-        for crate in crates:
-            record = folder_of_records() / crate.name
-            below = [it.name for it in crate.below() if it.name in left_out]
-            if why := stale(crate, record) or below and f"{crate.name} stands on {below[0]}":
-                print(f"no record of these sources: {why}")
+        for record, fault, is_stale in compare_crates(crates, verdicts):
+            if is_stale and "--committed" not in words:
+                print(f"no record of these sources: {fault}")
+            elif fault:
+                faults.append(f"{record}: {fault}")
             else:
-                verdict = verdicts.get(crate.name, "")
-                if verdict is None:
-                    print(f"no verdict made anew: {crate.name} was proved by an earlier run on this machine")
-                fault = compare_crate(crate, record, verdict)
-                counts[not fault] += 1
-                print(f"{record.relative_to(TOP)}: {fault}\n" if fault else "", end="")
-            if why or fault and crate.makes_rlib():
-                left_out.add(crate.name)
-    tell_count(counts[True], counts[False])
-    return 1 if counts[False] else 0
+                passed += 1
+    print(*faults, sep="\n", end="\n" if faults else "")
+    tell_count(passed, len(faults))
+    return 1 if faults else 0
 
 
 if __name__ == "__main__":
     if len(sys.argv) == 3 and sys.argv[1] == "build":
         sys.exit(build_crate(sys.argv[2]))
-    if len(sys.argv) == 4 and sys.argv[1] == "compare":
+    if sys.argv[1:2] == ["compare"] and (len(sys.argv) == 4 or sys.argv[4:] == ["--committed"]):
         sys.exit(compare(*sys.argv[2:]))
     print(__doc__, file=sys.stderr)
     sys.exit(2)

@@ -162,7 +162,7 @@ class CheckTest(unittest.TestCase):
     def test_the_parts(self):
         names, words, kept, left_out = self.parts_of_check(True)
         self.assertEqual(names, ["proofs", "the library for C and its clients", "scenarios", "the program", "the program dictcol",
-                                 "records of proofs", "the steps of the pages for users",
+                                 "the steps of the pages for users", "records of proofs",
                                  "texts chosen without keys", "what was measured"])
         self.assertEqual((words, kept), (["bash", "-c"], 2))
         self.assertIn("no pip on this machine: it", left_out)

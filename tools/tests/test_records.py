@@ -181,11 +181,11 @@ class Records(unittest.TestCase):
         self.run_in_copy("tools/record-proofs")
         self.assertEqual(self.proved(), EVERY)
 
-    def compare(self, status=0, **other):
+    def compare(self, status=0, *words, **other):
         """Compares the records with what `rt ci` built in the copy and said, where that is something else of some crates."""
         said = {crate: "logic=proved functions=2 statements=trusted" for crate in EVERY} | other
         write(self.top / "log", "".join(f"== {crate}\n{verdict}\nrt: {crate} proved\n" for crate, verdict in said.items()))
-        return self.run_in_copy("tools/records.py", "compare", str(self.top), "log", status=status).stdout
+        return self.run_in_copy("tools/records.py", "compare", str(self.top), "log", *words, status=status).stdout
 
     def build_programs(self):
         for words in ("bin/intern", "string"), ("bin/dictcol", "count"):
@@ -221,6 +221,26 @@ class Records(unittest.TestCase):
         self.assertIn("no record of these sources: string_interner is not as its proof was recorded: src/lib.rt\n", said)
         self.assertIn("no record of these sources: intern stands on string_interner\n", said)
         self.assertTrue(said.endswith("0 passed, 0 failed\n"))
+
+    def test_stale_records_of_a_commit_fail(self):
+        self.build_programs()
+        self.assertEqual(self.compare(0, "--committed"), "4 passed, 0 failed\n")
+        self.edit("intern")
+        said = "proved/kit-1/intern: intern is not as its proof was recorded: src/main.rt\n3 passed, 1 failed\n"
+        self.assertEqual(self.compare(1, "--committed"), said)
+        self.edit("string_interner")
+        self.assertTrue(self.compare(1, "--committed").endswith("0 passed, 4 failed\n"))
+
+    def test_records_that_nothing_compares_fail(self):
+        self.build_programs()
+        for name in "kit-2", "notes":
+            write(self.top / "proved" / name / "intern/verdict", "")
+            self.assertEqual(self.compare(1), f"proved/{name}: nothing compares this: remove it\n4 passed, 1 failed\n")
+            shutil.rmtree(self.top / "proved" / name)
+
+    def test_records_by_another_toolchain_are_named(self):
+        write(self.here / "kit/KIT-ID", "kit-2 logic 0")
+        self.assertEqual(self.compare(), "no record of these sources: none is by this build of the toolchain, but by kit-1\n")
 
 
 @unittest.skipUnless(where_rt_is(), "no rt on this machine")
