@@ -153,7 +153,7 @@ class CheckTest(unittest.TestCase):
             return mock.Mock(said="no pip on this machine: it\n", **{"wait.return_value": is_proved})
 
         changed = {"missing": lambda needs: [], "stamp_libraries": kept.append, "take_libraries": lambda tree, top: kept.append(tree)}
-        changed["copy_crates"] = lambda source, into: (into / "crates.txt").touch()
+        changed |= {"copy_crates": lambda source, into: (into / "crates.txt").touch(), "begin_ahead": lambda *_: []}
         with mock.patch.dict(CHECK["check"].__globals__, changed), mock.patch.object(gate, "begin", begin):
             CHECK["check"](gate)
         self.assertEqual(len({*kept}), len(kept) // 2)
@@ -161,15 +161,39 @@ class CheckTest(unittest.TestCase):
 
     def test_the_parts(self):
         names, words, kept, left_out = self.parts_of_check(True)
-        self.assertEqual(names, ["proofs", "the library for C and its clients", "scenarios", "the program", "the program dictcol",
-                                 "the steps of the pages for users", "records of proofs",
-                                 "texts chosen without keys", "what was measured"])
+        self.assertEqual(names, ["texts chosen without keys", "proofs", "the library for C and its clients", "scenarios", "the program",
+                                 "the program dictcol", "the steps of the pages for users", "records of proofs",
+                                 "what was measured"])
         self.assertEqual((words, kept), (["bash", "-c"], 2))
         self.assertIn("no pip on this machine: it", left_out)
 
     def test_nothing_runs_that_is_not_proved(self):
         names, _, kept, _ = self.parts_of_check(False)
-        self.assertEqual((names, kept), (["proofs", "texts chosen without keys", "what was measured"], 0))
+        self.assertEqual((names, kept), (["texts chosen without keys", "proofs", "what was measured"], 0))
+
+    def begin_ahead(self, available, **environment):
+        """The commands that begin before `rt ci`."""
+        gate = CHECK["Gate"](None)
+        named = mock.patch.dict(CHECK["begin_ahead"].__globals__, {"available_bytes": lambda: available, "SECONDS_AHEAD": 0})
+        with named, mock.patch.dict(os.environ, {"CI": "", **environment}), mock.patch.object(gate, "begin") as begin:
+            CHECK["begin_ahead"](gate, "tree")
+        return [call.args[1] for call in begin.call_args_list]
+
+    def test_what_is_proved_ahead(self):
+        self.assertEqual(self.begin_ahead(CHECK["AHEAD_BYTES"]), [["rt", "ci", "suite"], ["rt", "ci", "dictcol"]])
+        self.assertEqual(self.begin_ahead(CHECK["AHEAD_BYTES"] - 1), [])
+        self.assertEqual(self.begin_ahead(CHECK["AHEAD_BYTES"], CI="true"), [])
+
+    def test_only_rt_ci_judges_what_is_proved(self):
+        for status, is_proved in (0, True), (1, False):
+            gate, printed = CHECK["Gate"](None), io.StringIO()
+            ahead = gate.begin("proofs of it, ahead", ["sh", "-c", f"echo said ahead; exit {1 - status}"])
+            changed = {"copy_crates": lambda *_: None, "stamp_libraries": lambda _: None, "take_libraries": lambda *_: None,
+                       "begin_ahead": lambda *_, it=ahead: [it], "PROVE": f"echo 1 passed, {status} failed; exit {status}"}
+            with mock.patch.dict(CHECK["prove"].__globals__, changed), contextlib.redirect_stdout(printed):
+                self.assertEqual(CHECK["prove"](gate, "."), is_proved)
+            self.assertIn("said ahead", printed.getvalue())
+            self.assertEqual(sum(part.failed for part in gate.parts), status)
 
 
 if __name__ == "__main__":
