@@ -1,0 +1,303 @@
+"""What the eraser makes of each form of the language that the library uses, and which forms it must refuse."""
+
+import re
+import runpy
+import tempfile
+from pathlib import Path
+from unittest import TestCase, main
+
+TOP = Path(__file__).resolve().parent.parent.parent
+TOOL = runpy.run_path(str(TOP / "tools/erase"))
+ERASE, UNKNOWN, TOKENS = TOOL["erase"], TOOL["Unknown"], TOOL["tokens_of"]
+PRELUDE = TOOL["PRELUDE"]
+# What is written of one token of code for another, apart from what the rules of RULES write.
+NO_CODE = {"space", "comment", "doc", "inner_doc"}
+
+
+def code_of(text):
+    """The tokens of code of a text, whose comments, docs and ghost parts are left out."""
+    found = []
+    for token in TOKENS(text):
+        if token.kind == "ghost" and found and found[-1] == "pub":
+            found.pop()
+        elif token.kind == "attribute":
+            found.append(re.sub(r"\s+", "", token.text))
+        elif token.kind not in NO_CODE and not token.is_ghost:
+            found.append(token.text)
+    return found
+
+
+def without_models(text):
+    """A source text without what is ghost as a whole, in which no brace stands at the margin but the last one."""
+    text = re.sub(r"^(?:///.*\n)*impl\b[^{]*\bModel for [^{]*\{\n(?:    .*\n|\n)*\}$", "", text, flags=re.M)
+    text = re.sub(r"^use thiserror::Error;$|^ *#\[error\(.*\)\]$|^#!?\[tactic\(.*\)\]$", "", text, flags=re.M)
+    return re.sub(rf"^pub mod ({'|'.join(TOOL['LEFT_OUT'])});$", "", text, flags=re.M)
+
+
+class EraseTest(TestCase):
+    def gives(self, source, *wanted):
+        """The source, without the import, becomes these lines."""
+        self.assertEqual(ERASE(source).replace(PRELUDE, "", 1).splitlines(), list(wanted))
+
+    def refuses(self, source, line, why):
+        with self.assertRaisesRegex(UNKNOWN, why) as refused:
+            ERASE(source)
+        self.assertEqual(source.count("\n", 0, refused.exception.at) + 1, line)
+
+    def test_plain_rust_stays(self):
+        for source in (
+            "fn f(x: u8) -> u8 { match x { 0 => 'a' as u8, b'\\'' => b\"\\\"{\"[0], _ => x } }\n",
+            "fn f<'a>(x: &'a str) -> &'a str { r#\"a \" } requires { \"#; x }\n",
+            "/* a /* nested { */ comment */ pub fn f() { if !g() && 1.5e3 != 0x1_0 { return; } }\n",
+            "// ghost at = { };\nconst PLACE: u32 = '\\u{1F600}' as u32;\n",
+        ):
+            self.assertEqual(ERASE(source).replace(PRELUDE, "", 1), source)
+
+    def test_a_contract_is_a_comment_between_head_and_body(self):
+        self.gives(
+            "fn half(x: u32) -> u32\n"
+            "    requires small { x ≤ 7 }\n"
+            "    ensures * { result ≡\n"
+            "        x / 2 }\n"
+            "    ensures { x' ≡ 1 -- it's {\n"
+            " }\n"
+            "{\n"
+            "    x / 2\n"
+            "}\n",
+            "fn half(x: u32) -> u32",
+            "    //~ requires small { x ≤ 7 }",
+            "    //~ ensures * { result ≡",
+            "    //~     x / 2 }",
+            "    //~ ensures { x' ≡ 1 -- it's {",
+            "    //~  }",
+            "{",
+            "    x / 2",
+            "}",
+        )
+
+    def test_a_declaration_ends_before_its_contract(self):
+        self.gives(
+            "trait Shape {\n"
+            "    fn area(&self) -> u32\n"
+            "        ensures { a }\n"
+            "        ensures b { c };\n"
+            "    fn side(&self);\n"
+            "}\n",
+            "trait Shape: Sized {",
+            "    fn area(&self) -> u32;",
+            "        //~ ensures { a }",
+            "        //~ ensures b { c };",
+            "    fn side(&self);",
+            "}",
+        )
+
+    def test_ghost_items_are_comments_with_their_docs(self):
+        self.gives(
+            "ghost use A.{◌≡◌, {}};\n"
+            "impl T for S {\n"
+            "    /// Says.\n"
+            "    #[inline]\n"
+            "    ghost texts: { Self → List };\n"
+            "    pub ghost at: { ℕ } = { 0 };\n"
+            "    ghost laws = { λ x. {} } by { y };\n"
+            "}\n",
+            "//~ ghost use A.{◌≡◌, {}};",
+            "impl T for S {",
+            "    //~ /// Says.",
+            "    //~ #[inline]",
+            "    //~ ghost texts: { Self → List };",
+            "    //~ pub ghost at: { ℕ } = { 0 };",
+            "    //~ ghost laws = { λ x. {} } by { y };",
+            "}",
+        )
+
+    def test_ghost_fields_are_comments(self):
+        self.gives(
+            "pub struct Count {\n"
+            "    ghost value: { ℕ },\n"
+            "    of: u8,\n"
+            "}\n"
+            "fn new() -> Count { Count { ghost value = { 0 }, of: 1 } }\n",
+            "pub struct Count {",
+            "    //~ ghost value: { ℕ },",
+            "    of: u8,",
+            "}",
+            "fn new() -> Count { Count { /*~ ghost value = { 0 }, */ of: 1 } }",
+        )
+
+    def test_a_model_is_a_comment(self):
+        self.gives(
+            "/// Seen.\n"
+            "impl<S: Symbol> std::marker::Model for Slots<S> {\n"
+            "    ghost Value = { ℕ };\n"
+            "\n"
+            "    ghost view = { λ s. s };\n"
+            "}\n"
+            "\n"
+            "impl Model {}\n",
+            "//~ /// Seen.",
+            "//~ impl<S: Symbol> std::marker::Model for Slots<S> {",
+            "//~     ghost Value = { ℕ };",
+            "//~",
+            "//~     ghost view = { λ s. s };",
+            "//~ }",
+            "",
+            "impl Model {}",
+        )
+
+    def test_paths_lead_to_the_crate(self):
+        self.gives(
+            "use std::{mem, str};\n"
+            "pub(crate) use crate::symbol::Symbol;\n"
+            "fn f() { core::mem::swap(); my::std::f(crate::g()); let std = 1; }\n",
+            "use crate::rt::{mem, str};",
+            "pub(crate) use crate::proved::symbol::Symbol;",
+            "fn f() { crate::rt::mem::swap(); my::std::f(crate::proved::g()); let std = 1; }",
+        )
+
+    def test_modules_are_open_to_the_crate(self):
+        self.gives(
+            "mod low;\npub mod high;\npub(super) mod side;\n/// JSON.\npub mod json;\n",
+            "pub(crate) mod low;",
+            "pub mod high;",
+            "pub(super) mod side;",
+            "//~ /// JSON.",
+            "//~ pub mod json;",
+        )
+
+    def test_traits_are_for_sized_types(self):
+        self.gives("trait A<T: B<u8>>: C {}\ntrait D<T> {\n}\n", "trait A<T: B<u8>>: Sized + C {}", "trait D<T>: Sized {", "}")
+
+    def test_derives_that_rust_lacks(self):
+        self.gives("#[derive(Drop)]\nstruct A;\n", "//~ #[derive(Drop)]", "struct A;")
+        self.gives("#[derive(Debug, Drop)]\nstruct A;\n", "#[derive(Debug)]", "struct A;")
+        variants = '#[error("no \\"x\\"")]\n    No,\n    #[error("of")]\n    Of(u8),\n'
+        erased = ERASE(f"use thiserror::Error;\n#[derive(Debug, Error)]\npub enum E {{\n    {variants}}}\n")
+        self.assertIn('match self { Self::No { .. } => f.write_str("no \\"x\\""), Self::Of { .. } => f.write_str("of"), }', erased)
+        self.assertIn("#[derive(Debug)]\n", erased)
+
+    def test_other_forms(self):
+        self.gives("impl A { final fn f() {} }\n", "impl A { fn f() {} }")
+        self.gives(
+            "impl Debug for A {\n    fn fmt<W: fmt::Write>(&self, f: &mut Formatter<W>) -> fmt::Result {}\n}\n",
+            "impl Debug for A {",
+            "    fn fmt(&self, f: &mut Formatter<'_>) -> fmt::Result {}",
+            "}",
+        )
+        self.gives(
+            "const A: u8 = 1;\nconst _: () = prove!(size_of::<A>() == 1);\n",
+            "const A: u8 = 1;",
+            "#[test] fn holds_at_line_2() { assert!(size_of::<A>() == 1); }",
+        )
+        self.gives("#![tactic(auto)]\n#[cycle(a)]\nfn f() {}\n", "//~ #![tactic(auto)]", "//~ #[cycle(a)]", "fn f() {}")
+        self.gives("/// ```\n/// x\n/// ```\nfn f() {}\n", "/// ```ignore", "/// x", "/// ```", "fn f() {}")
+        self.gives("/// ```text\n/// ```\nfn f() {}\n", "/// ```text", "/// ```", "fn f() {}")
+
+    def test_the_prelude_is_on_the_line_of_the_first_item(self):
+        self.assertEqual(ERASE("//! Docs.\nghost use A;\n\n/// It.\n#[inline]\nfn f() {}\n").splitlines()[3], f"{PRELUDE}/// It.")
+
+    def test_what_is_not_known_is_refused(self):
+        for source, line, why in (
+            ("fn f() {}\nghost fn g() {}\n", 2, "a form that is not known"),
+            ("ghost { x };\n", 1, "no name"),
+            ("ghost at = x;\n", 1, "no block"),
+            ("fn f()\n    requires x ≤ 7\n{}\n", 2, "no block"),
+            ("fn f()\n    ensures { {x }\n{}\n", 2, "without an end"),
+            ("\nlet x = λ;\n", 2, "the character"),
+            ("#[link(name)]\nfn f() {}\n", 1, "the attribute"),
+            ("fn f() {\n    println!(rt; 1);\n}\n", 2, "the macro println"),
+            ("fn f() {\n    vec![in a; 1];\n}\n", 2, "the macro vec"),
+            ("fn f() {\n    prove!(1 == 1);\n}\n", 2, "no constant"),
+            ("\nunsafe extern fn f() {}\n", 2, "`extern`"),
+            ("\nstatic A: u8 = 1;\n", 2, "`static`"),
+            ("\nmacro_rules! a {}\n", 2, "`macro_rules`"),
+            ("\nmod a {}\n", 2, "within its file"),
+            ("impl Model for A {\n    fn f() {}\n}\n", 1, "not ghost"),
+            ("impl A {\n    fn fmt(&self) {}\n}\n", 2, "another form"),
+            ("#[derive(Error)]\nstruct A;\n", 2, "no plain enum"),
+            ('#[derive(Error)]\nenum A {\n    #[error("{0}")]\n    B(u8),\n}\n', 2, "fields"),
+            ("trait A<T {}\n", 1, "without an end"),
+            ("fn f( {}\n", 1, "a bracket without an end"),
+            ("fn f()\n{ ( }\n", 2, "brackets that do not match"),
+            ("/* a\n", 1, "without an end"),
+            ('const A: &str = "a;\n', 1, "the character"),
+            ("fn f() { final x }\n", 1, "`final`"),
+        ):
+            with self.subTest(source):
+                self.refuses(source, line, why)
+
+    def test_the_tool_names_file_and_line(self):
+        with tempfile.TemporaryDirectory() as folder:
+            sources = Path(folder, "src")
+            (sources / "low").mkdir(parents=True)
+            (sources / "low/a.rt").write_text("fn f() {}\n\nghost fn g() {}\n", encoding="utf-8")
+            with self.assertRaisesRegex(SystemExit, r"^src/low/a\.rt:3: ghost fn: a form that is not known$"):
+                TOOL["erase_all"](sources, Path(folder, "out"))
+
+
+class LibraryTest(TestCase):
+    """The library itself."""
+
+    @classmethod
+    def setUpClass(cls):
+        folder = tempfile.TemporaryDirectory()
+        cls.addClassCleanup(folder.cleanup)
+        cls.sources, cls.into = TOP / "crates/string_interner/src", Path(folder.name)
+        TOOL["erase_all"](cls.sources, cls.into)
+
+    def pairs(self):
+        for path in sorted(self.sources.rglob("*.rt")):
+            place = path.relative_to(self.sources).with_suffix(".rs")
+            if place.parts[0].removesuffix(".rs") not in TOOL["LEFT_OUT"]:
+                target = self.into / ("mod.rs" if str(place) == "lib.rs" else place)
+                yield path.read_text(encoding="utf-8"), target.read_text(encoding="utf-8")
+
+    def test_each_line_keeps_its_number(self):
+        for source, erased in self.pairs():
+            for old, new in zip(source.splitlines(), erased.splitlines(), strict=True):
+                if old.strip().startswith("///"):
+                    self.assertIn(old.strip().removesuffix("```").strip(), new)
+
+    def test_without_comments_the_tokens_are_those_of_the_source(self):
+        """A few tokens are others, as the tool's page says: both sides are brought to one form."""
+        for source, erased in self.pairs():
+            erased = erased.replace(PRELUDE, "", 1).replace("crate::proved", "crate").replace("crate::rt", "std")
+            erased = re.sub(r"#\[test\] fn holds_at_line_\d+\(\) \{ assert(.*;) \}", r"const _: () = prove\1", erased)
+            erased = re.sub(r"^\} impl ::core::error::Error .*$", "}", erased, flags=re.M)
+            erased = erased.replace("pub(crate) mod ", "mod ").replace(": Sized + ", ": ").replace(": Sized ", " ")
+            source = without_models(source).replace("final fn ", "fn ").replace("pub(crate) mod ", "mod ")
+            source = source.replace("use core::", "use std::")
+            source = re.sub(r"#\[derive\((.*)\)\]", self.plain_derive, source)
+            source = source.replace("fmt<W: fmt::Write>(&self, f: &mut Formatter<W>)", "fmt(&self, f: &mut Formatter<'_>)")
+            self.assertEqual(code_of(source), code_of(erased))
+
+    @staticmethod
+    def plain_derive(found):
+        kept = [it for it in found[1].split(", ") if it not in ("Drop", "Error")]
+        return f"#[derive({', '.join(kept)})]" if kept else ""
+
+    def test_a_token_that_changes_is_seen(self):
+        """Each number and each operator of a file, changed by itself, changes what is written, on its line alone."""
+        source = (self.sources / "dedup/tagged/tags.rt").read_text(encoding="utf-8")
+        before = ERASE(source).splitlines()
+        tokens = [it for it in TOKENS(source) if it.kind == "number" or it.kind == "sign" and it.text in "+/%|"]
+        self.assertGreater(len(tokens), 10)
+        for token in tokens:
+            other = "7" if token.kind == "number" else "^"
+            after = ERASE(source[: token.start] + other + source[token.end :]).splitlines()
+            changed = [at for at, (old, new) in enumerate(zip(before, after, strict=True)) if old != new]
+            self.assertEqual(changed, [source.count("\n", 0, token.start)])
+
+    def test_a_file_that_is_stale_is_named(self):
+        with tempfile.TemporaryDirectory() as folder:
+            TOOL["erase_all"](self.sources, Path(folder))
+            self.assertEqual(TOOL["stale"](Path(folder)), [])
+            path = Path(folder, "dedup/probe.rs")
+            path.write_text(path.read_text(encoding="utf-8").replace("+ 1", "+ 2", 1), encoding="utf-8")
+            Path(folder, "more.rs").write_text("", encoding="utf-8")
+            Path(folder, "symbol.rs").unlink()
+            self.assertEqual(TOOL["stale"](Path(folder)), ["dedup/probe.rs", "more.rs", "symbol.rs"])
+
+
+if __name__ == "__main__":
+    main()
