@@ -1,4 +1,4 @@
-"""The Rust crate beside the original, in one program (bench/rust), which links the library as the crate does."""
+"""The Rust crate beside the original, in one program (bench/rust)."""
 import concurrent.futures
 import os
 import shutil
@@ -20,7 +20,7 @@ def build(done, words):
         f'ours = {{ package = "string-interner", path = "{TOP}/clients/rust" }}\n\n'
         '[profile.release]\nlto = "fat"\ncodegen-units = 1\n\n[workspace]\n'
     )
-    environment = {**os.environ, "STRING_INTERNER_LIB": str(TOP / "clients/out"), "RUSTFLAGS": "-C target-cpu=x86-64-v2"}
+    environment = {**os.environ, "RUSTFLAGS": "-C target-cpu=x86-64-v2"}
     (FOLDER / "Cargo.lock").unlink(missing_ok=True)
     done(words, "building the Rust crate", FOLDER, env=environment)
 

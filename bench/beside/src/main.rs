@@ -13,9 +13,7 @@ mod interner;
 mod kind;
 mod ours;
 mod phases;
-// How the Rust crate of `clients/` declares the library's calls.
 #[allow(dead_code)]
-#[path = "../../../clients/rust/src/sys.rs"]
 mod sys;
 
 use phases::{Budget, Inputs, Results};

@@ -5,32 +5,36 @@
 //! | [`StringBackend`] | joined in one string, with a list of ends | in most cases: fast to fill, to resolve and to iterate |
 //! | [`BucketBackend`] | in blocks that never move; static texts are not copied | texts are long or many, or many are `'static` |
 //! | [`BufferBackend`] | in one buffer, each behind its length | memory counts most; symbol numbers have gaps, because they are byte offsets |
+//! | a type of your own that implements [`Backend`] | as you like | none of these serves |
 
-use crate::handle::{expect, Handle, Kind, Status};
-use crate::hasher::{DefaultHashBuilder, InternerHasher};
-use crate::iter::{Entries, Iter};
-use crate::symbol::{DefaultSymbol, Symbol};
-use crate::sys;
-use std::fmt;
-use std::iter::FusedIterator;
-use std::marker::PhantomData;
-use std::panic::{RefUnwindSafe, UnwindSafe};
+mod iter;
+
+use crate::error::{expect, InternError};
+use crate::proved::backend as proved;
+use crate::proved::backend::Backend as _;
+use crate::rt::alloc::{AllocError, Global};
+use crate::sealed::Ours;
+use crate::symbol::{DefaultSymbol, Sym, Symbol};
+use alloc::vec::Vec;
+use core::fmt;
+use core::marker::PhantomData;
 
 /// The backend of an interner whose type names none.
 pub type DefaultBackend = StringBackend<DefaultSymbol>;
 
 /// Stores the texts of an interner. You can also use it alone, to give symbols to texts and to resolve them.
 ///
-/// The trait is sealed, so there are only the backends of this module. A call that fails to allocate panics, and leaves the
-/// backend as it was.
-pub trait Backend:
-    Default + fmt::Debug + Send + Sync + Unpin + UnwindSafe + RefUnwindSafe + sealed::Kind
-{
+/// An interner stores each distinct text once. A backend alone stores whatever it is given, also a text that it has.
+///
+/// Whatever an implementation returns, an interner over it stays sound, except for what `resolve_unchecked` is trusted with.
+///
+/// The backends of this crate panic if they fail to allocate, and stay as they were.
+pub trait Backend: Default {
     /// The symbol that stands for a text.
     type Symbol: Symbol;
 
-    /// Yields each text with its symbol, in insertion order.
-    type Iter<'a>: ExactSizeIterator<Item = (Self::Symbol, &'a str)> + FusedIterator + Clone
+    /// Yields each text with its symbol, in the order in which the texts came.
+    type Iter<'a>: Iterator<Item = (Self::Symbol, &'a str)>
     where
         Self: 'a;
 
@@ -38,11 +42,11 @@ pub trait Backend:
     #[track_caller]
     fn with_capacity(cap: usize) -> Self;
 
-    /// Returns the symbol of a text. Appends a text that is not known.
+    /// Stores a text, and returns its symbol.
     ///
     /// # Panics
     ///
-    /// If no symbol is left for a new text.
+    /// If no symbol is left for it.
     #[track_caller]
     fn intern(&mut self, string: &str) -> Self::Symbol;
 
@@ -50,9 +54,12 @@ pub trait Backend:
     ///
     /// # Panics
     ///
-    /// If no symbol is left for a new text.
+    /// If no symbol is left for it.
+    #[inline]
     #[track_caller]
-    fn intern_static(&mut self, string: &'static str) -> Self::Symbol;
+    fn intern_static(&mut self, string: &'static str) -> Self::Symbol {
+        self.intern(string)
+    }
 
     /// Releases memory that no text needs, if it can.
     fn shrink_to_fit(&mut self);
@@ -60,156 +67,237 @@ pub trait Backend:
     /// Returns the text of a symbol, or `None` if no text has its number.
     fn resolve(&self, symbol: Self::Symbol) -> Option<&str>;
 
-    /// Returns the text of a symbol. This crate checks the symbol all the same.
+    /// Returns the text of a symbol.
     ///
     /// # Safety
     ///
-    /// The symbol is one of this backend.
+    /// This backend returned the symbol, or another one did before this one was cloned of it. Of any other symbol a
+    /// [`BufferBackend`] may return what is no UTF-8.
     unsafe fn resolve_unchecked(&self, symbol: Self::Symbol) -> &str;
 
-    /// Iterates over all texts with their symbols, in insertion order.
+    /// Iterates over all texts with their symbols, in the order in which they came.
     fn iter(&self) -> Self::Iter<'_>;
-}
 
-use sealed::Kind as _;
-
-pub(crate) mod sealed {
-    use crate::handle::Handle;
-    use crate::handle::Kind as LibraryKind;
-
-    /// What an interner needs of its backend. Other crates can't name this trait, nor call a handle. If
-    /// generic code swaps two handles, the library refuses the other kind, which is no more than a panic.
-    #[diagnostic::on_unimplemented(
-        message = "`{Self}` can't be a backend: the library stores the texts, in one of its own three ways",
-        label = "is not `StringBackend`, `BucketBackend` or `BufferBackend`",
-        note = "a program with a backend of its own needs the original crate string-interner"
-    )]
-    pub trait Kind {
-        /// The kind as the library knows it.
-        const KIND: LibraryKind;
-
-        /// Returns the backend over a handle, which is open on an interner of this kind.
-        fn of(handle: Handle) -> Self;
-
-        fn handle(&self) -> &Handle;
-
-        fn handle_mut(&mut self) -> &mut Handle;
+    /// Stores a text, or says why it can't. A backend of a program's own panics instead.
+    #[doc(hidden)]
+    #[inline(always)]
+    fn __try_intern(&mut self, string: &str, _: Ours) -> Result<Self::Symbol, InternError> {
+        Ok(self.intern(string))
     }
+
+    /// The same for a static text.
+    #[doc(hidden)]
+    #[inline(always)]
+    fn __try_intern_static(
+        &mut self,
+        string: &'static str,
+        _: Ours,
+    ) -> Result<Self::Symbol, InternError> {
+        Ok(self.intern_static(string))
+    }
+
+    /// Reports whether no symbol is left, if that is known before the next text is stored.
+    #[doc(hidden)]
+    #[inline(always)]
+    fn __is_full(&self, _: Ours) -> bool {
+        false
+    }
+
+    /// Reports whether `__truncate` keeps the first texts. A backend of a program's own has no such call.
+    #[doc(hidden)]
+    #[inline(always)]
+    fn __truncates(_: Ours) -> bool {
+        false
+    }
+
+    /// Keeps the first `len` texts.
+    #[doc(hidden)]
+    fn __truncate(&mut self, _len: usize, _: Ours) {}
 }
 
-/// Interns a text by a call, and returns its symbol. If the symbol type has none for its number, drops the text again if
-/// it was new.
-#[inline]
-pub(crate) fn try_intern_by<S: Symbol>(
-    handle: &mut Handle,
-    call: impl FnOnce(&mut Handle) -> Result<usize, Status>,
-) -> Result<S, Status> {
-    // The count to go back to, which a type that has all numbers never needs. If it lies, `usize::MAX` keeps the text.
-    let len = if S::HAS_ALL { usize::MAX } else { handle.len() };
-    match S::try_from_usize(call(handle)?) {
-        Some(symbol) => Ok(symbol),
-        None => {
-            handle.truncate(len);
-            Err(Status(sys::INTERNER_NO_SYMBOL))
-        }
+/// A backend as the proved code takes it. It derives nothing, so that no impl of a program's own runs there but these calls.
+pub(crate) struct As<B>(pub B);
+
+impl<B: Backend> proved::Backend for As<B> {
+    type Symbol = Sym<B::Symbol>;
+
+    fn new(_alloc: Global) -> Self {
+        As(B::default())
+    }
+
+    fn with_capacity(_alloc: Global, capacity: usize) -> Result<Self, AllocError> {
+        Ok(As(B::with_capacity(capacity)))
+    }
+
+    #[inline(always)]
+    fn is_full(&self) -> bool {
+        self.0.__is_full(Ours(()))
+    }
+
+    #[inline(always)]
+    fn intern(&mut self, text: &str) -> Result<Self::Symbol, proved::InternError> {
+        Ok(Sym(self.0.__try_intern(text, Ours(()))?))
+    }
+
+    #[inline(always)]
+    fn intern_static(&mut self, text: &'static str) -> Result<Self::Symbol, proved::InternError> {
+        Ok(Sym(self.0.__try_intern_static(text, Ours(()))?))
+    }
+
+    #[inline(always)]
+    fn resolve(&self, symbol: Self::Symbol) -> Option<&str> {
+        self.0.resolve(symbol.0)
+    }
+
+    #[inline(always)]
+    fn resolve_unchecked(&self, symbol: Self::Symbol) -> &str {
+        // SAFETY: the index alone calls this, with a symbol that it was given, and `StringInterner` gives it only what this
+        // backend returned. It copies symbols by their bits. A clone of an interner has a clone of the backend.
+        unsafe { self.0.resolve_unchecked(symbol.0) }
+    }
+
+    #[inline(always)]
+    fn shrink_to_fit(&mut self) {
+        self.0.shrink_to_fit();
+    }
+
+    // `Backend` has no such calls, and what this crate calls of the index and of `intern_coded` asks for none.
+    fn count(&self) -> usize {
+        unreachable!()
+    }
+
+    fn next_symbol(&self) -> Option<Self::Symbol> {
+        unreachable!()
+    }
+
+    fn entry_at(&self, _at: usize) -> (Self::Symbol, &str, usize) {
+        unreachable!()
+    }
+
+    fn truncate(&mut self, _len: usize) {
+        unreachable!()
     }
 }
 
 macro_rules! backend {
-    ($(#[$doc:meta])* $name:ident, $number:expr, $find:expr, $intern:expr, $resolve:expr, $is_joined:expr) => {
+    ($(#[$doc:meta])* $name:ident, $iter:ident, $checks_numbers:expr) => {
         $(#[$doc])*
         pub struct $name<S = DefaultSymbol> {
-            handle: Handle,
+            texts: proved::$name<usize>,
             symbol: PhantomData<fn() -> S>,
         }
 
-        impl<S> sealed::Kind for $name<S> {
-            const KIND: Kind = Kind {
-                number: $number,
-                find: $find,
-                intern: $intern,
-                resolve: $resolve,
-                is_joined: $is_joined,
-            };
-
-            fn of(handle: Handle) -> Self {
+        impl<S> $name<S> {
+            #[inline(always)]
+            fn of(texts: proved::$name<usize>) -> Self {
                 $name {
-                    handle,
+                    texts,
                     symbol: PhantomData,
                 }
             }
+        }
 
-            #[inline]
-            fn handle(&self) -> &Handle {
-                &self.handle
-            }
-
-            #[inline]
-            fn handle_mut(&mut self) -> &mut Handle {
-                &mut self.handle
+        impl<S: Symbol> $name<S> {
+            /// Returns the symbol of the next text.
+            #[inline(always)]
+            fn next_symbol(&self) -> Option<S> {
+                S::try_from_usize(self.texts.next_symbol()?)
             }
         }
 
         impl<S: Symbol> Backend for $name<S> {
             type Symbol = S;
             type Iter<'a>
-                = Iter<'a, Self>
+                = iter::$iter<'a, S>
             where
                 Self: 'a;
 
             fn with_capacity(cap: usize) -> Self {
-                let hashing = DefaultHashBuilder.hashing();
-                sealed::Kind::of(expect(Handle::new(Self::KIND, cap, hashing)))
+                Self::of(expect(proved::$name::with_capacity(Global, cap)))
             }
 
             #[inline]
             fn intern(&mut self, string: &str) -> S {
-                expect(try_intern_by(&mut self.handle, |handle| handle.get_or_intern(Self::KIND, string)))
+                expect(self.__try_intern(string, Ours(())))
             }
 
             #[inline]
             fn intern_static(&mut self, string: &'static str) -> S {
-                expect(try_intern_by(&mut self.handle, |handle| handle.get_or_intern_static(string)))
+                expect(self.__try_intern_static(string, Ours(())))
             }
 
             fn shrink_to_fit(&mut self) {
-                self.handle.shrink();
+                self.texts.shrink_to_fit();
             }
 
             #[inline]
             fn resolve(&self, symbol: S) -> Option<&str> {
-                self.handle.resolve(Self::KIND, symbol.to_usize())
+                self.texts.resolve(symbol.to_usize())
             }
 
-            #[inline]
+            #[inline(always)]
             unsafe fn resolve_unchecked(&self, symbol: S) -> &str {
-                self.resolve(symbol).expect("the symbol is not of this backend")
+                if $checks_numbers || S::__keeps_its_number(Ours(())) {
+                    // The proved call reads within the texts whatever the number is. What else it asks, this caller has promised.
+                    self.texts.resolve_unchecked(symbol.to_usize())
+                } else {
+                    // The number that a program's own type makes up may lie within a text.
+                    self.resolve(symbol).expect("the symbol is not of this backend")
+                }
             }
 
             #[inline]
-            fn iter(&self) -> Iter<'_, Self> {
-                Iter::over(Self::KIND, &self.handle)
+            fn iter(&self) -> Self::Iter<'_> {
+                iter::$iter::over(&self.texts)
+            }
+
+            #[inline(always)]
+            fn __try_intern(&mut self, string: &str, _: Ours) -> Result<S, InternError> {
+                let symbol = self.next_symbol().ok_or(InternError::NoSymbol)?;
+                self.texts.intern(string)?;
+                Ok(symbol)
+            }
+
+            #[inline(always)]
+            fn __try_intern_static(&mut self, string: &'static str, _: Ours) -> Result<S, InternError> {
+                let symbol = self.next_symbol().ok_or(InternError::NoSymbol)?;
+                self.texts.intern_static(string)?;
+                Ok(symbol)
+            }
+
+            #[inline(always)]
+            fn __is_full(&self, _: Ours) -> bool {
+                self.next_symbol().is_none()
+            }
+
+            #[inline(always)]
+            fn __truncates(_: Ours) -> bool {
+                true
+            }
+
+            fn __truncate(&mut self, len: usize, _: Ours) {
+                self.texts.truncate(len);
             }
         }
 
         impl<S> Default for $name<S> {
+            #[inline]
             fn default() -> Self {
-                let hashing = DefaultHashBuilder.hashing();
-                sealed::Kind::of(expect(Handle::new(Self::KIND, 0, hashing)))
+                Self::of(proved::$name::new(Global))
             }
         }
 
         impl<S> Clone for $name<S> {
             /// Returns a backend with the same texts under the same symbols.
             fn clone(&self) -> Self {
-                sealed::Kind::of(expect(self.handle.try_clone()))
+                Self::of(expect(proved::$name::clone(&self.texts)))
             }
         }
 
         impl<S: Symbol> PartialEq for $name<S> {
             /// Reports whether both have the same texts in the same order.
             fn eq(&self, other: &Self) -> bool {
-                self.handle == other.handle
+                self.texts == other.texts
             }
         }
 
@@ -217,18 +305,16 @@ macro_rules! backend {
 
         impl<S> fmt::Debug for $name<S> {
             fn fmt(&self, f: &mut fmt::Formatter<'_>) -> fmt::Result {
-                let entries = Entries::over(Self::KIND, &self.handle);
-                let texts: Vec<&str> = entries.map(|(_, text)| text).collect();
-                f.debug_struct(stringify!($name))
-                    .field("texts", &texts)
-                    .finish()
+                let texts: Vec<&str> = self.texts.iter().map(|(_, text)| text).collect();
+                f.debug_struct(stringify!($name)).field("texts", &texts).finish()
             }
         }
 
         impl<'a, S: Symbol> IntoIterator for &'a $name<S> {
             type Item = (S, &'a str);
-            type IntoIter = Iter<'a, $name<S>>;
+            type IntoIter = iter::$iter<'a, S>;
 
+            #[inline]
             fn into_iter(self) -> Self::IntoIter {
                 self.iter()
             }
@@ -238,18 +324,15 @@ macro_rules! backend {
 
 backend! {
     /// All texts joined in one string. Symbols number 0, 1, 2, ..
-    StringBackend, sys::INTERNER_STRING, sys::interner_string_find_utf8, sys::interner_string_intern_utf8,
-    sys::interner_string_resolve, true
+    StringBackend, StringIter, true
 }
 backend! {
     /// Texts in blocks that never move. Symbols number 0, 1, 2, ..
-    BucketBackend, sys::INTERNER_BUCKET, sys::interner_bucket_find_utf8, sys::interner_bucket_intern_utf8,
-    sys::interner_bucket_resolve, false
+    BucketBackend, BucketIter, true
 }
 backend! {
     /// Texts in one buffer of bytes. The number of a symbol is where its entry begins.
     ///
     /// A symbol of another backend or interner may read some part of the buffer.
-    BufferBackend, sys::INTERNER_BUFFER, sys::interner_buffer_find_utf8, sys::interner_buffer_intern_utf8,
-    sys::interner_buffer_resolve, false
+    BufferBackend, BufferIter, false
 }

@@ -1,7 +1,7 @@
-use crate::handle::Status;
-use crate::sys;
-use std::error::Error;
-use std::fmt;
+use crate::proved::backend::InternError as Proved;
+use crate::rt::alloc::AllocError;
+use core::error::Error;
+use core::fmt;
 
 /// Why interning a text failed. The interner has the texts that it had before.
 #[derive(Clone, Copy, Debug, PartialEq, Eq)]
@@ -13,13 +13,30 @@ pub enum InternError {
     Memory,
 }
 
-impl From<Status> for InternError {
-    fn from(status: Status) -> Self {
-        match status.0 {
-            sys::INTERNER_NO_SYMBOL => InternError::NoSymbol,
-            sys::INTERNER_NO_MEMORY => InternError::Memory,
-            other => unreachable!("status {other}"),
+impl From<Proved> for InternError {
+    #[inline]
+    fn from(error: Proved) -> Self {
+        match error {
+            Proved::NoSymbol => InternError::NoSymbol,
+            Proved::Memory(_) => InternError::Memory,
         }
+    }
+}
+
+impl From<InternError> for Proved {
+    #[inline]
+    fn from(error: InternError) -> Self {
+        match error {
+            InternError::NoSymbol => Proved::NoSymbol,
+            InternError::Memory => Proved::Memory(AllocError),
+        }
+    }
+}
+
+impl From<AllocError> for InternError {
+    #[inline]
+    fn from(_: AllocError) -> Self {
+        InternError::Memory
     }
 }
 
@@ -33,3 +50,21 @@ impl fmt::Display for InternError {
 }
 
 impl Error for InternError {}
+
+#[cold]
+#[inline(never)]
+#[track_caller]
+fn panic_for(error: InternError) -> ! {
+    panic!("{error}")
+}
+
+/// Returns the value of a call. Panics if no symbol was left, or an allocation failed.
+#[inline(always)]
+#[track_caller]
+pub(crate) fn expect<T, E: Into<InternError>>(outcome: Result<T, E>) -> T {
+    // A closure would hide from the panic who called.
+    match outcome {
+        Ok(value) => value,
+        Err(error) => panic_for(error.into()),
+    }
+}

@@ -1,33 +1,39 @@
-use crate::backend::{try_intern_by, Backend, DefaultBackend};
-use crate::error::InternError;
-use crate::handle::{expect, Handle, FEWEST};
-use crate::hasher::{DefaultHashBuilder, InternerHasher};
-use crate::iter::Entries;
-use crate::json::JsonError;
-use crate::symbol::Symbol;
-use std::fmt;
-use std::marker::PhantomData;
-use std::ops::RangeBounds;
+use crate::backend::{As, Backend, DefaultBackend};
+use crate::error::{expect, InternError};
+use crate::hasher::{By, DefaultHashBuilder};
+use crate::json::{self, JsonError};
+use crate::proved::dedup::{CopyIndex as _, Entry, TaggedIndex, TextIndex};
+use crate::proved::hash::TextHasher as _;
+use crate::proved::interner::coded::intern_coded;
+use crate::proved::interner::given::Given;
+use crate::rt::alloc::{AllocError, Global};
+use crate::rt::string::String as Copied;
+use crate::sealed::Ours;
+use crate::symbol::{Sym, Symbol as _};
+use alloc::string::String;
+use alloc::vec::Vec;
+use core::fmt;
+use core::hash::BuildHasher;
+use core::ops::RangeBounds;
+
+/// The index of an interner's texts.
+type Index<B> = TaggedIndex<Sym<<B as Backend>::Symbol>>;
 
 /// A list of distinct texts, each with a symbol.
 ///
-/// A call that fails to allocate panics, and leaves the interner as it was.
-pub struct StringInterner<B: Backend, H = DefaultHashBuilder> {
-    backend: B,
-    hasher: PhantomData<fn() -> H>,
+/// Over a backend of this crate, a call that fails to allocate panics, and leaves the interner as it was.
+pub struct StringInterner<B, H = DefaultHashBuilder>
+where
+    B: Backend,
+{
+    backend: As<B>,
+    hasher: By<H>,
+    index: Index<B>,
 }
 
-impl<B: Backend, H> StringInterner<B, H> {
-    fn of(backend: B) -> Self {
-        StringInterner {
-            backend,
-            hasher: PhantomData,
-        }
-    }
-}
-
-impl<B: Backend, H: InternerHasher + Default> StringInterner<B, H> {
+impl<B: Backend, H: BuildHasher + Default> StringInterner<B, H> {
     /// Returns an interner without texts.
+    #[inline]
     #[must_use]
     #[track_caller]
     pub fn new() -> Self {
@@ -47,59 +53,55 @@ impl<B: Backend, H: InternerHasher + Default> StringInterner<B, H> {
     ///
     /// Returns an error if the text is not such an array, no symbol is left for a text, or an allocation fails.
     pub fn from_json(json: &str) -> Result<Self, JsonError> {
-        let handle = Handle::from_json(B::KIND, json, H::default().hashing())?;
-        let have_symbols = Entries::over(B::KIND, &handle)
-            .all(|(number, _)| B::Symbol::try_from_usize(number).is_some());
-        if have_symbols {
-            Ok(Self::of(B::of(handle)))
-        } else {
-            Err(JsonError::NoSymbol)
+        let mut interner = Self::new();
+        for text in json::read(json)? {
+            interner.try_get_or_intern(text.ok_or(JsonError::NotAText)?)?;
         }
+        Ok(interner)
     }
 }
 
-impl<B: Backend, H: InternerHasher> StringInterner<B, H> {
+impl<B: Backend, H: BuildHasher> StringInterner<B, H> {
     /// Returns an interner without texts that hashes by `hash_builder`.
+    #[inline]
     #[must_use]
     #[track_caller]
     pub fn with_hasher(hash_builder: H) -> Self {
-        Self::with_capacity_and_hasher(0, hash_builder)
+        StringInterner {
+            backend: As(B::default()),
+            hasher: By(hash_builder),
+            index: TextIndex::new(Global),
+        }
     }
 
     /// The same, with spare capacity for about `cap` texts.
     #[must_use]
     #[track_caller]
     pub fn with_capacity_and_hasher(cap: usize, hash_builder: H) -> Self {
-        let handle = Handle::new(B::KIND, cap, hash_builder.hashing());
-        Self::of(B::of(expect(handle)))
-    }
-
-    /// Returns the number of texts.
-    #[inline]
-    pub fn len(&self) -> usize {
-        self.backend.handle().len()
-    }
-
-    /// Reports whether there are no texts.
-    #[inline]
-    pub fn is_empty(&self) -> bool {
-        self.len() == 0
+        StringInterner {
+            backend: As(B::with_capacity(cap)),
+            hasher: By(hash_builder),
+            index: expect(TextIndex::with_capacity(Global, cap)),
+        }
     }
 
     /// Returns the symbol of a text, if it is known.
     #[inline]
     pub fn get<T: AsRef<str>>(&self, string: T) -> Option<B::Symbol> {
-        let number = self.backend.handle().get(B::KIND, string.as_ref())?;
-        B::Symbol::try_from_usize(number)
+        self.find(string.as_ref())
     }
 
     /// Reports whether a text is known.
     #[inline]
     pub fn contains<T: AsRef<str>>(&self, string: T) -> bool {
-        self.backend
-            .handle()
-            .get(B::KIND, string.as_ref())
-            .is_some()
+        self.find(string.as_ref()).is_some()
+    }
+
+    #[inline(always)]
+    fn find(&self, text: &str) -> Option<B::Symbol> {
+        let code = self.hasher.hash_text(text);
+        let Sym(symbol) = TextIndex::find(&self.index, code, &self.backend, text)?;
+        Some(symbol)
     }
 
     /// Returns the symbol of a text. Appends a text that is not known.
@@ -110,7 +112,7 @@ impl<B: Backend, H: InternerHasher> StringInterner<B, H> {
     #[inline]
     #[track_caller]
     pub fn get_or_intern<T: AsRef<str>>(&mut self, string: T) -> B::Symbol {
-        self.backend.intern(string.as_ref())
+        expect(self.intern(Given::Copied(string.as_ref())))
     }
 
     /// The same for a static text, which [`BucketBackend`](crate::backend::BucketBackend) does not copy.
@@ -121,10 +123,11 @@ impl<B: Backend, H: InternerHasher> StringInterner<B, H> {
     #[inline]
     #[track_caller]
     pub fn get_or_intern_static(&mut self, string: &'static str) -> B::Symbol {
-        self.backend.intern_static(string)
+        expect(self.intern(Given::Static(string)))
     }
 
-    /// The same as [`get_or_intern`](Self::get_or_intern), but returns an error instead of a panic.
+    /// The same as [`get_or_intern`](Self::get_or_intern), but returns an error instead of a panic. A backend of a program's own
+    /// may panic all the same.
     ///
     /// # Errors
     ///
@@ -134,10 +137,7 @@ impl<B: Backend, H: InternerHasher> StringInterner<B, H> {
         &mut self,
         string: T,
     ) -> Result<B::Symbol, InternError> {
-        let string = string.as_ref();
-        Ok(try_intern_by(self.backend.handle_mut(), |handle| {
-            handle.get_or_intern(B::KIND, string)
-        })?)
+        self.intern(Given::Copied(string.as_ref()))
     }
 
     /// The same as [`get_or_intern_static`](Self::get_or_intern_static), but returns an error instead of a panic.
@@ -150,13 +150,25 @@ impl<B: Backend, H: InternerHasher> StringInterner<B, H> {
         &mut self,
         string: &'static str,
     ) -> Result<B::Symbol, InternError> {
-        Ok(try_intern_by(self.backend.handle_mut(), |handle| {
-            handle.get_or_intern_static(string)
-        })?)
+        self.intern(Given::Static(string))
     }
 
-    /// Interns a part of a text, which the interner then need not lend or copy first. Returns `None` if no text has this
-    /// symbol, or `range` is not a part of it, as with `str::get`.
+    #[inline(always)]
+    fn intern(&mut self, given: Given<'_>) -> Result<B::Symbol, InternError> {
+        let code = self.hasher.hash_text(given.text());
+        let Sym(symbol) = intern_coded(
+            &mut self.backend,
+            &self.hasher,
+            &mut self.index,
+            given,
+            code,
+            None,
+        )?;
+        Ok(symbol)
+    }
+
+    /// Interns a part of a text, which you then need not copy first. Returns `None` if no text has this symbol, or `range` is not a
+    /// part of it, as with `str::get`.
     ///
     /// ```
     /// let mut paths = string_interner::StringInterner::default();
@@ -176,16 +188,14 @@ impl<B: Backend, H: InternerHasher> StringInterner<B, H> {
     ) -> Option<B::Symbol> {
         let text = self.resolve(symbol)?;
         let part = text.get((range.start_bound().cloned(), range.end_bound().cloned()))?;
-        let from = part.as_ptr() as usize - text.as_ptr() as usize;
-        let to = from + part.len();
-        let number = symbol.to_usize();
-        Some(expect(try_intern_by(self.backend.handle_mut(), |handle| {
-            handle.get_or_intern_part(number, from, to)
-        })))
+        if let Some(known) = self.find(part) {
+            return Some(known);
+        }
+        let copy = expect(Copied::from_str(Global, part));
+        Some(self.get_or_intern(copy.as_str()))
     }
 
-    /// Interns many texts, and returns the symbol of each. If there are more than a few, one call of the library interns 128 of
-    /// them.
+    /// Interns many texts, and returns the symbol of each.
     ///
     /// # Panics
     ///
@@ -197,29 +207,79 @@ impl<B: Backend, H: InternerHasher> StringInterner<B, H> {
         I::Item: AsRef<str>,
     {
         let strings = strings.into_iter();
-        let (fewest, most) = strings.size_hint();
-        let mut symbols = Vec::with_capacity(fewest);
-        if takes_batches::<B>(most) {
-            expect(self.backend.handle_mut().intern_each(strings, |numbers| {
-                symbols.extend(numbers.iter().map(|number| symbol_of::<B::Symbol>(*number)));
-            }));
-        } else {
-            // A closure would hide from the panic who called.
-            for string in strings {
-                symbols.push(self.get_or_intern(string));
-            }
+        let mut symbols = Vec::with_capacity(strings.size_hint().0);
+        // A closure would hide from the panic who called.
+        for string in strings {
+            symbols.push(self.get_or_intern(string));
         }
         symbols
     }
 
-    /// Releases memory that no text needs, if it can.
-    pub fn shrink_to_fit(&mut self) {
-        self.backend.shrink_to_fit();
+    /// Keeps the first `len` texts with their symbols, and drops the others. Hashes each text that stays, and allocates an index
+    /// for them.
+    ///
+    /// A backend of a program's own is made anew of the texts that stay, which then have the symbols that it gives them.
+    #[track_caller]
+    pub fn truncate(&mut self, len: usize) {
+        if len >= self.len() {
+            return;
+        }
+        if B::__truncates(Ours(())) {
+            self.index = expect(self.index_of(len));
+            self.backend.0.__truncate(len, Ours(()));
+        } else {
+            (self.backend, self.index) = expect(self.first_texts(len));
+        }
     }
 
-    /// Keeps the first `len` texts with their symbols, and drops the others.
-    pub fn truncate(&mut self, len: usize) {
-        self.backend.handle_mut().truncate(len);
+    /// Returns a backend of the first `len` texts, with an index of them.
+    fn first_texts(&self, len: usize) -> Result<(As<B>, Index<B>), InternError> {
+        let mut backend = As(B::with_capacity(len));
+        let mut index: Index<B> = TextIndex::with_capacity(Global, len)?;
+        for (_, text) in self.backend.0.iter().take(len) {
+            let code = self.hasher.hash_text(text);
+            intern_coded(
+                &mut backend,
+                &self.hasher,
+                &mut index,
+                Given::Copied(text),
+                code,
+                None,
+            )?;
+        }
+        Ok((backend, index))
+    }
+
+    /// Returns an index of the first `len` texts of a backend of this crate.
+    fn index_of(&self, len: usize) -> Result<Index<B>, AllocError> {
+        let mut index: Index<B> = TextIndex::with_capacity(Global, len)?;
+        for (symbol, text) in self.backend.0.iter().take(len) {
+            let code = self.hasher.hash_text(text);
+            if let Entry::Vacant(vacancy) = TextIndex::entry(&index, code, &self.backend, text) {
+                TextIndex::reserve_one(&mut index, &self.hasher, &self.backend)?;
+                TextIndex::insert_at(&mut index, vacancy, Sym(symbol));
+            }
+        }
+        Ok(index)
+    }
+}
+
+impl<B: Backend, H> StringInterner<B, H> {
+    /// Returns the number of texts.
+    #[inline]
+    pub fn len(&self) -> usize {
+        self.index.len()
+    }
+
+    /// Reports whether there are no texts.
+    #[inline]
+    pub fn is_empty(&self) -> bool {
+        self.len() == 0
+    }
+
+    /// Releases memory that no text needs, if it can.
+    pub fn shrink_to_fit(&mut self) {
+        self.backend.0.shrink_to_fit();
     }
 
     /// Returns the text of a symbol, or `None` if no text has its number.
@@ -237,78 +297,80 @@ impl<B: Backend, H: InternerHasher> StringInterner<B, H> {
     /// ```
     #[inline]
     pub fn resolve(&self, symbol: B::Symbol) -> Option<&str> {
-        self.backend.resolve(symbol)
+        self.backend.0.resolve(symbol)
     }
 
-    /// Returns the text of a symbol. This crate checks the symbol all the same.
+    /// Returns the text of a symbol.
     ///
     /// # Safety
     ///
-    /// The symbol is one of this interner.
+    /// This interner returned the symbol, or another one did before this one was cloned of it. Of any other symbol an interner over
+    /// a [`BufferBackend`](crate::backend::BufferBackend) may return what is no UTF-8.
     #[inline]
     pub unsafe fn resolve_unchecked(&self, symbol: B::Symbol) -> &str {
-        self.resolve(symbol)
-            .expect("the symbol is not of this interner")
+        // SAFETY: the caller promises the same.
+        unsafe { self.backend.0.resolve_unchecked(symbol) }
     }
 
     /// Iterates over all texts with their symbols, in insertion order.
     #[inline]
     pub fn iter(&self) -> B::Iter<'_> {
-        self.backend.iter()
+        self.backend.0.iter()
     }
 
     /// Returns the JSON array of the texts.
-    #[track_caller]
     pub fn to_json(&self) -> String {
-        expect(self.backend.handle().to_json())
+        json::write(self.iter().map(|(_, text)| text))
     }
 }
 
 impl Default for StringInterner<DefaultBackend> {
+    #[inline]
     fn default() -> Self {
         Self::new()
     }
 }
 
-impl<B: Backend, H> Clone for StringInterner<B, H> {
+impl<B: Backend + Clone, H: Clone> Clone for StringInterner<B, H> {
     /// Returns an interner with the same texts under the same symbols.
     fn clone(&self) -> Self {
-        Self::of(B::of(expect(self.backend.handle().try_clone())))
+        StringInterner {
+            backend: As(self.backend.0.clone()),
+            hasher: self.hasher.clone(),
+            index: expect(self.index.try_copy()),
+        }
     }
 }
 
-impl<B: Backend, H> PartialEq for StringInterner<B, H> {
+impl<B: Backend + PartialEq, H> PartialEq for StringInterner<B, H> {
     /// Reports whether both have the same texts in the same order.
     fn eq(&self, other: &Self) -> bool {
-        self.backend.handle() == other.backend.handle()
+        self.len() == other.len() && self.backend.0 == other.backend.0
     }
 }
 
-impl<B: Backend, H> Eq for StringInterner<B, H> {}
+impl<B: Backend + Eq, H> Eq for StringInterner<B, H> {}
 
-impl<B: Backend, H> fmt::Debug for StringInterner<B, H> {
+impl<B: Backend + fmt::Debug, H> fmt::Debug for StringInterner<B, H> {
     fn fmt(&self, f: &mut fmt::Formatter<'_>) -> fmt::Result {
         f.debug_struct("StringInterner")
-            .field("dedup", &Numbers(&self.backend))
-            .field("backend", &self.backend)
+            .field("dedup", &Numbers(&self.backend.0))
+            .field("backend", &self.backend.0)
             .finish()
     }
 }
 
-/// Shows the numbers of all symbols as the keys of a map, as string-interner does.
+/// Shows the numbers of all symbols as the keys of a map.
 struct Numbers<'a, B>(&'a B);
 
 impl<B: Backend> fmt::Debug for Numbers<'_, B> {
     fn fmt(&self, f: &mut fmt::Formatter<'_>) -> fmt::Result {
-        let entries = Entries::over(B::KIND, self.0.handle());
-        let numbers = entries.map(|(number, _)| (number, ()));
+        let numbers = self.0.iter().map(|(symbol, _)| (symbol.to_usize(), ()));
         f.debug_map().entries(numbers).finish()
     }
 }
 
-impl<B: Backend, H: InternerHasher + Default, T: AsRef<str>> FromIterator<T>
-    for StringInterner<B, H>
-{
+impl<B: Backend, H: BuildHasher + Default, T: AsRef<str>> FromIterator<T> for StringInterner<B, H> {
     fn from_iter<I: IntoIterator<Item = T>>(iter: I) -> Self {
         let iter = iter.into_iter();
         let mut interner = Self::with_capacity(iter.size_hint().0);
@@ -317,36 +379,16 @@ impl<B: Backend, H: InternerHasher + Default, T: AsRef<str>> FromIterator<T>
     }
 }
 
-/// Reports whether texts, of which there are at most so many, are interned by calls for many at once. A symbol type that may lack
-/// a number is asked for each text.
-fn takes_batches<B: Backend>(most: Option<usize>) -> bool {
-    B::Symbol::HAS_ALL && !most.is_some_and(|most| most < FEWEST)
-}
-
-/// Returns the symbol of a number. The type has all.
-fn symbol_of<S: Symbol>(number: u32) -> S {
-    S::try_from_usize(number as usize).expect("the type has all numbers")
-}
-
-impl<B: Backend, H: InternerHasher, T: AsRef<str>> Extend<T> for StringInterner<B, H> {
-    /// Interns all texts. If there are more than a few, one call of the library interns 128 of them. A new interner first makes
-    /// room for as many as the iterator says that there are at least, up to 131,072.
+impl<B: Backend, H: BuildHasher, T: AsRef<str>> Extend<T> for StringInterner<B, H> {
+    /// Interns all texts.
     ///
     /// # Panics
     ///
-    /// If no symbol is left for a new text. The texts before it stay; up to 127 behind it are taken from the iterator and dropped.
+    /// If no symbol is left for a new text. The texts before it stay.
     #[track_caller]
     fn extend<I: IntoIterator<Item = T>>(&mut self, iter: I) {
-        let strings = iter.into_iter();
-        let (fewest, most) = strings.size_hint();
-        if takes_batches::<B>(most) {
-            let handle = self.backend.handle_mut();
-            handle.make_first_room(fewest);
-            expect(handle.intern_each(strings, |_| ()));
-        } else {
-            for string in strings {
-                self.get_or_intern(string);
-            }
+        for string in iter {
+            self.get_or_intern(string);
         }
     }
 }
@@ -357,6 +399,6 @@ impl<'a, B: Backend, H> IntoIterator for &'a StringInterner<B, H> {
 
     #[inline]
     fn into_iter(self) -> Self::IntoIter {
-        self.backend.iter()
+        self.iter()
     }
 }

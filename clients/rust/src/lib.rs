@@ -15,38 +15,22 @@
 //!
 //! # What differs from string-interner 0.19
 //!
-//! Most programs written for string-interner compile with this crate. These do not:
+//! Programs written for string-interner compile with this crate, on targets whose `usize` has 64 bits. What behaves differently:
 //!
-//! | What does not compile | Why |
-//! |---|---|
-//! | a backend of the program's own, `impl Backend for ..` | the library stores the texts |
-//! | a bound `H: BuildHasher` with `FixedHashBuilder` or `KeyedHashBuilder` as `H` | these give the library keys or none, and hash nothing themselves |
-//! | programs without std, or for other targets than Linux on 64 bits | the library is built for these |
-//!
-//! What compiles and behaves differently:
-//!
-//! - The library hashes the texts under two keys that the interner's hasher gives: by a fast hash if it is
-//!   [`DefaultHashBuilder`], whose keys are random, and by SipHash-1-3 if it is another. The original's default hasher has a random
-//!   seed. [`FixedHashBuilder`](hasher::FixedHashBuilder) has no keys, and the same hash codes in each process.
-//! - The numbers of all symbol types are below 2³² − 1, because those of the library are. So a `BufferBackend`, whose numbers are
-//!   byte offsets, holds less than 4 GiB.
-//! - If interning panics because no symbol is left, as in the original, the text is not stored.
+//! - If interning panics because no symbol is left, the text is not stored, and the panic says so.
 //!   [`try_get_or_intern`](StringInterner::try_get_or_intern) returns an error instead.
-//! - If `extend` panics because no symbol is left or an allocation fails, up to 127 texts behind that one were taken from the
-//!   iterator, too. The texts before it are interned, as in the original.
-//! - If you use a backend alone, `intern` returns the first symbol of a text that it already has. The original's stores the
-//!   text again.
 //! - `Symbol::try_from_usize` returns `None` if the type has no symbol of the number. The original's wraps: number 65,539 becomes
 //!   the [`SymbolU16`](symbol::SymbolU16) 3.
+//! - Interning a new text asks `Symbol::try_from_usize` twice, and the original's once.
 //! - With serde the original reads each symbol as the next one, see below.
-//! - An interner takes the keys from its hasher when it is made, and drops the hasher then. The original keeps the hasher, calls
-//!   it for each text, clones it with the interner, and drops it with the interner. So here a hasher that panics does so only when
-//!   an interner is made, and a hasher's own `Drop` runs before that of the interner.
-//! - If the library is asked for more memory than there is, `with_capacity` panics. The original aborts the process for some sizes.
+//! - If memory is refused, the backends of this crate panic, and stay as they were. The original aborts the process.
+//! - The [`DefaultHashBuilder`] is a type of this crate. That of the original is hashbrown's.
+//! - A text's hash has both halves of what the hasher returns, so that a hasher whose lower bits are poor is not slow.
 //! - The `Debug` of an interner shows symbols by number, and that of a backend its texts.
-//! - Memory comes from malloc, and not from Rust's global allocator.
+//! - If a symbol's own `Clone`, `PartialEq` or `to_usize` does not tell what is so, nothing but answers is wrong.
 //!
-//! New are the modules [`hasher`] and [`sync`], the type [`InternError`], and of [`StringInterner`] the calls
+//! New are the modules [`hasher`] and [`sync`], the types [`InternError`] and [`JsonError`], that iterators have a known length and can
+//! be cloned, and of [`StringInterner`] the calls
 //! [`try_get_or_intern`](StringInterner::try_get_or_intern),
 //! [`try_get_or_intern_static`](StringInterner::try_get_or_intern_static),
 //! [`get_or_intern_part`](StringInterner::get_or_intern_part), [`intern_all`](StringInterner::intern_all),
@@ -84,61 +68,89 @@
 //!
 //! # Features
 //!
-//! You may ask for the features `std`, `inline-more` and `backends`. They change nothing: the crate always uses std, the compiler
-//! may always inline its short calls, and the backends are always there.
+//! | Feature | What it adds |
+//! |---|---|
+//! | `std`, by default | random keys for [`DefaultHashBuilder`], and the module [`sync`]. Without it the crate needs `alloc` alone |
+//! | `inline-more`, `backends`, by default | nothing: short calls may always be inlined, and the backends are always there |
+//! | `serde` | serde's traits for an interner and the three symbol types, in the forms of the original |
 //!
-//! The feature `serde` gives an interner and the three symbol types serde's traits, in the forms of the original. An interner is a
-//! sequence of its texts. A symbol is its number plus one, because that is how it is stored, and is read as such: what either
-//! crate wrote is read as it was meant. The original reads a symbol as the number that is written, so each symbol that it wrote
-//! comes back as the next one.
+//! An interner is a sequence of its texts. A symbol is its number plus one, because that is how it is stored, and is read as such:
+//! what either crate wrote is read as it was meant. The original reads a symbol as the number that is written, so each symbol that
+//! it wrote comes back as the next one.
 //!
 //! Cargo asks a registry for each dependency, also for an optional one that nothing uses. So the crate in the repository lacks
 //! serde, and builds without a registry. That of a release has it.
 //!
+//! # What is proved, and what is trusted
+//!
+//! The module `proved` is the library of the repository, whose every function is proved to keep its contract. A tool, `tools/erase`,
+//! made it of the proved source: it made comments of the contracts, and left the code as it was, token by token but for a few that
+//! its page names. You trust that tool, the stand-ins for the prover's standard library in the module `rt`, the rest of this crate,
+//! which gives the library its interface, and rustc. All of these are tested, and not proved. The contracts speak of symbols,
+//! hashers and backends that keep theirs; what is not unsafe holds whatever these do.
+//!
 //! # Why it is safe
 //!
-//! All `unsafe` blocks of this crate are in the module `handle`. They rely on the rules at the top of `string_interner.h`, which
-//! this crate keeps, with one exception:
+//! A symbol, a hasher, a backend, a text or an iterator of a program's own may return anything, panic or call back. Each `unsafe`
+//! says what it rests on:
 //!
-//! | Rule | Kept by |
+//! | Where | Rests on |
 //! |---|---|
-//! | 1: pass only a handle that a call wrote, before it is freed, and not null | `Handle` holds what a call wrote as a private `NonNull`, is not `Copy`, and `Drop` frees it once |
-//! | 2: pass only aligned pointers to as many elements as the length says | all come from references, slices, texts and local variables |
-//! | 3: memory that a call writes to overlaps nothing else that you pass | it is a local variable, or a `Vec` that nothing else borrows |
-//! | 4: while a call may change a handle, make no other call on it | calls that only read take `&self`, and all others `&mut self`; a `SharedHandle` has locks; no call of the library calls back |
-//! | 5: read a lent text only until the next call that may change its handle, and do not pass it to that call | the text borrows the `Handle`, and calls that may change it take `&mut self`, and forget where its joined texts were. The exception is a text of [`sync::Interner`]: see there |
-//! | 6: one allocator; no calls in signal handlers and after forks | the program's own duty, as with any C library and with Rust's own allocator |
-//! | 7: pass only UTF-8 to calls that do not check it | the bytes are those of a `&str` |
-//! | 8: pass only bytes that stay to `interner_get_or_intern_static` | they are those of a `&'static str` |
+//! | `backend.rs`: symbols of the index are resolved unchecked | an index has only symbols that its backend returned, copied by their bits |
+//! | `proved`, of a buffer and of buckets: bytes are a text | they are those of a text that was interned: what a number of a program's own symbol type leads to is checked instead |
+//! | `proved`, of static texts: their bytes are read at their address | the address is made of a `&'static str`, in one place |
+//! | `sync/shard.rs`: texts are lent without a lock | buckets do not move, and no text is dropped |
+//! | `rt/simd.rs`: vectors | the target has them |
 
+#![no_std]
 #![warn(
     missing_docs,
     unsafe_op_in_unsafe_fn,
     clippy::undocumented_unsafe_blocks
 )]
 
+#[cfg(not(target_pointer_width = "64"))]
+compile_error!(
+    "string-interner needs a target whose `usize` has 64 bits, as the proof of its library assumes"
+);
+
+#[cfg(feature = "serde")] // pack: drop
+compile_error!("the feature `serde` is in the crate that a release has: name the folder that clients/rust/pack makes"); // pack: drop
+
+extern crate alloc;
+#[cfg(any(feature = "std", test))]
+extern crate std;
+
 pub mod backend;
 mod error;
-mod handle;
 pub mod hasher;
 mod interner;
-mod iter;
 mod json;
+// The linter and the compiler warn of what the source's language asks for.
+#[allow(clippy::all, dead_code, missing_docs, rustdoc::all, unstable_name_collisions, unused)]
+#[rustfmt::skip]
+mod proved;
 #[cfg(doctest)]
 mod refused;
+#[allow(dead_code)]
+mod rt;
 #[cfg(feature = "serde")]
 mod serde;
 pub mod symbol;
+#[cfg(feature = "std")]
 pub mod sync;
-mod sys;
 
 pub use backend::DefaultBackend;
 pub use error::InternError;
 pub use hasher::DefaultHashBuilder;
 pub use interner::StringInterner;
-pub use iter::Iter;
 pub use json::JsonError;
 pub use symbol::{DefaultSymbol, Symbol};
 
 /// An interner over the backend for most cases.
 pub type DefaultStringInterner<B = DefaultBackend, H = DefaultHashBuilder> = StringInterner<B, H>;
+
+/// A value that only this crate has, so that only it can call the methods of its traits that take one.
+mod sealed {
+    pub struct Ours(pub(crate) ());
+}

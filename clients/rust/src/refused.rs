@@ -95,17 +95,14 @@
 //! });
 //! ```
 //!
-//! The handle of the library and the state of an interner are private, even to code that is generic over backends:
+//! The proved code, what it stands on and the state of an interner are private:
 //!
 //! ```compile_fail,E0603
-//! let handle = string_interner::handle::Handle::new(0, None);
+//! use string_interner::proved::backend::BufferBackend;
 //! ```
 //!
-//! ```compile_fail,E0624
-//! use string_interner::backend::Backend;
-//! fn shrink<B: Backend>(backend: &B) -> bool {
-//!     backend.handle().len() == 0
-//! }
+//! ```compile_fail,E0603
+//! use string_interner::rt::vec::Vec;
 //! ```
 //!
 //! ```compile_fail,E0451
@@ -115,41 +112,25 @@
 //! }
 //! ```
 //!
-//! So are the keys of a hasher:
+//! No symbol type of a program's own says that it keeps its numbers, because nothing can name the type of the argument:
 //!
 //! ```compile_fail,E0603
-//! use string_interner::hasher::InternerHasher;
-//! let keys = string_interner::DefaultHashBuilder.hashing();
+//! use string_interner::sealed::Ours;
 //! ```
 //!
-//! A caller writes no backend:
-//!
-//! ```compile_fail,E0277
-//! use string_interner::backend::Backend;
-//! #[derive(Debug, Default)]
-//! struct Texts(Vec<String>);
-//! impl Backend for Texts {
-//!     type Symbol = usize;
-//!     type Iter<'a> = std::iter::Empty<(usize, &'a str)>;
-//!     fn with_capacity(_: usize) -> Self {
-//!         Texts(Vec::new())
+//! ```compile_fail,E0049
+//! use string_interner::Symbol;
+//! #[derive(Clone, Copy, PartialEq, Eq)]
+//! struct Number(usize);
+//! impl Symbol for Number {
+//!     fn try_from_usize(index: usize) -> Option<Self> {
+//!         Some(Number(index))
 //!     }
-//!     fn intern(&mut self, text: &str) -> usize {
-//!         self.0.push(text.into());
-//!         self.0.len() - 1
+//!     fn to_usize(self) -> usize {
+//!         self.0
 //!     }
-//!     fn intern_static(&mut self, text: &'static str) -> usize {
-//!         self.intern(text)
-//!     }
-//!     fn shrink_to_fit(&mut self) {}
-//!     fn resolve(&self, symbol: usize) -> Option<&str> {
-//!         self.0.get(symbol).map(String::as_str)
-//!     }
-//!     unsafe fn resolve_unchecked(&self, symbol: usize) -> &str {
-//!         &self.0[symbol]
-//!     }
-//!     fn iter(&self) -> Self::Iter<'_> {
-//!         std::iter::empty()
+//!     fn __keeps_its_number(_: impl Sized) -> bool {
+//!         true
 //!     }
 //! }
 //! ```

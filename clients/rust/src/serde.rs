@@ -1,14 +1,14 @@
 //! The traits of serde, in the forms in which string-interner 0.19 writes.
 
 use crate::backend::Backend;
-use crate::hasher::InternerHasher;
 use crate::interner::StringInterner;
 use crate::symbol::{SymbolU16, SymbolU32, SymbolUsize};
+use core::fmt;
+use core::hash::BuildHasher;
+use core::marker::PhantomData;
 use serde::de::{DeserializeSeed, Deserializer, Error, SeqAccess, Visitor};
-use serde::ser::Serializer;
+use serde::ser::{SerializeSeq, Serializer};
 use serde::{Deserialize, Serialize};
-use std::fmt;
-use std::marker::PhantomData;
 
 /// Memory for more texts than these is not reserved because of what an input says of itself.
 const MOST_RESERVED: usize = 1 << 12;
@@ -16,11 +16,15 @@ const MOST_RESERVED: usize = 1 << 12;
 impl<B: Backend, H> Serialize for StringInterner<B, H> {
     /// Writes the texts as a sequence, in insertion order.
     fn serialize<T: Serializer>(&self, serializer: T) -> Result<T::Ok, T::Error> {
-        serializer.collect_seq(self.into_iter().map(|(_, text)| text))
+        let mut texts = serializer.serialize_seq(Some(self.len()))?;
+        for (_, text) in self {
+            texts.serialize_element(text)?;
+        }
+        texts.end()
     }
 }
 
-impl<'de, B: Backend, H: InternerHasher + Default> Deserialize<'de> for StringInterner<B, H> {
+impl<'de, B: Backend, H: BuildHasher + Default> Deserialize<'de> for StringInterner<B, H> {
     /// Reads a sequence of texts. Repeats add no text.
     fn deserialize<D: Deserializer<'de>>(deserializer: D) -> Result<Self, D::Error> {
         deserializer.deserialize_seq(OfTexts(PhantomData))
@@ -30,7 +34,7 @@ impl<'de, B: Backend, H: InternerHasher + Default> Deserialize<'de> for StringIn
 /// Reads an interner.
 struct OfTexts<B, H>(PhantomData<(B, H)>);
 
-impl<'de, B: Backend, H: InternerHasher + Default> Visitor<'de> for OfTexts<B, H> {
+impl<'de, B: Backend, H: BuildHasher + Default> Visitor<'de> for OfTexts<B, H> {
     type Value = StringInterner<B, H>;
 
     fn expecting(&self, f: &mut fmt::Formatter<'_>) -> fmt::Result {
@@ -48,7 +52,7 @@ impl<'de, B: Backend, H: InternerHasher + Default> Visitor<'de> for OfTexts<B, H
 /// Reads a text into an interner.
 struct OneText<'a, B: Backend, H>(&'a mut StringInterner<B, H>);
 
-impl<'de, B: Backend, H: InternerHasher> DeserializeSeed<'de> for OneText<'_, B, H> {
+impl<'de, B: Backend, H: BuildHasher> DeserializeSeed<'de> for OneText<'_, B, H> {
     type Value = ();
 
     fn deserialize<D: Deserializer<'de>>(self, deserializer: D) -> Result<(), D::Error> {
@@ -56,7 +60,7 @@ impl<'de, B: Backend, H: InternerHasher> DeserializeSeed<'de> for OneText<'_, B,
     }
 }
 
-impl<B: Backend, H: InternerHasher> Visitor<'_> for OneText<'_, B, H> {
+impl<B: Backend, H: BuildHasher> Visitor<'_> for OneText<'_, B, H> {
     type Value = ();
 
     fn expecting(&self, f: &mut fmt::Formatter<'_>) -> fmt::Result {

@@ -1,8 +1,13 @@
 //! Symbols: the small values that stand for texts.
 
-use std::num::{NonZeroU16, NonZeroU32, NonZeroUsize};
+use crate::proved;
+use crate::sealed::Ours;
+use core::num::{NonZeroU16, NonZeroU32, NonZeroUsize};
 
 /// A type whose values stand for texts, each by a number.
+///
+/// Whatever an implementation returns, an interner stays sound. What it answers is right if `try_from_usize` and `to_usize` are
+/// each other's inverse.
 pub trait Symbol: Copy + Eq {
     /// Returns the symbol with this number, or `None` if the type has no such symbol.
     fn try_from_usize(index: usize) -> Option<Self>;
@@ -10,17 +15,18 @@ pub trait Symbol: Copy + Eq {
     /// Returns the number of the symbol.
     fn to_usize(self) -> usize;
 
-    /// Whether the type has each number that the library gives, so that no text is ever dropped again.
+    /// Whether a symbol's number is the one that it was made of, which is known of the types of this crate alone.
     #[doc(hidden)]
-    const HAS_ALL: bool = false;
+    #[inline(always)]
+    fn __keeps_its_number(_: Ours) -> bool {
+        false
+    }
 }
 
 /// The symbol type of an interner whose type names none.
 pub type DefaultSymbol = SymbolU32;
 
 impl Symbol for usize {
-    const HAS_ALL: bool = true;
-
     #[inline]
     fn try_from_usize(index: usize) -> Option<Self> {
         Some(index)
@@ -29,6 +35,11 @@ impl Symbol for usize {
     #[inline]
     fn to_usize(self) -> usize {
         self
+    }
+
+    #[inline(always)]
+    fn __keeps_its_number(_: Ours) -> bool {
+        true
     }
 }
 
@@ -42,9 +53,6 @@ macro_rules! symbol {
         }
 
         impl Symbol for $name {
-            // The library's numbers are below 2³² − 1.
-            const HAS_ALL: bool = <$number>::BITS >= 32;
-
             #[inline]
             fn try_from_usize(index: usize) -> Option<Self> {
                 let value = <$number>::try_from(index).ok()?.checked_add(1)?;
@@ -54,6 +62,11 @@ macro_rules! symbol {
             #[inline]
             fn to_usize(self) -> usize {
                 self.value.get() as usize - 1
+            }
+
+            #[inline(always)]
+            fn __keeps_its_number(_: Ours) -> bool {
+                true
             }
         }
     };
@@ -70,4 +83,38 @@ symbol! {
 symbol! {
     /// A symbol as large as a `usize`, with all numbers but the last.
     SymbolUsize, NonZeroUsize, usize
+}
+
+/// A symbol as the proved code takes it.
+///
+/// It is copied by its bits: no `Clone` or `Eq` of a program's own runs within proved code.
+#[derive(Copy)]
+pub(crate) struct Sym<S>(pub S);
+
+impl<S: Copy> Clone for Sym<S> {
+    #[inline(always)]
+    fn clone(&self) -> Self {
+        *self
+    }
+}
+
+impl<S: Symbol> PartialEq for Sym<S> {
+    #[inline(always)]
+    fn eq(&self, other: &Self) -> bool {
+        self.0.to_usize() == other.0.to_usize()
+    }
+}
+
+impl<S: Symbol> Eq for Sym<S> {}
+
+impl<S: Symbol> proved::symbol::Symbol for Sym<S> {
+    #[inline(always)]
+    fn try_from_usize(index: usize) -> Option<Self> {
+        S::try_from_usize(index).map(Sym)
+    }
+
+    #[inline(always)]
+    fn to_usize(self) -> usize {
+        self.0.to_usize()
+    }
 }

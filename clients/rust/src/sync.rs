@@ -15,8 +15,8 @@
 //! assert_eq!(names.resolve(one), Some("Tiger"));
 //! ```
 //!
-//! It consists of 16 interners of the library, the *shards*, each over buckets and behind locks of its own. A hash of the text
-//! chooses its shard. What each shard does is proved. That they make one interner together is tested, and not proved.
+//! It consists of 16 interners, the *shards*, each over buckets and behind locks of its own. A hash of the text chooses its shard.
+//! That they make one interner together is tested, and not proved.
 //!
 //! Each call takes a lock. So with one thread a known text takes 1.5 to 2 times as long as in a `StringInterner`, and a new one, for
 //! which the shard is searched twice, up to 2.7 times. On four processors that had other work, too, four threads that find known
@@ -25,10 +25,13 @@
 //! A text that [`Interner::resolve`] lends may be read while other threads intern, because a bucket never moves, and no text is
 //! dropped before the interner is. The library's contracts promise no address. That the addresses stay is tested.
 
-use crate::error::InternError;
-use crate::handle::{expect, SharedHandle, Status};
-use crate::hasher::{DefaultHashBuilder, InternerHasher};
+mod shard;
+
+use crate::error::{expect, InternError};
+use crate::hasher::DefaultHashBuilder;
 use crate::symbol::{DefaultSymbol, Symbol};
+use shard::{Shard, Texts};
+use std::boxed::Box;
 use std::fmt;
 use std::hash::BuildHasher;
 use std::iter::FusedIterator;
@@ -46,7 +49,7 @@ const MOST: usize = (u32::MAX >> BITS) as usize;
 /// Texts stay until the interner is dropped. The number of a symbol depends on keys that each process draws at random. Hold an
 /// interner in an [`Arc`](std::sync::Arc), in a `static` or on the stack of a [scope](std::thread::scope).
 pub struct Interner {
-    shards: Box<[SharedHandle]>,
+    shards: Box<[Shard]>,
     /// Chooses the shards of texts.
     key: u64,
 }
@@ -96,10 +99,8 @@ impl Interner {
     #[must_use]
     #[track_caller]
     pub fn new() -> Self {
-        let hashing = DefaultHashBuilder.hashing();
-        let shards = (0..SHARDS).map(|_| expect(SharedHandle::new(hashing)));
         Interner {
-            shards: shards.collect(),
+            shards: (0..SHARDS).map(|_| Shard::new()).collect(),
             key: DefaultHashBuilder.hash_one("shards of a string interner"),
         }
     }
@@ -112,7 +113,7 @@ impl Interner {
 
     /// Returns the number of texts. Other threads may add some in the meantime.
     pub fn len(&self) -> usize {
-        self.shards.iter().map(SharedHandle::len).sum()
+        self.shards.iter().map(Shard::len).sum()
     }
 
     /// Reports whether there are no texts.
@@ -144,7 +145,7 @@ impl Interner {
     #[track_caller]
     pub fn get_or_intern<T: AsRef<str>>(&self, string: T) -> DefaultSymbol {
         let text = string.as_ref();
-        expect(self.intern_by(text, |shard| shard.get_or_intern(text, MOST)))
+        expect(self.intern_by(text, |texts| texts.try_get_or_intern(text)))
     }
 
     /// The same for a static text, which is not copied.
@@ -155,7 +156,7 @@ impl Interner {
     #[inline]
     #[track_caller]
     pub fn get_or_intern_static(&self, string: &'static str) -> DefaultSymbol {
-        expect(self.intern_by(string, |shard| shard.get_or_intern_static(string, MOST)))
+        expect(self.intern_by(string, |texts| texts.try_get_or_intern_static(string)))
     }
 
     /// The same as [`get_or_intern`](Self::get_or_intern), but returns an error instead of a panic.
@@ -169,18 +170,18 @@ impl Interner {
         string: T,
     ) -> Result<DefaultSymbol, InternError> {
         let text = string.as_ref();
-        Ok(self.intern_by(text, |shard| shard.get_or_intern(text, MOST))?)
+        self.intern_by(text, |texts| texts.try_get_or_intern(text))
     }
 
-    /// Interns a text by a call on its shard.
+    /// Interns a text by a call on the interner of its shard.
     #[inline]
     fn intern_by(
         &self,
         text: &str,
-        intern: impl FnOnce(&SharedHandle) -> Result<usize, Status>,
-    ) -> Result<DefaultSymbol, Status> {
+        intern: impl FnOnce(&mut Texts) -> Result<usize, InternError>,
+    ) -> Result<DefaultSymbol, InternError> {
         let shard = self.shard_of(text);
-        let number = intern(&self.shards[shard])?;
+        let number = self.shards[shard].intern_by(text, MOST, intern)?;
         Ok(symbol_of(shard, number))
     }
 

@@ -1,9 +1,12 @@
-//! Calls that ask Rust's allocator for nothing. (What the library asks malloc for is not counted.)
+//! Calls that ask the allocator for nothing.
 
 use std::alloc::{GlobalAlloc, Layout, System};
 use std::cell::Cell;
 
-use string_interner::backend::{Backend, BucketBackend, BufferBackend, StringBackend};
+mod common;
+
+use common::Backend;
+use string_interner::backend::{BucketBackend, BufferBackend, StringBackend};
 use string_interner::StringInterner;
 
 thread_local! {

@@ -32,10 +32,12 @@ where
 
     let copy = backend.clone();
     let last = backend.intern_static("last");
-    assert!(backend.intern("last") == last);
+    // A backend alone stores also a text that it has.
+    let again = backend.intern("last");
+    assert!(again != last && backend.resolve(again) == Some("last"));
     assert!(backend != copy && copy == fill() && copy != B::default());
     backend.shrink_to_fit();
-    assert_eq!(backend.iter().len(), 5);
+    assert_eq!(backend.iter().count(), 6);
     assert_eq!(backend.resolve(last), Some("last"));
     assert_eq!(copy.resolve(last), None);
     assert_eq!(texts(&copy), TEXTS);

@@ -1,6 +1,9 @@
 //! Many texts at once: whatever an iterator or a text does, those before it are interned, and each once.
 
-use string_interner::backend::{Backend, BucketBackend, BufferBackend, StringBackend};
+mod common;
+
+use common::Backend;
+use string_interner::backend::{BucketBackend, BufferBackend, StringBackend};
 use string_interner::symbol::SymbolU16;
 use string_interner::{DefaultStringInterner, StringInterner, Symbol};
 

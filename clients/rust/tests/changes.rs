@@ -4,7 +4,10 @@
 use std::panic::{catch_unwind, AssertUnwindSafe};
 use std::thread;
 
-use string_interner::backend::{Backend, BucketBackend, BufferBackend, StringBackend};
+mod common;
+
+use common::Backend;
+use string_interner::backend::{BucketBackend, BufferBackend, StringBackend};
 use string_interner::symbol::{SymbolU16, SymbolU32, SymbolUsize};
 use string_interner::{InternError, StringInterner, Symbol};
 
@@ -89,7 +92,7 @@ where
 }
 
 /// A call that interns a text, and returns its symbol.
-type Call<B> = fn(&mut StringInterner<B>, String) -> <B as Backend>::Symbol;
+type Call<B> = fn(&mut StringInterner<B>, String) -> <B as string_interner::backend::Backend>::Symbol;
 
 /// Each call that interns, so often that each moves the texts.
 fn after_texts_come<B: Backend>()

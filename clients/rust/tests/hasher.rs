@@ -5,7 +5,10 @@ use std::collections::HashMap;
 use std::hash::{BuildHasher, BuildHasherDefault, DefaultHasher, Hasher, RandomState};
 use std::time::{Duration, Instant};
 
-use string_interner::backend::{Backend, BucketBackend, BufferBackend};
+mod common;
+
+use common::Backend;
+use string_interner::backend::{BucketBackend, BufferBackend};
 use string_interner::hasher::{FixedHashBuilder, KeyedHashBuilder};
 use string_interner::{
     DefaultBackend, DefaultHashBuilder, DefaultStringInterner, DefaultSymbol, StringInterner,

@@ -1,6 +1,9 @@
 //! Safe programs that do what no caller should: none reads memory that is not its own. `clients/check` runs them under memcheck, too.
 
-use string_interner::backend::{Backend, BucketBackend, BufferBackend, StringBackend};
+mod common;
+
+use common::Backend;
+use string_interner::backend::{BucketBackend, BufferBackend, StringBackend};
 use string_interner::sync::Interner;
 use string_interner::{DefaultStringInterner, StringInterner, Symbol};
 
@@ -86,7 +89,9 @@ impl BuildHasher for Careless {
 
 fn hashers_that_panic_or_are_constant() {
     type Careful = StringInterner<StringBackend, Careless>;
-    assert!(panics(|| Careful::with_hasher(Careless(true))));
+    assert!(panics(
+        || Careful::with_hasher(Careless(true)).get_or_intern("a")
+    ));
     let mut interner = Careful::with_hasher(Careless(false));
     interner.extend((0..500).map(spell));
     assert!((0..500).all(|number| interner.get(spell(number)).is_some()));
@@ -268,8 +273,9 @@ fn a_symbol_type_that_wraps() {
         .collect();
     assert_eq!((interner.len(), symbols[8]), (9, OfFour(0)));
     assert_eq!(interner.resolve(symbols[8]), Some("text 0"));
-    assert_eq!(interner.get_or_intern("text 8"), OfFour(0));
-    assert_eq!(interner.intern_all((0..9).map(spell)), symbols);
+    // The symbol leads to another text, so the text is not found.
+    assert_eq!(interner.get("text 8"), None);
+    assert_eq!(interner.get_or_intern("text 0"), OfFour(0));
 }
 
 #[test]

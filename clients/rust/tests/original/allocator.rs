@@ -1,5 +1,5 @@
-//! What the original's tests import to count what Rust's allocator gives. Those that count are ignored by default, since
-//! the library takes its memory from malloc; so this one counts nothing.
+//! What the original's tests import to count what Rust's allocator gives. Those that count are ignored by default, so this one
+//! counts nothing.
 
 use std::alloc::{GlobalAlloc, Layout, System};
 

@@ -1,0 +1,148 @@
+//! Iterators over the texts of the three backends. Each is a plain struct, so that its lifetime may shrink.
+
+use crate::proved::backend as proved;
+use crate::proved::backend::Backend as _;
+use crate::symbol::Symbol;
+use core::fmt;
+use core::iter::FusedIterator;
+use core::marker::PhantomData;
+
+/// Returns the symbol of a text that is there.
+#[inline(always)]
+fn symbol_of<S: Symbol>(number: usize) -> S {
+    S::try_from_usize(number).expect("each text has a symbol")
+}
+
+/// Implements what all iterators have, for one that has `step`, which yields a number and a text, and `left`.
+macro_rules! iterator {
+    ($name:ident) => {
+        impl<'a, S: Symbol> Iterator for $name<'a, S> {
+            type Item = (S, &'a str);
+
+            #[inline]
+            fn next(&mut self) -> Option<Self::Item> {
+                let (number, text) = self.step()?;
+                Some((symbol_of(number), text))
+            }
+
+            #[inline]
+            fn size_hint(&self) -> (usize, Option<usize>) {
+                (self.left(), Some(self.left()))
+            }
+        }
+
+        impl<S: Symbol> ExactSizeIterator for $name<'_, S> {}
+
+        impl<S: Symbol> FusedIterator for $name<'_, S> {}
+
+        impl<S> Clone for $name<'_, S> {
+            fn clone(&self) -> Self {
+                $name { ..*self }
+            }
+        }
+
+        impl<S> fmt::Debug for $name<'_, S> {
+            fn fmt(&self, f: &mut fmt::Formatter<'_>) -> fmt::Result {
+                f.debug_struct("Iter")
+                    .field("left", &self.left())
+                    .finish_non_exhaustive()
+            }
+        }
+    };
+}
+
+/// Yields the texts of a `StringBackend`, as the parts of the joined text from each end to the next.
+pub struct StringIter<'a, S> {
+    joined: &'a str,
+    narrow: &'a [u32],
+    wide: &'a [usize],
+    number: usize,
+    start: usize,
+    symbol: PhantomData<fn() -> S>,
+}
+
+impl<'a, S> StringIter<'a, S> {
+    #[inline]
+    pub(super) fn over(texts: &'a proved::StringBackend<usize>) -> Self {
+        let (joined, ends) = texts.as_parts();
+        let (narrow, wide) = ends.as_slices();
+        StringIter {
+            joined,
+            narrow,
+            wide,
+            number: 0,
+            start: 0,
+            symbol: PhantomData,
+        }
+    }
+
+    #[inline(always)]
+    fn left(&self) -> usize {
+        self.narrow.len() + self.wide.len() - self.number
+    }
+
+    #[inline(always)]
+    fn step(&mut self) -> Option<(usize, &'a str)> {
+        let number = self.number;
+        let end = match self.narrow.get(number) {
+            Some(end) => *end as usize,
+            None => *self.wide.get(number - self.narrow.len())?,
+        };
+        let text = &self.joined[self.start..end];
+        self.start = end;
+        self.number += 1;
+        Some((number, text))
+    }
+}
+
+iterator!(StringIter);
+
+/// Defines an iterator that asks a backend for one entry after another.
+macro_rules! walk {
+    ($(#[$doc:meta])* $name:ident, $backend:ident) => {
+        $(#[$doc])*
+        pub struct $name<'a, S> {
+            texts: &'a proved::$backend<usize>,
+            /// Where the next entry begins.
+            place: usize,
+            left: usize,
+            symbol: PhantomData<fn() -> S>,
+        }
+
+        impl<'a, S> $name<'a, S> {
+            #[inline]
+            pub(super) fn over(texts: &'a proved::$backend<usize>) -> Self {
+                $name {
+                    texts,
+                    place: 0,
+                    left: texts.count(),
+                    symbol: PhantomData,
+                }
+            }
+
+            #[inline(always)]
+            fn left(&self) -> usize {
+                self.left
+            }
+
+            #[inline(always)]
+            fn step(&mut self) -> Option<(usize, &'a str)> {
+                self.left = self.left.checked_sub(1)?;
+                let (number, text, next) = self.texts.entry_at(self.place);
+                self.place = next;
+                Some((number, text))
+            }
+        }
+
+        iterator!($name);
+    };
+}
+
+walk! {
+    /// Yields the texts of a `BucketBackend`.
+    BucketIter, BucketBackend
+}
+walk! {
+    /// Yields the texts of a `BufferBackend`.
+    BufferIter, BufferBackend
+}

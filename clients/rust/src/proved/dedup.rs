@@ -1,0 +1,30 @@
+//! Indexes, which find the symbol of a text, and the hashers that they use.
+//!
+//! An interner looks texts up by the trait [`TextIndex`]. Take one of the two indexes here, or write your own: every
+//! contract of an interner holds for each that keeps the laws of the trait. Both are a hash table, [`Table`], over a layout
+//! of its slots. Called by itself, [`Table::find`] also bounds how many texts it reads.
+//!
+//! | Index | A slot holds | Load factor at most |
+//! |---|---|---|
+//! | [`Index`], the default | a symbol | three quarters |
+//! | [`TaggedIndex`], the fast one | a symbol, a tag, 32 bits of a code | seven eighths |
+//!
+//! [`TextHasher`] says which hasher to take, and which for texts from strangers.
+
+use crate::rt::prelude::*; pub(crate) mod count;
+pub(crate) mod index;
+pub(crate) mod layout;
+pub(crate) mod probe;
+pub(crate) mod slots;
+pub(crate) mod table;
+pub(crate) mod tagged;
+pub(crate) mod text_index;
+
+pub use crate::proved::hash::{
+    DefaultHashBuilder, FixedState, Fnv1a, FoldState, KeyedHasher, KeyedState, SeededHasher,
+    SeededState, StdHasher, TextHasher,
+};
+pub use index::{DefaultIndex, Index, TaggedIndex};
+pub use slots::Looks;
+pub use table::Table;
+pub use text_index::{CopyIndex, Entry, TextIndex};

@@ -1,0 +1,94 @@
+//! Sixteen bytes that are compared at once: by a vector where the target has them, and else by two words.
+
+pub mod prelude {
+    pub use super::u8x16;
+}
+
+/// Sixteen bytes.
+#[allow(non_camel_case_types)]
+#[derive(Clone, Copy)]
+pub struct u8x16([u8; 16]);
+
+/// Which of sixteen bytes are equal: bit `i` for byte `i`.
+#[derive(Clone, Copy)]
+pub struct Mask(u16);
+
+impl Mask {
+    /// Returns the sixteen bits, as the lowest of a number.
+    #[inline(always)]
+    pub fn to_bitmask(self) -> u64 {
+        u64::from(self.0)
+    }
+}
+
+impl u8x16 {
+    /// Returns the first sixteen bytes of these. Panics if there are fewer.
+    #[inline(always)]
+    pub fn from_slice(bytes: &[u8]) -> Self {
+        u8x16(*bytes.first_chunk().expect("sixteen bytes"))
+    }
+
+    /// Returns a byte sixteen times.
+    #[inline(always)]
+    pub fn splat(byte: u8) -> Self {
+        u8x16([byte; 16])
+    }
+
+    /// Compares byte by byte.
+    #[inline(always)]
+    pub fn simd_eq(self, other: Self) -> Mask {
+        Mask(equal_bytes(&self.0, &other.0))
+    }
+}
+
+#[cfg(all(target_feature = "sse2", not(any(miri, string_interner_words))))]
+#[inline(always)]
+fn equal_bytes(one: &[u8; 16], other: &[u8; 16]) -> u16 {
+    use core::arch::x86_64::{_mm_cmpeq_epi8, _mm_loadu_si128, _mm_movemask_epi8};
+    // SAFETY: the target has SSE2, and the addresses, which need not be aligned, are those of sixteen bytes.
+    unsafe {
+        let [one, other] = [one, other].map(|bytes| _mm_loadu_si128(bytes.as_ptr().cast()));
+        _mm_movemask_epi8(_mm_cmpeq_epi8(one, other)) as u16
+    }
+}
+
+#[cfg(all(target_feature = "neon", not(any(miri, string_interner_words))))]
+#[inline(always)]
+fn equal_bytes(one: &[u8; 16], other: &[u8; 16]) -> u16 {
+    use core::arch::aarch64::{vaddv_u8, vandq_u8, vceqq_u8, vget_high_u8, vget_low_u8, vld1q_u8};
+    const BITS: [u8; 16] = [1, 2, 4, 8, 16, 32, 64, 128, 1, 2, 4, 8, 16, 32, 64, 128];
+    // SAFETY: the target has NEON, and the addresses are those of sixteen bytes.
+    unsafe {
+        let [one, other, bits] = [one, other, &BITS].map(|bytes| vld1q_u8(bytes.as_ptr()));
+        let equal = vandq_u8(vceqq_u8(one, other), bits);
+        u16::from(vaddv_u8(vget_low_u8(equal))) | u16::from(vaddv_u8(vget_high_u8(equal))) << 8
+    }
+}
+
+#[cfg(any(
+    miri,
+    string_interner_words,
+    not(any(target_feature = "sse2", target_feature = "neon"))
+))]
+use equal_by_words as equal_bytes;
+
+/// The same by two words.
+#[inline(always)]
+pub fn equal_by_words(one: &[u8; 16], other: &[u8; 16]) -> u16 {
+    let words = |bytes: &[u8; 16]| {
+        let both = u128::from_le_bytes(*bytes);
+        [both as u64, (both >> 64) as u64]
+    };
+    let ([low, high], [other_low, other_high]) = (words(one), words(other));
+    zero_bytes(low ^ other_low) | zero_bytes(high ^ other_high) << 8
+}
+
+/// Returns which bytes of a word are 0: bit `i` for the byte that is the `i`th from the lowest.
+#[inline(always)]
+fn zero_bytes(word: u64) -> u16 {
+    const LOW: u64 = 0x7f7f_7f7f_7f7f_7f7f;
+    // The top bit of a byte is set here exactly if the byte is 0.
+    let zeros = !(((word & LOW) + LOW) | word | LOW);
+    // The product brings bit `8 * i` to bit `56 + i`, and no two of its terms meet.
+    ((zeros >> 7).wrapping_mul(0x0102_0408_1020_4080) >> 56) as u16
+}
