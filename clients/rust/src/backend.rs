@@ -8,6 +8,7 @@
 //! | a type of your own that implements [`Backend`] | as you like | none of these serves |
 
 mod iter;
+mod joined;
 
 use crate::error::{expect, InternError};
 use crate::proved::backend as proved;
@@ -180,7 +181,7 @@ impl<B: Backend> proved::Backend for As<B> {
 }
 
 macro_rules! backend {
-    ($(#[$doc:meta])* $name:ident, $iter:ident, $checks_numbers:expr) => {
+    ($(#[$doc:meta])* $name:ident, $iter:ident, $find:path, $at:path, $checks_numbers:expr) => {
         $(#[$doc])*
         pub struct $name<S = DefaultSymbol> {
             texts: proved::$name<usize>,
@@ -232,14 +233,14 @@ macro_rules! backend {
 
             #[inline]
             fn resolve(&self, symbol: S) -> Option<&str> {
-                self.texts.resolve(symbol.to_usize())
+                $find(&self.texts, symbol.to_usize())
             }
 
             #[inline(always)]
             unsafe fn resolve_unchecked(&self, symbol: S) -> &str {
                 if $checks_numbers || S::__keeps_its_number(Ours(())) {
                     // The proved call reads within the texts whatever the number is. What else it asks, this caller has promised.
-                    self.texts.resolve_unchecked(symbol.to_usize())
+                    $at(&self.texts, symbol.to_usize())
                 } else {
                     // The number that a program's own type makes up may lie within a text.
                     self.resolve(symbol).expect("the symbol is not of this backend")
@@ -324,15 +325,15 @@ macro_rules! backend {
 
 backend! {
     /// All texts joined in one string. Symbols number 0, 1, 2, ..
-    StringBackend, StringIter, true
+    StringBackend, StringIter, joined::find, joined::at, true
 }
 backend! {
     /// Texts in blocks that never move. Symbols number 0, 1, 2, ..
-    BucketBackend, BucketIter, true
+    BucketBackend, BucketIter, proved::Backend::resolve, proved::Backend::resolve_unchecked, true
 }
 backend! {
     /// Texts in one buffer of bytes. The number of a symbol is where its entry begins.
     ///
     /// A symbol of another backend or interner may read some part of the buffer.
-    BufferBackend, BufferIter, false
+    BufferBackend, BufferIter, proved::Backend::resolve, proved::Backend::resolve_unchecked, false
 }

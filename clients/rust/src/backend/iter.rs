@@ -1,11 +1,13 @@
 //! Iterators over the texts of the three backends. Each is a plain struct, so that its lifetime may shrink.
 
+use super::joined::cut;
 use crate::proved::backend as proved;
 use crate::proved::backend::Backend as _;
 use crate::symbol::Symbol;
 use core::fmt;
 use core::iter::FusedIterator;
 use core::marker::PhantomData;
+use core::slice;
 
 /// Returns the symbol of a text that is there.
 #[inline(always)]
@@ -29,6 +31,13 @@ macro_rules! iterator {
             fn size_hint(&self) -> (usize, Option<usize>) {
                 (self.left(), Some(self.left()))
             }
+
+            #[inline]
+            fn fold<A, F: FnMut(A, Self::Item) -> A>(self, first: A, mut call: F) -> A {
+                self.fold_steps(first, |so_far, number, text| {
+                    call(so_far, (symbol_of(number), text))
+                })
+            }
         }
 
         impl<S: Symbol> ExactSizeIterator for $name<'_, S> {}
@@ -37,7 +46,7 @@ macro_rules! iterator {
 
         impl<S> Clone for $name<'_, S> {
             fn clone(&self) -> Self {
-                $name { ..*self }
+                self.copy()
             }
         }
 
@@ -54,9 +63,11 @@ macro_rules! iterator {
 /// Yields the texts of a `StringBackend`, as the parts of the joined text from each end to the next.
 pub struct StringIter<'a, S> {
     joined: &'a str,
-    narrow: &'a [u32],
-    wide: &'a [usize],
+    /// The ends of the texts that are left: those of four bytes, and after them those of eight.
+    narrow: slice::Iter<'a, u32>,
+    wide: slice::Iter<'a, usize>,
     number: usize,
+    /// The end of the text before, or 0.
     start: usize,
     symbol: PhantomData<fn() -> S>,
 }
@@ -68,30 +79,56 @@ impl<'a, S> StringIter<'a, S> {
         let (narrow, wide) = ends.as_slices();
         StringIter {
             joined,
-            narrow,
-            wide,
+            narrow: narrow.iter(),
+            wide: wide.iter(),
             number: 0,
             start: 0,
             symbol: PhantomData,
         }
     }
 
+    fn copy(&self) -> Self {
+        StringIter {
+            narrow: self.narrow.clone(),
+            wide: self.wide.clone(),
+            ..*self
+        }
+    }
+
     #[inline(always)]
     fn left(&self) -> usize {
-        self.narrow.len() + self.wide.len() - self.number
+        self.narrow.len() + self.wide.len()
     }
 
     #[inline(always)]
     fn step(&mut self) -> Option<(usize, &'a str)> {
-        let number = self.number;
-        let end = match self.narrow.get(number) {
+        let end = match self.narrow.next() {
             Some(end) => *end as usize,
-            None => *self.wide.get(number - self.narrow.len())?,
+            None => *self.wide.next()?,
         };
-        let text = &self.joined[self.start..end];
-        self.start = end;
+        let number = self.number;
+        // SAFETY: these are the end of the text before, or 0, and the next one.
+        let text = unsafe { cut(self.joined, self.start, end) };
         self.number += 1;
+        self.start = end;
         Some((number, text))
+    }
+
+    #[inline(always)]
+    fn fold_steps<A>(self, first: A, mut call: impl FnMut(A, usize, &'a str) -> A) -> A {
+        let (joined, mut number, mut start) = (self.joined, self.number, self.start);
+        let mut step = |so_far, end| {
+            // SAFETY: as in `step`.
+            let text = unsafe { cut(joined, start, end) };
+            let so_far = call(so_far, number, text);
+            number += 1;
+            start = end;
+            so_far
+        };
+        let so_far = self
+            .narrow
+            .fold(first, |so_far, end| step(so_far, *end as usize));
+        self.wide.fold(so_far, |so_far, end| step(so_far, *end))
     }
 }
 
@@ -120,6 +157,10 @@ macro_rules! walk {
                 }
             }
 
+            fn copy(&self) -> Self {
+                $name { ..*self }
+            }
+
             #[inline(always)]
             fn left(&self) -> usize {
                 self.left
@@ -131,6 +172,15 @@ macro_rules! walk {
                 let (number, text, next) = self.texts.entry_at(self.place);
                 self.place = next;
                 Some((number, text))
+            }
+
+            #[inline(always)]
+            fn fold_steps<A>(mut self, first: A, mut call: impl FnMut(A, usize, &'a str) -> A) -> A {
+                let mut so_far = first;
+                while let Some((number, text)) = self.step() {
+                    so_far = call(so_far, number, text);
+                }
+                so_far
             }
         }
 
