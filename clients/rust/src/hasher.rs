@@ -31,6 +31,8 @@ impl<H: BuildHasher> TextHasher for By<H> {
     /// Returns the hash of a text. Its halves are joined, because the index takes the lower one alone, and a hasher may spread only
     /// the upper one well.
     #[inline(always)]
+    // A builder may have a `hash_one` of its own, which the original does not call either.
+    #[allow(clippy::manual_hash_one)]
     fn hash_text(&self, text: &str) -> u64 {
         let mut hasher = self.0.build_hasher();
         text.hash(&mut hasher);

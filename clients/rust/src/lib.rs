@@ -128,7 +128,7 @@ pub mod hasher;
 mod interner;
 mod json;
 // The linter and the compiler warn of what the source's language asks for.
-#[allow(clippy::all, dead_code, missing_docs, rustdoc::all, unstable_name_collisions, unused)]
+#[allow(clippy::all, clippy::undocumented_unsafe_blocks, dead_code, missing_docs, rustdoc::all, unstable_name_collisions, unused)]
 #[rustfmt::skip]
 mod proved;
 #[cfg(doctest)]

@@ -1,4 +1,4 @@
-//! A lock with the names of std's, over the C library's, which valgrind's race detectors know. If NO_LOCK is set, it locks nothing.
+//! A lock with the names of std's, over that of the system's threads, which valgrind's race detectors know. If NO_LOCK is set, it locks nothing.
 
 use std::cell::UnsafeCell;
 use std::env;

@@ -1,5 +1,5 @@
 //! Threads that intern, find and read texts in one interner, and compare what they read. Helgrind runs this (see
-//! `rust_races` in `clients/check`). The threads are the C library's, because helgrind does not know those of Rust's.
+//! `rust_races` in `clients/check`). The threads are the system's, because helgrind does not know those of Rust's.
 
 use std::ffi::c_void;
 use std::ptr;
