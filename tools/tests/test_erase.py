@@ -193,6 +193,18 @@ class EraseTest(TestCase):
         self.gives("/// ```\n/// x\n/// ```\nfn f() {}\n", "/// ```ignore", "/// x", "/// ```", "fn f() {}")
         self.gives("/// ```text\n/// ```\nfn f() {}\n", "/// ```text", "/// ```", "fn f() {}")
 
+    def test_indexes_that_are_within(self):
+        """In functions that are named, and in no others."""
+        self.gives(
+            "fn item_with(at: [u8; 2]) {\n    self.tags[at] == of(&tags[at..])\n}\nfn f() { self.tags[at] }\n",
+            "fn item_with(at: [u8; 2]) {",
+            "    *unsafe { self.tags.at_unchecked(at) } == of(unsafe { tags.sixteen_unchecked(at) })",
+            "}",
+            "fn f() { self.tags[at] }",
+        )
+        for other in ("tags[at]", "self.tags[at + 1]", "&tags[..at]", "&self.tags[at..]"):
+            self.refuses(f"fn lanes_with() {{\n    {other}\n}}\n", 2, "in another form")
+
     def test_the_prelude_is_on_the_line_of_the_first_item(self):
         self.assertEqual(ERASE("//! Docs.\nghost use A;\n\n/// It.\n#[inline]\nfn f() {}\n").splitlines()[3], f"{PRELUDE}/// It.")
 
@@ -264,6 +276,8 @@ class LibraryTest(TestCase):
             erased = erased.replace(PRELUDE, "", 1).replace("crate::proved", "crate").replace("crate::rt", "std")
             erased = re.sub(r"#\[test\] fn holds_at_line_\d+\(\) \{ assert(.*;) \}", r"const _: () = prove\1", erased)
             erased = re.sub(r"^\} impl ::core::error::Error .*$", "}", erased, flags=re.M)
+            erased = re.sub(r"\*unsafe \{ self\.(\w+)\.at_unchecked\((\w+)\) \}", r"self.\1[\2]", erased)
+            erased = re.sub(r"unsafe \{ (\w+)\.sixteen_unchecked\((\w+)\) \}", r"&\1[\2..]", erased)
             erased = erased.replace("pub(crate) mod ", "mod ").replace(": Sized + ", ": ").replace(": Sized ", " ")
             source = without_models(source).replace("final fn ", "fn ").replace("pub(crate) mod ", "mod ")
             source = source.replace("use core::", "use std::")

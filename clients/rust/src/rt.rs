@@ -31,6 +31,7 @@ pub mod prelude {
     pub use super::str;
     pub use super::string::String;
     pub use super::vec::Vec;
+    pub use crate::unchecked::Unchecked;
 
     /// Rattle drops only what has this trait. Rust drops everything.
     pub trait Drop {}

@@ -106,8 +106,8 @@ impl<S: Symbol> TaggedSlots<S> {
         //~ ensures other { IfNone result ((item : CodedSymbol S)
         //~     → slice_index_or self.now at None ≡ Some item → tag_of item.code ≢ tag) }
     {
-        if self.tags[at] == tag {
-            return Some(self.items[at]);
+        if *unsafe { self.tags.at_unchecked(at) } == tag {
+            return Some(*unsafe { self.items.at_unchecked(at) });
         }
         None
     }

@@ -31,7 +31,7 @@ fn lanes_with(tags: &[u8], at: usize, byte: u8) -> u64
     //~ requires { at + 16 ≤ length tags.now }
     //~ ensures { (k : ℕ) → k < 16 → bit_at result k ≡ 0 → slice_index_or tags.now (at + k) 0 ≢ byte }
 {
-    u8x16::from_slice(&tags[at..])
+    u8x16::from_slice(unsafe { tags.sixteen_unchecked(at) })
         .simd_eq(u8x16::splat(byte))
         .to_bitmask()
 }
