@@ -50,7 +50,7 @@ BLOCK = re.compile(r"^```(\w*)\n(.*?)^```$", re.M | re.S)
 STEP = re.compile(r"^(?:[^\n]*`([^`\n]+)`:\n\n```(?!sh|text)\w+|```(sh|text))\n(.*?)^```$", re.M | re.S)
 HEADING = re.compile(r"^#+ +(.*)$", re.M)
 # A path, or a file by its name alone. One that ends in two dots is the beginning of several.
-FILE = re.compile(r"(?=.*\w)(?!.*\.\.$)(?:[\w./-]*/[\w./-]*|[\w-]+\.(?:antt|c|edit|h|md|py|rs|rt|txt))")
+FILE = re.compile(r"(?=.*\w)(?!.*\.\.$)(?:[\w./-]*/[\w./-]*|[\w-]+\.(?:antt|bugs|c|h|md|py|rs|rt|txt))")
 COMMAND = re.compile(r"(?<![\w./$-])(?:\.ci|bench|bin|clients|crates|docs|tools)/[\w./-]*\w")
 # A word in small letters alone may be a command, or a word of a format.
 IDENTIFIER = re.compile(r"(?=.*[A-Z_:])[A-Za-z_]\w*(?:::[A-Za-z_]\w*)*")

@@ -1,51 +1,58 @@
-"""The planted bugs of the crates, as their files say them.
+"""The planted bugs of the crates, as their tables say them.
 
-A planted bug is a file NAME.edit: in crates/CRATE/must-fail/ if the prover must refuse it, in crates/CRATE/caught-by-runs/
-if the prover passes it and a run of a built program must catch it. Its lines:
+crates/CRATE/bugs/PATH.bugs has the planted bugs of src/PATH.rt, with an empty line between two. The lines of one:
 
-  file:       a file of the crate; the pairs below change it, until another such line
-  old:        a text that stands there once; for caught-by-runs it may be empty, for the whole file, if there is one
-  new:        what replaces it; may repeat, for a text of several lines
-  function:   the function whose promise the bug breaks, for must-fail
-  opens:      the goal of this function's proof, or the lemma of its proof file, that no longer holds
-  scenario:   what catches the bug, for caught-by-runs: a scenario and words of its first line, or words for run-program
+  bug:        its name
+  function:   the function whose promise it breaks, for a bug that the prover must refuse
+  scenario:   what catches it, for a bug that the prover accepts and a run of a built program must catch: a scenario and words of
+              its first line, or words for run-program
+  file:       another file of the crate, or this source as a whole, in which the next old texts stand
+  old:        a text that stands once in the function, or in the file if there is no `function:`, or a `file:`; it may be empty
+              for all of a file, if there is one
+  new:        what replaces it
+  right:      what may replace it, for the control, if the function is not written there
+
+A text of several lines has a line here for each of them.
 """
 
 import sys
 from dataclasses import dataclass, field
 from functools import cache
+from itertools import groupby
 from pathlib import Path
 
 TOP = Path(__file__).resolve().parent.parent
-REFUSED, CAUGHT = "must-fail", "caught-by-runs"
+# The folder of a crate that has its tables.
+TABLES = "bugs"
 # The programs whose runs catch the bugs of a library.
 PROGRAMS = {"string_interner": "suite", "string_column": "dictcol"}
 
 
 @dataclass
 class Change:
-    """One text of a file and the text that replaces it."""
+    """A text and what replaces it, in a file, or in the function of the bug."""
 
-    file: str
+    file: str | None
     old: str
     new: str | None = None
+    right: str | None = None
 
 
 @dataclass
 class Edit:
-    """A planted bug of a crate."""
+    """A planted bug of a crate, in a source file."""
 
     name: str
     crate: str
+    source: str
     changes: list[Change] = field(default_factory=list)
-    function: str | None = None
-    goal: str | None = None
+    function: str = ""
     scenario: list[str] = field(default_factory=list)
 
     @property
     def files(self):
         """The files that it changes, in order, each once."""
-        return list(dict.fromkeys(change.file for change in self.changes))
+        return list(dict.fromkeys(change.file or self.source for change in self.changes))
 
     @property
     def program(self):
@@ -53,46 +60,56 @@ class Edit:
         return PROGRAMS.get(self.crate, self.crate)
 
 
-def read_edit(path):
-    """Reads a planted bug. Fails on a line that begins with no known word, or a `new:` before any `old:`."""
-    edit = Edit(path.stem, path.parent.parent.name)
+def read_bug(lines, edit):
+    """Reads the lines of one bug, each with its place. Fails with the place of a line that is none of a planted bug, or of the
+    first if one is missing."""
     file = None
-    for number, line in enumerate(path.read_text(encoding="utf-8").splitlines(), 1):
+    for place, line in lines:
         word, colon, text = line.partition(":")
-        text = text.removeprefix(" ")
+        text, last = text.removeprefix(" "), edit.changes[-1] if edit.changes else None
         match word if colon else None:
-            case "file":
-                file = text
-            case "old" if file:
-                edit.changes.append(Change(file, text))
-            case "new" if edit.changes:
-                last = edit.changes[-1]
-                last.new = text if last.new is None else f"{last.new}\n{text}"
+            case "bug" if not edit.name:
+                edit.name = text
             case "function":
                 edit.function = text
-            case "opens":
-                edit.goal = text
             case "scenario":
                 edit.scenario = text.split()
+            case "file":
+                file = text
+            case "old" if last and last.new is None:
+                last.old += f"\n{text}"
+            case "old":
+                edit.changes.append(Change(file, text))
+            case "new" | "right" if last:
+                before = getattr(last, word)
+                setattr(last, word, text if before is None else f"{before}\n{text}")
             case _:
-                raise ValueError(f"{path}:{number}: not a line of a planted bug: {line}")
-    if any(change.new is None for change in edit.changes) or not edit.changes:
-        raise ValueError(f"{path}: an old text has no new one")
-    wanted = {REFUSED: ("function", edit.function), CAUGHT: ("scenario", edit.scenario)}
-    word, said = wanted[path.parent.name]
-    if not said:
-        raise ValueError(f"{path}: it has no line `{word}:`")
+                raise ValueError(f"{place}: not a line of a planted bug: {line}")
+    if not edit.name or not edit.changes or edit.changes[-1].new is None or bool(edit.function) == bool(edit.scenario):
+        raise ValueError(f"{lines[0][0]}: a bug needs `bug:`, `old:`, `new:`, and one of `function:` and `scenario:`")
     return edit
 
 
-def edits_of(crate, folder=REFUSED):
-    return [read_edit(path) for path in sorted((TOP / "crates" / crate / folder).glob("*.edit"))]
+def read_table(text, crate, source, name):
+    """Reads a table of this name."""
+    lines = [(f"{name}:{number}", line) for number, line in enumerate(text.splitlines(), 1)]
+    blocks = groupby(lines, lambda it: bool(it[1]))
+    return [read_bug([*block], Edit("", crate, source)) for has_lines, block in blocks if has_lines]
 
 
-def choose_edits(of, names, folder=REFUSED):
+def edits_of(crate, by_runs=False):
+    """The planted bugs of a crate that the prover must refuse, or those that runs must catch."""
+    folder, found = TOP / "crates" / crate / TABLES, []
+    for path in sorted(folder.rglob("*.bugs")):
+        source = f"src/{path.relative_to(folder).with_suffix('.rt')}"
+        found += read_table(path.read_text(encoding="utf-8"), crate, source, path.relative_to(TOP))
+    return [it for it in found if bool(it.scenario) == by_runs]
+
+
+def choose_edits(of, names, by_runs=False):
     """The planted bugs of these crates that have these names, or all where there is no name. Ends the program where none has
     one of them."""
-    every = [edit for crate in of for edit in edits_of(crate, folder)]
+    every = [edit for crate in of for edit in edits_of(crate, by_runs)]
     if unknown := set(names) - {edit.name for edit in every}:
         sys.exit(f"no such edit: {' '.join(sorted(unknown))}")
     return [edit for edit in every if not names or edit.name in names]

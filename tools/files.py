@@ -4,7 +4,7 @@ import os
 import shutil
 from pathlib import Path
 
-from edits import CAUGHT, REFUSED, below, crates, listed
+from edits import TABLES, below, crates, listed
 from machine import toolchain
 
 
@@ -18,11 +18,10 @@ def write(path, text):
 
 
 def copy_crates(source, into, names=None):
-    """Copies what `rt` reads of these crates, or of all, into an empty tree: without what is built, and without planted bugs,
-    which `rt ci` would try."""
+    """Copies what `rt` reads of these crates, or of all, into an empty tree: without what is built, and without planted bugs."""
     names = crates() if names is None else names
     for name in names:
-        left_out = shutil.ignore_patterns(REFUSED, CAUGHT, "out")
+        left_out = shutil.ignore_patterns(TABLES, "out")
         shutil.copytree(source / "crates" / name, into / "crates" / name, ignore=left_out)
     write(into / "crates.txt", "".join(f"{line}\n" for crate, line in listed(source).items() if crate in names))
     shutil.copy(source / "HANDLES", into)
@@ -35,11 +34,16 @@ def take_kept_work(kept, tree, crate):
             shutil.copytree(kept / "crates" / part, tree / "crates" / part, dirs_exist_ok=True)
 
 
-def copy_with_kept_work(tree, into):
-    shutil.copytree(tree, into, ignore=shutil.ignore_patterns("out"), dirs_exist_ok=True)
+def link_kept_work(tree, into):
+    """Puts into a copy what checks have kept in another one."""
     for kept in tree.glob("crates/*/out"):
         # rt writes none of these files in its place, so a link serves as a copy.
         shutil.copytree(kept, into / kept.relative_to(tree), copy_function=os.link)
+
+
+def copy_with_kept_work(tree, into):
+    shutil.copytree(tree, into, ignore=shutil.ignore_patterns("out"), dirs_exist_ok=True)
+    link_kept_work(tree, into)
 
 
 def stamp_libraries(tree):

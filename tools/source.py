@@ -10,6 +10,8 @@ HEAD_END = re.compile(r";$|\{\}$|\{$", re.M)
 CLAUSE = re.compile(r"^(?P<margin> *)(?:pub )?(?:ensures|requires|ghost (?!use\b)\w+)\b.*\n"
                     r"(?:(?P=margin) +.*\n|(?P=margin)[)}].*\n|\n)*", re.M)
 GHOST_USE = re.compile(r"^ *(?:pub )?ghost use [^;]*;\n+", re.M)
+# What paths call a reference and a slice.
+NAMES = {"&": "Ref", "[": "Slice"}
 BLOCK = re.compile(r"^(?:pub )?(?P<kind>impl|trait)\b.*?\{$", re.M | re.S)
 
 
@@ -44,9 +46,38 @@ def functions(text):
     return found
 
 
+def start_of(text, function):
+    """The offset where a function begins, with the tactic of its own above it, if it has one."""
+    tactic = re.search(r"^ *#\[tactic\(.*\)\]\n\Z", text[: function.start], re.M)
+    return tactic.start() if tactic else function.start
+
+
 def block_around(text, function):
     """The line that opens the `impl` or `trait` of a method, as a match with `kind`, or None."""
     return [None, *BLOCK.finditer(text[: function.start])][-1] if function.is_method else None
+
+
+def block_name(text, function):
+    """What paths call the block of a method: its trait, or the type and the trait that is implemented for it, each with what it is
+    applied to. Nothing for a function of no block."""
+    block = block_around(text, function)
+    if not block:
+        return ""
+    end = end_of_generics(text, block.end("kind"))
+    head, own = text[end : block.end()], re.findall(r"[<,]\s*(\w+)", text[block.end("kind") : end])
+    if block["kind"] == "trait":
+        return re.search(r"\w+", head)[0]
+    of_trait, _, of_type = head.rpartition(" for ")
+    words = re.findall(r"'\w+|&|\[|\w+(?:::\w+)*", f"{of_type} {of_trait}")
+    names = (NAMES.get(it) or it.rpartition("::")[2] for it in words if it[0] != "'" and it.partition("::")[0] not in own)
+    return "".join(it[0].upper() + it[1:] for it in names)
+
+
+def find_functions(text, path):
+    """The functions of a source text that have this path, whatever the module."""
+    *_, block, name = ["", *path.split("::")]
+    wanted = block if block[:1].isupper() else ""
+    return [it for it in functions(text) if it.name == name and block_name(text, it) == wanted]
 
 
 def end_of_generics(text, at):
@@ -56,11 +87,6 @@ def end_of_generics(text, at):
         depth += {"<": 1, ">": -(text[end - 1] != "-")}.get(text[end], 0)
         end += 1
     return end
-
-
-def names_a_type(text, at):
-    """Reports whether the generic parameters that stand at an offset, if any, are more than lifetimes."""
-    return bool(re.search(r"[<,]\s*\w", text[at : end_of_generics(text, at)]))
 
 
 def outside_functions(text):

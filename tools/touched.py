@@ -1,25 +1,26 @@
 #!/usr/bin/env python3
 """Prints which planted bugs the changes since the last run can touch, a line each: CRATE NAME
 
-The file tools/tried-in-full has three lines: the last commit on which each planted bug of must-fail/ was refused, either in that
-run or in an earlier one with no change since then that touches it; the toolchain's logic; and the last commit on which one run
-tried all of them. A planted bug is touched if one of these files is new, gone or changed since the first commit: its own, a
-source file that it changes, a proof file of its function, a file of specs/ of its crate or of one below, or a source file there
-in which a function has another contract, or something outside functions has changed, if a source that the bug changes names that
-function, or a type of that file. So more are touched than need be. With no such commit, or under another logic, all are. Lemmas
-are not considered, nor what tries the bugs: the gate proves the ones, and tests judge the other.
+The file tools/tried-in-full has three lines: the last commit on which each planted bug that the prover must refuse was refused,
+either in that run or in an earlier one with no change since then that touches it; the toolchain's logic; and the last commit on
+which one run tried all of them. A planted bug is touched if something of this has changed since the first commit: its lines in
+the table; the text of its function, and what stands outside functions in the same source; a file that its lines name; a proof
+file of its function; a file of specs/ of its crate or of one below; or, in a source there, the contract of a function, a type or
+a constant, if the bug's function or what stands outside functions beside it has this name. So more are touched than need be. With
+no such commit, or under another logic, all are. Lemmas are not considered, nor the tools that try the bugs: the gate proves the
+ones, and who changes the others runs `./check all`.
 """
 
 import re
 import subprocess
 
-from edits import TOP, below, crates, edits_of
+from edits import TABLES, TOP, below, crates, edits_of, read_table
 from files import read, write
 from machine import ask_rt
-from source import functions, outside_functions
+from source import find_functions, functions, outside_functions
 
 TRIED = TOP / "tools/tried-in-full"
-TYPE = re.compile(r"^(?:pub )?(?:struct|enum|trait|type) (\w+)", re.M)
+NAMED = re.compile(r"^(?:pub )?(?:struct|enum|trait|type|const|static) (\w+)", re.M)
 
 
 def git(*words):
@@ -33,29 +34,42 @@ def text_of(name):
 
 
 def renewed_names(old, new):
-    """The functions of a source text that have another contract or are gone, and its types if something outside functions is."""
+    """The functions of a source text that have another contract or are gone, and its types and constants if something outside
+    functions is."""
     old_contracts, new_contracts = ({(it.name, it.contract) for it in functions(text)} for text in (old, new))
-    types = TYPE.findall(old) if outside_functions(old) != outside_functions(new) else []
-    return {name for name, _ in old_contracts - new_contracts}.union(types)
+    named = NAMED.findall(old) if outside_functions(old) != outside_functions(new) else []
+    return {name for name, _ in old_contracts - new_contracts}.union(named)
+
+
+def read_by(text, edit):
+    """What of a source text the trial of a bug depends on: the function, and what stands outside functions."""
+    return "\n".join([*(it.text for it in find_functions(text, edit.function)), *outside_functions(text)])
 
 
 class Changes:
-    """The files that have changed since a commit, and of each source the names that no longer stand for the same."""
+    """The files that have changed since a commit, the texts of sources and tables before, and of each source the names that no
+    longer stand for the same."""
 
     def __init__(self, commit):
         listed = git("diff", "--name-only", "--no-renames", commit, "--", "crates"), git("ls-files", "-o", "--exclude-standard", "crates")
         self.files = {name for names in listed for name in names.split()}
-        sources = (it for it in self.files if it.endswith(".rt"))
-        self.names = {it: renewed_names(git("show", f"{commit}:{it}") or "", text_of(it)) for it in sources}
+        self.before = {it: git("show", f"{commit}:{it}") or "" for it in self.files if it.endswith((".rt", ".bugs"))}
+        self.names = {it: renewed_names(old, text_of(it)) for it, old in self.before.items() if it.endswith(".rt")}
+
+    def is_new(self, edit):
+        """Reports whether the table of a bug did not have the same one."""
+        table = f"crates/{edit.crate}/{TABLES}/{edit.source.removeprefix('src/').removesuffix('.rt')}.bugs"
+        return table in self.files and edit not in read_table(self.before[table], edit.crate, edit.source, table)
 
     def touch(self, edit):
         folder, reached = f"crates/{edit.crate}", [f"crates/{it}/" for it in [edit.crate, *below(edit.crate)]]
-        sources = [f"{folder}/{it}" for it in edit.files]
-        own = (f"{folder}/must-fail/{edit.name}.edit", f"{folder}/proofs/{edit.function.replace('::', '/')}/", *sources,
-               *(f"{it}specs/" for it in reached))
+        source = f"{folder}/{edit.source}"
+        own, text = tuple(f"{folder}/{it.file}" for it in edit.changes if it.file), text_of(source)
+        own += f"{folder}/proofs/{edit.function.replace('::', '/')}/", *(f"{it}specs/" for it in reached)
         renewed = set().union(*(names for file, names in self.names.items() if file.startswith(tuple(reached))))
-        words = {word for it in sources for word in re.findall(r"\w+", text_of(it))}
-        return any(it.startswith(own) for it in self.files) or not renewed.isdisjoint(words)
+        words = set(re.findall(r"\w+", read_by(text, edit)))
+        is_other = source in self.files and read_by(self.before[source], edit) != read_by(text, edit)
+        return is_other or self.is_new(edit) or any(it.startswith(own) for it in self.files) or not renewed.isdisjoint(words)
 
 
 def logic():

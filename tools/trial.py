@@ -1,12 +1,25 @@
-"""How a planted bug is tried: what it changes where, and with which proof file."""
+"""How planted bugs are tried: which texts are put where, and of which functions the prover is asked.
 
-from copy import copy
+The bugs of a function that is no method of a trait stand beside it: NAME_bug1 and so on are the function with a bug, with its
+contract and copies of its proof files, and NAME_bug0 is it without one. A bug of a method of a trait, or of what stands outside
+its function, is put in its place.
+"""
+
+import re
+import shutil
+from dataclasses import dataclass, field, replace
 from pathlib import Path
 
-import proof_file
 from edits import TOP, Edit
 from files import read, write
-from source import block_around, functions, names_a_type
+from source import Function, block_around, find_functions, start_of
+
+# Offsets of a file, and what replaces the text between them.
+Replacement = tuple[str, int, int, str]
+# What a control has that the function has not.
+COMMENT = "/* as it is */ "
+# An answer of a proof file to a goal.
+ANSWER = re.compile(r"^pub (\S+) : goal\.\S+\n(?:.+\n)*", re.M)
 
 
 class Unfit(Exception):
@@ -18,85 +31,131 @@ def text_of(path: Path) -> str:
     return read(path) if path.exists() else ""
 
 
-def placed(edit: Edit) -> list[tuple[str, int, int, str]]:
-    """The changes of a planted bug: for each the file, where its old text begins and ends there, and the new text."""
+def definition(edit: Edit, text: str) -> Function:
+    """The function of a bug, in a text of its source."""
+    found = find_functions(text, edit.function)
+    if len(found) != 1:
+        raise Unfit(f"{edit.name}: {len(found)} functions of {edit.source} are {edit.function}")
+    return found[0]
+
+
+def placed(edit: Edit, word: str = "new") -> list[Replacement]:
+    """What a planted bug replaces, or what its control does."""
     changes = []
     for change in edit.changes:
-        text = text_of(TOP / "crates" / edit.crate / change.file)
+        text = text_of(TOP / "crates" / edit.crate / (change.file or edit.source))
+        within = 0, len(text)
+        if edit.function and not change.file:
+            own = definition(edit, text)
+            within = own.start, own.end
         if not change.old:
-            changes.append((change.file, 0, len(text), f"{change.new}\n"))
+            changes.append((change.file or edit.source, *within, f"{getattr(change, word)}\n"))
             continue
-        if text.count(change.old) != 1:
-            raise Unfit(f"{edit.name}: its old text does not stand once in {change.file}: {change.old}")
-        start = text.index(change.old)
-        changes.append((change.file, start, start + len(change.old), change.new))
+        if text.count(change.old, *within) != 1:
+            where = change.file or edit.function or edit.source
+            raise Unfit(f"{edit.name}: its old text does not stand once in {where}: {change.old}")
+        start = text.index(change.old, *within)
+        changes.append((change.file or edit.source, start, start + len(change.old), getattr(change, word)))
     return changes
 
 
+def replaced(text: str, changes: list[Replacement], begin: int = 0) -> str:
+    """A text after changes, of which the offsets count from before it."""
+    for _, start, end, new in sorted(changes, reverse=True):
+        text = text[: start - begin] + new + text[end - begin :]
+    return text
+
+
+def apply(changes: list[Replacement], folder: Path) -> None:
+    for file in {it[0] for it in changes}:
+        write(folder / file, replaced(text_of(folder / file), [it for it in changes if it[0] == file]))
+
+
+@dataclass(eq=False)
 class Trial:
-    """A planted bug in its place: the offsets that it changes, its function, and the goal that it leaves open.
+    """A planted bug or a control in its place, and the function of which the prover is asked."""
 
-    The goal is tried by the answer that the proof file has for it, or else by the tactics that the prover tries where there
-    is no answer; if the trial is thorough, by both. With no goal the prover tries all goals of the function by itself.
-    """
+    name: str
+    crate: str
+    function: str
+    changes: list[Replacement]
+    # Of which its proof files are copies, if they are.
+    original: str | None = None
+    control: "Trial | None" = None
+    is_alone: bool = False
+    without: set[str] = field(default_factory=set)
 
-    def __init__(self, edit: Edit, is_thorough: bool):
-        self.name, self.function, self.goal = edit.name, edit.function, edit.goal
-        self.folder = TOP / "crates" / edit.crate
-        self.changes = placed(edit)
-        self.definition = self.find_definition()
-        self.proof = f"proofs/{self.function.replace('::', '/')}/Answers.antt"
-        has_file = (self.folder / self.proof).exists()
-        goals_from = f"use Rattle.{edit.crate}.proofs.{self.function.replace('::', '.')}.Goals as goal\n"
-        self.answers = read(self.folder / self.proof) if has_file else goals_from
-        self.tries_answers = has_file or bool(self.goal)
-        self.goals = proof_file.answered_goals(self.answers)
-        self.is_answered = bool(self.goal) and proof_file.defines(self.answers, self.goal)
-        is_lemma = self.is_answered and self.goal not in self.goals
-        by_tactics = self.goal and not is_lemma and (is_thorough or not self.is_answered)
-        self.tactics = [self.by_tactics()] if by_tactics else []
-        if not self.goal:
-            start = self.definition.start
-            self.changes.append((edit.files[0], start, start, "#[tactic(auto)]\n"))
+    @property
+    def answered(self) -> set[str]:
+        """The goals that its proof file has answers to."""
+        path = Path("crates", self.crate, "proofs", (self.original or self.function).replace("::", "/"), "Answers.antt")
+        return {it[1] for it in ANSWER.finditer(text_of(TOP / path))}
 
-    def find_definition(self):
-        """The function, in the file of the first change."""
-        file, changed, _, _ = self.changes[0]
-        name = self.function.rpartition("::")[2]
-        found = [it for it in functions(read(self.folder / file)) if it.name == name]
-        if not found:
-            raise Unfit(f"{self.name}: its function does not stand in {file}")
-        return [found[0], *(it for it in found if it.start <= changed)][-1]
-
-    def by_tactics(self):
-        given = proof_file.variables(self.answers)
-        if given is None:
-            text = read(self.folder / self.changes[0][0])
-            block = block_around(text, self.definition)
-            is_generic = block and (block["kind"] == "trait" or names_a_type(text, block.end("kind")))
-            given = ["g", "c"] if is_generic or names_a_type(text, self.definition.name_end) else ["c"]
-        return proof_file.answer_by_tactics(self.goal, given, self.is_answered)
-
-    def tries(self):
-        """The proof file that tries the goal alone, or all goals where none is named."""
-        if not self.goal:
-            return self.answers
-        return proof_file.with_tactics(proof_file.without_answers(self.answers, {self.goal}), self.tactics)
-
-    def put(self, folder):
-        """Puts the proof file that tries it into this copy of its crate, and returns what it changes there."""
-        if self.tries_answers:
-            write(folder / self.proof, self.tries())
+    def put(self, folder: Path) -> list[Replacement]:
+        """Puts its proof files into this copy of its crate, and returns what it changes there."""
+        proofs = folder / "proofs" / self.function.replace("::", "/")
+        own = folder / "proofs" / self.original.replace("::", "/") if self.original else proofs
+        if self.original and own.is_dir():
+            shutil.copytree(own, proofs)
+            for path in proofs.rglob("*.antt"):
+                names = [f"proofs.{it.replace('::', '.')}." for it in (self.original, self.function)]
+                write(path, read(path).replace(*names))
+        if self.without:
+            write(proofs / "Answers.antt", ANSWER.sub(self.kept, read(proofs / "Answers.antt")))
         return self.changes
 
-    def control(self):
-        """The same trial of the function as it is, which the prover must let through."""
-        control = copy(self)
-        control.name, control.changes = f"{self.name}_without_the_bug", []
-        return control
+    def without_answers(self, goals: list[str]) -> "Trial | None":
+        """The same trial without the answers to these goals, if there is an answer to each."""
+        return replace(self, without=set(goals)) if set(goals) <= self.answered else None
+
+    def kept(self, answer: re.Match[str]) -> str:
+        return "" if answer[1] in self.without else answer[0]
 
 
-def apply(changes, folder):
-    for file, start, end, new in sorted(changes, reverse=True):
-        text = text_of(folder / file)
-        write(folder / file, text[:start] + new + text[end:])
+def is_beside(edit: Edit, text: str) -> bool:
+    """Reports whether a bug lies within a function that is no method of a trait."""
+    if any(it.file for it in edit.changes):
+        return False
+    block = block_around(text, definition(edit, text))
+    return not (block and (block["kind"] == "trait" or " for " in block[0]))
+
+
+def comment(edit: Edit, own: Function) -> Replacement:
+    """A comment at the end of a function."""
+    return edit.source, own.end - 1, own.end - 1, COMMENT
+
+
+def beside(edits: list[Edit], text: str) -> list[Trial]:
+    """The trials of bugs of one function that stand beside it."""
+    function, own = edits[0].function, definition(edits[0], text)
+    start = start_of(text, own)
+
+    def trial(number: int, name: str, changes: list[Replacement], control: Trial | None = None) -> Trial:
+        copy = replaced(text[start : own.end], changes, start).replace(f"fn {own.name}", f"fn {own.name}_bug{number}", 1)
+        placed_behind = [(edits[0].source, own.end, own.end, f"\n\n{copy}")]
+        return Trial(name, edits[0].crate, f"{function}_bug{number}", placed_behind, function, control)
+
+    control = trial(0, f"the control of {function}", [comment(edits[0], own)])
+    return [trial(number, it.name, placed(it), control) for number, it in enumerate(edits, 1)]
+
+
+def in_place(edit: Edit, text: str) -> Trial:
+    """The trial of a bug in its place. Where the bug writes the function, so does its control."""
+    has_right = all(it.right is not None for it in edit.changes)
+    changes = placed(edit, "right") if has_right else [comment(edit, definition(edit, text))]
+    definition(edit, replaced(text, changes))
+    control = Trial(f"the control of {edit.function}", edit.crate, edit.function, changes)
+    return Trial(edit.name, edit.crate, edit.function, placed(edit), None, control, any(it.file for it in edit.changes))
+
+
+def trials_of(edits: list[Edit]) -> list[Trial]:
+    """The trials of these bugs. Those of one function have one control."""
+    trials: list[Trial] = []
+    groups: dict[str, tuple[list[Edit], str]] = {}
+    for edit in edits:
+        text = text_of(TOP / "crates" / edit.crate / edit.source)
+        if is_beside(edit, text):
+            groups.setdefault(edit.function, ([], text))[0].append(edit)
+        else:
+            trials.append(in_place(edit, text))
+    return [*trials, *(it for of_one in groups.values() for it in beside(*of_one))]

@@ -2,8 +2,6 @@
 
 import re
 
-from proof_file import BY_TACTICS
-
 REFUSED, LET_THROUGH, BY_FORM_ALONE = "refused", "let through", "by form alone"
 # What an error in a proof file says of a name that a planted bug took away; not that a goal, as shown, names what a hole there does
 # not.
@@ -40,26 +38,22 @@ class Verdicts:
     def outcome(self, trial):
         """How a trial ended: refused, by form alone, or let through.
 
-        It is refused where its goal is not proved, and neither the answer to that goal nor what else the proof file defines
-        misses a name: where they cite what the bug took away, they fail for that alone, and the refusal shows nothing.
+        It is refused where an answer does not prove its goal, or a goal has no answer and the tactics do not prove it. Where its
+        proof files miss a name, the bug may have taken it away: an answer that misses its goal shows nothing, nor does an open
+        goal beside it, which may be the same under another name; nor does anything if a lemma misses a name.
         """
         if trial.function not in self.open:
             return "its function is not one that the check names"
+        if trial.without:
+            return REFUSED if trial.without & set(self.open[trial.function]) else "the tactics prove what its answers do not"
         errors = self.errors.get(trial.function, [])
-        mattering = [message for name, message in errors if name == trial.goal or name not in trial.goals or not trial.goal]
-        if any(map(MISSING.search, mattering)):
-            return BY_FORM_ALONE
-        failed = {name for name, _ in errors}
-        if not trial.goal:
-            return REFUSED if self.opened(trial) else LET_THROUGH
-        tried = {trial.goal, BY_TACTICS} if trial.is_answered and trial.tactics else {trial.goal}
-        return REFUSED if tried <= failed else LET_THROUGH
+        missing = {name for name, message in errors if MISSING.search(message)}
+        failed = {name for name, _ in errors} - missing
+        if not errors and not self.open[trial.function]:
+            return LET_THROUGH
+        is_by_meaning = missing <= trial.answered and (failed or self.open[trial.function] and not missing)
+        return REFUSED if is_by_meaning else BY_FORM_ALONE
 
     def opened(self, trial):
-        failed = (name for name, _ in self.errors.get(trial.function, []))
-        return list(dict.fromkeys([*self.open[trial.function], *failed]))
-
-    def is_out_of_reach(self, trial):
-        """Reports whether the goal stands where nothing is changed, and is not proved there by its answer or the tactics."""
-        said = [message for name, message in self.errors.get(trial.function, []) if name == trial.goal]
-        return bool(said) and not any(map(MISSING.search, said)) or trial.goal in self.open.get(trial.function, [])
+        failed = (name or message for name, message in self.errors.get(trial.function, []))
+        return list(dict.fromkeys([*self.open.get(trial.function, []), *failed]))

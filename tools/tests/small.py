@@ -89,14 +89,13 @@ returns g c = lemma
 pub returns-then-ne : goal.returns-then-ne
 returns-then-ne g c = returns g c
 """
-# For each planted bug its crate, its function, the goal that it opens, and a text of the source with the wrong one in its
-# place.
+# For each planted bug its crate, its function, and a text of the function with the wrong one in its place.
 EDITS = {
-    "area_is_the_side": ("low", "SquareShape::area", "returns", "side * side", "side"),
-    "doubles_once": ("low", "double", "returns", "    number + number", "    number"),
-    "halves_twice": ("low", "half", "returns", "number / 2", "number / 8"),
-    "quarters_once": ("low", "quarter", "returns", "number / 4", "number / 6"),
-    "doubles_instead": ("high", "fourfold", "returns", "double(double(number))", "double(number)"),
+    "area_is_the_side": ("low", "SquareShape::area", "side * side", "side"),
+    "doubles_once": ("low", "double", "    number + number", "    number"),
+    "halves_twice": ("low", "half", "number / 2", "number / 8"),
+    "quarters_once": ("low", "quarter", "number / 4", "number / 6"),
+    "doubles_instead": ("high", "fourfold", "double(double(number))", "double(number)"),
 }
 
 
@@ -119,8 +118,8 @@ class SmallRepository(unittest.TestCase):
         self.write("crates/high/src/lib.rt", ABOVE)
         self.write("crates/low/specs/Words.antt", SPECS)
         self.write("crates/low/proofs/double/Answers.antt", ANSWERS)
-        for name, (crate, function, goal, old, new) in EDITS.items():
-            self.write_edit(name, old, new, function, goal, crate)
+        for name, (crate, function, old, new) in EDITS.items():
+            self.write_edit(name, old, new, function, crate)
         self.git("init", "-q")
         self.commit = self.commit_all()
 
@@ -129,9 +128,20 @@ class SmallRepository(unittest.TestCase):
         path.parent.mkdir(parents=True, exist_ok=True)
         path.write_text(text, encoding="utf-8")
 
-    def write_edit(self, name, old, new, function, goal, crate="low"):
-        lines = f"file: src/lib.rt\nold: {old}\nnew: {new}\nfunction: {function}\nopens: {goal}\n"
-        self.write(f"crates/{crate}/must-fail/{name}.edit", lines)
+    def write_edit(self, name, old, new, function, crate="low"):
+        """Adds a planted bug to the crate's table."""
+        self.write_lines(f"bug: {name}\nfunction: {function}\nold: {old}\nnew: {new}\n", crate)
+
+    def write_caught(self, name, old, new="x", file=None, crate="low"):
+        """Adds a planted bug that runs catch, and returns it."""
+        in_file = f"file: {file}\n" if file else ""
+        self.write_lines(f"bug: {name}\nscenario: cases\n{in_file}old: {old}\nnew: {new}\n", crate)
+        return next(it for it in edits.edits_of(crate, by_runs=True) if it.name == name)
+
+    def write_lines(self, lines, crate):
+        table = self.top / f"crates/{crate}/bugs/lib.bugs"
+        before = table.read_text(encoding="utf-8") + "\n" if table.exists() else ""
+        self.write(table, before + lines)
 
     def edit(self, name):
         return next(it for it in edits.edits_of("low") if it.name == name)

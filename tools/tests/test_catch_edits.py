@@ -26,11 +26,7 @@ class CatchTest(SmallRepository):
         patch.start()
         self.addCleanup(patch.stop)
         self.write("HANDLES", "")
-        self.bugs = [self.bug(name, old) for name, old in (("half", "number / 2"), ("quarter", "number / 4"), ("side", "side * side"))]
-
-    def bug(self, name, old):
-        self.write(f"crates/low/caught-by-runs/{name}.edit", f"file: src/lib.rt\nold: {old}\nnew: 0\nscenario: it\n")
-        return next(it for it in edits.edits_of("low", edits.CAUGHT) if it.name == name)
+        self.bugs = [self.write_caught(name, old, "0") for name, old in (("half", "number / 2"), ("quarter", "number / 4"), ("side", "side * side"))]
 
     def test_a_run_catches_what_it_passes_without_the_bug(self):
         catch = CATCH["catch"]
@@ -51,7 +47,7 @@ class CatchTest(SmallRepository):
             self.assertEqual([it.is_good for it in CATCH["try_runs"](self.bugs)], [False] * 3)
 
     def test_batches_are_of_one_crate(self):
-        other = edits.Edit("other", "high", scenario=["it"])
+        other = edits.Edit("other", "high", "src/lib.rt", scenario=["it"])
         with mock.patch.dict(NAMES, TOGETHER=2):
             dealt = CATCH["run_batches"]([*self.bugs, other])
         self.assertEqual([[it.name for it in batch] for batch in dealt], [["half"], ["quarter", "side"], ["other"]])

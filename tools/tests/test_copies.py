@@ -43,8 +43,7 @@ class CopiesTest(SmallRepository):
         self.write("crates.txt", "low: std_alloc\nside: json\nhigh: low side\n")
         self.write("crates/side/src/lib.rt", "pub fn aside() {}\n")
         self.write("crates/high/src/main.rt", "use low::double;\n\nfn main(rt: HostRuntime) {\n    slow::double(side::aside())\n}\n")
-        self.write("crates/low/caught-by-runs/halves_once.edit", "file: src/lib.rt\nold: number / 2\nnew: number\nscenario: cases\n")
-        [self.bug] = edits.edits_of("low", edits.CAUGHT)
+        self.bug = self.write_caught("halves_once", "number / 2", "number")
         self.room = self.top / "room"
 
     def written(self, path):
@@ -52,7 +51,7 @@ class CopiesTest(SmallRepository):
 
     def test_only_what_a_bug_can_change_is_copied(self):
         self.assertEqual(copies.copied_crates(self.bug), ["high", "low"])
-        self.assertEqual(copies.copied_crates(edits.Edit("bug", "high")), ["high"])
+        self.assertEqual(copies.copied_crates(edits.Edit("bug", "high", "src/lib.rt")), ["high"])
 
     def test_crates_of_the_program(self):
         copies.write_program(self.room, [self.bug])

@@ -1,63 +1,57 @@
 """The format of planted bugs."""
 
-import tempfile
 import unittest
-from pathlib import Path
 
 from small import edits
 
 import scenarios
+import trial
 from program import dictcol, intern
 
 
-class ReadEditTest(unittest.TestCase):
-    def read(self, text, kind=edits.REFUSED):
-        with tempfile.TemporaryDirectory() as folder:
-            path = Path(folder) / "low" / kind / "bug.edit"
-            path.parent.mkdir(parents=True)
-            path.write_text(text, encoding="utf-8")
-            return edits.read_edit(path)
+class ReadTableTest(unittest.TestCase):
+    def read(self, text):
+        return edits.read_table(text, "low", "src/lib.rt", "low/bugs/lib.bugs")
 
     def test_lines(self):
-        edit = self.read("file: a\nold:  x\nnew: y\nnew: z\nold: u\nnew:\nfunction: m::f\nopens: returns\nscenario: cases one\n")
-        changes = [edits.Change("a", " x", "y\nz"), edits.Change("a", "u", "")]
-        self.assertEqual(edit, edits.Edit("bug", "low", changes, "m::f", "returns", ["cases", "one"]))
+        one, two = self.read("bug: one\nfunction: m::f\nold:  x\nold:\nnew: y\nnew: z\nold: u\nnew:\n\n\n"
+                             "bug: two\nscenario: cases one\nold: v\nnew: w\nfile: a\nold:\nnew: all\nright: most\n")
+        changes = [edits.Change(None, " x\n", "y\nz"), edits.Change(None, "u", "")]
+        self.assertEqual(one, edits.Edit("one", "low", "src/lib.rt", changes, "m::f"))
+        changes = [edits.Change(None, "v", "w"), edits.Change("a", "", "all", "most")]
+        self.assertEqual(two, edits.Edit("two", "low", "src/lib.rt", changes, "", ["cases", "one"]))
+        self.assertEqual((one.files, two.files), (["src/lib.rt"], ["src/lib.rt", "a"]))
 
-    def test_faults(self):
-        good = "file: a\nold: x\nnew: y\nfunction: f\n"
-        self.read(good)
-        bad = ("file: a\nold: x\nfunction: f\n", "old: x\nnew: y\nfunction: f\n", "file: a\nnew: y\nfunction: f\n")
-        for text in ("", *bad, f"{good}what: z\n", f"{good}z\n", good.replace("function: f\n", "scenario: cases\n")):
-            with self.subTest(text), self.assertRaises(ValueError):
+    def test_faults_tell_the_line(self):
+        good = "bug: one\nfunction: f\nold: x\nnew: y\n"
+        self.assertEqual(len(self.read(f"{good}\n{good}")), 2)
+        bad = {f"{good}what: z\n": 5, f"{good}z\n": 5, f"{good}bug: two\n": 5, "bug: one\nnew: y\n": 2, "bug: one\nfunction: f\nold: x\n": 1,
+               "\nold: x\nnew: y\nfunction: f\n": 2, "bug: one\nold: x\nnew: y\n": 1, f"{good}scenario: cases\n": 1}
+        for text, line in bad.items():
+            with self.subTest(text), self.assertRaisesRegex(ValueError, f"low/bugs/lib.bugs:{line}: "):
                 self.read(text)
-
-    def test_what_runs_catch_names_its_scenario(self):
-        self.assertEqual(self.read("file: a\nold:\nnew: y\nscenario: cases one\n", edits.CAUGHT).scenario, ["cases", "one"])
-        with self.assertRaises(ValueError):
-            self.read("file: a\nold: x\nnew: y\nfunction: f\n", edits.CAUGHT)
 
 
 class PlantedBugsTest(unittest.TestCase):
     """The planted bugs of this repository."""
 
-    def every(self, folder):
-        return [it for crate in edits.crates() for it in edits.edits_of(crate, folder)]
+    def every(self, *given):
+        edits.crates.cache_clear()
+        return [it for crate in edits.crates() for it in edits.edits_of(crate, *given)]
 
     def test_each_old_text_stands_once(self):
-        edits.crates.cache_clear()
-        for edit in [*self.every(edits.REFUSED), *self.every(edits.CAUGHT)]:
-            for change in filter(lambda it: it.old, edit.changes):
-                with self.subTest(edit.name, old=change.old):
-                    text = (edits.TOP / "crates" / edit.crate / change.file).read_text(encoding="utf-8")
-                    self.assertEqual(text.count(change.old), 1)
+        self.assertEqual(len(trial.trials_of(self.every())), len(self.every()))
+        for edit in self.every(True):
+            with self.subTest(edit.name):
+                trial.placed(edit)
 
     def test_names_are_of_one_bug(self):
-        names = [it.name for it in [*self.every(edits.REFUSED), *self.every(edits.CAUGHT)]]
+        names = [it.name for it in [*self.every(), *self.every(True)]]
         self.assertEqual(sorted(set(names)), sorted(names))
 
     def test_each_scenario_is_there(self):
         parts = {"intern": set(intern.parts()), "dictcol": set(dictcol.parts())}
-        for edit in self.every(edits.CAUGHT):
+        for edit in self.every(True):
             with self.subTest(edit.name):
                 if edit.program == "suite":
                     self.assertNotEqual(list(scenarios.find_scenarios(*edit.scenario)), [])

@@ -21,7 +21,7 @@ class CopyTest(SmallRepository):
     def test_without_planted_bugs_and_what_is_built(self):
         copied = self.copied()
         self.assertLessEqual({"HANDLES", "crates/low/src/shape.rt", "crates/low/proofs/double/Answers.antt", "crates/high/src/lib.rt"}, copied)
-        self.assertEqual([name for name in copied if "must-fail" in name or "out" in Path(name).parts], [])
+        self.assertEqual([name for name in copied if "bugs" in name or "out" in Path(name).parts], [])
         self.assertEqual(read(self.top / "copy/crates.txt"), read(self.top / "crates.txt"))
 
     def test_some_crates(self):

@@ -26,38 +26,44 @@ class TouchedTest(SmallRepository):
     def test_nothing_has_changed(self):
         self.assertEqual(self.touched(), set())
 
-    def test_a_body_touches_its_file(self):
-        self.assertEqual(self.touched_by(LIB, "number / 2", "number >> 1"), LOW)
+    def test_a_body_touches_its_function(self):
+        self.assertEqual(self.touched_by(LIB, "number / 2", "number >> 1"), {"halves_twice"})
 
     def test_a_body_touches_no_caller(self):
-        self.assertEqual(self.touched_by(LIB, "number + number", "2 * number"), LOW)
+        self.assertEqual(self.touched_by(LIB, "number + number", "2 * number"), {"doubles_once"})
+
+    def test_what_stands_outside_functions_touches_its_file(self):
+        self.assertEqual(self.touched_by(LIB, "side: u32,", "side: u32,\n    sides: u32,"), LOW)
 
     def test_a_contract_touches_callers_in_crates_above(self):
-        self.assertEqual(self.touched_by(LIB, "IsTwice number result", "IsTwice number 0"), {*EDITS})
+        self.assertEqual(self.touched_by(LIB, "IsTwice number result", "IsTwice number 0"), {"doubles_once", "doubles_instead"})
 
     def test_a_contract_in_another_file(self):
         self.write("crates/low/src/size.rt", "pub fn half(number: u64) -> u64\n    ensures { result ≡ 1 }\n{\n    1\n}\n")
         self.commit = self.commit_all()
         self.assertEqual(self.touched_by("crates/low/src/size.rt", "    1", "    2 - 1"), set())
-        self.assertEqual(self.touched_by("crates/low/src/size.rt", "result ≡ 1", "result ≡ 2"), LOW)
+        self.assertEqual(self.touched_by("crates/low/src/size.rt", "result ≡ 1", "result ≡ 2"), {"halves_twice"})
 
-    def test_a_type_touches_what_names_it(self):
-        self.assertEqual(self.touched_by(LIB, "side: u32", "side: u16"), LOW)
-        self.write(ABOVE, "fn fourfold(number: u32) -> u32 {\n    Square { side: double(double(number)) }.side\n}\n")
+    def test_a_type_or_a_constant_touches_what_names_it(self):
+        for name, before, after in (("Square", "side: u16", "side: u8"), ("SIDE", "SIDE: u16", "SIDE: u8")):
+            self.write("crates/low/src/side.rt", "pub struct Square {\n    side: u16,\n}\n\npub const SIDE: u16 = 1;\n")
+            self.write(ABOVE, f"fn fourfold(number: u32) -> u32 {{\n    {name}; double(double(number))\n}}\n")
+            self.commit = self.commit_all()
+            self.assertLessEqual({"doubles_instead"}, self.touched_by("crates/low/src/side.rt", before, after))
+        self.write(ABOVE, "fn fourfold(number: u32) -> u32 {\n    double(double(number))\n}\n")
         self.commit = self.commit_all()
-        self.assertEqual(self.touched_by(LIB, "side: u16", "side: u8"), {*EDITS})
+        self.assertEqual(self.touched_by("crates/low/src/side.rt", "SIDE: u8", "SIDE: u32"), LOW)
 
     def test_a_crate_that_is_not_below(self):
         self.write("crates/low/src/size.rt", "fn area() {\n    fourfold()\n}\n")
         self.commit = self.commit_all()
         self.assertEqual(self.touched_by(ABOVE, "result ≡ 4 * number", "result ≡ 0"), {"doubles_instead"})
 
-    def test_comments_and_what_is_new_touch_nothing_elsewhere(self):
+    def test_comments_and_what_is_new_touch_nothing(self):
         changed = f"{SOURCE.replace('/// Doubles.', '/// Returns twice the number.')}\npub fn fourfold() {{\n}}\n"
         self.write(LIB, changed.replace("mod shape;", "mod shape;\nmod size;\n\nuse shape::{\n    Area, Shape,\n};"))
-        self.assertEqual(self.touched(), LOW)
         self.write("crates/low/src/size.rt", "fn fourfold(number: u64) -> u64\n    ensures { result ≡ 0 }\n{\n    0\n}\n")
-        self.assertEqual(self.touched(), LOW)
+        self.assertEqual(self.touched(), set())
 
     def test_a_file_of_specs_touches_its_crate_and_those_above(self):
         self.assertEqual(self.touched_by(WORDS, "b ≡ a + a", "b ≡ 2 * a"), {*EDITS})
@@ -72,13 +78,20 @@ class TouchedTest(SmallRepository):
         self.git("mv", "crates/low/proofs/double", "crates/low/proofs/twofold")
         self.assertEqual(self.touched(), {"doubles_once"})
 
-    def test_an_edit_of_its_own(self):
-        name = "crates/low/must-fail/halves_twice.edit"
-        self.assertEqual(self.touched_by(name, "new: number / 8", "new: number / 16"), {"halves_twice"})
+    def test_its_lines(self):
+        table = "crates/low/bugs/lib.bugs"
+        self.assertEqual(self.touched_by(table, "new: number / 8", "new: number / 16"), {"halves_twice"})
+        self.git("checkout", "-q", table)
+        self.assertEqual(self.touched_by(table, "bug: halves_twice", "bug: halves_less"), {"halves_less"})
 
-    def test_a_new_edit(self):
-        self.write_edit("doubles_never", "number + number", "number", "double", "returns")
+    def test_a_new_bug(self):
+        self.write_edit("doubles_never", "number + number", "number", "double")
         self.assertEqual(self.touched(), {"doubles_never"})
+
+    def test_a_file_that_its_lines_name(self):
+        self.write_lines("bug: shapes\nfunction: double\nfile: src/shape.rt\nold: self.now\nnew: self.old\n", "low")
+        self.commit = self.commit_all()
+        self.assertEqual(self.touched_by("crates/low/src/shape.rt", "Returns the area", "The area"), {"shapes"})
 
 
 class FullRunTest(SmallRepository):

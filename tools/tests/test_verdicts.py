@@ -17,8 +17,8 @@ fn low::double: not proved; it stands on `Rattle.low.proofs.double.Answers.retur
 crate low: modules loaded=4 checked=1
 only=1 holes=0
 """
-# The goal has an answer that proves it; what is open are goals that have none here.
-PROVED = """\
+# What is open is a goal that has no answer.
+OPEN_GOAL = """\
 note: src/lib.rt:18:5: it is not proved that what the function ensures holds when it returns (`returns-then-ne`)
 fn low::double: no proof: expected answers in ./proofs/double/Answers.antt; `#[tactic(none)]` leaves `returns-then-ne`
 only=1 holes=0
@@ -41,7 +41,6 @@ SHOWN_UNDER_A_NAME = REFUSAL.replace("note:", """\
   there
   `x` is not in scope here, so what is shown does not paste back as it stands: the text binds it as `_`
 note:""")
-TACTICS_TOO = REFUSAL.replace("help:", "./proofs/double/Answers.antt:9:15: error: `by-tactics`: `grind`: no proof\nhelp:")
 
 
 @dataclass
@@ -49,56 +48,46 @@ class Tried:
     """The part of a trial that a verdict looks at."""
 
     function: str = "double"
-    goal: str | None = "returns"
-    goals: list[str] = field(default_factory=lambda: ["returns", "returns-then-ne"])
-    is_answered: bool = True
-    tactics: list[str] = field(default_factory=list)
+    answered: set[str] = field(default_factory=lambda: {"returns"})
+    without: set[str] = field(default_factory=set)
 
 
 class VerdictsTest(unittest.TestCase):
     def outcome(self, output, **trial):
         return Verdicts(output, "low").outcome(Tried(**trial))
 
-    def test_a_goal_that_its_answer_does_not_prove(self):
+    def test_an_answer_that_does_not_prove_its_goal(self):
         self.assertEqual(self.outcome(REFUSAL), REFUSED)
 
-    def test_a_goal_that_is_proved(self):
-        self.assertEqual(self.outcome(PROVED), LET_THROUGH)
+    def test_a_goal_that_the_tactics_do_not_prove(self):
+        self.assertEqual(self.outcome(OPEN_GOAL), REFUSED)
 
-    def test_the_failure_of_another_goal_is_none(self):
-        self.assertEqual(self.outcome(REFUSAL.replace("`returns`: `search`", "`returns-then-ne`: `search`")), LET_THROUGH)
+    def test_a_function_that_is_proved(self):
+        self.assertEqual(self.outcome("fn low::double: proved\nonly=1 proved=1\n"), LET_THROUGH)
 
     def test_a_name_that_is_gone(self):
         self.assertEqual(self.outcome(MISSING_GOAL), BY_FORM_ALONE)
         self.assertEqual(self.outcome(MISSING_STATE), BY_FORM_ALONE)
 
+    def test_an_open_goal_beside_an_answer_to_none(self):
+        self.assertEqual(self.outcome(MISSING_GOAL + OPEN_GOAL), BY_FORM_ALONE)
+
+    def test_an_answer_that_fails_beside_an_answer_to_none(self):
+        both = REFUSAL.replace("note:", MISSING_GOAL.replace("`returns`: `goal.r", "`returns-then-gt`: `goal.r").partition("fn ")[0] + "note:")
+        self.assertEqual(self.outcome(both, answered={"returns", "returns-then-gt"}), REFUSED)
+
     def test_a_variable_of_a_goal_as_shown_is_no_name_that_is_gone(self):
         self.assertEqual(self.outcome(SHOWN_UNDER_A_NAME), REFUSED)
-
-    def test_a_thorough_trial_wants_both_to_fail(self):
-        self.assertEqual(self.outcome(REFUSAL, tactics=["by-tactics"]), LET_THROUGH)
-        self.assertEqual(self.outcome(TACTICS_TOO, tactics=["by-tactics"]), REFUSED)
 
     def test_a_function_of_which_nothing_is_said(self):
         self.assertNotIn(self.outcome(REFUSAL, function="half"), (REFUSED, LET_THROUGH))
 
-    def test_without_a_goal_the_open_goals_are_told(self):
-        trial = Tried(goal=None, goals=[])
-        self.assertEqual(Verdicts(REFUSAL, "low").opened(trial), ["returns-then-ne", "returns"])
-        self.assertEqual(Verdicts(REFUSAL, "low").outcome(trial), REFUSED)
-        self.assertEqual(self.outcome("fn low::double: proved\nonly=1 proved=1\n", goal=None), LET_THROUGH)
+    def test_without_an_answer_the_tactics_must_fail_at_its_goal(self):
+        self.assertEqual(self.outcome(OPEN_GOAL, without={"returns-then-ne"}), REFUSED)
+        self.assertNotEqual(self.outcome(OPEN_GOAL, without={"returns"}), REFUSED)
 
-    def test_a_goal_out_of_reach(self):
-        self.assertTrue(Verdicts(REFUSAL, "low").is_out_of_reach(Tried()))
-        self.assertTrue(Verdicts(PROVED, "low").is_out_of_reach(Tried(goal="returns-then-ne")))
-        self.assertFalse(Verdicts(PROVED, "low").is_out_of_reach(Tried()))
-
-    def test_a_goal_that_the_bug_brings_in_is_in_reach(self):
-        self.assertFalse(Verdicts(MISSING_GOAL, "low").is_out_of_reach(Tried()))
-
-    def test_an_error_of_another_goal_does_not_matter(self):
-        other = REFUSAL.replace("`returns`: `search`: no proof", "`returns-then-ne`: `goal.returns`: module has no `x`")
-        self.assertEqual(self.outcome(other), LET_THROUGH)
+    def test_what_is_open(self):
+        self.assertEqual(Verdicts(REFUSAL, "low").opened(Tried()), ["returns-then-ne", "returns"])
 
     def test_the_first_errors(self):
         errors = first_errors(REFUSAL * 9).splitlines()
