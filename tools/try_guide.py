@@ -1,9 +1,9 @@
 #!/usr/bin/env python3
 """Takes the steps of the pages for users as they are printed, each page in a clean copy of the repository.
 
-    tools/try_guide.py [CLONE]    takes what is built from another tree of the same sources, as from one where all is proved
+    tools/try_guide.py [CLONE [PAGE..]]    takes what is built from another tree of the same sources, as from one where all is proved
 
-The pages are README.md and those of docs/ that have commands. A step is a block of code:
+The pages are README.md and those of docs/ that have commands, or those that are named. A step is a block of code:
 
     sh          is run, in the folder where the commands before it ended
     another     is written into FILE there, if the line before it ends in "`FILE`:"
@@ -94,15 +94,18 @@ def take_steps(page, text, folder):
             yield f"{page}: block {number} of the commands prints\n{other}and should print\n{one}"
 
 
-def main():
-    clone = Path(sys.argv[1] if len(sys.argv) > 1 else TOP).resolve()
+def pages():
+    """The pages that have steps."""
+    return [it for it in Repository().files if is_tried(it) and script_of(read(TOP / it))[1]]
+
+
+def main(clone="", *names):
+    clone = Path(clone or TOP).resolve()
     passed = failed = 0
     with tempfile.TemporaryDirectory() as folder:
         lay_out(clone, Path(folder, "clean"))
-        for page in filter(is_tried, Repository().files):
+        for page in names or pages():
             text = read(TOP / page)
-            if not script_of(text)[1]:
-                continue
             if lacking := missing(NEEDS.get(page, ())):
                 print(*lacking, sep="\n")
                 continue
@@ -116,4 +119,4 @@ def main():
 
 
 if __name__ == "__main__":
-    sys.exit(main())
+    sys.exit(main(*sys.argv[1:]))

@@ -187,13 +187,60 @@ class CheckTest(unittest.TestCase):
     def test_only_rt_ci_judges_what_is_proved(self):
         for status, is_proved in (0, True), (1, False):
             gate, printed = CHECK["Gate"](None), io.StringIO()
-            ahead = gate.begin("proofs of it, ahead", ["sh", "-c", f"echo said ahead; exit {1 - status}"])
+            ahead = "proofs of it, ahead", ["sh", "-c", f"echo said ahead; exit {1 - status}"]
             changed = {"copy_crates": lambda *_: None, "stamp_libraries": lambda _: None, "take_libraries": lambda *_: None,
-                       "begin_ahead": lambda *_, it=ahead: [it], "PROVE": f"echo 1 passed, {status} failed; exit {status}"}
+                       "begin_ahead": lambda gate, _, it=ahead: [gate.begin(*it)], "PROVE": f"echo 1 passed, {status} failed; exit {status}"}
             with mock.patch.dict(CHECK["prove"].__globals__, changed), contextlib.redirect_stdout(printed):
                 self.assertEqual(CHECK["prove"](gate, "."), is_proved)
             self.assertIn("said ahead", printed.getvalue())
             self.assertEqual(sum(part.failed for part in gate.parts), status)
+
+
+class TestsTest(unittest.TestCase):
+    """The tests over what is built from records."""
+
+    def parts_of_tests(self, unrecorded=()):
+        """The parts that begin, in order, with what follows their first word, and what is left out."""
+        gate, begun = CHECK["Gate"](None), []
+
+        def begin(name, words):
+            begun.append((name, [Path(it).name for it in words]))
+            status = 3 if words[0] == "tools/records.py" and words[-1] in unrecorded else 0
+            return mock.Mock(said="", **{"wait.return_value": True, "process.returncode": status})
+
+        named = mock.patch.dict(CHECK["tests"].__globals__, {"missing": lambda needs: []})
+        with named, mock.patch("try_guide.pages", lambda: ["README.md", "docs/rattle.md"]), mock.patch.object(gate, "begin", begin):
+            CHECK["tests"](gate)
+        return begun, gate.left_out
+
+    def test_all_has_a_record(self):
+        begun, left_out = self.parts_of_tests()
+        names = ["suite without a proof", "string_interner_c from its record", "the library for C and its clients",
+                 "dictcol from its record", "the program dictcol", "intern from its record", "the program", "scenarios",
+                 "the steps of the pages for users"]
+        self.assertEqual([name for name, _ in begun], names)
+        clients, pages = dict(begun)[names[2]], dict(begun)[names[-1]]
+        self.assertEqual((clients[-1], pages[2:]), ("libstring_interner_c.a", ["README.md"]))
+        self.assertEqual(left_out, ["the steps of docs/rattle.md, which prove (./check)", "proofs (./check)"])
+
+    def test_a_program_without_a_record(self):
+        begun, left_out = self.parts_of_tests(["dictcol"])
+        names = [name for name, _ in begun]
+        self.assertLess(names.index("dictcol without a proof"), names.index("the program dictcol"))
+        self.assertNotIn("the steps of the pages for users", names)
+        self.assertRegex(left_out[0], "^the record of a proof of dictcol: ")
+
+    def test_no_library_without_a_record(self):
+        begun, left_out = self.parts_of_tests(["string_interner_c"])
+        self.assertNotIn("the library for C and its clients", dict(begun))
+        self.assertRegex(left_out[0], "^the record of a proof of string_interner_c: ")
+
+    def test_a_status_that_is_well(self):
+        gate = CHECK["Gate"](None)
+        with contextlib.redirect_stdout(io.StringIO()):
+            for status, is_well in (3, True), (1, False):
+                part = gate.begin("it", ["sh", "-c", f"exit {status}"])
+                self.assertEqual(part.wait(is_counted=False, is_well=(0, 3)), is_well)
 
 
 if __name__ == "__main__":

@@ -7,6 +7,7 @@ from unittest import main, mock
 
 from small import SOURCE, SmallRepository, edits
 import copies
+import unproved
 
 SCENARIO = """\
 use crate::level::run_calls;
@@ -86,17 +87,17 @@ class CopiesTest(SmallRepository):
             copies.cut_suite(SCENARIO, {("run", "bucket", "Even", "default")})
 
     def test_the_module_of_the_program_is_kept(self):
-        kept = copies.write_toolchain(self.room)
+        kept = unproved.write_toolchain(self.room)
         (self.top / "module.bc").write_bytes(b"BC")
         words = [kept.with_suffix(""), "-c", "-x", "ir", "module.bc"]
         self.assertNotEqual(subprocess.run([*words, "-o", "it"], cwd=self.top, capture_output=True, check=False).returncode, 0)
         self.assertFalse(kept.exists())
         subprocess.run([*words, "-fsanitize=address"], cwd=self.top, check=False)
         self.assertEqual(kept.read_bytes(), b"BC")
-        self.assertTrue(Path(self.room, "bin/ld.lld").samefile(copies.CLANG))
+        self.assertTrue(Path(self.room, "bin/ld.lld").samefile(unproved.CLANG))
 
     def test_what_is_not_lowered_is_told(self):
-        with mock.patch.object(copies, "run_in", return_value=(2, "error: no such name")), self.assertRaises(copies.Unbuilt) as fault:
+        with mock.patch.object(unproved, "run_in", return_value=(2, "error: no such name")), self.assertRaises(copies.Unbuilt) as fault:
             copies.build_copies(self.room, [self.bug])
         self.assertIn("error: no such name", str(fault.exception))
 

@@ -54,8 +54,8 @@ class TryGuideTest(SmallRepository):
     def outcome(self, page, name="docs/c.md", *words):
         self.write(name, page)
         printed = io.StringIO()
-        with mock.patch("sys.argv", ["try_guide.py", *words]), contextlib.redirect_stdout(printed):
-            status = try_guide.main()
+        with contextlib.redirect_stdout(printed):
+            status = try_guide.main(*words)
         return status, printed.getvalue().splitlines()
 
     def test_steps_that_do_what_they_say(self):
@@ -73,6 +73,11 @@ class TryGuideTest(SmallRepository):
     def test_pages_do_not_see_each_other(self):
         self.write("docs/rust.md", "```sh\ncat crates/made\n```\n")
         self.assertEqual(self.outcome(PAGE)[1][-1], "1 passed, 1 failed")
+
+    def test_pages_that_are_named(self):
+        self.write("docs/rust.md", "```sh\nfalse\n```\n")
+        self.assertEqual(self.outcome(PAGE, "docs/c.md", "", "docs/c.md"), (0, ["1 passed, 0 failed"]))
+        self.assertEqual(try_guide.pages(), ["docs/c.md", "docs/rust.md"])
 
     def test_other_pages_have_no_steps(self):
         self.write("clients/README.md", "```sh\nfalse\n```\n")
