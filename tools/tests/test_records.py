@@ -170,6 +170,30 @@ class Records(unittest.TestCase):
                 write(self.record(crate) / file, kept)
         self.run_in_copy("bin/intern", "string")
 
+    def take_library(self, crates="string_interner:\nyours: string_interner\n", status=0):
+        """Puts the library into a project with this list of crates, and returns its folder there and what was said."""
+        write(self.here / "kit/WHAT", "")
+        write(self.here / "project/crates.txt", crates)
+        write(self.here / "project/crates/yours/src/main.rt", "")
+        return self.here / "project/crates/string_interner", self.run_in_copy("bin/library", "../project", status=status)
+
+    def test_a_project_gets_the_library_from_its_record(self):
+        folder, ran = self.take_library()
+        self.assertEqual((ran.stdout, ran.stderr), ("library: string_interner is built\n", ""))
+        self.assertRegex((folder / "out/rlib/string_interner.rlib").read_text(), "^#!/bin/sh\necho recorded ")
+        self.assertRegex((folder / "out/rlib/stamp").read_text(), "^[0-9a-f]{64}$")
+        self.assertEqual(sorted(it.name for it in folder.iterdir()), ["out", "src"])
+        self.assertEqual(self.proved(), EVERY)
+
+    def test_a_project_with_another_library_is_told_that_it_will_be_proved(self):
+        write(self.here / "project/crates/string_interner/src/lib.rt", "two")
+        folder, ran = self.take_library()
+        self.assertRegex(ran.stderr, "^library: rt will prove string_interner, in minutes: string_interner is not as its proof ")
+        self.assertFalse((folder / "out").exists())
+
+    def test_a_project_that_names_no_library(self):
+        self.assertIn("crates.txt names string_interner or string_column", self.take_library("yours:\n", 1)[1].stderr)
+
     def test_proofs_are_recorded_where_no_record_fits(self):
         self.assertEqual(self.proved(), EVERY)
         self.run_in_copy("tools/record-proofs")
