@@ -88,7 +88,8 @@ class ProofsTest(unittest.TestCase):
 
     def test_the_gate_says_it_too(self):
         words = ["import runpy", f"CHECK = runpy.run_path({str(edits.TOP / 'check')!r})", "gate = CHECK['Gate'](None)",
-                 "CHECK['prove'].__globals__.update(copy_crates=lambda *_: None, PROVE='echo said >&2; echo 0 passed, 1 failed; exit 1')",
+                 "CHECK['prove'].__globals__.update(copy_crates=lambda *_: None, begin_ahead=lambda *_: [], "
+                 "PROVE='echo said >&2; echo 0 passed, 1 failed; exit 1')",
                  "CHECK['prove'](gate, '.')"]
         ended = subprocess.run([sys.executable, "-c", "\n".join(words)], capture_output=True, encoding="utf-8", check=True)
         self.assertEqual(ended.stderr, "said\n")
