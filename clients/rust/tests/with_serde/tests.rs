@@ -57,7 +57,7 @@ fn a_symbol_is_its_number_plus_one() {
     assert!(serde_json::from_str::<SymbolU32>("4294967296").is_err());
 }
 
-fn over<B: Backend>() {
+fn over<B: Backend + PartialEq>() {
     let names: StringInterner<B> = ["b", "", "a"].into_iter().collect();
     let json = serde_json::to_string(&names).unwrap();
     assert_eq!(json, r#"["b","","a"]"#);
