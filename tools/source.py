@@ -47,9 +47,8 @@ def functions(text):
 
 
 def start_of(text, function):
-    """The offset where a function begins, with the tactic of its own above it, if it has one."""
-    tactic = re.search(r"^ *#\[tactic\(.*\)\]\n\Z", text[: function.start], re.M)
-    return tactic.start() if tactic else function.start
+    """The offset where a function begins, with its attributes."""
+    return re.search(r"(?:^ *#\[.*\]\n)*\Z", text[: function.start], re.M).start()
 
 
 def block_around(text, function):

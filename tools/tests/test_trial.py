@@ -62,9 +62,9 @@ class TrialTest(SmallRepository):
         first, again = (self.trial(name) for name in ("halves_twice", "halves_thrice"))
         self.assertEqual((first.function, again.function, again.control.function), ("half_bug1", "half_bug2", "half_bug0"))
 
-    def test_the_tactic_of_a_function_is_copied(self):
-        self.write("crates/low/src/lib.rt", SOURCE.replace("fn half", "#[tactic(none)]\nfn half"))
-        self.assertIn("#[tactic(none)]\nfn half_bug1", self.written(self.trial("halves_twice")))
+    def test_the_attributes_of_a_function_are_copied(self):
+        self.write("crates/low/src/lib.rt", SOURCE.replace("fn half", "/// Halves.\n#[inline]\n#[tactic(none)]\nfn half"))
+        self.assertIn("}\n\n#[inline]\n#[tactic(none)]\nfn half_bug1", self.written(self.trial("halves_twice")))
 
     def test_proof_files_are_copied(self):
         self.written(self.trial("doubles_once"))
