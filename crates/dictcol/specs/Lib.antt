@@ -4,6 +4,7 @@ pub mod Counts
 pub mod Fault
 pub mod File
 pub mod Hasher
+pub mod Inputs
 pub mod Lines
 pub mod Names
 pub mod Places

@@ -1,7 +1,7 @@
 //! Reading lines from an input, a block at a time: however long the input is, no more of it is held than a block, of 256 KiB or up
 //! to twice the longest line.
 
-ghost use Rattle.std.specs.Prelude.{◌≡◌, ◌+◌, ◌≤◌, List, [], ◌++◌, length, take, drop, min, false, ◌-◌, ◌^◌, Option, Some, IfOk, IfErr, OnOk, IsUtf8, IsTrue, count_by, string_bytes};
+ghost use Rattle.std.specs.Prelude.{◌≡◌, ◌==◌, ◌+◌, ◌≤◌, List, [], ◌++◌, length, take, drop, min, false, ◌-◌, ◌^◌, Option, Some, IfOk, IfErr, OnOk, IsUtf8, IsTrue, count_by, string_bytes};
 ghost use Rattle.std.specs.Io.KnownBytes.{IsAtEnd};
 ghost use Rattle.std.specs.List.{slice_split};
 ghost use Rattle.string_interner.specs.Text.{Text};
@@ -32,13 +32,13 @@ pub trait TakesLines {
             → result ≡ min (length lines) (2 ^ 64 - 1) };
 }
 
-/// Returns how many newlines there are.
-pub fn count_newlines(bytes: &[u8]) -> usize
-    ensures { result ≡ count_by is_newline bytes.now }
+/// Returns how often a byte occurs.
+pub fn count_byte(wanted: u8, bytes: &[u8]) -> usize
+    ensures { result ≡ count_by (λ byte. byte == wanted) bytes.now }
 {
     let mut count = 0;
     for byte in bytes {
-        if *byte == b'\n' {
+        if *byte == wanted {
             count += 1;
         }
     }
@@ -53,7 +53,7 @@ pub fn check_utf8(before: usize, bytes: &[u8]) -> Result<&str, Fault>
     match simdutf8::compat::from_utf8(bytes) {
         Ok(text) => Ok(text),
         Err(error) => {
-            let newlines = count_newlines(&bytes[..error.valid_up_to()]);
+            let newlines = count_byte(b'\n', &bytes[..error.valid_up_to()]);
             Err(Fault::NotUtf8(before.saturating_add(newlines).saturating_add(1)))
         }
     }

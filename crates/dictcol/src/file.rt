@@ -17,7 +17,7 @@ ghost use Rattle.dictcol.specs.Lines.{has_newline, newline_if, text_of_lines};
 ghost use Rattle.dictcol.specs.Places.{IsEarlyEnd, IsLastLine};
 ghost use Rattle.dictcol.specs.Writes.{Writes};
 
-use crate::blocks::{check_utf8, count_newlines};
+use crate::blocks::{check_utf8, count_byte};
 use crate::fault::Fault;
 use crate::hasher::LineHasher;
 use crate::stream;
@@ -237,7 +237,7 @@ fn locate_early_end(file: &[u8]) -> Fault
 {
     let last_line = &file[find_last_line(file)..];
     Fault::EndsEarly {
-        line: count_newlines(file).saturating_add(1),
+        line: count_byte(b'\n', file).saturating_add(1),
         column: last_line.len().saturating_add(1),
     }
 }

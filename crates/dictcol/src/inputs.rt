@@ -1,8 +1,10 @@
 //! The input: files that are read one after another, as `cat` writes them.
 
-ghost use Rattle.std.specs.Prelude.{◌≤◌, length, IfOk};
+ghost use Rattle.std.specs.Prelude.{◌≡◌, ◌≤◌, length, true, IfOk, OnOk};
+ghost use Rattle.dictcol.specs.Inputs.{source_at, newlines_with, noted};
 
 use crate::arguments::Source;
+use crate::blocks::count_byte;
 use crate::fault::Fault;
 use crate::zero::exchange_ends;
 use std::fs::File;
@@ -90,7 +92,14 @@ impl<'a> Inputs<'a> {
     }
 
     /// Notes the first bytes of a file.
-    fn note_begin(&mut self, bytes: &[u8]) -> io::Result<()> {
+    fn note_begin(&mut self, bytes: &[u8]) -> io::Result<()>
+        ensures begun { OnOk result (self.new.has_bytes ≡ true) }
+        ensures begin { OnOk result (self.new.begins.items ≡ noted self.old.sources.now
+            self.old.begins.items record {
+              source = source_at self.old.sources.now self.old.at;
+              newlines = self.old.newlines;
+            }) }
+    {
         let source = self.current();
         if self.encoded.is_none() && bytes.starts_with(ENCODED) {
             self.encoded = Some(source);
@@ -107,10 +116,12 @@ impl<'a> Inputs<'a> {
     }
 
     /// Counts the newlines of several files, so that the file of a line can be found.
-    fn count_newlines(&mut self, bytes: &[u8]) {
+    fn count_newlines(&mut self, bytes: &[u8])
+        ensures { self.new.newlines
+            ≡ newlines_with self.old.sources.now self.old.newlines bytes.now }
+    {
         if self.sources.len() > 1 {
-            let newlines = bytes.iter().filter(|byte| **byte == b'\n').count();
-            self.newlines = self.newlines.saturating_add(newlines);
+            self.newlines = self.newlines.saturating_add(count_byte(b'\n', bytes));
         }
     }
 
@@ -134,7 +145,9 @@ impl<'a> Inputs<'a> {
     }
 
     /// Returns the file that is read, or the only one. Behind the last of several it is standard input, which has no name to tell.
-    fn current(&self) -> Source<'a> {
+    fn current(&self) -> Source<'a>
+        ensures { result ≡ source_at self.now.sources.now self.now.at }
+    {
         let at = if self.sources.len() == 1 { 0 } else { self.at };
         match self.sources.get(at) {
             Some(source) => *source,

@@ -5,6 +5,7 @@
 
 use super::{Plain, npy, pair};
 use crate::arguments::Onto;
+use crate::blocks::count_byte;
 use crate::fault::Fault;
 use crate::unfinished::{Unfinished, busy, is_same};
 use std::alloc::Global;
@@ -147,18 +148,13 @@ struct LineCount {
 
 impl Write for LineCount {
     fn write(&mut self, buf: &[u8]) -> io::Result<usize> {
-        self.lines = self.lines.saturating_add(count_newlines(buf));
+        self.lines = self.lines.saturating_add(count_byte(b'\n', buf));
         Ok(buf.len())
     }
 
     fn flush(&mut self) -> io::Result<()> {
         Ok(())
     }
-}
-
-/// Returns how many newlines some bytes have.
-fn count_newlines(bytes: &[u8]) -> usize {
-    bytes.iter().filter(|byte| **byte == b'\n').count()
 }
 
 /// Returns the fault of files of two runs. What is damaged in them has a message of its own.
@@ -195,7 +191,7 @@ pub fn decode<W: Write>(rt: &HostRuntime, folder: &str, output: &mut W) -> Resul
     let mut files = Files::open(rt, folder)?;
     let dictionary = read(alloc, &mut files.dictionary).map_err(Fault::of_dictionary)?;
     let numbers = read(alloc, &mut files.numbers).map_err(Fault::of_numbers)?;
-    if files.is_pair(alloc, count_newlines(&dictionary), &numbers)? {
+    if files.is_pair(alloc, count_byte(b'\n', &dictionary), &numbers)? {
         super::decode(alloc, &dictionary, &numbers, files.is_cut, output)
     } else {
         Err(find_fault(alloc, &dictionary, &numbers))
