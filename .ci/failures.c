@@ -13,6 +13,8 @@
                     take nothing if that is 0
    NO_RANDOM=1      has each request for random bytes fail
    TELL_DRAWN=1     says `draws BYTES` on standard error at the end: how many random bytes were drawn
+   TELL_UNSTORED=1  says `unstored FILES` on standard error before each file or folder is renamed: to how many files was written
+                    that the system was not asked to store since, by fsync
    STOP_AT=N        stops the process, as SIGSTOP does, before the Nth call, counted from 1, that looks for, opens, makes, locks,
                     renames or removes a file or folder
 
@@ -31,6 +33,8 @@ extern int raise(int signal);
 #define STANDARD_INPUT 0
 #define STANDARD_OUTPUT 1
 #define STANDARD_ERROR 2
+/* No run of a trial has a file of a greater number open. */
+#define FILES 1024
 /* Linux's numbers for a call that it does not have, and for a connection that was reset. */
 #define NO_SUCH_CALL 38
 #define CONNECTION_RESET 104
@@ -76,10 +80,22 @@ long read(int file, void *bytes, size_type count) {
     return taken;
 }
 
+/* How many files were written to and not stored since, and which of those that are open. */
+static size_type unstored;
+static unsigned char is_unstored[FILES];
+
+static void note_stored(int file, int is_stored) {
+    if (file > STANDARD_ERROR && file < FILES && is_unstored[file] == is_stored) {
+        is_unstored[file] = !is_stored;
+        unstored += is_stored ? -1UL : 1;
+    }
+}
+
 long write(int file, const void *bytes, size_type count) {
     FIND_NEXT(write)
     static size_type writes;
     if (file != STANDARD_OUTPUT) {
+        note_stored(file, 0);
         return next(file, bytes, count);
     }
     writes++;
@@ -104,6 +120,21 @@ long writev(int file, const struct part *parts, int count) {
 static void tell(const char *format, size_type one, size_type other) {
     char line[64];
     write(STANDARD_ERROR, line, snprintf(line, sizeof line, format, one, other));
+}
+
+int fsync(int file) {
+    FIND_NEXT(fsync)
+    note_stored(file, 1);
+    return next(file);
+}
+
+/* What is closed stays as it is, stored or not. */
+int close(int file) {
+    FIND_NEXT(close)
+    if (file > STANDARD_ERROR && file < FILES) {
+        is_unstored[file] = 0;
+    }
+    return next(file);
 }
 
 static size_type drawn;
@@ -151,6 +182,9 @@ int flock(int file, int how) {
 int rename(const char *old, const char *path) {
     FIND_NEXT(rename)
     count_call();
+    if (getenv("TELL_UNSTORED")) {
+        tell("unstored %lu\n", unstored, 0);
+    }
     return next(old, path);
 }
 

@@ -358,6 +358,14 @@ def try_links(program):
             "precious": b"kept\n", "": b"kept\n"}
 
 
+def try_stored(program):
+    """All files are stored before the first of them gets its place."""
+    with tempfile.TemporaryDirectory() as folder:
+        for data in b"red\ngreen\n", b"red\ngreen":
+            ended = program.run(b"encode --plain it".split(), data, folder=folder, TELL_UNSTORED=1)
+            yield f"{data}", ended, (0, b"", b"unstored 0\n" * len(columns_of(data)))
+
+
 # Where a run puts files before all are written.
 UNFINISHED = "dictcol-unfinished"
 # Texts with equally many lines, of which equally many are distinct: no other text has the dictionary of one and the codes of another.
@@ -536,6 +544,7 @@ def trials():
         *((try_repeated, *given) for given in REPEATED),
         *((try_pair, *given) for given in OF_TWO_RUNS),
         (try_exchange,),
+        (try_stored,),
         (try_links,),
         *((trial, old) for trial in (try_killed_writers, try_writers) for old in (None, SECOND, THIRD)),
         (try_readers,),

@@ -154,6 +154,14 @@ def try_failing(program):
         yield "what is there", found, {"file": False, "bytes": False, "there": []}
 
 
+def try_stored(program):
+    """All files are stored before their folder gets its name."""
+    with tempfile.TemporaryDirectory() as folder:
+        for words, data in ((b"shard 3 plain", LONG), (b"shard -z 2 exchanged", b"a\nb\0c\0"), (b"shard 2 mended --invalid=skip", b"a\nb")):
+            ended = program.run(words.split(), data, folder=folder, TELL_UNSTORED=1)
+            yield f"{words}", ended, (0, b"", b"unstored 0\n")
+
+
 SHARD = b"shard 2 it".split()
 COLORS, MORE_COLORS = b"red\ngreen\nblue\nred", b"blue\nwhite\n"
 
@@ -252,6 +260,7 @@ def trials():
         (try_reading,),
         (try_recipe,),
         (try_failing,),
+        (try_stored,),
         (try_killed,),
         (try_beside,),
         (try_links,),

@@ -43,6 +43,13 @@ impl<W: Write> Shard<W> {
         }
     }
 
+    /// Returns the output.
+    pub fn output(&self) -> &W
+        ensures { result.now ≡ self.now.output }
+    {
+        &self.output
+    }
+
     /// Adds a line and a newline to what waits.
     fn push_line(&mut self, line: &str) -> Result<(), Fault>
         ensures ok { OnOk result
@@ -103,6 +110,14 @@ impl<H: TextHasher, W: Write> Shards<H, W> {
             order,
             total: 0,
         }
+    }
+
+    /// Returns the shards, and what has their numbers.
+    pub fn outputs(&self) -> (&[Shard<W>], &Shard<W>)
+        ensures shards { result.0.now ≡ self.now.shards.items }
+        ensures order { result.1.now ≡ self.now.order }
+    {
+        (&self.shards, &self.order)
     }
 
     /// Adds a line to its shard, and the number of this shard.

@@ -1,5 +1,6 @@
 //! Folders that a run writes, before what is in them gets its place.
 
+use crate::fault::Fault;
 use std::fs::{File, Metadata, TryLockError};
 use std::io::ErrorKind;
 use std::os::unix::fs::MetadataExt;
@@ -16,6 +17,11 @@ pub struct Unfinished {
 /// Returns whether both are of one file.
 pub fn is_same(one: &Metadata, other: &Metadata) -> bool {
     one.dev() == other.dev() && one.ino() == other.ino()
+}
+
+/// Waits until a file is stored.
+pub fn store(file: &File) -> Result<(), Fault> {
+    file.sync_all().map_err(Fault::Folder)
 }
 
 /// Returns the error of a file that another run is writing.

@@ -36,6 +36,11 @@ impl<W: Write + Drop> Exchanged<W> {
             block: vec![in alloc; 0_u8; length]?,
         })
     }
+
+    /// Returns the output that it writes to.
+    pub fn get_ref(&self) -> &W {
+        &self.output
+    }
 }
 
 impl<W: Write> Write for Exchanged<W> {

@@ -7,7 +7,7 @@ use super::{Plain, npy, pair};
 use crate::arguments::Onto;
 use crate::blocks::count_byte;
 use crate::fault::Fault;
-use crate::unfinished::{Unfinished, busy, is_same};
+use crate::unfinished::{Unfinished, busy, is_same, store};
 use std::alloc::Global;
 use std::fs::File;
 use std::io::{ErrorKind, Read, Seek, Write};
@@ -201,11 +201,6 @@ pub fn decode<W: Write>(rt: &HostRuntime, folder: &str, output: &mut W) -> Resul
 /// Creates a file, which is not there.
 fn create(rt: &HostRuntime, path: &str) -> Result<File, Fault> {
     File::create_new(rt, path).map_err(Fault::Folder)
-}
-
-/// Waits until a file is stored.
-fn store(file: &File) -> Result<(), Fault> {
-    file.sync_all().map_err(Fault::Folder)
 }
 
 /// Writes new files.

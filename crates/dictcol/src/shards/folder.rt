@@ -8,7 +8,7 @@ use crate::arguments::{Parts, Reading, Source};
 use crate::fault::Fault;
 use crate::inputs::{Inputs, report_progress};
 use crate::mend::Mended;
-use crate::unfinished::Unfinished;
+use crate::unfinished::{Unfinished, store};
 use crate::zero::Exchanged;
 use crate::{tell_skipped, warn_of_encoded};
 use std::fs::File;
@@ -50,8 +50,17 @@ fn create_files(
     Ok(shards)
 }
 
-/// Writes the lines of the input into files of the folder, and returns how many lines were left out. Every machine has the same
-/// hash codes.
+/// Waits until the files are stored.
+fn store_files(shards: &Shards<FoldState, Exchanged<File>>) -> Result<(), Fault> {
+    let (shards, order) = shards.outputs();
+    for shard in shards {
+        store(shard.output().get_ref())?;
+    }
+    store(order.output().get_ref())
+}
+
+/// Writes the lines of the input into files of the folder, stores these, and returns how many lines were left out. Every machine
+/// has the same hash codes.
 fn write_files(
     rt: &HostRuntime,
     parts: Parts<'_>,
@@ -63,13 +72,19 @@ fn write_files(
     let order = create(rt, path.as_str(), false)?;
     let outputs = create_files(rt, parts, reading.is_zero_ended)?;
     let mut shards = Shards::new(FoldState::default(), outputs, order);
-    let Some(mending) = reading.mending else {
-        shards.write_lines(alloc, inputs)?;
-        return Ok(0);
+    let skipped = match reading.mending {
+        Some(mending) => {
+            let mut mended = Mended::new(alloc, inputs, mending);
+            shards.write_lines(alloc, &mut mended)?;
+            mended.skipped()
+        }
+        None => {
+            shards.write_lines(alloc, inputs)?;
+            0
+        }
     };
-    let mut mended = Mended::new(alloc, inputs, mending);
-    shards.write_lines(alloc, &mut mended)?;
-    Ok(mended.skipped())
+    store_files(&shards)?;
+    Ok(skipped)
 }
 
 /// Makes the folder that becomes this one, which may not be there.
@@ -84,7 +99,7 @@ fn begin(rt: &HostRuntime, folder: &str) -> Result<Unfinished, Fault> {
     Unfinished::make(rt, path).map_err(Fault::Folder)
 }
 
-/// Does what `write_files` does, in a folder that gets its name once all its files are written.
+/// Does what `write_files` does, in a folder that gets its name once all its files are stored.
 fn write_folder(
     rt: &HostRuntime,
     parts: Parts<'_>,
