@@ -17,6 +17,7 @@ pub mod Counted
 pub mod CountRows
 pub mod Places
 pub mod PlainColumns
+pub mod IsRepeat
 pub mod LineBounds
 pub mod AreRows
 pub mod Sharded

@@ -93,11 +93,6 @@ file-ended lines read file is_ended are unended some is = of lines refl
         let text : file ≡ text_of_lines lines true = is.text ∙ ap (λ x. text_of_ended x []) e ∙ ended-lines (l ∷ ls) [] none refl ∙ sym (ap (λ x. text_of_lines x true) e) in
         let told = are.end _ text in absurd (cc)
 
-pub dictionary-repeats : (lines read : List Text) (file : Text) (is_ended : Bool) → AreLines file read is_ended → length (dictionary_of read) < length read → ¬ (IsDictionary lines file)
-dictionary-repeats lines read file is_ended are fewer is =
-    let same : read ≡ lines = are.lines_are ∙ file-lines lines file is.lines_are in
-    let count = ap length (ap dictionary_of same ∙ distinct-dictionary lines is.distinct ∙ sym same) in omega (arith, count, fewer)
-
 pub is-dictionary : (lines : List Text) (file : Text) (is_ended : Bool) → AreLines file lines is_ended → (is_ended ≡ false → lines ≡ []) → length lines ≤ length (dictionary_of lines)
     → IsDictionary lines file
 is-dictionary lines file is_ended are unended many = record {

@@ -7,11 +7,13 @@ use Rattle.std.specs.List.{list_any, flat_map, join_with_byte}
 use Rattle.string_interner.specs.Text.{Text, IsDistinct}
 use Rattle.string_interner.specs.Extend.{fresh}
 use Rattle.string_column.specs.Column.{AreCodes, rows_of}
+use Rattle.string_column.specs.Parts.{IsRepeat}
 use Rattle.dictcol.specs.declared.fault.Fault.{Fault}
+use Rattle.dictcol.specs.declared.fault.Fault.TheVariants.{NotEnded, RepeatedLine}
 use Rattle.dictcol.specs.Blocks.{IsLinesFault}
-use Rattle.dictcol.specs.Fault.{IsDamage, OfDictionary}
+use Rattle.dictcol.specs.Fault.{OfDictionary}
 use Rattle.dictcol.specs.File.{HaveEntries}
-use Rattle.dictcol.specs.Lines.{has_newline, text_of_ended, AreLines}
+use Rattle.dictcol.specs.Lines.{has_newline, lines_of, text_of_ended, AreLines}
 
 -- the text of lines that a newline ends each, the last one unless it is cut
 abbrev pub plain_text : List Text → Bool → Text
@@ -27,10 +29,15 @@ pub record IsDictionary (lines : List Text) (file : Text) : Type 0 where
   pub lines_are : IsLinesFile lines file
   pub distinct : IsDistinct lines
 
--- the faults of reading a file as a dictionary: those of reading its lines, or it is damaged, for it is none
+-- the fault tells the first line of a file that equals an earlier one, from 1 on
+abbrev pub IsRepeatedLine : Option Text → Fault → Type 0
+IsRepeatedLine file fault = (index : ℕ) × (fault ≡ RepeatedLine (index + 1)) × IfSome file (λ text. IsRepeat (lines_of text) index)
+
+-- the faults of reading a file as a dictionary: those of reading its lines, the last line has no newline, or a line repeats an earlier one
 abbrev pub IsDictionaryFault : Option Text → Fault → Type 0
 IsDictionaryFault file fault =
-    OfDictionary (IsLinesFault file) fault ⊎ (IsDamage fault × IfSome file (λ text. (lines : List Text) → ¬ (IsDictionary lines text)))
+    OfDictionary (IsLinesFault file) fault ⊎ ((fault ≡ NotEnded) × IfSome file (λ text. (lines : List Text) → ¬ (IsLinesFile lines text))
+    ⊎ IsRepeatedLine file fault)
 
 -- four bytes, the lowest first
 abbrev pub code_bytes : ℕ → Text

@@ -1,6 +1,6 @@
 //! The file `dict.txt`: distinct lines, of which each ends in a newline.
 
-ghost use Rattle.std.specs.Prelude.{◌≡◌, ◌+◌, ◌<◌, List, [], ◌∷◌, ◌++◌, ◌⊎◌, length, Some, IfOk, IfErr, IfSome, OnOk, vec_len, vec_capacity};
+ghost use Rattle.std.specs.Prelude.{◌≡◌, ◌+◌, ◌<◌, List, [], ◌∷◌, ◌++◌, ◌⊎◌, ℕ, ◌≢◌, min, slice_get, length, Some, IfOk, IfErr, IfSome, OnOk, vec_len, vec_capacity};
 ghost use Rattle.std.specs.Io.KnownBytes.{Appends};
 ghost use Rattle.string_interner.specs.Text.{Text, IsDistinct};
 ghost use Rattle.dictcol.specs.Fault.{IsLinesWriteFault, IsNotUtf8, IsParseFault, OfDictionary, WritesLast};
@@ -92,7 +92,11 @@ pub fn write_file<B: Backend, W: Write>(
 }
 
 /// Returns the number (1-based) of the first line that has the code of an earlier one.
-fn find_repeat(codes: &Codes) -> usize {
+fn find_repeat(codes: &Codes) -> usize
+    ensures { (row : ℕ) × (result ≡ min (row + 1) (length codes.now.items))
+        × ((i : ℕ) → i < row → slice_get codes.now.items i ≡ Some i)
+        × (slice_get codes.now.items row ≢ Some row) }
+{
     for row in 0..codes.len() {
         if codes.at(row) != row {
             return row + 1;
