@@ -106,17 +106,20 @@ class BeforehandTest(unittest.TestCase):
         return printed.getvalue().splitlines()
 
     def test_what_a_command_takes(self):
-        for command in ("./check", "./check all"):
+        for command in ("./check", "./check tests", "./check quick", "./check edits", "./check all"):
             lines = self.told(command)
             self.assertEqual(len(lines), 1)
             self.assertRegex(lines[0], rf"^{command} takes [\d.]+ to [\d.]+ (minutes|hours) on 4 processors, and \d+ GiB of memory$")
-        self.assertEqual(self.told("./check quick"), [])
+
+    def test_nothing_begins_without_the_toolchain(self):
+        with self.assertRaisesRegex(SystemExit, "^no rt on this machine: .* Nothing was run$"):
+            self.told("./check", ["rt"])
 
     def test_what_the_machine_lacks(self):
         with mock.patch("needs.is_there", lambda need: need not in ("cc", "mypy")):
             lines = self.told("./check quick", ("cc", "mypy"))
-        self.assertEqual([line.partition(":")[0] for line in lines[:2]], ["no cc on this machine", "no mypy on this machine"])
-        self.assertRegex(lines[2], r"^\.ci/run installs them first, or: apt-get install .* gcc libc6-dev binutils mypy$")
+        self.assertEqual([line.partition(":")[0] for line in lines[1:3]], ["no cc on this machine", "no mypy on this machine"])
+        self.assertRegex(lines[3], r"^\.ci/run installs them first, or: apt-get install .* gcc libc6-dev binutils mypy$")
 
     def test_it_comes_before_the_first_part(self):
         """And the command is printed at the end, for tools/release."""
