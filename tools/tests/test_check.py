@@ -67,15 +67,15 @@ class PartTest(unittest.TestCase):
 class ProofsTest(unittest.TestCase):
     """How far the proofs are, over something that stands for `rt`."""
 
-    def run_proofs(self, script):
+    def run_proofs(self, script, *ahead):
         """The status of what proves, what it prints, and what it says meanwhile, as if it had begun a minute ago."""
         with tempfile.TemporaryDirectory() as tree:
             for name in ("one", "two", "three"):
                 Path(tree, "crates", name).mkdir(parents=True)
             Path(tree, "rt").write_text(f"#!/bin/sh\n{script}")
             Path(tree, "rt").chmod(0o755)
-            environment = {"PATH": f"{tree}:{os.environ['PATH']}", "SECONDS": "58"}
-            ran = subprocess.run(["bash", "-c", CHECK["PROVE"], edits.TOP], cwd=tree, env=environment, capture_output=True,
+            environment = {"PATH": f"{tree}:{os.environ['PATH']}", "SECONDS": "58", "ahead_seconds": "1"}
+            ran = subprocess.run(["bash", "-c", CHECK["PROVE"], edits.TOP, *ahead], cwd=tree, env=environment, capture_output=True,
                                  encoding="utf-8", check=False)
         return ran.returncode, ran.stdout, ran.stderr
 
@@ -88,11 +88,24 @@ class ProofsTest(unittest.TestCase):
 
     def test_the_gate_says_it_too(self):
         words = ["import runpy", f"CHECK = runpy.run_path({str(edits.TOP / 'check')!r})", "gate = CHECK['Gate'](None)",
-                 "CHECK['prove'].__globals__.update(copy_crates=lambda *_: None, begin_ahead=lambda *_: [], "
-                 "PROVE='echo said >&2; echo 0 passed, 1 failed; exit 1')",
+                 "CHECK['prove'].__globals__.update(copy_crates=lambda *_: None, PROVE='echo said >&2; echo 0 passed, 1 failed; exit 1')",
                  "CHECK['prove'](gate, '.')"]
         ended = subprocess.run([sys.executable, "-c", "\n".join(words)], capture_output=True, encoding="utf-8", check=True)
         self.assertEqual(ended.stderr, "said\n")
+
+    def test_crates_that_are_proved_ahead(self):
+        """The first goes on once it has proved the library, and `rt ci` begins last. It alone judges."""
+        script = """echo "begins $2" >> order
+case $2 in
+    one) sleep 1.5; echo 'rt: string_interner proved'; sleep 3; echo 'one passed' >> order; exit 1 ;;
+    two) echo 'said by two'; exit 1 ;;
+    *) until grep -q 'one passed' order; do sleep 0.2; done; cat order; echo '3 passed, 0 failed' ;;
+esac
+"""
+        status, printed, _ = self.run_proofs(script, "one", "two")
+        order = "begins one\nbegins two\nbegins \none passed\n"
+        self.assertEqual((status, printed), (0, f"{order}3 passed, 0 failed\nrt: string_interner proved\nsaid by two\n"))
+        self.assertEqual(self.run_proofs("[ $# = 1 ] || exit 2; echo 'a failed'; exit 3", "one")[:2], (3, "a failed\n"))
 
     def test_proofs_that_fail(self):
         self.assertEqual(self.run_proofs("echo '2 passed, 1 failed'; exit 3"), (3, "2 passed, 1 failed\n", ""))
@@ -157,7 +170,7 @@ class CheckTest(unittest.TestCase):
             return mock.Mock(said="no pip on this machine: it\n", **{"wait.return_value": is_proved})
 
         changed = {"missing": lambda needs: [], "stamp_libraries": kept.append, "take_libraries": lambda tree, top: kept.append(tree)}
-        changed |= {"copy_crates": lambda source, into: (into / "crates.txt").touch(), "begin_ahead": lambda *_: []}
+        changed["copy_crates"] = lambda source, into: (into / "crates.txt").touch()
         with mock.patch.dict(CHECK["check"].__globals__, changed), mock.patch.object(gate, "begin", begin):
             CHECK["check"](gate)
         self.assertEqual(len({*kept}), len(kept) // 2)
@@ -175,29 +188,11 @@ class CheckTest(unittest.TestCase):
         names, _, kept, _ = self.parts_of_check(False)
         self.assertEqual((names, kept), (["texts chosen without keys", "proofs", "what was measured"], 0))
 
-    def begin_ahead(self, available, **environment):
-        """The commands that begin before `rt ci`."""
-        gate = CHECK["Gate"](None)
-        named = mock.patch.dict(CHECK["begin_ahead"].__globals__, {"available_bytes": lambda: available, "SECONDS_AHEAD": 0})
-        with named, mock.patch.dict(os.environ, {"CI": "", **environment}), mock.patch.object(gate, "begin") as begin:
-            CHECK["begin_ahead"](gate, "tree")
-        return [call.args[1] for call in begin.call_args_list]
-
     def test_what_is_proved_ahead(self):
-        self.assertEqual(self.begin_ahead(CHECK["AHEAD_BYTES"]), [["rt", "ci", "suite"], ["rt", "ci", "dictcol"]])
-        self.assertEqual(self.begin_ahead(CHECK["AHEAD_BYTES"] - 1), [])
-        self.assertEqual(self.begin_ahead(CHECK["AHEAD_BYTES"], CI="true"), [])
-
-    def test_only_rt_ci_judges_what_is_proved(self):
-        for status, is_proved in (0, True), (1, False):
-            gate, printed = CHECK["Gate"](None), io.StringIO()
-            ahead = "proofs of it, ahead", ["sh", "-c", f"echo said ahead; exit {1 - status}"]
-            changed = {"copy_crates": lambda *_: None, "stamp_libraries": lambda _: None, "take_libraries": lambda *_: None,
-                       "begin_ahead": lambda gate, _, it=ahead: [gate.begin(*it)], "PROVE": f"echo 1 passed, {status} failed; exit {status}"}
-            with mock.patch.dict(CHECK["prove"].__globals__, changed), contextlib.redirect_stdout(printed):
-                self.assertEqual(CHECK["prove"](gate, "."), is_proved)
-            self.assertIn("said ahead", printed.getvalue())
-            self.assertEqual(sum(part.failed for part in gate.parts), status)
+        named = CHECK["names_ahead"].__globals__
+        for available, ci, names in (16 << 30, "", ("suite", "dictcol")), ((16 << 30) - 1, "", ()), (16 << 30, "true", ()):
+            with mock.patch.dict(named, {"available_bytes": lambda it=available: it}), mock.patch.dict(os.environ, {"CI": ci}):
+                self.assertEqual(CHECK["names_ahead"](), names)
 
 
 class TestsTest(unittest.TestCase):
