@@ -1,0 +1,163 @@
+//! Each request for memory that a call makes is refused once. The call then fails, and all is as it was.
+
+mod common;
+
+use std::alloc::{GlobalAlloc, Layout, System};
+use std::cell::Cell;
+use std::panic::{catch_unwind, AssertUnwindSafe};
+use std::ptr;
+
+use common::Backend;
+use string_interner::backend::{BucketBackend, BufferBackend, StringBackend};
+use string_interner::symbol::SymbolUsize;
+use string_interner::{InternError, JsonError, StringInterner};
+
+thread_local! {
+    /// The request that is refused, counted from 1; none if this is 0.
+    static REFUSED: Cell<usize> = const { Cell::new(0) };
+}
+
+struct Refusing;
+
+#[global_allocator]
+static ALLOCATOR: Refusing = Refusing;
+
+// SAFETY: it hands all on to the system's allocator, or refuses.
+unsafe impl GlobalAlloc for Refusing {
+    unsafe fn alloc(&self, layout: Layout) -> *mut u8 {
+        let left = REFUSED.get();
+        REFUSED.set(left.saturating_sub(1));
+        if left == 1 {
+            return ptr::null_mut();
+        }
+        // SAFETY: owed by the caller.
+        unsafe { System.alloc(layout) }
+    }
+
+    unsafe fn dealloc(&self, block: *mut u8, layout: Layout) {
+        // SAFETY: owed by the caller.
+        unsafe { System.dealloc(block, layout) }
+    }
+}
+
+/// Makes a call over and over, of which each time a later request is refused, until none is. Returns how many were.
+fn refuse_each<T>(mut call: impl FnMut() -> T, mut check: impl FnMut(T)) -> usize {
+    for number in 1.. {
+        REFUSED.set(number);
+        let returned = call();
+        let was_refused = REFUSED.replace(0) == 0;
+        check(returned);
+        if !was_refused {
+            return number - 1;
+        }
+    }
+    unreachable!()
+}
+
+fn spell(number: usize) -> String {
+    format!("{number} {}", "ß".repeat(number % 40))
+}
+
+fn holds<B: Backend>(interner: &StringInterner<B>, count: usize) {
+    assert!(interner
+        .iter()
+        .map(|(_, text)| text)
+        .eq((0..count).map(spell)));
+    assert!(interner
+        .iter()
+        .all(|(symbol, text)| interner.get(text) == Some(symbol)));
+    assert_eq!(interner.len(), count);
+}
+
+fn interning<B: Backend>() {
+    let mut interner = StringInterner::<B>::new();
+    let mut refusals = 0;
+    for number in 0..300 {
+        let text = spell(number);
+        refusals += refuse_each(
+            || interner.try_get_or_intern(&text),
+            |returned| assert!(returned.is_ok() || returned == Err(InternError::Memory)),
+        );
+        if number % 20 == 0 {
+            holds(&interner, number + 1);
+        }
+    }
+    assert!(refusals > 9, "{refusals}");
+    holds(&interner, 300);
+}
+
+/// A call that fails left the text out.
+fn a_text_that_failed<B: Backend>() {
+    let mut interner = StringInterner::<B>::new();
+    for number in 0..200 {
+        let text = spell(number);
+        REFUSED.set(1);
+        let returned = interner.try_get_or_intern(&text);
+        if REFUSED.replace(0) == 0 {
+            assert!(returned == Err(InternError::Memory));
+            holds(&interner, number);
+            assert!(interner.get(&text).is_none());
+        }
+        interner.get_or_intern(text);
+    }
+    holds(&interner, 200);
+}
+
+/// These panic where memory is refused.
+fn other_calls<B: Backend>() {
+    let mut interner: StringInterner<B> = (0..100).map(spell).collect();
+    let copied = refuse_each(
+        || catch_unwind(AssertUnwindSafe(|| interner.clone())),
+        |copy| copy.iter().for_each(|copy| holds(copy, 100)),
+    );
+    holds(&interner, 100);
+    let symbol = interner.get(spell(39)).unwrap();
+    let part = refuse_each(
+        || {
+            catch_unwind(AssertUnwindSafe(|| {
+                interner.get_or_intern_part(symbol, 1..31)
+            }))
+        },
+        |part| drop(part),
+    );
+    let truncated = refuse_each(
+        || catch_unwind(AssertUnwindSafe(|| interner.truncate(100))),
+        |returned| drop(returned),
+    );
+    assert!(copied > 1 && part > 0 && truncated > 0);
+    holds(&interner, 100);
+    refuse_each(|| interner.shrink_to_fit(), |()| ());
+    holds(&interner, 100);
+    interner.get_or_intern(spell(100));
+    holds(&interner, 101);
+}
+
+fn json<B: Backend>() {
+    let interner: StringInterner<B> = (0..50).map(spell).collect();
+    let json = interner.to_json();
+    let refusals = refuse_each(
+        || StringInterner::<B>::from_json(&json),
+        |read| match read {
+            Ok(read) => holds(&read, 50),
+            Err(error) => assert_eq!(error, JsonError::Memory),
+        },
+    );
+    assert!(refusals > 50);
+}
+
+macro_rules! over_each_backend {
+    ($($name:ident)*) => {
+        $(mod $name {
+            #[test]
+            fn over_each_backend() {
+                super::$name::<super::StringBackend>();
+                super::$name::<super::BucketBackend>();
+                super::$name::<super::BufferBackend<super::SymbolUsize>>();
+            }
+        })*
+    };
+}
+
+over_each_backend! {
+    interning a_text_that_failed other_calls json
+}
