@@ -18,6 +18,8 @@ from source import Function, block_around, find_functions, start_of
 Replacement = tuple[str, int, int, str]
 # What a control has that the function has not.
 COMMENT = "/* as it is */ "
+# How the name of a trial begins that asks for all goals of a function.
+GOALS_OF = "the goals of "
 # An answer of a proof file to a goal.
 ANSWER = re.compile(r"^pub (\S+) : goal\.\S+\n(?:.+\n)*", re.M)
 
@@ -84,6 +86,8 @@ class Trial:
     control: "Trial | None" = None
     is_alone: bool = False
     without: set[str] = field(default_factory=set)
+    # Where a control's function begins.
+    place: tuple[str, int] | None = None
 
     @property
     def answered(self) -> set[str]:
@@ -100,6 +104,8 @@ class Trial:
             for path in proofs.rglob("*.antt"):
                 names = [f"proofs.{it.replace('::', '.')}." for it in (self.original, self.function)]
                 write(path, read(path).replace(*names))
+        if self.name.startswith(GOALS_OF) and own.is_dir():
+            (own / "Answers.antt").unlink(missing_ok=True)
         if self.without:
             write(proofs / "Answers.antt", ANSWER.sub(self.kept, read(proofs / "Answers.antt")))
         return self.changes
@@ -107,6 +113,11 @@ class Trial:
     def without_answers(self, goals: list[str]) -> "Trial | None":
         """The same trial without the answers to these goals, if there is an answer to each."""
         return replace(self, without=set(goals)) if set(goals) <= self.answered else None
+
+    def goals(self) -> "Trial":
+        """A trial of its function as it is without answers and tactics, which leaves each goal open."""
+        file, start = self.control.place
+        return Trial(f"{GOALS_OF}{self.name}", self.crate, self.original or self.function, [(file, start, start, "#[tactic(none)]\n")])
 
     def kept(self, answer: re.Match[str]) -> str:
         return "" if answer[1] in self.without else answer[0]
@@ -136,6 +147,7 @@ def beside(edits: list[Edit], text: str) -> list[Trial]:
         return Trial(name, edits[0].crate, f"{function}_bug{number}", placed_behind, function, control)
 
     control = trial(0, f"the control of {function}", [comment(edits[0], own)])
+    control.place = edits[0].source, own.start
     return [trial(number, it.name, placed(it), control) for number, it in enumerate(edits, 1)]
 
 
@@ -143,8 +155,8 @@ def in_place(edit: Edit, text: str) -> Trial:
     """The trial of a bug in its place. Where the bug writes the function, so does its control."""
     has_right = all(it.right is not None for it in edit.changes)
     changes = placed(edit, "right") if has_right else [comment(edit, definition(edit, text))]
-    definition(edit, replaced(text, changes))
-    control = Trial(f"the control of {edit.function}", edit.crate, edit.function, changes)
+    own = definition(edit, replaced(text, changes))
+    control = Trial(f"the control of {edit.function}", edit.crate, edit.function, changes, place=(edit.source, own.start))
     return Trial(edit.name, edit.crate, edit.function, placed(edit), None, control, any(it.file for it in edit.changes))
 
 

@@ -6,8 +6,6 @@ REFUSED, LET_THROUGH, BY_FORM_ALONE = "refused", "let through", "by form alone"
 # What an error in a proof file says of a name that a planted bug took away; not that a goal, as shown, names what a hole there does
 # not.
 MISSING = re.compile(r"\bhas no (?:field )?`|\bnot found\b|\bis not in scope\b(?! here, so what is shown)")
-# What it says where an answer's goal is gone.
-GONE = re.compile(r"\.Goals` has no `")
 # What is said of a goal that is not proved and has no answer, above its function.
 OPEN = re.compile(r"^note: .* is not proved .*\(`([^`]+)`\)")
 # An error in a proof file: the function's folder, the definition where there is one, and what is wrong.
@@ -42,7 +40,7 @@ class Verdicts:
 
         It is refused where an answer does not prove its goal, or a goal has no answer and the tactics do not prove it. Where its
         proof files miss a name, the bug may have taken it away. So an answer that misses one shows nothing; nor does a goal without
-        an answer if another answer's goal is gone, of which it may be the new name; nor does anything if a lemma misses a name.
+        an answer, which may be that of another answer under a new name; nor does anything if a lemma misses a name.
         """
         if trial.function not in self.open:
             return "its function is not one that the check names"
@@ -51,10 +49,9 @@ class Verdicts:
         errors = self.errors.get(trial.function, [])
         missing = {name for name, message in errors if MISSING.search(message)}
         failed = {name for name, _ in errors} - missing
-        has_new_names = any(GONE.search(message) for _, message in errors)
         if not errors and not self.open[trial.function]:
             return LET_THROUGH
-        is_by_meaning = missing <= trial.answered and (failed or self.open[trial.function] and not has_new_names)
+        is_by_meaning = missing <= trial.answered and (failed or self.open[trial.function] and not missing)
         return REFUSED if is_by_meaning else BY_FORM_ALONE
 
     def opened(self, trial):

@@ -10,7 +10,7 @@ from unittest import mock
 from small import SmallRepository, edits
 from source import find_functions
 from trial import trials_of
-from verdicts import LET_THROUGH, REFUSED
+from verdicts import BY_FORM_ALONE, LET_THROUGH, REFUSED
 
 REFUSE = runpy.run_path(str(edits.TOP / "tools/refuse-edits"))
 NAMES = REFUSE["main"].__globals__
@@ -18,6 +18,7 @@ NAMES = REFUSE["main"].__globals__
 RIGHT = {"area": "side * side", "double": "number + number", "half": "number / 2", "quarter": "number / 4"}
 OPEN = "note: src/lib.rt:1:1: it is not proved that what the function ensures holds (`{}`)\n"
 FAILED = "./proofs/{}/Answers.antt:6:15: error: `returns`: `search`: no proof\n"
+GONE = "./proofs/{}/Answers.antt:6:15: error: `returns`: `goal.returns`: module `Goals`\n  has no `returns`\n"
 
 
 class RefuseTest(SmallRepository):
@@ -25,7 +26,7 @@ class RefuseTest(SmallRepository):
         super().setUp()
         self.write("HANDLES", "")
         self.checks = []
-        self.right, self.unread = dict(RIGHT), []
+        self.right, self.unread, self.goals = dict(RIGHT), [], ["returns", "returns-then-ne"]
         patch = mock.patch.dict(NAMES, TOP=self.top, run_in=self.prove)
         patch.start()
         self.addCleanup(patch.stop)
@@ -40,7 +41,11 @@ class RefuseTest(SmallRepository):
         said = ""
         for function in functions:
             [own] = find_functions(text, function)
-            if self.right[own.name.partition("_bug")[0]] not in own.text:
+            if text[: own.start].endswith("#[tactic(none)]\n"):
+                said += "".join(map(OPEN.format, self.goals))
+            elif "renamed" in own.text:
+                said += GONE.format(function) + OPEN.format("returns-else")
+            elif self.right[own.name.partition("_bug")[0]] not in own.text:
                 answers = folder / f"proofs/{function}/Answers.antt"
                 is_answered = answers.exists() and "pub returns :" in answers.read_text(encoding="utf-8")
                 said += FAILED.format(function) if is_answered else "" if "proved by tactics" in own.text else OPEN.format("returns")
@@ -79,6 +84,13 @@ class RefuseTest(SmallRepository):
         self.unread.append("nothing / 8")
         outcomes = self.outcomes()
         self.assertEqual({name for name, outcome in outcomes.items() if outcome != REFUSED}, {"halves_oddly"})
+
+    def test_an_open_goal_shows_a_refusal_if_the_function_has_it(self):
+        self.write_edit("doubles_by_another_name", "    number + number", "    renamed(number)", "double")
+        self.assertEqual(self.outcomes()["doubles_by_another_name"], BY_FORM_ALONE)
+        self.assertIn(["double"], self.checks)
+        self.goals.append("returns-else")
+        self.assertEqual(self.outcomes()["doubles_by_another_name"], REFUSED)
 
     def test_a_thorough_trial_wants_the_tactics_to_fail(self):
         self.write_edit("doubles_so", "    number + number", "    2 * number /* proved by tactics */", "double")

@@ -72,11 +72,6 @@ class VerdictsTest(unittest.TestCase):
     def test_an_open_goal_beside_an_answer_to_none(self):
         self.assertEqual(self.outcome(MISSING_GOAL + OPEN_GOAL), BY_FORM_ALONE)
 
-    def test_an_open_goal_beside_an_answer_that_misses_a_name(self):
-        error = "./proofs/double/Answers.antt:5:15: error: `returns`: `record {count : 1 ≡ 1}` has no field `texts`\n"
-        self.assertEqual(self.outcome(error + OPEN_GOAL), REFUSED)
-        self.assertEqual(self.outcome(f"{error}fn low::double: not proved\nonly=1 holes=0\n"), BY_FORM_ALONE)
-
     def test_an_answer_that_fails_beside_an_answer_to_none(self):
         both = REFUSAL.replace("note:", MISSING_GOAL.replace("`returns`: `goal.r", "`returns-then-gt`: `goal.r").partition("fn ")[0] + "note:")
         self.assertEqual(self.outcome(both, answered={"returns", "returns-then-gt"}), REFUSED)
