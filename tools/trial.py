@@ -18,8 +18,6 @@ from source import Function, block_around, find_functions, start_of
 Replacement = tuple[str, int, int, str]
 # What a control has that the function has not.
 COMMENT = "/* as it is */ "
-# How the name of a trial begins that asks for all goals of a function.
-GOALS_OF = "the goals of "
 # An answer of a proof file to a goal.
 ANSWER = re.compile(r"^pub (\S+) : goal\.\S+\n(?:.+\n)*", re.M)
 
@@ -86,8 +84,8 @@ class Trial:
     control: "Trial | None" = None
     is_alone: bool = False
     without: set[str] = field(default_factory=set)
-    # Where a control's function begins.
-    place: tuple[str, int] | None = None
+    # Where the function begins that is changed.
+    place: tuple[str, int] = ("", 0)
 
     @property
     def answered(self) -> set[str]:
@@ -104,8 +102,6 @@ class Trial:
             for path in proofs.rglob("*.antt"):
                 names = [f"proofs.{it.replace('::', '.')}." for it in (self.original, self.function)]
                 write(path, read(path).replace(*names))
-        if self.name.startswith(GOALS_OF) and own.is_dir():
-            (own / "Answers.antt").unlink(missing_ok=True)
         if self.without:
             write(proofs / "Answers.antt", ANSWER.sub(self.kept, read(proofs / "Answers.antt")))
         return self.changes
@@ -116,8 +112,9 @@ class Trial:
 
     def goals(self) -> "Trial":
         """A trial of its function as it is without answers and tactics, which leaves each goal open."""
-        file, start = self.control.place
-        return Trial(f"{GOALS_OF}{self.name}", self.crate, self.original or self.function, [(file, start, start, "#[tactic(none)]\n")])
+        file, start = self.place
+        by_hand = [(file, start, start, "#[tactic(none)]\n")]
+        return Trial(f"all goals of {self.name}", self.crate, self.original or self.function, by_hand, without=self.answered)
 
     def kept(self, answer: re.Match[str]) -> str:
         return "" if answer[1] in self.without else answer[0]
@@ -144,10 +141,10 @@ def beside(edits: list[Edit], text: str) -> list[Trial]:
     def trial(number: int, name: str, changes: list[Replacement], control: Trial | None = None) -> Trial:
         copy = replaced(text[start : own.end], changes, start).replace(f"fn {own.name}", f"fn {own.name}_bug{number}", 1)
         placed_behind = [(edits[0].source, own.end, own.end, f"\n\n{copy}")]
-        return Trial(name, edits[0].crate, f"{function}_bug{number}", placed_behind, function, control)
+        place = edits[0].source, own.start
+        return Trial(name, edits[0].crate, f"{function}_bug{number}", placed_behind, function, control, place=place)
 
     control = trial(0, f"the control of {function}", [comment(edits[0], own)])
-    control.place = edits[0].source, own.start
     return [trial(number, it.name, placed(it), control) for number, it in enumerate(edits, 1)]
 
 
@@ -156,8 +153,9 @@ def in_place(edit: Edit, text: str) -> Trial:
     has_right = all(it.right is not None for it in edit.changes)
     changes = placed(edit, "right") if has_right else [comment(edit, definition(edit, text))]
     own = definition(edit, replaced(text, changes))
-    control = Trial(f"the control of {edit.function}", edit.crate, edit.function, changes, place=(edit.source, own.start))
-    return Trial(edit.name, edit.crate, edit.function, placed(edit), None, control, any(it.file for it in edit.changes))
+    control = Trial(f"the control of {edit.function}", edit.crate, edit.function, changes)
+    is_alone, place = any(it.file for it in edit.changes), (edit.source, own.start)
+    return Trial(edit.name, edit.crate, edit.function, placed(edit), None, control, is_alone, place=place)
 
 
 def trials_of(edits: list[Edit]) -> list[Trial]:

@@ -41,13 +41,14 @@ class RefuseTest(SmallRepository):
         said = ""
         for function in functions:
             [own] = find_functions(text, function)
+            answers = folder / f"proofs/{function}/Answers.antt"
+            is_answered = answers.exists() and "pub returns :" in answers.read_text(encoding="utf-8")
             if text[: own.start].endswith("#[tactic(none)]\n"):
+                self.assertFalse(is_answered)
                 said += "".join(map(OPEN.format, self.goals))
             elif "renamed" in own.text:
                 said += GONE.format(function) + OPEN.format("returns-else")
             elif self.right[own.name.partition("_bug")[0]] not in own.text:
-                answers = folder / f"proofs/{function}/Answers.antt"
-                is_answered = answers.exists() and "pub returns :" in answers.read_text(encoding="utf-8")
                 said += FAILED.format(function) if is_answered else "" if "proved by tactics" in own.text else OPEN.format("returns")
             said += f"fn low::{function}: ..\n"
         return 1, f"{said}only=1 holes=0\n"
