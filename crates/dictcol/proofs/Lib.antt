@@ -13,6 +13,8 @@ pub mod IsFileText
 pub mod StreamTokens
 pub mod Taken
 pub mod TrimEnd
+pub mod AreGood
+pub mod IsLineOf
 pub mod Counted
 pub mod CountRows
 pub mod Places

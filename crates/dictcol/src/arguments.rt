@@ -1,7 +1,7 @@
 //! The arguments.
 
 ghost use Rattle.std.specs.Prelude.{◌≡◌};
-ghost use Rattle.dictcol.specs.Names.{name_of};
+ghost use Rattle.dictcol.specs.Names.{Names};
 
 use crate::mend::Mending;
 use crate::shown::ShownWord;
@@ -84,7 +84,7 @@ pub enum Source<'a> {
 impl<'a> Source<'a> {
     /// Returns the file that a word names.
     pub fn of_word(word: &'a str) -> Source<'a>
-        ensures { name_of result ≡ word.now }
+        ensures { Names word.now result }
     {
         if word == "-" {
             Source::StandardInput

@@ -1,7 +1,7 @@
 //! The input: files that are read one after another, as `cat` writes them.
 
 ghost use Rattle.std.specs.Prelude.{◌≡◌, ◌≤◌, length, true, IfOk, OnOk};
-ghost use Rattle.dictcol.specs.Inputs.{source_at, newlines_with, noted};
+ghost use Rattle.dictcol.specs.Inputs.{source_at, newlines_with, noted, IsLocated};
 
 use crate::arguments::Source;
 use crate::blocks::count_byte;
@@ -157,11 +157,16 @@ impl<'a> Inputs<'a> {
 
     /// Returns the file that a fault is about, if it is about one, and the fault as one of this file: lines are counted from its
     /// own first one, and a line of two files is one of the later.
-    pub fn locate(&self, fault: Fault) -> (Source<'a>, Fault) {
+    pub fn locate(&self, fault: Fault) -> (Source<'a>, Fault)
+        ensures { IsLocated self.now.begins.items
+            (source_at self.now.sources.now self.now.at) fault result }
+    {
         let Fault::NotUtf8(line) = fault else {
             return (self.current(), fault);
         };
-        for begin in self.begins.iter().rev() {
+        let count = self.begins.len();
+        for later in 0..count {
+            let begin = self.begins[count - 1 - later];
             if begin.newlines < line {
                 return (begin.source, Fault::NotUtf8(line - begin.newlines));
             }

@@ -1,11 +1,13 @@
 //! The names of files in a list. A zero byte ends each, as `find -print0` writes them.
 
-ghost use Rattle.std.specs.Prelude.{◌≡◌, IfOk, map};
+ghost use Rattle.std.specs.Prelude.{◌≡◌, ◌≢◌, ◌+◌, ◌≤◌, List, [], true, false, count_by, length, IfErr, IfOk, IsTrue, OnOk};
 ghost use Rattle.string_interner.specs.Extend.{texts_of};
-ghost use Rattle.std.specs.List.{slice_split};
-ghost use Rattle.dictcol.specs.Names.{is_zero, name_of, names_of};
+ghost use Rattle.string_interner.specs.Text.{Text};
+ghost use Rattle.std.specs.List.{AllZip, slice_split};
+ghost use Rattle.dictcol.specs.Names.{dash, is_dash, is_zero, names_of, AreGood, IsListFault, IsNamesFault, IsWrong, Names};
 
 use crate::arguments::Source;
+use crate::blocks::count_byte;
 use std::alloc::{AllocError, Global};
 use thiserror::Error;
 
@@ -49,26 +51,38 @@ fn split_names(alloc: Global, list: &str) -> Result<Vec<&str>, AllocError>
     Ok(names)
 }
 
+/// Checks a name. `number` is its number, and `has_input` says whether one before it is standard input.
+fn check_name(name: &str, number: usize, is_input: bool, has_input: bool) -> Result<(), NameFault>
+    ensures ok { OnOk result ((name.now ≢ [])
+        × (name.now ≡ dash → (is_input ≡ false) × (has_input ≡ false))) }
+    ensures fault { (before : List Text) → number ≡ length before + 1
+        → (IsTrue has_input → 1 ≤ count_by is_dash before)
+        → IfErr result (IsWrong is_input before name.now) }
+{
+    match Source::of_word(name) {
+        Source::File("") => Err(NameFault::Empty(number)),
+        Source::StandardInput if is_input => Err(NameFault::ListIsInput(number)),
+        Source::StandardInput if has_input => Err(NameFault::InputTwice(number)),
+        _ => Ok(()),
+    }
+}
+
 /// Returns the files of these names. If the list comes from standard input, none of them may be that.
 fn name_files<'a>(
     alloc: Global,
     names: &[&'a str],
     is_input: bool,
 ) -> Result<Vec<Source<'a>>, NameFault>
-    ensures { IfOk result (λ files. map name_of files.items ≡ texts_of names.now) }
+    ensures files { IfOk result (λ files. AllZip Names (texts_of names.now) files.items) }
+    ensures good { IfOk result (λ files. AreGood is_input (texts_of names.now)) }
+    ensures fault { IfErr result (IsNamesFault is_input (texts_of names.now)) }
 {
     let mut files = Vec::new(alloc);
     let mut has_input = false;
     for name in names {
-        let number = files.len().saturating_add(1);
+        check_name(name, files.len().saturating_add(1), is_input, has_input)?;
         let file = Source::of_word(name);
-        match file {
-            Source::File("") => return Err(NameFault::Empty(number)),
-            Source::StandardInput if is_input => return Err(NameFault::ListIsInput(number)),
-            Source::StandardInput if has_input => return Err(NameFault::InputTwice(number)),
-            Source::StandardInput => has_input = true,
-            Source::File(_) => {}
-        }
+        has_input |= matches!(file, Source::StandardInput);
         files.push(file).map_err(|_| NameFault::Memory)?;
     }
     Ok(files)
@@ -80,7 +94,9 @@ pub fn find_files<'a>(
     list: &'a [u8],
     is_input: bool,
 ) -> Result<Vec<Source<'a>>, NameFault>
-    ensures { IfOk result (λ files. map name_of files.items ≡ names_of list.now) }
+    ensures files { IfOk result (λ files. AllZip Names (names_of list.now) files.items) }
+    ensures good { IfOk result (λ files. AreGood is_input (names_of list.now)) }
+    ensures fault { IfErr result (IsListFault is_input list.now) }
 {
     match str::from_utf8(list) {
         Ok(list) => {
@@ -88,10 +104,7 @@ pub fn find_files<'a>(
             name_files(alloc, &names, is_input)
         }
         Err(error) => {
-            let ends = list[..error.valid_up_to()]
-                .iter()
-                .filter(|byte| **byte == 0)
-                .count();
+            let ends = count_byte(0, &list[..error.valid_up_to()]);
             Err(NameFault::NotUtf8(ends.saturating_add(1)))
         }
     }
