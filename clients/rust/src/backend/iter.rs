@@ -1,13 +1,12 @@
 //! Iterators over the texts of the three backends. Each is a plain struct, so that its lifetime may shrink.
 
-use super::joined::cut;
+use super::joined::Parts;
 use crate::proved::backend as proved;
 use crate::proved::backend::Backend as _;
 use crate::symbol::Symbol;
 use core::fmt;
 use core::iter::FusedIterator;
 use core::marker::PhantomData;
-use core::slice;
 
 /// Returns the symbol of a text that is there.
 #[inline(always)]
@@ -60,75 +59,51 @@ macro_rules! iterator {
     };
 }
 
-/// Yields the texts of a `StringBackend`, as the parts of the joined text from each end to the next.
+/// Yields the texts of a `StringBackend`.
 pub struct StringIter<'a, S> {
-    joined: &'a str,
-    /// The ends of the texts that are left: those of four bytes, and after them those of eight.
-    narrow: slice::Iter<'a, u32>,
-    wide: slice::Iter<'a, usize>,
+    parts: Parts<'a>,
     number: usize,
-    /// The end of the text before, or 0.
-    start: usize,
     symbol: PhantomData<fn() -> S>,
 }
 
 impl<'a, S> StringIter<'a, S> {
     #[inline]
     pub(super) fn over(texts: &'a proved::StringBackend<usize>) -> Self {
-        let (joined, ends) = texts.as_parts();
-        let (narrow, wide) = ends.as_slices();
         StringIter {
-            joined,
-            narrow: narrow.iter(),
-            wide: wide.iter(),
+            parts: Parts::of(texts),
             number: 0,
-            start: 0,
             symbol: PhantomData,
         }
     }
 
     fn copy(&self) -> Self {
         StringIter {
-            narrow: self.narrow.clone(),
-            wide: self.wide.clone(),
+            parts: self.parts.clone(),
             ..*self
         }
     }
 
     #[inline(always)]
     fn left(&self) -> usize {
-        self.narrow.len() + self.wide.len()
+        self.parts.len()
     }
 
     #[inline(always)]
     fn step(&mut self) -> Option<(usize, &'a str)> {
-        let end = match self.narrow.next() {
-            Some(end) => *end as usize,
-            None => *self.wide.next()?,
-        };
+        let text = self.parts.next()?;
         let number = self.number;
-        // SAFETY: these are the end of the text before, or 0, and the next one.
-        let text = unsafe { cut(self.joined, self.start, end) };
         self.number += 1;
-        self.start = end;
         Some((number, text))
     }
 
     #[inline(always)]
     fn fold_steps<A>(self, first: A, mut call: impl FnMut(A, usize, &'a str) -> A) -> A {
-        let (joined, mut number, mut start) = (self.joined, self.number, self.start);
-        let mut step = |so_far, end| {
-            // SAFETY: as in `step`.
-            let text = unsafe { cut(joined, start, end) };
+        let mut number = self.number;
+        self.parts.fold(first, |so_far, text| {
             let so_far = call(so_far, number, text);
             number += 1;
-            start = end;
             so_far
-        };
-        let so_far = self
-            .narrow
-            .fold(first, |so_far, end| step(so_far, *end as usize));
-        self.wide.fold(so_far, |so_far, end| step(so_far, *end))
+        })
     }
 }
 

@@ -7,6 +7,7 @@
 
 use crate::proved::backend::string::ends::{find_span, span};
 use crate::proved::backend::StringBackend;
+use core::slice;
 
 /// Returns the part of a text between two bytes.
 ///
@@ -14,7 +15,7 @@ use crate::proved::backend::StringBackend;
 ///
 /// They are ends of texts in the joined text, or 0, and the first is at most the second.
 #[inline(always)]
-pub(super) unsafe fn cut(joined: &str, start: usize, end: usize) -> &str {
+unsafe fn cut(joined: &str, start: usize, end: usize) -> &str {
     debug_assert!(joined.get(start..end).is_some());
     if cfg!(string_interner_checks) {
         return &joined[start..end];
@@ -40,3 +41,67 @@ pub(super) fn at(texts: &StringBackend<usize>, number: usize) -> &str {
     // SAFETY: as in `find`.
     unsafe { cut(joined, start, end) }
 }
+
+/// All texts in order, as the parts of the joined text from each end to the next.
+#[derive(Clone)]
+pub(super) struct Parts<'a> {
+    joined: &'a str,
+    /// The ends of the texts that are left: those of four bytes, and after them those of eight.
+    narrow: slice::Iter<'a, u32>,
+    wide: slice::Iter<'a, usize>,
+    /// The end of the text before, or 0.
+    start: usize,
+}
+
+impl<'a> Parts<'a> {
+    #[inline]
+    pub(super) fn of(texts: &'a StringBackend<usize>) -> Self {
+        let (joined, ends) = texts.as_parts();
+        let (narrow, wide) = ends.as_slices();
+        Parts {
+            joined,
+            narrow: narrow.iter(),
+            wide: wide.iter(),
+            start: 0,
+        }
+    }
+}
+
+impl<'a> Iterator for Parts<'a> {
+    type Item = &'a str;
+
+    #[inline(always)]
+    fn next(&mut self) -> Option<&'a str> {
+        let end = match self.narrow.next() {
+            Some(end) => *end as usize,
+            None => *self.wide.next()?,
+        };
+        // SAFETY: these are the end of the text before, or 0, and the next one.
+        let text = unsafe { cut(self.joined, self.start, end) };
+        self.start = end;
+        Some(text)
+    }
+
+    #[inline(always)]
+    fn size_hint(&self) -> (usize, Option<usize>) {
+        let left = self.narrow.len() + self.wide.len();
+        (left, Some(left))
+    }
+
+    #[inline(always)]
+    fn fold<A, F: FnMut(A, &'a str) -> A>(self, first: A, mut call: F) -> A {
+        let (joined, mut start) = (self.joined, self.start);
+        let mut step = |so_far, end| {
+            // SAFETY: as in `next`.
+            let text = unsafe { cut(joined, start, end) };
+            start = end;
+            call(so_far, text)
+        };
+        let so_far = self
+            .narrow
+            .fold(first, |so_far, end| step(so_far, *end as usize));
+        self.wide.fold(so_far, |so_far, end| step(so_far, *end))
+    }
+}
+
+impl ExactSizeIterator for Parts<'_> {}
