@@ -6,9 +6,8 @@ either in that run or in an earlier one with no change since then that touches i
 which one run tried all of them. A planted bug is touched if something of this has changed since the first commit: its lines in
 the table; the text of its function, and what stands outside functions in the same source; a file that its lines name; a proof
 file of its function; a file of specs/ of its crate or of one below; or, in a source there, the contract of a function, a type or
-a constant, if the bug's function or what stands outside functions beside it has this name. So more are touched than need be. With
-no such commit, or under another logic, all are. Lemmas are not considered, nor the tools that try the bugs: the gate proves the
-ones, and who changes the others runs `./check all`.
+a constant, if the bug's function or what stands outside functions beside it has this name. With no such commit, or under another
+logic, all are. Lemmas are not considered, nor what tries the bugs: the gate proves the ones; after the others run `./check all`.
 """
 
 import re

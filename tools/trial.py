@@ -103,7 +103,8 @@ class Trial:
                 names = [f"proofs.{it.replace('::', '.')}." for it in (self.original, self.function)]
                 write(path, read(path).replace(*names))
         if self.without:
-            write(proofs / "Answers.antt", ANSWER.sub(self.kept, read(proofs / "Answers.antt")))
+            kept = ANSWER.sub(lambda it: "" if it[1] in self.without else it[0], read(proofs / "Answers.antt"))
+            write(proofs / "Answers.antt", kept)
         return self.changes
 
     def without_answers(self, goals: list[str]) -> "Trial | None":
@@ -112,12 +113,8 @@ class Trial:
 
     def goals(self) -> "Trial":
         """A trial of its function as it is without answers and tactics, which leaves each goal open."""
-        file, start = self.place
-        by_hand = [(file, start, start, "#[tactic(none)]\n")]
+        by_hand = [(*self.place, self.place[1], "#[tactic(none)]\n")]
         return Trial(f"all goals of {self.name}", self.crate, self.original or self.function, by_hand, without=self.answered)
-
-    def kept(self, answer: re.Match[str]) -> str:
-        return "" if answer[1] in self.without else answer[0]
 
 
 def is_beside(edit: Edit, text: str) -> bool:
@@ -140,9 +137,8 @@ def beside(edits: list[Edit], text: str) -> list[Trial]:
 
     def trial(number: int, name: str, changes: list[Replacement], control: Trial | None = None) -> Trial:
         copy = replaced(text[start : own.end], changes, start).replace(f"fn {own.name}", f"fn {own.name}_bug{number}", 1)
-        placed_behind = [(edits[0].source, own.end, own.end, f"\n\n{copy}")]
-        place = edits[0].source, own.start
-        return Trial(name, edits[0].crate, f"{function}_bug{number}", placed_behind, function, control, place=place)
+        behind, place = (edits[0].source, own.end, own.end, f"\n\n{copy}"), (edits[0].source, own.start)
+        return Trial(name, edits[0].crate, f"{function}_bug{number}", [behind], function, control, place=place)
 
     control = trial(0, f"the control of {function}", [comment(edits[0], own)])
     return [trial(number, it.name, placed(it), control) for number, it in enumerate(edits, 1)]
