@@ -41,11 +41,6 @@ def link_kept_work(tree, into):
         shutil.copytree(kept, into / kept.relative_to(tree), copy_function=os.link)
 
 
-def copy_with_kept_work(tree, into):
-    shutil.copytree(tree, into, ignore=shutil.ignore_patterns("out"), dirs_exist_ok=True)
-    link_kept_work(tree, into)
-
-
 def stamp_libraries(tree):
     """Writes beside each library of a copy in which `rt ci` has passed the stamp by which `rt` knows of what text it is, as the
     toolchain itself reckons it: `rt ci` leaves none, and without it all would be proved again."""

@@ -5,7 +5,7 @@ from pathlib import Path
 
 from small import EDITS, SmallRepository
 import edits
-from files import copy_crates, copy_with_kept_work, read, take_kept_work, write
+from files import copy_crates, link_kept_work, read, take_kept_work, write
 
 
 class CopyTest(SmallRepository):
@@ -34,7 +34,7 @@ class CopyTest(SmallRepository):
                 self.write(f"crates/{name}/out/{part}/it", f"{part} of {name}")
         self.copied()
         take_kept_work(self.top, self.top / "copy", "high")
-        copy_with_kept_work(self.top / "copy", self.top / "again")
+        link_kept_work(self.top / "copy", self.top / "again")
         kept = {str(path.relative_to(self.top / "again")) for path in self.top.glob("again/crates/*/out/*/*")}
         self.assertEqual(kept, {"crates/low/out/rlib/it", "crates/high/out/incremental/it"})
         self.assertEqual(read(self.top / "again/crates/high/out/incremental/it"), "incremental of high")
