@@ -1,4 +1,4 @@
-use Rattle.std.proofs.Common.{◌≡◌, ◌+◌, ◌++◌, ◌∷◌, ◌||◌, [], ap, ◌∙◌, rules}
+use Rattle.std.proofs.Common.{◌≡◌, ◌++◌, ◌∷◌, ◌||◌, [], ap, ◌∙◌, rules}
 use Rattle.std.proofs.lemmas.Result.{err_from_is_err_and}
 use Rattle.dictcol.proofs.AreGood.{as-many-files, is_standard, more-named, texts-more, wrong-at}
 use Rattle.dictcol.proofs.names.name_files.Goals as goal
@@ -8,8 +8,7 @@ pub returns-in_err-check_name-clause-fault : goal.returns-in_err-check_name-clau
 returns-in_err-check_name-clause-fault c =
     let p = err_from_is_err_and c.from_residual.result c.from_residual.ensures.1 in
     let long = as-many-files c.args.names.now c.loop-name.name-index c.loop-name.files.items c.loop-name-test.true c.loop-name.invariant.files in
-    let number : c.saturating_add.result ≡ c.loop-name.name-index + 1 = search rules in
-    rw (p.1, p.2) (wrong-at c.args.is_input c.loop-name.has_input c.args.names.now c.loop-name.name-index _ c.saturating_add.result _ c.loop-name-test.true number c.loop-name.invariant.good
+    rw (p.1, p.2) (wrong-at c.args.is_input c.loop-name.has_input c.args.names.now c.loop-name.name-index _ _ _ c.loop-name-test.true (search rules) c.loop-name.invariant.good
     c.in_err-check_name.ensures.fault)
 
 pub loop-name-preserved : goal.loop-name-preserved
