@@ -104,6 +104,10 @@ pub trait Backend: Default {
         false
     }
 
+    /// Makes room for about so many texts at once if there is none, and if memory for them is granted.
+    #[doc(hidden)]
+    fn __make_room(&mut self, _texts: usize, _: Ours) {}
+
     /// Reports whether `__truncate` keeps the first texts. A backend of a program's own has no such call.
     #[doc(hidden)]
     #[inline(always)]
@@ -269,6 +273,14 @@ macro_rules! backend {
             #[inline(always)]
             fn __is_full(&self, _: Ours) -> bool {
                 self.next_symbol().is_none()
+            }
+
+            fn __make_room(&mut self, texts: usize, _: Ours) {
+                if self.texts.count() == 0 {
+                    if let Ok(empty) = proved::$name::with_capacity(Global, texts) {
+                        self.texts = empty;
+                    }
+                }
             }
 
             #[inline(always)]

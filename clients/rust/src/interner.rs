@@ -19,6 +19,9 @@ use core::ops::RangeBounds;
 /// The index of an interner's texts.
 type Index<B> = TaggedIndex<Sym<<B as Backend>::Symbol>>;
 
+/// For more texts than these no room is made because of what an iterator says of itself.
+const MOST_RESERVED: usize = 1 << 17;
+
 /// A list of distinct texts, each with a symbol.
 ///
 /// Over a backend of this crate, a call that fails to allocate panics, and leaves the interner as it was.
@@ -208,11 +211,25 @@ impl<B: Backend, H: BuildHasher> StringInterner<B, H> {
     {
         let strings = strings.into_iter();
         let mut symbols = Vec::with_capacity(strings.size_hint().0);
+        self.make_first_room(strings.size_hint().0);
         // A closure would hide from the panic who called.
         for string in strings {
             symbols.push(self.get_or_intern(string));
         }
         symbols
+    }
+
+    /// Makes room for about so many texts at once, if no room was ever made. Then nothing grows later.
+    fn make_first_room(&mut self, texts: usize) {
+        let texts = texts.min(MOST_RESERVED);
+        if self.index.slots() > 0 || texts == 0 {
+            return;
+        }
+        // If there is no memory for all at once, there may be some for one text after another.
+        if let Ok(index) = TextIndex::with_capacity(Global, texts) {
+            self.index = index;
+            self.backend.0.__make_room(texts, Ours(()));
+        }
     }
 
     /// Keeps the first `len` texts with their symbols, and drops the others. Hashes each text that stays, and allocates an index
@@ -380,14 +397,16 @@ impl<B: Backend, H: BuildHasher + Default, T: AsRef<str>> FromIterator<T> for St
 }
 
 impl<B: Backend, H: BuildHasher, T: AsRef<str>> Extend<T> for StringInterner<B, H> {
-    /// Interns all texts.
+    /// Interns all texts. A new interner first makes room for as many as the iterator says that there are at least, up to 131,072.
     ///
     /// # Panics
     ///
     /// If no symbol is left for a new text. The texts before it stay.
     #[track_caller]
     fn extend<I: IntoIterator<Item = T>>(&mut self, iter: I) {
-        for string in iter {
+        let strings = iter.into_iter();
+        self.make_first_room(strings.size_hint().0);
+        for string in strings {
             self.get_or_intern(string);
         }
     }
