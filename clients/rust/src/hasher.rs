@@ -41,29 +41,45 @@ impl<H: BuildHasher> TextHasher for By<H> {
     }
 }
 
-/// Defines the hasher that a builder makes. It passes over the byte that ends a `str` if what it is made of hashes lengths.
+/// Defines the hasher that a builder makes. It passes over the byte that ends a `str` if what it is made of hashes lengths: over one
+/// behind bytes.
 macro_rules! text_hasher {
     ($(#[$doc:meta])* $name:ident, $inner:ty, $hashes_lengths:expr) => {
         $(#[$doc])*
         #[derive(Clone, Copy)]
-        pub struct $name($inner);
+        pub struct $name {
+            inner: $inner,
+            is_behind_bytes: bool,
+        }
+
+        impl $name {
+            #[inline(always)]
+            fn of(inner: $inner) -> Self {
+                $name {
+                    inner,
+                    is_behind_bytes: false,
+                }
+            }
+        }
 
         impl Hasher for $name {
             #[inline(always)]
             fn write(&mut self, bytes: &[u8]) {
-                self.0.write(bytes);
+                self.inner.write(bytes);
+                self.is_behind_bytes = $hashes_lengths;
             }
 
             #[inline(always)]
             fn write_u8(&mut self, byte: u8) {
-                if !$hashes_lengths || byte != 0xff {
-                    self.0.write(&[byte]);
+                if !self.is_behind_bytes || byte != 0xff {
+                    self.inner.write(&[byte]);
                 }
+                self.is_behind_bytes = false;
             }
 
             #[inline(always)]
             fn finish(&self) -> u64 {
-                self.0.finish()
+                self.inner.finish()
             }
         }
 
@@ -104,7 +120,7 @@ impl BuildHasher for DefaultHashBuilder {
 
     #[inline(always)]
     fn build_hasher(&self) -> SeededTextHasher {
-        SeededTextHasher(process_keys().build_hasher())
+        SeededTextHasher::of(process_keys().build_hasher())
     }
 }
 
@@ -142,7 +158,7 @@ impl BuildHasher for FixedHashBuilder {
 
     #[inline(always)]
     fn build_hasher(&self) -> FixedTextHasher {
-        FixedTextHasher(FoldHasher::default())
+        FixedTextHasher::of(FoldHasher::default())
     }
 }
 
@@ -165,7 +181,7 @@ impl BuildHasher for KeyedHashBuilder {
 
     #[inline]
     fn build_hasher(&self) -> KeyedTextHasher {
-        KeyedTextHasher(self.0.build_hasher())
+        KeyedTextHasher::of(self.0.build_hasher())
     }
 }
 

@@ -19,12 +19,19 @@ use core::ops::RangeBounds;
 /// The index of an interner's texts.
 type Index<B> = TaggedIndex<Sym<<B as Backend>::Symbol>>;
 
-/// For more texts than these no room is made because of what an iterator says of itself.
-const MOST_RESERVED: usize = 1 << 17;
+/// For more texts than these `extend` and `intern_all` make no room because of what an iterator says of itself.
+const MOST_RESERVED: usize = 1 << 12;
+
+/// Makes room for more symbols.
+#[inline(always)]
+fn reserve<S>(symbols: &mut Vec<S>, more: usize) -> Result<(), InternError> {
+    symbols.try_reserve(more).map_err(|_| InternError::Memory)
+}
 
 /// A list of distinct texts, each with a symbol.
 ///
-/// Over a backend of this crate, a call that fails to allocate panics, and leaves the interner as it was.
+/// Over a backend of this crate, a call that fails to allocate panics, and leaves the interner as it was; one that interns many texts
+/// keeps those before. Only what makes a `String` or shows itself by `Debug` ends the process then, as such calls do in Rust.
 pub struct StringInterner<B, H = DefaultHashBuilder>
 where
     B: Backend,
@@ -210,10 +217,12 @@ impl<B: Backend, H: BuildHasher> StringInterner<B, H> {
         I::Item: AsRef<str>,
     {
         let strings = strings.into_iter();
-        let mut symbols = Vec::with_capacity(strings.size_hint().0);
+        let mut symbols = Vec::new();
+        expect(reserve(&mut symbols, strings.size_hint().0));
         self.make_first_room(strings.size_hint().0);
         // A closure would hide from the panic who called.
         for string in strings {
+            expect(reserve(&mut symbols, 1));
             symbols.push(self.get_or_intern(string));
         }
         symbols
@@ -235,7 +244,10 @@ impl<B: Backend, H: BuildHasher> StringInterner<B, H> {
     /// Keeps the first `len` texts with their symbols, and drops the others. Hashes each text that stays, and allocates an index
     /// for them.
     ///
-    /// A backend of a program's own is made anew of the texts that stay, which then have the symbols that it gives them.
+    /// A backend of a program's own is made anew of the texts that stay, which then have the symbols that it gives them. A
+    /// [`BucketBackend`](crate::backend::BucketBackend) keeps the bytes of dropped texts until it is cloned.
+    ///
+    /// A symbol of a dropped text is one of another interner from now on: see [`resolve_unchecked`](Self::resolve_unchecked).
     #[track_caller]
     pub fn truncate(&mut self, len: usize) {
         if len >= self.len() {
@@ -245,7 +257,10 @@ impl<B: Backend, H: BuildHasher> StringInterner<B, H> {
             self.index = expect(self.index_of(len));
             self.backend.0.__truncate(len, Ours(()));
         } else {
-            (self.backend, self.index) = expect(self.first_texts(len));
+            let (backend, index) = expect(self.first_texts(len));
+            // In this order: the old backend may panic as it is dropped, and then the index is of the new one.
+            self.index = index;
+            self.backend = backend;
         }
     }
 
@@ -294,7 +309,8 @@ impl<B: Backend, H> StringInterner<B, H> {
         self.len() == 0
     }
 
-    /// Releases memory that no text needs, if it can.
+    /// Releases memory of the backend that no text needs. The index keeps its room, and a bucket its spare bytes. For a moment this
+    /// takes the memory of the texts twice.
     pub fn shrink_to_fit(&mut self) {
         self.backend.0.shrink_to_fit();
     }
@@ -321,8 +337,9 @@ impl<B: Backend, H> StringInterner<B, H> {
     ///
     /// # Safety
     ///
-    /// This interner returned the symbol, or another one did before this one was cloned of it. Of any other symbol an interner over
-    /// a [`BufferBackend`](crate::backend::BufferBackend) may return what is no UTF-8.
+    /// This interner returned the symbol, or another one did before this one was cloned of it, and no
+    /// [`truncate`](Self::truncate) has dropped its text since. Of any other symbol an interner over a
+    /// [`BufferBackend`](crate::backend::BufferBackend) may return what is no UTF-8.
     #[inline]
     pub unsafe fn resolve_unchecked(&self, symbol: B::Symbol) -> &str {
         // SAFETY: the caller promises the same.
@@ -397,7 +414,7 @@ impl<B: Backend, H: BuildHasher + Default, T: AsRef<str>> FromIterator<T> for St
 }
 
 impl<B: Backend, H: BuildHasher, T: AsRef<str>> Extend<T> for StringInterner<B, H> {
-    /// Interns all texts. A new interner first makes room for as many as the iterator says that there are at least, up to 131,072.
+    /// Interns all texts. A new interner first makes room for as many as the iterator says that there are at least, up to 4,096.
     ///
     /// # Panics
     ///

@@ -33,6 +33,7 @@
 //! | `Symbol::try_from_usize`, `to_usize` | the backend, in `is_full`, `intern` and each look | nothing |
 //! | `Backend::intern`, `intern_static` | `intern_coded`, before `insert_at` | there is room for one more slot; all slots are in the table |
 //! | `Hasher`, `Backend::resolve_unchecked` | `rehash` above 2^32 slots | the new slots, which are dropped |
+//! | `Drop` of a backend | `truncate`, which replaces it | nothing: the index of the new backend is in place |
 //!
 //! Symbols are copied by their bits (`Sym`), so no `Clone` runs while `items` is filled or copied. `try_copy` copies a list whole or
 //! fails.

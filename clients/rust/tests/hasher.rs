@@ -1,7 +1,7 @@
 //! Hashers: `DefaultHashBuilder` as the hasher of something else, what an interner answers under each, and how long texts take
 //! that are chosen to have one hash code.
 
-use std::collections::HashMap;
+use std::collections::{HashMap, HashSet, VecDeque};
 use std::hash::{BuildHasher, BuildHasherDefault, DefaultHasher, Hasher, RandomState};
 use std::time::{Duration, Instant};
 
@@ -24,6 +24,31 @@ fn hashes_a_map() {
     for (symbol, text) in &interner {
         assert_eq!(lengths[&symbol], text.len());
     }
+}
+
+/// What hashes byte by byte is not all alike where bytes are 255.
+fn tells_bytes<H: BuildHasher>(builder: &H) {
+    let pairs = [(255_u8, 1_u8), (1, 255), (255, 255), (1, 1)];
+    let rows = (0..16).map(|at| {
+        let mut row = VecDeque::from([0_u8; 16]);
+        row[at] = 255;
+        row
+    });
+    let codes: HashSet<u64> = pairs.iter().map(|pair| builder.hash_one(pair)).collect();
+    assert_eq!(codes.len(), pairs.len());
+    assert_eq!(
+        rows.map(|row| builder.hash_one(row))
+            .collect::<HashSet<u64>>()
+            .len(),
+        16
+    );
+}
+
+#[test]
+fn a_byte_of_any_value_counts() {
+    tells_bytes(&DefaultHashBuilder);
+    tells_bytes(&FixedHashBuilder);
+    tells_bytes(&KeyedHashBuilder::new(1, 2));
 }
 
 #[test]

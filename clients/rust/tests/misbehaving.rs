@@ -288,6 +288,59 @@ fn backends_that_answer_anything() {
     }
 }
 
+/// A backend that keeps the contract, reads without a check by it, and panics when it is dropped.
+#[derive(Default)]
+struct Trusting(Vec<String>);
+
+impl Drop for Trusting {
+    fn drop(&mut self) {
+        if !thread::panicking() {
+            tick();
+        }
+    }
+}
+
+impl Backend for Trusting {
+    type Symbol = usize;
+    type Iter<'a> = Box<dyn Iterator<Item = (usize, &'a str)> + 'a>;
+
+    fn with_capacity(_: usize) -> Self {
+        Self::default()
+    }
+
+    fn intern(&mut self, text: &str) -> usize {
+        self.0.push(text.to_owned());
+        self.0.len() - 1
+    }
+
+    fn shrink_to_fit(&mut self) {}
+
+    fn resolve(&self, symbol: usize) -> Option<&str> {
+        self.0.get(symbol).map(String::as_str)
+    }
+
+    unsafe fn resolve_unchecked(&self, symbol: usize) -> &str {
+        // SAFETY: this backend returned the symbol.
+        unsafe { self.0.get_unchecked(symbol) }
+    }
+
+    fn iter(&self) -> Self::Iter<'_> {
+        Box::new(self.0.iter().map(String::as_str).enumerate())
+    }
+}
+
+#[test]
+fn a_backend_that_panics_as_it_is_dropped() {
+    let mut interner = StringInterner::<Trusting>::new();
+    interner.extend((0..100).map(spell));
+    LEFT.set(1);
+    assert!(attempt(|| interner.truncate(1)).is_none());
+    LEFT.set(0);
+    assert_eq!((interner.len(), interner.iter().count()), (1, 1));
+    assert_eq!(interner.get(spell(0)), Some(0));
+    assert!((1..100).all(|number| interner.get(spell(number)).is_none()));
+}
+
 /// A value that is another text each time, or panics.
 struct Turns(Cell<usize>);
 
