@@ -35,13 +35,13 @@ def without_models(text):
 
 
 class EraseTest(TestCase):
-    def gives(self, source, *wanted):
+    def gives(self, source, *wanted, place=""):
         """The source, without the import, becomes these lines."""
-        self.assertEqual(ERASE(source).replace(PRELUDE, "", 1).splitlines(), list(wanted))
+        self.assertEqual(ERASE(source, place).replace(PRELUDE, "", 1).splitlines(), list(wanted))
 
-    def refuses(self, source, line, why):
+    def refuses(self, source, line, why, place=""):
         with self.assertRaisesRegex(UNKNOWN, why) as refused:
-            ERASE(source)
+            ERASE(source, place)
         self.assertEqual(source.count("\n", 0, refused.exception.at) + 1, line)
 
     def test_plain_rust_stays(self):
@@ -194,16 +194,19 @@ class EraseTest(TestCase):
         self.gives("/// ```text\n/// ```\nfn f() {}\n", "/// ```text", "/// ```", "fn f() {}")
 
     def test_indexes_that_are_within(self):
-        """In functions that are named, and in no others."""
+        """In functions that are named, and in no others, also not of their names in another file."""
         self.gives(
             "fn item_with(at: [u8; 2]) {\n    self.tags[at] == of(&tags[at..])\n}\nfn f() { self.tags[at] }\n",
             "fn item_with(at: [u8; 2]) {",
             "    *unsafe { self.tags.at_unchecked(at) } == of(unsafe { tags.sixteen_unchecked(at) })",
             "}",
             "fn f() { self.tags[at] }",
+            place="dedup/tagged.rs",
         )
+        for place in ("", "dedup/tagged/tags.rs"):
+            self.gives("fn item_with() { self.tags[at] }\n", "fn item_with() { self.tags[at] }", place=place)
         for other in ("tags[at]", "self.tags[at + 1]", "&tags[..at]", "&self.tags[at..]"):
-            self.refuses(f"fn lanes_with() {{\n    {other}\n}}\n", 2, "in another form")
+            self.refuses(f"fn lanes_with() {{\n    {other}\n}}\n", 2, "in another form", "dedup/tagged/tags.rs")
 
     def test_the_prelude_is_on_the_line_of_the_first_item(self):
         self.assertEqual(ERASE("//! Docs.\nghost use A;\n\n/// It.\n#[inline]\nfn f() {}\n").splitlines()[3], f"{PRELUDE}/// It.")
