@@ -44,7 +44,7 @@ done
 archive=$1/crates/string_interner_c/out/libstring_interner_c.a
 if [ -e "$archive" ]; then
   clients/build "$archive"
-  sources_of string_interner_c clients/build clients/c/string_interner.h VERSION >clients/out/build.stamp
+  sources_of string_interner_c clients/build clients/c/build.c clients/c/string_interner.h VERSION >clients/out/build.stamp
 fi
 """
 MARK = "\f"

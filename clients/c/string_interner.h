@@ -32,6 +32,8 @@
  *   7. Pass only UTF-8 to the calls whose name ends in _utf8.
  *   8. Pass to interner_get_or_intern_static only bytes that stay where they are, unchanged, as long as the process runs.
  *
+ * What is proved is the source. Rattle's compiler or rustc makes the library of it; interner_build says which.
+ *
  * Three parts of these rules are tested and not proved:
  *
  *   - Calls that only read may run at the same time on one handle, may take a text that it lent, and may take the same handle
@@ -155,6 +157,10 @@ typedef struct interner_cursor {
 
 /** Returns the INTERNER_VERSION of the linked library. It differs from that of this header if the library is another one. */
 uint32_t interner_version(void);
+
+/** Returns how the linked library was built, as a static text that a zero ends: "proved by rt", by the compiler that proves it; or
+ * "proved source, compiled by rustc", by cargo, of the same source with its contracts as comments. Calls behave alike in both. */
+const char *interner_build(void);
 
 /** Returns a short description of a status. The text is static. */
 static inline const char *interner_status_text(interner_status status) {

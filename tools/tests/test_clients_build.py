@@ -20,6 +20,17 @@ echo 'void *rattle_alloc(void); unsigned interner_version(void) {{ return rattle
 cc -fPIC -c out/lib.c -o out/lib.o && ar rcs out/libstring_interner_c.a out/lib.o
 """
 
+# Stands for cargo: makes an archive of what the header names and of something else.
+CARGO = """#!/bin/sh
+echo cargo >> '{top}/calls'
+while [ "$1" != --target-dir ]; do shift; done
+mkdir -p "$2/release" && cd "$2/release"
+echo 'unsigned interner_version(void) {{ return 1; }} const char *interner_build(void) {{ return "proved source, compiled by rustc"; }}
+unsigned rust_panic(void) {{ return 1; }}' > lib.c
+echo 'unsigned rest_of_core(void) {{ return 1; }}' > core.c
+cc -fPIC -c lib.c core.c && ar rcs libstring_interner.a lib.o core.o
+"""
+
 # Stands for the build of the module.
 SETUP = """from pathlib import Path
 Path("string_interner/_native.abi3.so").touch()
@@ -38,7 +49,7 @@ class ClientsBuild(unittest.TestCase):
         for name in ("tools", ".ci", "clients/python/native", "clients/python/string_interner"):
             (self.top / name).mkdir(parents=True)
         tools = ("tools/records.py", "tools/machine.py", "tools/needs.py")
-        for name in ("clients/build", "clients/c/string_interner.h", "VERSION", *tools, ".ci/packages"):
+        for name in ("clients/build", "clients/c/build.c", "clients/c/string_interner.h", "VERSION", *tools, ".ci/packages"):
             shutil.copy(TOP / name, self.top / name)
         self.out = self.top / "clients/out"
         self.made = self.top / "crates/string_interner_c/out/libstring_interner_c.a"
@@ -48,16 +59,22 @@ class ClientsBuild(unittest.TestCase):
         (self.top / "crates.txt").write_text("string_interner_c staticlib: handles\n")
         (self.top / "clients/python/setup.py").write_text(SETUP.format(top=self.top))
         (self.top / "rt/c").mkdir(parents=True)
-        rt = self.top / "rt/rt"
-        rt.write_text(RT.format(top=self.top))
-        rt.chmod(0o755)
+        for name, text in (("rt/rt", RT), ("cargo/cargo", CARGO)):
+            command = self.top / name
+            command.parent.mkdir(exist_ok=True)
+            command.write_text(text.format(top=self.top))
+            command.chmod(0o755)
+        for name in ("clients/c/Cargo.toml", "clients/c/src", "clients/rust/src/proved", "clients/rust/src/rt"):
+            (self.top / name).mkdir(parents=True)
+        for name in ("error", "json", "unchecked"):
+            (self.top / f"clients/rust/src/{name}.rs").write_text(name)
         heap = self.top / "rt/c/heap"
         heap.with_suffix(".c").write_text("void *rattle_alloc(void) { return 0; }\n")
         subprocess.run(["cc", "-fPIC", "-c", heap.with_suffix(".c"), "-o", heap.with_suffix(".o")], check=True)
         subprocess.run(["ar", "rcs", heap.with_name("liblibc_c.a"), heap.with_suffix(".o")], check=True)
 
-    def build(self, *words, has_rt=True, fails=False):
-        path = f"{self.top}/rt:/usr/bin:/bin" if has_rt else "/usr/bin:/bin"
+    def build(self, *words, has_rt=True, has_cargo=False, fails=False):
+        path = (f"{self.top}/rt:" if has_rt else "") + (f"{self.top}/cargo:" if has_cargo else "") + "/usr/bin:/bin"
         ran = subprocess.run([self.top / "clients/build", *words], env={"PATH": path}, stdin=subprocess.DEVNULL, cwd=self.top,
                              capture_output=True, encoding="utf-8", check=False)
         self.assertEqual(ran.returncode, fails, ran)
@@ -71,15 +88,15 @@ class ClientsBuild(unittest.TestCase):
     def modules(self):
         return (self.top / "calls").read_text().split().count("module")
 
-    def edit(self, path, text=None):
+    def edit(self, path, text=None, stamp="build.stamp"):
         path.write_text(path.read_text() if text is None else text)
-        future = os.stat(self.out / "build.stamp").st_mtime + 10
+        future = os.stat(self.out / stamp).st_mtime + 10
         os.utime(path, (future, future))
 
     def test_proves_once_and_without_a_log(self):
         for _ in range(2):
             ran = self.build()
-            self.assertEqual(ran.stdout, f"build: {self.out}\n")
+            self.assertEqual(ran.stdout, f"build: {self.out}: proved by rt\n")
             self.assertNotIn("something", ran.stderr)
         self.assertEqual((self.proofs, self.modules, ran.stderr), (1, 1, ""))
         self.build("--install", "there", has_rt=False)
@@ -137,9 +154,33 @@ class ClientsBuild(unittest.TestCase):
         self.build()
         self.assertEqual(self.proofs, 2)
 
+    def shown(self, name, *words):
+        ran = subprocess.run(["nm", *words, "--defined-only", self.out / name], capture_output=True, encoding="utf-8", check=True)
+        return [line.split()[-1] for line in ran.stdout.splitlines() if " T " in line]
+
+    def test_builds_by_cargo_where_there_is_no_rt(self):
+        for _ in range(2):
+            ran = self.build(has_rt=False, has_cargo=True)
+            self.assertEqual(ran.stdout, f"build: {self.out}: proved source, compiled by rustc\n")
+        self.assertEqual(ran.stderr, "")
+        self.assertEqual((self.top / "calls").read_text().split(), ["cargo", "module"])
+        for name, words in (("libstring_interner.a", ()), ("libstring_interner.so.1", ("-D",))):
+            self.assertEqual(self.shown(name, *words), ["interner_build", "interner_version"], name)
+        self.edit(self.top / "clients/rust/src/json.rs", stamp="cargo.stamp")
+        self.build(has_rt=False, has_cargo=True)
+        self.assertEqual((self.top / "calls").read_text().split().count("cargo"), 2)
+
+    def test_builds_by_rt_where_both_are(self):
+        self.build(has_cargo=True)
+        self.build("--cargo", has_cargo=True)
+        self.assertEqual(self.build(has_cargo=True).stdout, f"build: {self.out}: proved by rt\n")
+        # What is made stays, whatever is there.
+        self.assertEqual(self.build(has_rt=False).stdout, f"build: {self.out}: proved by rt\n")
+        self.assertEqual(((self.top / "calls").read_text().split().count("cargo"), self.proofs), (1, 2))
+
     def test_says_how_to_call_it(self):
         self.assertIn("--install PREFIX", self.build("--help").stdout)
-        for words in (["--install"], ["-x"], ["a", "b"]):
+        for words in (["--install"], ["-x"], ["a", "b"], ["--cargo", "a"]):
             ran = subprocess.run([self.top / "clients/build", *words], capture_output=True, encoding="utf-8", check=False)
             self.assertEqual((ran.returncode, ran.stdout), (2, ""), words)
             self.assertIn("usage", ran.stderr)

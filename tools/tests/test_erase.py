@@ -27,11 +27,11 @@ def code_of(text):
     return found
 
 
-def without_models(text):
+def without_models(text, of):
     """A source text without what is ghost as a whole, in which no brace stands at the margin but the last one."""
     text = re.sub(r"^(?:///.*\n)*impl\b[^{]*\bModel for [^{]*\{\n(?:    .*\n|\n)*\}$", "", text, flags=re.M)
     text = re.sub(r"^use thiserror::Error;$|^ *#\[error\(.*\)\]$|^#!?\[tactic\(.*\)\]$", "", text, flags=re.M)
-    return re.sub(rf"^pub mod ({'|'.join(TOOL['LEFT_OUT'])});$", "", text, flags=re.M)
+    return re.sub(rf"^(pub )?mod ({'|'.join(of.left_out)});$", "", text, flags=re.M)
 
 
 class EraseTest(TestCase):
@@ -224,8 +224,8 @@ class EraseTest(TestCase):
             ("fn f() {\n    vec![in a; 1];\n}\n", 2, "the macro vec"),
             ("fn f() {\n    prove!(1 == 1);\n}\n", 2, "no constant"),
             ("\nunsafe extern fn f() {}\n", 2, "`extern`"),
+            ("\nextern \"C\" {}\n", 2, "`extern`"),
             ("\nstatic A: u8 = 1;\n", 2, "`static`"),
-            ("\nmacro_rules! a {}\n", 2, "`macro_rules`"),
             ("\nmod a {}\n", 2, "within its file"),
             ("impl Model for A {\n    fn f() {}\n}\n", 1, "not ghost"),
             ("impl A {\n    fn fmt(&self) {}\n}\n", 2, "another form"),
@@ -247,46 +247,122 @@ class EraseTest(TestCase):
             (sources / "low").mkdir(parents=True)
             (sources / "low/a.rt").write_text("fn f() {}\n\nghost fn g() {}\n", encoding="utf-8")
             with self.assertRaisesRegex(SystemExit, r"^src/low/a\.rt:3: ghost fn: a form that is not known$"):
-                TOOL["erase_all"](sources, Path(folder, "out"))
+                TOOL["erase_all"](TOOL["LIBRARY"], sources, Path(folder, "out"))
+
+    def exports(self, source, *wanted):
+        self.assertEqual(ERASE(source, "", TOOL["EXPORTS"]).replace(PRELUDE, "", 1).splitlines(), list(wanted))
+
+    def test_exports_take_what_c_passes(self):
+        self.exports(
+            'pub extern "C" fn f(alloc: Global, text: &\'a [u8], n: usize, out: &mut [Entry<\'a>]) -> u32\n    ensures { x }\n{\n    0\n}\n',
+            'pub extern "C" fn f(/*~ alloc: Global, */ text: *const u8, text_len: usize, n: usize, out: *mut Entry<\'a>, out_len: usize) -> u32',
+            "    //~ ensures { x }",
+            "{ let alloc = Global; let text = unsafe { crate::border::slice(text, text_len) };"
+            " let out = unsafe { crate::border::slice_mut(out, out_len) };",
+            "    0",
+            "}",
+        )
+
+    def test_a_handle_that_stays_is_only_read(self):
+        """As the contract says of each handle by itself. The body reads what it lent to be changed."""
+        for contract, h, g in (
+            ("", "read", "read"),
+            ("ensures { h.new.value ≡ h.old.value } ensures { g.old }", "read", "read"),
+            ("ensures { h.new.value ≡ h.old.value } ensures { P g.new.value }", "read", "interner"),
+            ("ensures { h.new.value ≡ g.old.value ∧ P g.new }", "interner", "interner"),
+        ):
+            source = f"fn f(h: &mut Handle, g: &'a mut Handle)\n    {contract}\n{{ h.interner().a(g.interner()) }}\n"
+            mut = {"read": "", "interner": "mut "}
+            with self.subTest(contract):
+                erased = ERASE(source, "", TOOL["HANDLES"])
+                self.assertIn(f"fn f(h: &{mut[h]}Handle, g: &'a {mut[g]}Handle)\n", erased)
+                self.assertIn(f"{{ h.{h}().a(g.{g}()) }}\n", erased)
+
+    def test_paths_of_other_crates(self):
+        """A module that is left out is one of the package."""
+        self.exports(
+            "use handles::{calls};\nuse handles::handle::Handle;\nfn f() { string_interner::json::f(); string_interner::hash::f(); }\n",
+            "use crate::handles::{calls};",
+            "use crate::handle::Handle;",
+            "fn f() { crate::json::f(); crate::proved::hash::f(); }",
+        )
+        self.exports("fn f() { crate::g(); part.to_vec(alloc) }\n", "fn f() { crate::exports::g(); part.try_to_vec(alloc) }")
+
+    def test_exports_change_what_the_header_says(self):
+        """What the header takes as const the library takes to be read, and nothing else."""
+        header = (TOP / "clients/c/string_interner.h").read_text(encoding="utf-8")
+        exports = (TOP / "clients/c/src/proved/exports/mod.rs").read_text(encoding="utf-8")
+        taken = dict(re.findall(r"^\w+ (interner_\w+)\((const )?interner \*h\b", header, re.M))
+        lent = dict(re.findall(r"fn (interner_\w+)(?:<'a>)?\(\s*(?:/\*.*?\*/\s*|//~.*\n\s*)?h: &(?:'a )?(mut )?Handle\b", exports))
+        self.assertGreater(len(lent), 25)
+        del taken["interner_free"]
+        self.assertEqual({it: bool(const) for it, const in taken.items()}, {it: not mut for it, mut in lent.items()})
 
 
-class LibraryTest(TestCase):
-    """The library itself."""
+class SourcesTest(TestCase):
+    """All that is erased."""
 
     @classmethod
     def setUpClass(cls):
         folder = tempfile.TemporaryDirectory()
         cls.addClassCleanup(folder.cleanup)
-        cls.sources, cls.into = TOP / "crates/string_interner/src", Path(folder.name)
-        TOOL["erase_all"](cls.sources, cls.into)
+        cls.top = Path(folder.name)
+        cls.sources = TOOL["LIBRARY"].sources
+        TOOL["write_all"](cls.top)
 
     def pairs(self):
-        for path in sorted(self.sources.rglob("*.rt")):
-            place = path.relative_to(self.sources).with_suffix(".rs")
-            if place.parts[0].removesuffix(".rs") not in TOOL["LEFT_OUT"]:
-                target = self.into / ("mod.rs" if str(place) == "lib.rs" else place)
-                yield path.read_text(encoding="utf-8"), target.read_text(encoding="utf-8")
+        """Each source with what is written of it, and the crate."""
+        for of in TOOL["ALL"]:
+            for path in sorted(of.sources.rglob("*.rt")):
+                place = path.relative_to(of.sources).with_suffix(".rs")
+                if of.takes(place):
+                    target = self.top / of.into / ("mod.rs" if str(place) == "lib.rs" else place)
+                    yield path.read_text(encoding="utf-8"), target.read_text(encoding="utf-8"), of
 
     def test_each_line_keeps_its_number(self):
-        for source, erased in self.pairs():
+        for source, erased, _ in self.pairs():
             for old, new in zip(source.splitlines(), erased.splitlines(), strict=True):
                 if old.strip().startswith("///"):
                     self.assertIn(old.strip().removesuffix("```").strip(), new)
 
     def test_without_comments_the_tokens_are_those_of_the_source(self):
         """A few tokens are others, as the tool's page says: both sides are brought to one form."""
-        for source, erased in self.pairs():
-            erased = erased.replace(PRELUDE, "", 1).replace("crate::proved", "crate").replace("crate::rt", "std")
+        for source, erased, of in self.pairs():
+            erased = self.with_paths_of_the_source(erased.replace(PRELUDE, "", 1), of)
             erased = re.sub(r"#\[test\] fn holds_at_line_\d+\(\) \{ assert(.*;) \}", r"const _: () = prove\1", erased)
             erased = re.sub(r"^\} impl ::core::error::Error .*$", "}", erased, flags=re.M)
             erased = re.sub(r"\*unsafe \{ self\.(\w+)\.at_unchecked\((\w+)\) \}", r"self.\1[\2]", erased)
             erased = re.sub(r"unsafe \{ (\w+)\.sixteen_unchecked\((\w+)\) \}", r"&\1[\2..]", erased)
             erased = erased.replace("pub(crate) mod ", "mod ").replace(": Sized + ", ": ").replace(": Sized ", " ")
-            source = without_models(source).replace("final fn ", "fn ").replace("pub(crate) mod ", "mod ")
+            source, erased = self.of_handles(source, of), self.of_handles(erased, of)
+            source = without_models(source, of).replace("final fn ", "fn ").replace("pub(crate) mod ", "mod ")
             source = source.replace("use core::", "use std::")
             source = re.sub(r"#\[derive\((.*)\)\]", self.plain_derive, source)
             source = source.replace("fmt<W: fmt::Write>(&self, f: &mut Formatter<W>)", "fmt(&self, f: &mut Formatter<'_>)")
             self.assertEqual(code_of(source), code_of(erased))
+
+    @staticmethod
+    def with_paths_of_the_source(erased, of):
+        erased = erased.replace(of.name, "crate")
+        for crate, modules in TOOL["AT_THE_ROOT"].items():
+            for it in modules if crate != of.crate else ():
+                erased = erased.replace(f"crate::{it}::", f"{crate}::{it}::")
+        for crate, name in TOOL["NAMES"].items():
+            erased = erased.replace(f"{name}::", f"{'std' if crate == 'core' else crate}::")
+        return erased
+
+    @staticmethod
+    def of_handles(text, of):
+        """What is passed to the functions of handles, and to exports, in one form."""
+        if of.crate == "string_interner":
+            return text
+        text = re.sub(r"(&(?:'a )?)mut Handle\b", r"\1Handle", text).replace(".interner()", ".read()").replace("try_to_vec", "to_vec")
+        if of.crate == "handles":
+            return text
+        text = re.sub(r"\b(\w+): \*const ([^,]*), \1_len: usize", r"\1: &[\2]", text)
+        text = re.sub(r"\b(\w+): \*mut ([^,]*), \1_len: usize", r"\1: &mut [\2]", text)
+        text = re.sub(r" let alloc = Global;| let (\w+) = unsafe \{ crate::border::slice(_mut)?\(\1, \1_len\) \};", "", text)
+        return re.sub(r"(?<!\*~ )\balloc: Global,", "", text).replace("&'static [u8]", "&[u8]")
 
     @staticmethod
     def plain_derive(found):
@@ -307,13 +383,15 @@ class LibraryTest(TestCase):
 
     def test_a_file_that_is_stale_is_named(self):
         with tempfile.TemporaryDirectory() as folder:
-            TOOL["erase_all"](self.sources, Path(folder))
+            TOOL["write_all"](Path(folder))
             self.assertEqual(TOOL["stale"](Path(folder)), [])
-            path = Path(folder, "dedup/probe.rs")
+            library, handles = Path(folder, TOOL["LIBRARY"].into), Path(folder, TOOL["HANDLES"].into)
+            path = library / "dedup/probe.rs"
             path.write_text(path.read_text(encoding="utf-8").replace("+ 1", "+ 2", 1), encoding="utf-8")
-            Path(folder, "more.rs").write_text("", encoding="utf-8")
-            Path(folder, "symbol.rs").unlink()
-            self.assertEqual(TOOL["stale"](Path(folder)), ["dedup/probe.rs", "more.rs", "symbol.rs"])
+            (handles / "more.rs").write_text("", encoding="utf-8")
+            (library / "symbol.rs").unlink()
+            wanted = [handles / "more.rs", path, library / "symbol.rs"]
+            self.assertEqual(TOOL["stale"](Path(folder)), [str(it.relative_to(folder)) for it in wanted])
 
 
 if __name__ == "__main__":

@@ -45,8 +45,8 @@ impl fmt::Display for JsonError {
 
 impl Error for JsonError {}
 
-/// So many arrays and objects may lie within each other.
-const MOST_NESTED: usize = 128;
+/// So many arrays and objects may lie within each other, as in the library for C.
+const MOST_NESTED: usize = 127;
 
 /// Returns the elements of a JSON array: `None` for each that is not a string.
 pub(crate) fn read(json: &str) -> Result<Vec<Option<String>>, JsonError> {
@@ -153,7 +153,9 @@ impl Reader<'_> {
         had_some.then_some(()).ok_or(JsonError::NotJson)
     }
 
+    /// Passes a number. One that is too large for a double is none.
     fn number(&mut self) -> Result<(), JsonError> {
+        let all = self.rest;
         self.passes("-");
         if !self.passes("0") {
             self.digits()?;
@@ -165,7 +167,9 @@ impl Reader<'_> {
             let _ = self.passes("+") || self.passes("-");
             self.digits()?;
         }
-        Ok(())
+        let passed = all[..all.len() - self.rest.len()].parse::<f64>();
+        let is_finite = passed.is_ok_and(f64::is_finite);
+        is_finite.then_some(()).ok_or(JsonError::NotJson)
     }
 
     fn string(&mut self) -> Result<String, JsonError> {

@@ -174,9 +174,15 @@ fn json<B: Backend>() {
         ("[\"a\"", JsonError::NotJson),
         ("{}", JsonError::NotAList),
         ("[\"a\",1]", JsonError::NotAText),
+        ("[1e308]", JsonError::NotAText),
+        ("[-1e309]", JsonError::NotJson),
     ];
     for (json, error) in rows {
         assert_eq!(StringInterner::<B>::from_json(json).err(), Some(error));
+    }
+    for (nested, error) in [(127, JsonError::NotAText), (128, JsonError::NotJson)] {
+        let json = "[".repeat(nested) + &"]".repeat(nested);
+        assert_eq!(StringInterner::<B>::from_json(&json).err(), Some(error));
     }
     assert_eq!(StringInterner::<B>::new().to_json(), "[]");
 }

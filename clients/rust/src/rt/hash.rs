@@ -1,6 +1,35 @@
 //! Hashers of Rattle's std, with its codes.
 
-pub use core::hash::{BuildHasher, BuildHasherDefault, Hasher};
+pub use core::hash::{BuildHasher, Hasher};
+use core::marker::PhantomData;
+
+/// Makes default hashers. That of Rust's own cannot be copied by its bits.
+pub struct BuildHasherDefault<H>(PhantomData<fn() -> H>);
+
+impl<H> Clone for BuildHasherDefault<H> {
+    #[inline]
+    fn clone(&self) -> Self {
+        *self
+    }
+}
+
+impl<H> Copy for BuildHasherDefault<H> {}
+
+impl<H> Default for BuildHasherDefault<H> {
+    #[inline]
+    fn default() -> Self {
+        BuildHasherDefault(PhantomData)
+    }
+}
+
+impl<H: Default + Hasher> BuildHasher for BuildHasherDefault<H> {
+    type Hasher = H;
+
+    #[inline(always)]
+    fn build_hasher(&self) -> H {
+        H::default()
+    }
+}
 
 /// A fast hash without keys: a product of 128 bits for each 16 bytes, whose halves are joined by xor.
 #[derive(Clone, Copy)]
