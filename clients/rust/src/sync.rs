@@ -1,7 +1,7 @@
 //! An interner that threads share.
 //!
-//! [`StringInterner`](crate::StringInterner) needs `&mut self` to intern, so threads that share one wait for each other behind a
-//! lock. The calls of an [`Interner`] take `&self`:
+//! [`StringInterner`](crate::StringInterner) needs `&mut self` to intern, so threads that share one wait for each other behind a lock. The calls of an
+//! [`Interner`] take `&self`:
 //!
 //! ```
 //! use string_interner::sync::Interner;
@@ -15,137 +15,125 @@
 //! assert_eq!(names.resolve(one), Some("Tiger"));
 //! ```
 //!
-//! It consists of 16 interners, the *shards*, each over buckets and behind locks of its own. A hash of the text chooses its shard.
-//! That they make one interner together is tested, and not proved.
+//! # What a call costs
 //!
-//! Each call takes a lock. So with one thread a known text takes 1.5 to 2 times as long as in a `StringInterner`, and a new one, for
-//! which the shard is searched twice, up to 2.7 times. On four processors that had other work, too, four threads that find known
-//! texts did up to 2.7 times the work of one; a call took about as much processor time.
+//! A known text, [`get`](Interner::get) and [`resolve`](Interner::resolve) take no lock and write nothing that another thread reads.
+//! A new text takes the lock of one of 32 shards, which its hash code chooses.
 //!
-//! A text that [`Interner::resolve`] lends may be read while other threads intern, because a bucket never moves, and no text is
-//! dropped before the interner is. The library's contracts promise no address. That the addresses stay is tested.
+//! # How it works
+//!
+//! - Each shard is an interner of the proved library behind a lock. It alone says whether a text is new.
+//! - Beside it is an index that threads read without a lock. What it shows is compared with the text, byte for byte, and what it
+//!   does not show is asked of the shard. So a wrong index would cost time, and give no wrong symbol.
+//! - One table has the address and the length of each text by its number.
+//! - Indexes and the table grow by memory that is added to them. What threads may still read is freed with the interner, or by a
+//!   call that takes `&mut self`.
+//!
+//! That these make one interner together is tested, and not proved. The library's contracts promise no address either: that the
+//! texts of a bucket stay where they are is tested.
 
+mod freeze;
+mod index;
+mod iter;
+mod orders;
+mod segments;
 mod shard;
+mod shared;
+mod texts;
+mod traits;
 
 use crate::error::{expect, InternError};
 use crate::hasher::DefaultHashBuilder;
+use crate::proved::interner::given::Given;
 use crate::symbol::{DefaultSymbol, Symbol};
-use shard::{Shard, Texts};
+use core::hash::BuildHasher;
+use index::Look;
+pub use iter::Iter;
+use shard::Shard;
+use shared::{shard_of, Apart, Shared, SHARDS};
 use std::boxed::Box;
-use std::fmt;
-use std::hash::BuildHasher;
-use std::iter::FusedIterator;
-
-/// So many bits of a symbol's number say which shard it is of.
-const BITS: u32 = 4;
-
-const SHARDS: usize = 1 << BITS;
-
-/// So many texts of a shard have a symbol.
-const MOST: usize = (u32::MAX >> BITS) as usize;
+use std::sync::{Mutex, MutexGuard, PoisonError};
 
 /// A list of distinct texts, each with a symbol, that many threads may read and extend at the same time.
 ///
-/// Texts stay until the interner is dropped. The number of a symbol depends on keys that each process draws at random. Hold an
-/// interner in an [`Arc`](std::sync::Arc), in a `static` or on the stack of a [scope](std::thread::scope).
-pub struct Interner {
-    shards: Box<[Shard]>,
-    /// Chooses the shards of texts.
-    key: u64,
+/// Symbols number 0, 1, 2, .. in the order in which texts come, so that a `Vec` may have something for each of them. There are at
+/// most 2³² − 1, and no more than the symbol type has. Texts stay until the interner is dropped. Hold it in an
+/// [`Arc`](std::sync::Arc), in a `static` or on the stack of a [scope](std::thread::scope).
+///
+/// A hasher or a symbol type of a program's own may panic: then that call does, and the interner has the texts that it had before. A
+/// symbol type must not call the interner back while it converts a number.
+pub struct Interner<S = DefaultSymbol, H = DefaultHashBuilder> {
+    shared: Shared<S, H>,
+    shards: Box<[Apart<Mutex<Shard>>]>,
 }
 
-/// Returns a number whose highest bits depend on all bytes of a text. This is faster than the hasher of a shard, and strangers
-/// could find texts of one shard: then threads wait there for each other, and no call takes more steps.
+/// Takes the lock of a shard. No panic leaves one half changed, so a lock that somebody panicked under is as good.
 #[inline]
-fn mix(key: u64, text: &str) -> u64 {
-    const ODD: u64 = 0x9E37_79B9_7F4A_7C15;
-    let bytes = text.as_bytes();
-    let mut state = key ^ bytes.len() as u64;
-    // The words of a text overlap, so that no byte is read alone.
-    let (first, last) = match (bytes.first_chunk(), bytes.last_chunk()) {
-        (Some(first), Some(last)) => {
-            for word in bytes[8..].chunks_exact(8) {
-                let product =
-                    (state ^ u64::from_le_bytes(word.try_into().unwrap())).wrapping_mul(ODD);
-                state = product ^ (product >> 32);
-            }
-            (u64::from_le_bytes(*first), u64::from_le_bytes(*last))
-        }
-        _ => match (bytes.first_chunk(), bytes.last_chunk()) {
-            (Some(first), Some(last)) => (
-                u32::from_le_bytes(*first).into(),
-                u32::from_le_bytes(*last).into(),
-            ),
-            _ => (
-                bytes
-                    .iter()
-                    .fold(0, |rest, byte| rest << 8 | u64::from(*byte)),
-                0,
-            ),
-        },
-    };
-    let product = (state ^ first).wrapping_mul(ODD);
-    (product ^ (product >> 32) ^ last).wrapping_mul(ODD)
-}
-
-/// Returns the symbol of a text by its shard and its number there, which is below `MOST`.
-#[inline]
-fn symbol_of(shard: usize, number: usize) -> DefaultSymbol {
-    DefaultSymbol::try_from_usize(number << BITS | shard).expect("a shard has at most MOST texts")
+fn lock(shard: &Apart<Mutex<Shard>>) -> MutexGuard<'_, Shard> {
+    shard.0.lock().unwrap_or_else(PoisonError::into_inner)
 }
 
 impl Interner {
-    /// Returns an interner without texts.
+    /// Returns an interner without texts, whose symbols are of the default type and whose hasher is the default one.
     #[must_use]
-    #[track_caller]
     pub fn new() -> Self {
+        Self::with_hasher(DefaultHashBuilder)
+    }
+}
+
+impl<S: Symbol, H: BuildHasher> Interner<S, H> {
+    /// Returns an interner without texts that hashes by `hash_builder`.
+    ///
+    /// ```
+    /// use string_interner::{hasher::FixedHashBuilder, symbol::SymbolU16, sync::Interner};
+    ///
+    /// let names = Interner::<SymbolU16, _>::with_hasher(FixedHashBuilder);
+    /// assert_eq!(names.resolve(names.get_or_intern("Tiger")), Some("Tiger"));
+    /// ```
+    #[must_use]
+    pub fn with_hasher(hash_builder: H) -> Self {
         Interner {
-            shards: (0..SHARDS).map(|_| Shard::new()).collect(),
-            key: DefaultHashBuilder.hash_one("shards of a string interner"),
+            shared: Shared::new(hash_builder),
+            shards: (0..SHARDS)
+                .map(|_| Apart(Mutex::new(Shard::new())))
+                .collect(),
         }
     }
 
-    /// Returns the number of the shard in which a text is.
+    /// Returns the symbol of a text, if it is known. Takes no lock.
     #[inline]
-    fn shard_of(&self, text: &str) -> usize {
-        (mix(self.key, text) >> (u64::BITS - BITS)) as usize
-    }
-
-    /// Returns the number of texts. Other threads may add some in the meantime.
-    pub fn len(&self) -> usize {
-        self.shards.iter().map(Shard::len).sum()
-    }
-
-    /// Reports whether there are no texts.
-    pub fn is_empty(&self) -> bool {
-        self.len() == 0
-    }
-
-    /// Returns the symbol of a text, if it is known.
-    #[inline]
-    pub fn get<T: AsRef<str>>(&self, string: T) -> Option<DefaultSymbol> {
+    pub fn get<T: AsRef<str>>(&self, string: T) -> Option<S> {
         let text = string.as_ref();
-        let shard = self.shard_of(text);
-        let number = self.shards[shard].get(text)?;
-        Some(symbol_of(shard, number))
+        let code = self.shared.code_of(text);
+        let number = match self.shared.find(code, text) {
+            Look::Found(number) => number,
+            Look::Absent => return None,
+            Look::Unknown => self.ask(code, text)?,
+        };
+        S::try_from_usize(number as usize)
     }
 
-    /// Reports whether a text is known.
+    /// Returns the number of a text by asking its shard.
+    #[cold]
+    fn ask(&self, code: u64, text: &str) -> Option<u32> {
+        lock(&self.shards[shard_of(code)]).find(code, text)
+    }
+
+    /// Reports whether a text is known. Takes no lock.
     #[inline]
     pub fn contains<T: AsRef<str>>(&self, string: T) -> bool {
         self.get(string).is_some()
     }
 
-    /// Returns the symbol of a text. Appends a text that is not known.
+    /// Returns the symbol of a text. Appends a text that is not known. Takes a lock only then.
     ///
     /// # Panics
     ///
     /// If no symbol is left for a new text, or an allocation fails. The texts stay as they were.
     #[inline]
     #[track_caller]
-    pub fn get_or_intern<T: AsRef<str>>(&self, string: T) -> DefaultSymbol {
-        let text = string.as_ref();
-        expect(self.intern_by(text, |texts| texts.try_get_or_intern(text)))
+    pub fn get_or_intern<T: AsRef<str>>(&self, string: T) -> S {
+        expect(self.intern(Given::Copied(string.as_ref())))
     }
 
     /// The same for a static text, which is not copied.
@@ -155,125 +143,95 @@ impl Interner {
     /// As [`get_or_intern`](Self::get_or_intern).
     #[inline]
     #[track_caller]
-    pub fn get_or_intern_static(&self, string: &'static str) -> DefaultSymbol {
-        expect(self.intern_by(string, |texts| texts.try_get_or_intern_static(string)))
+    pub fn get_or_intern_static(&self, string: &'static str) -> S {
+        expect(self.intern(Given::Static(string)))
     }
 
     /// The same as [`get_or_intern`](Self::get_or_intern), but returns an error instead of a panic.
     ///
     /// # Errors
     ///
-    /// Returns an error if no symbol is left for a new text, or an allocation fails.
+    /// Returns an error if no symbol is left for a new text, or an allocation fails. The texts stay as they were.
     #[inline]
-    pub fn try_get_or_intern<T: AsRef<str>>(
-        &self,
-        string: T,
-    ) -> Result<DefaultSymbol, InternError> {
-        let text = string.as_ref();
-        self.intern_by(text, |texts| texts.try_get_or_intern(text))
+    pub fn try_get_or_intern<T: AsRef<str>>(&self, string: T) -> Result<S, InternError> {
+        self.intern(Given::Copied(string.as_ref()))
     }
 
-    /// Interns a text by a call on the interner of its shard.
+    /// The same as [`get_or_intern_static`](Self::get_or_intern_static), but returns an error instead of a panic.
+    ///
+    /// # Errors
+    ///
+    /// As [`try_get_or_intern`](Self::try_get_or_intern).
     #[inline]
-    fn intern_by(
-        &self,
-        text: &str,
-        intern: impl FnOnce(&mut Texts) -> Result<usize, InternError>,
-    ) -> Result<DefaultSymbol, InternError> {
-        let shard = self.shard_of(text);
-        let number = self.shards[shard].intern_by(text, MOST, intern)?;
-        Ok(symbol_of(shard, number))
+    pub fn try_get_or_intern_static(&self, string: &'static str) -> Result<S, InternError> {
+        self.intern(Given::Static(string))
     }
 
-    /// Returns the text of a symbol, or `None` if no text has its number. The text may be kept as long as the interner is
-    /// borrowed, while other threads intern.
+    #[inline(always)]
+    fn intern(&self, given: Given<'_>) -> Result<S, InternError> {
+        let code = self.shared.code_of(given.text());
+        let number = match self.shared.find(code, given.text()) {
+            Look::Found(number) => number,
+            _ => self.intern_by_lock(code, given)?,
+        };
+        self.shared.symbol_of(number)
+    }
+
+    #[inline(never)]
+    fn intern_by_lock(&self, code: u64, given: Given<'_>) -> Result<u32, InternError> {
+        let mut shard = lock(&self.shards[shard_of(code)]);
+        self.shared.intern(&mut shard, code, given)
+    }
+
+    /// The same for who has the interner alone: no lock is taken.
     #[inline]
-    pub fn resolve(&self, symbol: DefaultSymbol) -> Option<&str> {
-        let number = symbol.to_usize();
-        self.shards[number % SHARDS].resolve(number >> BITS)
-    }
-
-    /// Iterates over all texts with their symbols, in no particular order. Whether it yields a text that is interned in the
-    /// meantime is not said.
-    pub fn iter(&self) -> Iter<'_> {
-        Iter {
-            interner: self,
-            shard: 0,
-            number: 0,
-        }
-    }
-}
-
-impl Default for Interner {
-    fn default() -> Self {
-        Self::new()
-    }
-}
-
-impl fmt::Debug for Interner {
-    fn fmt(&self, f: &mut fmt::Formatter<'_>) -> fmt::Result {
-        let texts = self.iter().map(|(symbol, text)| (symbol.to_usize(), text));
-        f.debug_map().entries(texts).finish()
-    }
-}
-
-impl<T: AsRef<str>> FromIterator<T> for Interner {
-    fn from_iter<I: IntoIterator<Item = T>>(iter: I) -> Self {
-        let interner = Self::new();
-        (&interner).extend(iter);
-        interner
-    }
-}
-
-impl<T: AsRef<str>> Extend<T> for Interner {
-    #[track_caller]
-    fn extend<I: IntoIterator<Item = T>>(&mut self, iter: I) {
-        (&*self).extend(iter);
-    }
-}
-
-impl<T: AsRef<str>> Extend<T> for &Interner {
-    #[track_caller]
-    fn extend<I: IntoIterator<Item = T>>(&mut self, iter: I) {
-        for string in iter {
-            self.get_or_intern(string);
-        }
-    }
-}
-
-impl<'a> IntoIterator for &'a Interner {
-    type Item = (DefaultSymbol, &'a str);
-    type IntoIter = Iter<'a>;
-
-    fn into_iter(self) -> Iter<'a> {
-        self.iter()
-    }
-}
-
-/// Yields the texts of an [`Interner`] with their symbols.
-#[derive(Clone, Debug)]
-pub struct Iter<'a> {
-    interner: &'a Interner,
-    shard: usize,
-    /// The number of the shard's next text.
-    number: usize,
-}
-
-impl<'a> Iterator for Iter<'a> {
-    type Item = (DefaultSymbol, &'a str);
-
-    fn next(&mut self) -> Option<Self::Item> {
-        loop {
-            let shard = self.interner.shards.get(self.shard)?;
-            if let Some(text) = shard.resolve(self.number) {
-                let symbol = symbol_of(self.shard, self.number);
-                self.number += 1;
-                return Some((symbol, text));
+    fn intern_alone(&mut self, given: Given<'_>) -> Result<S, InternError> {
+        let code = self.shared.code_of(given.text());
+        let number = match self.shared.find(code, given.text()) {
+            Look::Found(number) => number,
+            _ => {
+                let shard = self.shards[shard_of(code)].0.get_mut();
+                let shard = shard.unwrap_or_else(PoisonError::into_inner);
+                self.shared.intern(shard, code, given)?
             }
-            self.shard += 1;
-            self.number = 0;
-        }
+        };
+        self.shared.symbol_of(number)
     }
 }
 
-impl FusedIterator for Iter<'_> {}
+impl<S, H> Interner<S, H> {
+    /// Returns the number of texts. Other threads may add some in the meantime.
+    #[inline]
+    pub fn len(&self) -> usize {
+        self.shared.count() as usize
+    }
+
+    /// Reports whether there are no texts.
+    #[inline]
+    pub fn is_empty(&self) -> bool {
+        self.len() == 0
+    }
+
+    /// Frees the indexes that were replaced by larger ones, which other threads might still have read. They take as much memory as
+    /// those that count, or less.
+    pub fn shrink_to_fit(&mut self) {
+        self.shared.forget_old_indexes();
+    }
+}
+
+impl<S: Symbol, H> Interner<S, H> {
+    /// Returns the text of a symbol, or `None` if no text has its number. Takes no lock. The text may be kept as long as the
+    /// interner is borrowed, while other threads intern.
+    #[inline]
+    pub fn resolve(&self, symbol: S) -> Option<&str> {
+        let number = u32::try_from(symbol.to_usize()).ok()?;
+        self.shared.texts.get(number)
+    }
+
+    /// Iterates over the texts that there are now with their symbols, in the order of the symbols' numbers. What threads intern in
+    /// the meantime is left out.
+    #[inline]
+    pub fn iter(&self) -> Iter<'_, S> {
+        Iter::new(&self.shared.texts, self.shared.count())
+    }
+}

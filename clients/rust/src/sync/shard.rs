@@ -1,114 +1,87 @@
-//! An interner that threads share behind locks, and whose texts they read without.
+//! What the lock of a shard guards: an interner of the proved library, and the number of each of its texts.
 
-use crate::backend::BucketBackend;
 use crate::error::InternError;
-use crate::hasher::DefaultHashBuilder;
-use crate::interner::StringInterner;
-use core::cell::UnsafeCell;
-use core::ptr;
-use std::cell::Cell;
-use std::panic::RefUnwindSafe;
-use std::sync::atomic::{AtomicUsize, Ordering};
-use std::sync::{PoisonError, RwLock};
+use crate::hasher::By;
+use crate::proved::backend::{Backend, BucketBackend};
+use crate::proved::dedup::{TaggedIndex, TextIndex};
+use crate::proved::interner::coded::intern_coded;
+use crate::proved::interner::given::Given;
+use crate::proved::symbol::{Symbol, SymbolU32};
+use crate::rt::alloc::Global;
+use core::hash::BuildHasher;
+use std::vec::Vec;
 
-pub(super) type Texts = StringInterner<BucketBackend<usize>, DefaultHashBuilder>;
+/// In the place of a number that a text does not have yet.
+const NO_NUMBER: u32 = u32::MAX;
 
-/// So many threads can read a shard without writing to a lock that another one of them writes to.
-const LOCKS: usize = 4;
-
-/// A lock in cache lines of its own.
-#[repr(align(128))]
-struct Lock(RwLock<()>);
-
-/// An interner that threads share. A thread that reads it holds one of the locks, and a thread that changes it holds all.
-///
-/// Its texts stay where they are as long as it lives: they are static or in buckets, whose bytes are never moved or changed, and no
-/// call here drops a text. The room of a bucket is made with it, so what is appended moves none of its bytes.
+/// Distinct texts whose hash codes choose this shard. It alone says whether a text is new.
 pub(super) struct Shard {
-    locks: [Lock; LOCKS],
-    texts: UnsafeCell<Texts>,
-}
-
-// SAFETY: a thread that changes the texts holds all locks, so nothing else has them then.
-unsafe impl Sync for Shard {}
-
-impl RefUnwindSafe for Shard {}
-
-/// Returns the number of the lock that this thread holds when it reads.
-#[inline]
-fn lock_of_thread() -> usize {
-    static THREADS: AtomicUsize = AtomicUsize::new(0);
-    std::thread_local! {
-        static LOCK: Cell<usize> = const { Cell::new(LOCKS) };
-    }
-    let lock = LOCK.get();
-    if lock < LOCKS {
-        return lock;
-    }
-    LOCK.set(THREADS.fetch_add(1, Ordering::Relaxed) % LOCKS);
-    LOCK.get()
+    texts: BucketBackend<SymbolU32>,
+    index: TaggedIndex<SymbolU32>,
+    /// The number of each text. One has none if memory or a symbol for it was refused, and gets one when it is interned again.
+    numbers: Vec<u32>,
 }
 
 impl Shard {
     pub(super) fn new() -> Self {
         Shard {
-            locks: [(); LOCKS].map(|()| Lock(RwLock::new(()))),
-            texts: UnsafeCell::new(Texts::new()),
+            texts: Backend::new(Global),
+            index: TextIndex::new(Global),
+            numbers: Vec::new(),
         }
     }
 
-    /// Makes a call that reads the texts.
+    /// Returns how many texts there are.
     #[inline]
-    fn read<T>(&self, call: impl FnOnce(&Texts) -> T) -> T {
-        let lock = &self.locks[lock_of_thread()].0;
-        // No call leaves an interner half changed, so a lock that somebody panicked under is as good.
-        let _lock = lock.read().unwrap_or_else(PoisonError::into_inner);
-        // SAFETY: a thread that changes the texts would hold this lock alone.
-        call(unsafe { &*self.texts.get() })
-    }
-
-    /// Makes a call that may change the texts.
-    fn write<T>(&self, call: impl FnOnce(&mut Texts) -> T) -> T {
-        // All threads take them in this order, so that no two wait for each other.
-        let _locks = self
-            .locks
-            .each_ref()
-            .map(|lock| lock.0.write().unwrap_or_else(PoisonError::into_inner));
-        // SAFETY: any thread that reads or changes the texts would hold one of these locks.
-        call(unsafe { &mut *self.texts.get() })
-    }
-
     pub(super) fn len(&self) -> usize {
-        self.read(Texts::len)
+        self.numbers.len()
     }
 
+    /// Makes room for the number of one text more.
     #[inline]
-    pub(super) fn get(&self, text: &str) -> Option<usize> {
-        self.read(|texts| texts.get(text))
+    pub(super) fn make_room(&mut self) -> Result<(), InternError> {
+        self.numbers.try_reserve(1).map_err(|_| InternError::Memory)
     }
 
-    /// Interns a text by a call, unless it is new and there are `most` texts.
+    /// Returns the number of a text with this code, if it has one.
+    pub(super) fn find(&self, code: u64, text: &str) -> Option<u32> {
+        let symbol = TextIndex::find(&self.index, code, &self.texts, text)?;
+        self.number_at(symbol.to_usize())
+    }
+
+    /// Returns the place of a text with this code, and appends the text if it is new. There is room for its number.
     #[inline]
-    pub(super) fn intern_by(
-        &self,
-        text: &str,
-        most: usize,
-        intern: impl FnOnce(&mut Texts) -> Result<usize, InternError>,
+    pub(super) fn intern<H: BuildHasher>(
+        &mut self,
+        hasher: &By<H>,
+        code: u64,
+        given: Given<'_>,
     ) -> Result<usize, InternError> {
-        match self.get(text) {
-            Some(number) => Ok(number),
-            None => self.write(|texts| match texts.len() < most {
-                true => intern(texts),
-                // Another thread may have interned it in the meantime.
-                false => texts.get(text).ok_or(InternError::NoSymbol),
-            }),
+        let symbol = intern_coded(&mut self.texts, hasher, &mut self.index, given, code, None)?;
+        let place = symbol.to_usize();
+        if place == self.numbers.len() {
+            self.numbers.push(NO_NUMBER);
         }
+        Ok(place)
     }
 
+    /// Returns the number of the text at a place, if it has one.
     #[inline]
-    pub(super) fn resolve(&self, number: usize) -> Option<&str> {
-        let text: *const str = self.read(|texts| texts.resolve(number).map(ptr::from_ref))?;
-        // SAFETY: the bytes stay where they are, unchanged, as long as `self` is borrowed: see above.
-        Some(unsafe { &*text })
+    pub(super) fn number_at(&self, place: usize) -> Option<u32> {
+        Some(self.numbers[place]).filter(|number| *number != NO_NUMBER)
+    }
+
+    /// Gives the text at a place a number.
+    #[inline]
+    pub(super) fn set_number(&mut self, place: usize, number: u32) {
+        self.numbers[place] = number;
+    }
+
+    /// Returns the text at a place. Its bytes stay where they are as long as the shard: they are static or in a bucket, whose bytes
+    /// never move or change, and no call here drops a text.
+    #[inline]
+    pub(super) fn text_at(&self, place: usize) -> &str {
+        let symbol = SymbolU32::try_from_usize(place).expect("a text is there");
+        self.texts.resolve_unchecked(symbol)
     }
 }

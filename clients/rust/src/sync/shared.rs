@@ -1,0 +1,143 @@
+//! What threads read without a lock, and how a text comes into it.
+
+use super::index::{Index, Look};
+use super::shard::Shard;
+use super::texts::Texts;
+use crate::error::InternError;
+use crate::hasher::By;
+use crate::proved::equal_texts::texts_are_equal;
+use crate::proved::hash::TextHasher as _;
+use crate::proved::interner::given::Given;
+use crate::symbol::Symbol;
+use core::hash::BuildHasher;
+use core::marker::PhantomData;
+use std::boxed::Box;
+use std::sync::atomic::{AtomicU32, Ordering::Relaxed};
+
+/// So many of the highest bits of a hash code choose the shard.
+const SHARD_BITS: u32 = 5;
+
+pub(super) const SHARDS: usize = 1 << SHARD_BITS;
+
+/// A value in cache lines of its own, so that who writes to it slows down nobody who reads what lies beside it.
+#[repr(align(128))]
+pub(super) struct Apart<T>(pub(super) T);
+
+/// What threads read without a lock.
+pub(super) struct Shared<S, H> {
+    pub(super) hasher: By<H>,
+    indexes: Box<[Index; SHARDS]>,
+    /// Texts that are static or in buckets of the shards, which live as long.
+    pub(super) texts: Texts,
+    /// How many numbers were taken.
+    count: Apart<AtomicU32>,
+    symbol: PhantomData<fn() -> S>,
+}
+
+/// Returns the number of the shard of a text with this code. A product spreads codes whose highest bits are poor.
+#[inline(always)]
+pub(super) fn shard_of(code: u64) -> usize {
+    (code.wrapping_mul(0x9E37_79B9_7F4A_7C15) >> (u64::BITS - SHARD_BITS)) as usize
+}
+
+impl<S, H> Shared<S, H> {
+    pub(super) fn new(hash_builder: H) -> Self {
+        Shared {
+            hasher: By(hash_builder),
+            indexes: Box::new([const { Index::new() }; SHARDS]),
+            texts: Texts::new(),
+            count: Apart(AtomicU32::new(0)),
+            symbol: PhantomData,
+        }
+    }
+
+    /// Returns how many numbers were taken. A text with one of them may be about to be published.
+    #[inline]
+    pub(super) fn count(&self) -> u32 {
+        self.count.0.load(Relaxed)
+    }
+
+    pub(super) fn forget_old_indexes(&mut self) {
+        self.indexes.iter_mut().for_each(Index::forget_old_tables);
+    }
+}
+
+impl<S: Symbol, H: BuildHasher> Shared<S, H> {
+    /// Looks for a text with this code in the index of its shard.
+    #[inline(always)]
+    pub(super) fn find(&self, code: u64, text: &str) -> Look {
+        self.indexes[shard_of(code)].find(code as u32, |number| {
+            let kept = self.texts.get(number);
+            kept.is_some_and(|kept| texts_are_equal(kept, text))
+        })
+    }
+
+    /// Returns the number of a text that the index did not show. Appends a text that is not known to its shard, which nobody else
+    /// has.
+    pub(super) fn intern(
+        &self,
+        shard: &mut Shard,
+        code: u64,
+        given: Given<'_>,
+    ) -> Result<u32, InternError> {
+        let index = &self.indexes[shard_of(code)];
+        // All that may be refused is asked for first, so that a text for which there is no room is not kept. But other threads may
+        // take the last number in the meantime: then the text stays in its shard without one.
+        if let Err(error) = self.make_room(shard, index) {
+            return shard.find(code, given.text()).ok_or(error);
+        }
+        let place = shard.intern(&self.hasher, code, given)?;
+        if let Some(number) = shard.number_at(place) {
+            return Ok(number);
+        }
+        // SAFETY: the bytes stay as long as the shard, as `text_at` says, and the shard as long as `self`: an interner has both.
+        let entry = unsafe { self.texts.entry_of(shard.text_at(place))? };
+        let number = self.take_number()?;
+        shard.set_number(place, number);
+        self.texts.publish(number, entry);
+        index.insert(code as u32, number);
+        Ok(number)
+    }
+
+    /// Makes room for one text more, if a symbol is left for it.
+    #[inline]
+    fn make_room(&self, shard: &mut Shard, index: &Index) -> Result<(), InternError> {
+        self.make_room_for(self.count())?;
+        shard.make_room()?;
+        index.make_room(shard.len())
+    }
+
+    /// Makes room for the text of a number, if the number has a symbol.
+    #[inline]
+    fn make_room_for(&self, number: u32) -> Result<(), InternError> {
+        if number == u32::MAX {
+            return Err(InternError::NoSymbol);
+        }
+        self.symbol_of(number)?;
+        self.texts.make_room(number)
+    }
+
+    /// Takes the next number, for whose text there is room then.
+    #[inline]
+    fn take_number(&self) -> Result<u32, InternError> {
+        let count = &self.count.0;
+        let mut number = count.load(Relaxed);
+        loop {
+            self.make_room_for(number)?;
+            match count.compare_exchange_weak(number, number + 1, Relaxed, Relaxed) {
+                Ok(_) => return Ok(number),
+                Err(now) => number = now,
+            }
+        }
+    }
+
+    #[inline(always)]
+    pub(super) fn symbol_of(&self, number: u32) -> Result<S, InternError> {
+        S::try_from_usize(number as usize).ok_or(InternError::NoSymbol)
+    }
+
+    #[inline(always)]
+    pub(super) fn code_of(&self, text: &str) -> u64 {
+        self.hasher.hash_text(text)
+    }
+}
