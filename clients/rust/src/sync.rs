@@ -32,13 +32,15 @@
 //! That these make one interner together is tested, and not proved. The library's contracts promise no address either: that the
 //! texts of a bucket stay where they are is tested.
 
+mod arrays;
 mod freeze;
 mod index;
 mod iter;
 mod orders;
-mod segments;
 mod shard;
 mod shared;
+#[cfg(test)]
+mod tests;
 mod texts;
 mod traits;
 
@@ -60,8 +62,8 @@ use std::sync::{Mutex, MutexGuard, PoisonError};
 /// most 2³² − 1, and no more than the symbol type has. Texts stay until the interner is dropped. Hold it in an
 /// [`Arc`](std::sync::Arc), in a `static` or on the stack of a [scope](std::thread::scope).
 ///
-/// A hasher or a symbol type of a program's own may panic: then that call does, and the interner has the texts that it had before. A
-/// symbol type must not call the interner back while it converts a number.
+/// If a hasher or a symbol type of a program's own panics, that call does, and the interner has the texts that it had before. A
+/// symbol type must not intern in the same interner while it converts a number.
 pub struct Interner<S = DefaultSymbol, H = DefaultHashBuilder> {
     shared: Shared<S, H>,
     shards: Box<[Apart<Mutex<Shard>>]>,
@@ -133,7 +135,7 @@ impl<S: Symbol, H: BuildHasher> Interner<S, H> {
     #[inline]
     #[track_caller]
     pub fn get_or_intern<T: AsRef<str>>(&self, string: T) -> S {
-        expect(self.intern(Given::Copied(string.as_ref())))
+        expect(self.try_get_or_intern(string))
     }
 
     /// The same for a static text, which is not copied.
@@ -144,7 +146,7 @@ impl<S: Symbol, H: BuildHasher> Interner<S, H> {
     #[inline]
     #[track_caller]
     pub fn get_or_intern_static(&self, string: &'static str) -> S {
-        expect(self.intern(Given::Static(string)))
+        expect(self.try_get_or_intern_static(string))
     }
 
     /// The same as [`get_or_intern`](Self::get_or_intern), but returns an error instead of a panic.
@@ -154,7 +156,12 @@ impl<S: Symbol, H: BuildHasher> Interner<S, H> {
     /// Returns an error if no symbol is left for a new text, or an allocation fails. The texts stay as they were.
     #[inline]
     pub fn try_get_or_intern<T: AsRef<str>>(&self, string: T) -> Result<S, InternError> {
-        self.intern(Given::Copied(string.as_ref()))
+        let text = string.as_ref();
+        let code = self.shared.code_of(text);
+        match self.shared.find(code, text) {
+            Look::Found(number) => self.shared.symbol_of(number),
+            _ => self.append(code, text),
+        }
     }
 
     /// The same as [`get_or_intern_static`](Self::get_or_intern_static), but returns an error instead of a panic.
@@ -164,38 +171,41 @@ impl<S: Symbol, H: BuildHasher> Interner<S, H> {
     /// As [`try_get_or_intern`](Self::try_get_or_intern).
     #[inline]
     pub fn try_get_or_intern_static(&self, string: &'static str) -> Result<S, InternError> {
-        self.intern(Given::Static(string))
+        let code = self.shared.code_of(string);
+        match self.shared.find(code, string) {
+            Look::Found(number) => self.shared.symbol_of(number),
+            _ => self.append_static(code, string),
+        }
+    }
+
+    /// Appends a text with this code, if it is not known after all.
+    #[inline(never)]
+    fn append(&self, code: u64, text: &str) -> Result<S, InternError> {
+        self.append_given(code, Given::Copied(text))
+    }
+
+    /// The same for a static text.
+    #[inline(never)]
+    fn append_static(&self, code: u64, text: &'static str) -> Result<S, InternError> {
+        self.append_given(code, Given::Static(text))
     }
 
     #[inline(always)]
-    fn intern(&self, given: Given<'_>) -> Result<S, InternError> {
-        let code = self.shared.code_of(given.text());
-        let number = match self.shared.find(code, given.text()) {
-            Look::Found(number) => number,
-            _ => self.intern_by_lock(code, given)?,
-        };
-        self.shared.symbol_of(number)
-    }
-
-    #[inline(never)]
-    fn intern_by_lock(&self, code: u64, given: Given<'_>) -> Result<u32, InternError> {
+    fn append_given(&self, code: u64, given: Given<'_>) -> Result<S, InternError> {
         let mut shard = lock(&self.shards[shard_of(code)]);
         self.shared.intern(&mut shard, code, given)
     }
 
-    /// The same for who has the interner alone: no lock is taken.
+    /// Interns a text for who has the interner alone: no lock is taken.
     #[inline]
-    fn intern_alone(&mut self, given: Given<'_>) -> Result<S, InternError> {
-        let code = self.shared.code_of(given.text());
-        let number = match self.shared.find(code, given.text()) {
-            Look::Found(number) => number,
-            _ => {
-                let shard = self.shards[shard_of(code)].0.get_mut();
-                let shard = shard.unwrap_or_else(PoisonError::into_inner);
-                self.shared.intern(shard, code, given)?
-            }
-        };
-        self.shared.symbol_of(number)
+    fn intern_alone(&mut self, text: &str) -> Result<S, InternError> {
+        let code = self.shared.code_of(text);
+        if let Look::Found(number) = self.shared.find(code, text) {
+            return self.shared.symbol_of(number);
+        }
+        let shard = self.shards[shard_of(code)].0.get_mut();
+        let shard = shard.unwrap_or_else(PoisonError::into_inner);
+        self.shared.intern(shard, code, Given::Copied(text))
     }
 }
 

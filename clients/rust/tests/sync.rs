@@ -92,6 +92,11 @@ fn compare(interner: &Interner, all: &[Told]) {
     assert_eq!(interner.iter().count(), symbols.len());
     let distinct: HashSet<&str> = symbols.values().copied().collect();
     assert_eq!(distinct.len(), symbols.len());
+    // Numbers are 0, 1, 2, .., in the order in which texts are yielded.
+    let numbers = interner.iter().map(|(symbol, _)| symbol.to_usize());
+    assert!(numbers.eq(0..interner.len()));
+    let none = DefaultSymbol::try_from_usize(interner.len()).unwrap();
+    assert_eq!(interner.resolve(none), None);
 }
 
 #[test]
@@ -196,32 +201,6 @@ fn parts_of_lent_texts() {
     assert!(names
         .iter()
         .all(|(symbol, text)| names.get(text) == Some(symbol)));
-}
-
-/// A symbol's number says in its lowest bits which of the 16 interners within has the text.
-#[test]
-fn texts_are_spread() {
-    const TEXTS: usize = 1_600;
-    let families: [fn(usize) -> String; 6] = [
-        |number| number.to_string(),
-        |number| format!("{number:08}"),
-        |number| format!("a long prefix of all texts {number}"),
-        |number| format!("{number:x} with a long end that all texts have"),
-        |number| "z".repeat(number),
-        |number| char::from_u32(0x4E00 + number as u32).unwrap().to_string(),
-    ];
-    for (family, spell) in families.iter().enumerate() {
-        let names: Interner = (0..TEXTS).map(spell).collect();
-        let mut counts = [0; 16];
-        names
-            .iter()
-            .for_each(|(symbol, _)| counts[symbol.to_usize() % 16] += 1);
-        // 100 in each in the mean. By chance none has this many.
-        assert!(
-            counts.iter().all(|count| *count < 200),
-            "{family}: {counts:?}"
-        );
-    }
 }
 
 #[test]

@@ -5,21 +5,12 @@
 //! whatever it shows, no text gets two symbols, and none gets that of another text. Only a text that is looked up, and not interned,
 //! is unknown because an index says so.
 
+use super::arrays::{Table, Tables};
 use super::orders::{ACQUIRE, RELEASE};
-use super::segments::make_items;
+use super::texts::Texts;
 use crate::error::InternError;
-use std::boxed::Box;
-use std::sync::atomic::{AtomicU64, AtomicUsize, Ordering::Relaxed};
-use std::sync::OnceLock;
-
-/// A table of slots. A slot is 0, or has a code above the number of a text plus one.
-type Table = [AtomicU64];
-
-/// The first table has so many slots, and each later one four times as many as the one before.
-const FIRST: usize = 16;
-
-/// So many tables there are at most. The last one has 2^32 slots.
-const TABLES: usize = 15;
+use crate::proved::equal_texts::texts_are_equal;
+use std::sync::atomic::Ordering::Relaxed;
 
 /// So many slots from its home on may have a text's number. Of texts with chosen codes those that come later are not in the index.
 const WINDOW: usize = 64;
@@ -33,85 +24,96 @@ pub(super) enum Look {
     Unknown,
 }
 
-/// Tables of which the last one counts. Those before are kept, since a thread may still read them.
+/// From hash codes to numbers. A slot is 0, or has a code above the number of a text plus one.
 pub(super) struct Index {
-    /// The number of the table that counts.
-    present: AtomicUsize,
-    tables: [OnceLock<Box<Table>>; TABLES],
+    tables: Tables,
 }
 
 /// Puts a slot's content into the first empty slot of the window from its home on, if there is one.
-fn put(table: &Table, content: u64) {
-    let mask = table.len() - 1;
+fn put(table: Table, content: u64) {
     let home = (content >> 32) as usize;
-    let mut window = (home..home + WINDOW).map(|place| &table[place & mask]);
+    let mut window = (home..home + WINDOW).map(|place| table.slot(place));
     if let Some(slot) = window.find(|slot| slot.load(Relaxed) == 0) {
         slot.store(content, RELEASE);
     }
 }
 
+/// Looks for a text with this code in a table.
+#[inline(always)]
+pub(super) fn look(table: Table, code: u32, texts: &Texts, text: &str) -> Look {
+    let content = table.slot(code as usize).load(ACQUIRE);
+    if let Some(number) = number_in(content, code, texts, text) {
+        return Look::Found(number);
+    }
+    match content {
+        0 => Look::Absent,
+        _ => look_on(table, code, texts, text),
+    }
+}
+
+/// Goes on with a look behind its home.
+#[inline(never)]
+fn look_on(table: Table, code: u32, texts: &Texts, text: &str) -> Look {
+    let home = code as usize;
+    for place in home + 1..home + WINDOW {
+        let content = table.slot(place).load(ACQUIRE);
+        if content == 0 {
+            return Look::Absent;
+        }
+        if let Some(number) = number_in(content, code, texts, text) {
+            return Look::Found(number);
+        }
+    }
+    Look::Unknown
+}
+
+/// Returns the number in a slot, if it is that of a text with this code.
+#[inline(always)]
+fn number_in(content: u64, code: u32, texts: &Texts, text: &str) -> Option<u32> {
+    if (content >> 32) as u32 != code {
+        return None;
+    }
+    let number = (content as u32).wrapping_sub(1);
+    let found = texts.get(number)?;
+    texts_are_equal(found, text).then_some(number)
+}
+
 impl Index {
     pub(super) const fn new() -> Self {
         Index {
-            present: AtomicUsize::new(0),
-            tables: [const { OnceLock::new() }; TABLES],
+            tables: Tables::new(),
         }
     }
 
     /// Returns the table that counts, if there is one.
     #[inline(always)]
-    fn table(&self) -> Option<&Table> {
-        Some(self.tables.get(self.present.load(ACQUIRE))?.get()?)
+    pub(super) fn table(&self) -> Option<Table<'_>> {
+        self.tables.present()
     }
 
-    /// Looks for a number under a code whose text is the right one.
+    /// Looks for a text with this code.
     #[inline(always)]
-    pub(super) fn find(&self, code: u32, is_right: impl Fn(u32) -> bool) -> Look {
-        let Some(table) = self.table() else {
-            return Look::Absent;
-        };
-        let mask = table.len() - 1;
-        let mut place = code as usize;
-        for _ in 0..WINDOW {
-            let content = table[place & mask].load(ACQUIRE);
-            if content == 0 {
-                return Look::Absent;
-            }
-            let number = (content as u32).wrapping_sub(1);
-            if (content >> 32) as u32 == code && is_right(number) {
-                return Look::Found(number);
-            }
-            place += 1;
+    pub(super) fn find(&self, code: u32, texts: &Texts, text: &str) -> Look {
+        match self.table() {
+            Some(table) => look(table, code, texts, text),
+            None => Look::Absent,
         }
-        Look::Unknown
     }
 
     /// Makes room for one number more beside so many. The caller has the shard's lock.
     #[inline]
     pub(super) fn make_room(&self, numbers: usize) -> Result<(), InternError> {
-        match self.table() {
-            Some(table) if numbers < table.len() / 4 * 3 => Ok(()),
-            _ => self.grow(),
-        }
-    }
-
-    #[cold]
-    fn grow(&self) -> Result<(), InternError> {
         let before = self.table();
-        let next = before.map_or(0, |_| self.present.load(Relaxed) + 1);
-        let Some(place) = self.tables.get(next) else {
-            // The last table has a slot for each number.
+        if before.is_some_and(|table| numbers < table.len() / 4 * 3) {
             return Ok(());
-        };
-        let larger: Box<Table> = make_items(FIRST << (2 * next))?;
-        let contents = before.unwrap_or_default().iter();
-        contents
-            .map(|slot| slot.load(Relaxed))
-            .filter(|content| *content != 0)
-            .for_each(|content| put(&larger, content));
-        place.set(larger).expect("one thread has the lock");
-        self.present.store(next, RELEASE);
-        Ok(())
+        }
+        self.tables.grow(|larger| {
+            let Some(before) = before else { return };
+            (0..before.len())
+                .map(|place| before.slot(place).load(Relaxed))
+                .filter(|content| *content != 0)
+                .for_each(|content| put(larger, content));
+        })
     }
 
     /// Adds a number, for which room was made. The caller has the shard's lock.
@@ -124,9 +126,6 @@ impl Index {
 
     /// Frees the tables that no longer count.
     pub(super) fn forget_old_tables(&mut self) {
-        let present = *self.present.get_mut();
-        self.tables[..present].iter_mut().for_each(|table| {
-            table.take();
-        });
+        self.tables.forget_old();
     }
 }

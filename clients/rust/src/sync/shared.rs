@@ -5,7 +5,6 @@ use super::shard::Shard;
 use super::texts::Texts;
 use crate::error::InternError;
 use crate::hasher::By;
-use crate::proved::equal_texts::texts_are_equal;
 use crate::proved::hash::TextHasher as _;
 use crate::proved::interner::given::Given;
 use crate::symbol::Symbol;
@@ -26,7 +25,7 @@ pub(super) struct Apart<T>(pub(super) T);
 /// What threads read without a lock.
 pub(super) struct Shared<S, H> {
     pub(super) hasher: By<H>,
-    indexes: Box<[Index; SHARDS]>,
+    pub(super) indexes: Box<[Index; SHARDS]>,
     /// Texts that are static or in buckets of the shards, which live as long.
     pub(super) texts: Texts,
     /// How many numbers were taken.
@@ -34,10 +33,11 @@ pub(super) struct Shared<S, H> {
     symbol: PhantomData<fn() -> S>,
 }
 
-/// Returns the number of the shard of a text with this code. A product spreads codes whose highest bits are poor.
+/// Returns the number of the shard of a text with this code. If a hasher's highest bits are poor, few shards have texts, and threads
+/// that intern new ones wait longer.
 #[inline(always)]
 pub(super) fn shard_of(code: u64) -> usize {
-    (code.wrapping_mul(0x9E37_79B9_7F4A_7C15) >> (u64::BITS - SHARD_BITS)) as usize
+    (code >> (u64::BITS - SHARD_BITS)) as usize
 }
 
 impl<S, H> Shared<S, H> {
@@ -66,37 +66,35 @@ impl<S: Symbol, H: BuildHasher> Shared<S, H> {
     /// Looks for a text with this code in the index of its shard.
     #[inline(always)]
     pub(super) fn find(&self, code: u64, text: &str) -> Look {
-        self.indexes[shard_of(code)].find(code as u32, |number| {
-            let kept = self.texts.get(number);
-            kept.is_some_and(|kept| texts_are_equal(kept, text))
-        })
+        self.indexes[shard_of(code)].find(code as u32, &self.texts, text)
     }
 
-    /// Returns the number of a text that the index did not show. Appends a text that is not known to its shard, which nobody else
+    /// Returns the symbol of a text that the index did not show. Appends a text that is not known to its shard, which nobody else
     /// has.
     pub(super) fn intern(
         &self,
         shard: &mut Shard,
         code: u64,
         given: Given<'_>,
-    ) -> Result<u32, InternError> {
+    ) -> Result<S, InternError> {
         let index = &self.indexes[shard_of(code)];
         // All that may be refused is asked for first, so that a text for which there is no room is not kept. But other threads may
         // take the last number in the meantime: then the text stays in its shard without one.
         if let Err(error) = self.make_room(shard, index) {
-            return shard.find(code, given.text()).ok_or(error);
+            let number = shard.find(code, given.text()).ok_or(error)?;
+            return self.symbol_of(number);
         }
         let place = shard.intern(&self.hasher, code, given)?;
         if let Some(number) = shard.number_at(place) {
-            return Ok(number);
+            return self.symbol_of(number);
         }
         // SAFETY: the bytes stay as long as the shard, as `text_at` says, and the shard as long as `self`: an interner has both.
         let entry = unsafe { self.texts.entry_of(shard.text_at(place))? };
-        let number = self.take_number()?;
+        let (number, symbol) = self.take_number()?;
         shard.set_number(place, number);
         self.texts.publish(number, entry);
         index.insert(code as u32, number);
-        Ok(number)
+        Ok(symbol)
     }
 
     /// Makes room for one text more, if a symbol is left for it.
@@ -107,25 +105,27 @@ impl<S: Symbol, H: BuildHasher> Shared<S, H> {
         index.make_room(shard.len())
     }
 
-    /// Makes room for the text of a number, if the number has a symbol.
+    /// Makes room for the text of a number, and returns its symbol.
     #[inline]
-    fn make_room_for(&self, number: u32) -> Result<(), InternError> {
+    fn make_room_for(&self, number: u32) -> Result<S, InternError> {
         if number == u32::MAX {
             return Err(InternError::NoSymbol);
         }
-        self.symbol_of(number)?;
-        self.texts.make_room(number)
+        let symbol = self.symbol_of(number)?;
+        self.texts.make_room(number)?;
+        Ok(symbol)
     }
 
-    /// Takes the next number, for whose text there is room then.
+    /// Takes the next number, for whose text there is room then. Nothing that may fail or panic comes between taking a number and
+    /// publishing its text.
     #[inline]
-    fn take_number(&self) -> Result<u32, InternError> {
+    pub(super) fn take_number(&self) -> Result<(u32, S), InternError> {
         let count = &self.count.0;
-        let mut number = count.load(Relaxed);
+        let mut number = self.count();
         loop {
-            self.make_room_for(number)?;
+            let symbol = self.make_room_for(number)?;
             match count.compare_exchange_weak(number, number + 1, Relaxed, Relaxed) {
-                Ok(_) => return Ok(number),
+                Ok(_) => return Ok((number, symbol)),
                 Err(now) => number = now,
             }
         }

@@ -3,8 +3,8 @@
 //! An entry has eight bytes: the address of a text of less than 2¹⁶ − 1 bytes, shifted by 16 bits, and its length. A text that is
 //! longer, or whose address has more than 48 bits, stands in a list of its own, and the entry has its number there.
 
+use super::arrays::Segments;
 use super::orders::{ACQUIRE, RELEASE};
-use super::segments::Segments;
 use crate::error::InternError;
 use core::{mem, ptr, slice, str};
 use std::sync::atomic::{AtomicPtr, AtomicU32, Ordering::Relaxed};

@@ -2,7 +2,6 @@
 
 use super::{Interner, Iter};
 use crate::error::expect;
-use crate::proved::interner::given::Given;
 use crate::symbol::Symbol;
 use core::fmt;
 use core::hash::BuildHasher;
@@ -40,7 +39,7 @@ impl<S: Symbol, H: BuildHasher, T: AsRef<str>> Extend<T> for Interner<S, H> {
     fn extend<I: IntoIterator<Item = T>>(&mut self, iter: I) {
         // A closure would hide from the panic who called.
         for string in iter {
-            expect(self.intern_alone(Given::Copied(string.as_ref())));
+            expect(self.intern_alone(string.as_ref()));
         }
     }
 }

@@ -1,13 +1,14 @@
-//! Threads that intern, find and read texts in one interner, and compare what they read. Helgrind runs this (see
-//! `rust_races` in `clients/check`). The threads are the system's, because helgrind does not know those of Rust's.
+//! Threads that intern, find and read texts in one interner, and compare what they read. A race detector watches (see `rust_races` in
+//! `clients/check`). The threads are the system's, because it does not see how Rust's hand a value over.
 
 use std::ffi::c_void;
 use std::ptr;
 
 use string_interner::sync::Interner;
+use string_interner::{DefaultSymbol, Symbol};
 
 const THREADS: usize = 8;
-const CALLS: usize = 300;
+const CALLS: usize = 6_000;
 
 type Body = extern "C" fn(*mut c_void) -> *mut c_void;
 
@@ -33,6 +34,21 @@ fn spell(number: usize) -> String {
     }
 }
 
+/// Reads texts of which this thread was not told.
+fn read_what_others_intern(names: &Interner, number: usize) {
+    let symbol = DefaultSymbol::try_from_usize(number).unwrap();
+    if let Some(text) = names.resolve(symbol) {
+        // It can be resolved a moment before it is found.
+        assert!(names.get(text).is_none_or(|found| found == symbol));
+    }
+    if let Some(symbol) = names.get(spell(number)) {
+        assert_eq!(names.resolve(symbol), Some(&*spell(number)));
+    }
+    if number % 500 == 0 {
+        assert!(names.iter().all(|(_, text)| text.contains(' ')));
+    }
+}
+
 fn run(task: &Task) {
     let mut kept = Vec::new();
     for number in (0..CALLS).map(|number| number * task.step % (CALLS / 2)) {
@@ -41,6 +57,7 @@ fn run(task: &Task) {
         let (other, text) = kept[number % kept.len()];
         assert_eq!(text, spell(other));
         assert!(task.names.contains(text));
+        read_what_others_intern(task.names, number);
     }
     assert!(kept.iter().all(|(number, text)| *text == spell(*number)));
 }

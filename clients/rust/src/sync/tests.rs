@@ -1,0 +1,130 @@
+//! Steps of interning a text, in each order in which two threads may take them, and how texts are spread over shards.
+
+use super::shared::{shard_of, SHARDS};
+use super::*;
+use crate::hasher::By;
+use crate::proved::hash::TextHasher as _;
+use std::format;
+use std::string::{String, ToString as _};
+use std::vec::Vec;
+
+/// A text that is interned step by step.
+struct Writer {
+    text: &'static str,
+    code: u64,
+    number: Option<u32>,
+    steps: usize,
+}
+
+impl Writer {
+    fn new(names: &Interner, text: &'static str) -> Self {
+        Writer {
+            text,
+            code: names.shared.code_of(text),
+            number: None,
+            steps: 0,
+        }
+    }
+
+    /// Takes the next of three steps, as `Shared::intern` does.
+    fn step(&mut self, names: &Interner) {
+        let (shared, shard) = (&names.shared, shard_of(self.code));
+        match self.steps {
+            0 => {
+                let shard = &mut lock(&names.shards[shard]);
+                shared.indexes[shard_of(self.code)]
+                    .make_room(shard.len())
+                    .unwrap();
+                self.number = Some(shared.take_number().unwrap().0);
+            }
+            1 => {
+                // SAFETY: the text is static.
+                let entry = unsafe { shared.texts.entry_of(self.text).unwrap() };
+                shared.texts.publish(self.number.unwrap(), entry);
+            }
+            _ => shared.indexes[shard].insert(self.code as u32, self.number.unwrap()),
+        }
+        self.steps += 1;
+    }
+
+    /// Compares what a thread that reads is told with the steps that were taken.
+    fn check(&self, names: &Interner) {
+        let number = self
+            .number
+            .and_then(|number| DefaultSymbol::try_from_usize(number as usize));
+        let resolved = number.and_then(|symbol| names.resolve(symbol));
+        assert_eq!(resolved, (self.steps > 1).then_some(self.text));
+        assert_eq!(names.get(self.text), number.filter(|_| self.steps > 2));
+    }
+}
+
+/// All orders of three steps of each of two threads: bit `k` says which of them takes step `k`.
+fn orders() -> impl Iterator<Item = u32> {
+    (0..1_u32 << 6).filter(|order| order.count_ones() == 3)
+}
+
+#[test]
+fn each_order_of_steps() {
+    for order in orders() {
+        let names = Interner::new();
+        let mut writers = ["one", "other"].map(|text| Writer::new(&names, text));
+        for step in 0..6 {
+            writers[(order >> step & 1) as usize].step(&names);
+            writers.iter().for_each(|writer| writer.check(&names));
+            assert_eq!(
+                names.len(),
+                writers.iter().filter(|writer| writer.steps > 0).count()
+            );
+        }
+        assert!(names
+            .iter()
+            .all(|(symbol, text)| names.get(text) == Some(symbol)));
+        assert_eq!(names.iter().len(), 2);
+    }
+}
+
+/// A look that began before its index grew finds all that was there when it began.
+#[test]
+fn a_look_goes_on_while_the_index_grows() {
+    let names = Interner::new();
+    let text_of = |number: usize| format!("text {number}");
+    let mut looks = Vec::new();
+    for number in 0..3_000 {
+        let text = text_of(number);
+        names.get_or_intern(&text);
+        let code = names.shared.code_of(&text);
+        let index = &names.shared.indexes[shard_of(code)];
+        // The table that the look has loaded when the other thread goes on.
+        looks.push((index.table().unwrap(), code, text));
+    }
+    for (number, (table, code, text)) in looks.iter().enumerate() {
+        let found = index::look(*table, *code as u32, &names.shared.texts, text);
+        assert!(matches!(found, Look::Found(found) if found as usize == number));
+        let unknown = index::look(*table, *code as u32, &names.shared.texts, "unknown");
+        assert!(!matches!(unknown, Look::Found(_)));
+    }
+}
+
+#[test]
+fn texts_are_spread_over_shards() {
+    let families: [fn(usize) -> String; 6] = [
+        |number| number.to_string(),
+        |number| format!("{number:08}"),
+        |number| format!("a long prefix of all texts {number}"),
+        |number| format!("{number:x} with a long end that all texts have"),
+        |number| "z".repeat(number),
+        |number| char::from_u32(0x4E00 + number as u32).unwrap().to_string(),
+    ];
+    let hasher = By(DefaultHashBuilder);
+    for (family, spell) in families.into_iter().enumerate() {
+        let mut counts = [0; SHARDS];
+        for number in 0..100 * SHARDS {
+            counts[shard_of(hasher.hash_text(&spell(number)))] += 1;
+        }
+        // 100 in each in the mean. By chance none has this many.
+        assert!(
+            counts.iter().all(|count| *count < 200),
+            "{family}: {counts:?}"
+        );
+    }
+}
