@@ -10,6 +10,7 @@ from pathlib import Path
 
 from edits import TOP
 from machine import toolchain_folder
+from needs import is_there
 
 SECONDS = 60
 # What the library says at the end of a run that gave back all memory, and what stands for that line where it is missing.
@@ -34,9 +35,9 @@ class Program:
     def __init__(self, path, folder):
         self.path = str(Path(path).resolve())
         self.library = f"{folder}/failures.so"
-        clang = toolchain_folder() / "toolchain/bin/clang"
-        words = [clang if clang.exists() else "cc", "-O2", "-shared", "-fPIC", "-nostdlib", "-fuse-ld=lld"]
-        subprocess.run([*words, "-o", self.library, TOP / ".ci/failures.c"], check=True)
+        clang = toolchain_folder() / "toolchain/bin/clang" if is_there("rt") else None
+        words = [clang, "-fuse-ld=lld"] if clang and clang.exists() else ["cc"]
+        subprocess.run([*words, "-O2", "-shared", "-fPIC", "-nostdlib", "-o", self.library, TOP / ".ci/failures.c"], check=True)
 
     def run(self, words, given=b"", output=subprocess.PIPE, is_joined=False, seconds=SECONDS, before=None, folder=None,
             **settings):

@@ -176,6 +176,29 @@ class EraseTest(TestCase):
         self.assertIn('match self { Self::No { .. } => f.write_str("no \\"x\\""), Self::Of { .. } => f.write_str("of"), }', erased)
         self.assertIn("#[derive(Debug)]\n", erased)
 
+    def test_errors_with_fields(self):
+        """As thiserror does: the text has fields, and `#[from]` makes the error of what a field has."""
+        variants = '    #[error("{0}")]\n    Of(#[from] Why),\n    #[error("bad {0}")]\n    Bad(u8),\n'
+        variants += '    #[error("{line}: {why}")]\n    At { line: u8, why: Why },\n'
+        erased = ERASE(f"#[derive(Error)]\nenum E {{\n{variants}}}\n").splitlines()
+        self.assertEqual([it.strip() for it in erased[2:4]], ['//~ #[error("{0}")]', "Of(/*~ #[from] */ Why),"])
+        arms = '{ Self::Of(it) => ::core::write!(f, "{0}", it), Self::Bad(it) => ::core::write!(f, "bad {0}", it), '
+        arms += 'Self::At { line, why, .. } => ::core::write!(f, "{line}: {why}"), }'
+        self.assertIn(f"match self {arms}", erased[8])
+        self.assertIn("} impl From<Why> for E { fn from(it: Why) -> Self { Self::Of(it) } } impl ", erased[8])
+
+    def test_names_of_a_program(self):
+        """In a program paths and macros lead elsewhere, and other modules are left out."""
+        names = {"library": "library::proved", "println": "crate::rt::println"}
+        program = TOOL["Erased"]("", "", "crate::a", frozenset({"b"}), names=names)
+        source = "use library::B;\nmod b;\nfn f() { println!(rt; \"\"); crate::g(library::h, a::library::i) }\n"
+        erased = ERASE(source, "", program).replace(PRELUDE, "", 1).splitlines()
+        self.assertEqual(erased, [
+            "use library::proved::B;",
+            "//~ mod b;",
+            'fn f() { crate::rt::println!(rt; ""); crate::a::g(library::proved::h, a::library::i) }',
+        ])
+
     def test_other_forms(self):
         self.gives("impl A { final fn f() {} }\n", "impl A { fn f() {} }")
         self.gives(
@@ -184,6 +207,7 @@ class EraseTest(TestCase):
             "    fn fmt(&self, f: &mut Formatter<'_>) -> fmt::Result {}",
             "}",
         )
+        self.gives("fn fmt<W: fmt::Write>(&self, f: &mut fmt::Formatter<W>) {}\n", "fn fmt(&self, f: &mut fmt::Formatter<'_>) {}")
         self.gives(
             "const A: u8 = 1;\nconst _: () = prove!(size_of::<A>() == 1);\n",
             "const A: u8 = 1;",
@@ -230,7 +254,8 @@ class EraseTest(TestCase):
             ("impl Model for A {\n    fn f() {}\n}\n", 1, "not ghost"),
             ("impl A {\n    fn fmt(&self) {}\n}\n", 2, "another form"),
             ("#[derive(Error)]\nstruct A;\n", 2, "no plain enum"),
-            ('#[derive(Error)]\nenum A {\n    #[error("{0}")]\n    B(u8),\n}\n', 2, "fields"),
+            ('#[derive(Error)]\nenum A {\n    #[error("{0}")]\n    B(u8, u8),\n}\n', 2, "fields"),
+            ('#[derive(Error)]\nenum A {\n    #[error("{0}")]\n    B,\n}\n', 2, "fields"),
             ("trait A<T {}\n", 1, "without an end"),
             ("fn f( {}\n", 1, "a bracket without an end"),
             ("fn f()\n{ ( }\n", 2, "brackets that do not match"),

@@ -39,7 +39,7 @@ pub enum JsonError {
     /// The value is not an integer from 0 to 2^64 - 1.
     //~ #[error("not a number")]
     NotANumber,
-} impl ::core::error::Error for JsonError {} impl ::core::fmt::Display for JsonError { fn fmt(&self, f: &mut ::core::fmt::Formatter<'_>) -> ::core::fmt::Result { match self { Self::NoSymbol { .. } => f.write_str("no symbol is left"), Self::Memory { .. } => f.write_str("out of memory"), Self::NotAList { .. } => f.write_str("not a list"), Self::NotAText { index, .. } => write!(f, "element {index} is not a text"), Self::Repeated { index, .. } => write!(f, "element {index} is repeated"), Self::NotANumber { .. } => f.write_str("not a number"), } } }
+} impl ::core::error::Error for JsonError {} impl ::core::fmt::Display for JsonError { fn fmt(&self, f: &mut ::core::fmt::Formatter<'_>) -> ::core::fmt::Result { match self { Self::NoSymbol { .. } => f.write_str("no symbol is left"), Self::Memory { .. } => f.write_str("out of memory"), Self::NotAList { .. } => f.write_str("not a list"), Self::NotAText { index, .. } => ::core::write!(f, "element {index} is not a text"), Self::Repeated { index, .. } => ::core::write!(f, "element {index} is repeated"), Self::NotANumber { .. } => f.write_str("not a number"), } } }
 
 /// Keeps the reason: `NoSymbol` stays `NoSymbol`, and `Memory` stays `Memory`.
 impl From<InternError> for JsonError {
