@@ -2,9 +2,7 @@
 //! Rust's own std asks for, as for the buffers of standard input and output, is not asked for.
 
 pub use super::{alloc, fmt, iter, json, marker, mem, slice, str, string};
-pub use crate::{
-    erased_eprintln as eprintln, erased_println as println, erased_vec as vec,
-};
+pub use crate::{erased_eprintln as eprintln, erased_println as println, erased_vec as vec};
 pub use std::{cell, cmp};
 
 use super::alloc::{AllocError, Global};
@@ -181,7 +179,9 @@ pub mod io {
             let mut count = 0;
             loop {
                 let more = room - bytes.len();
-                bytes.try_reserve_exact(more).map_err(|_| ErrorKind::OutOfMemory)?;
+                bytes
+                    .try_reserve_exact(more)
+                    .map_err(|_| ErrorKind::OutOfMemory)?;
                 bytes.extend_from_slice(&ahead[..count]);
                 let mut len = bytes.len();
                 bytes.resize(room, 0);
@@ -192,9 +192,14 @@ pub mod io {
                     }
                 }
                 bytes.truncate(len);
-                count = if len < room { 0 } else { self.read(&mut ahead)? };
+                count = if len < room {
+                    0
+                } else {
+                    self.read(&mut ahead)?
+                };
                 if count == 0 {
-                    text.0 = std::string::String::from_utf8(bytes).map_err(|_| ErrorKind::InvalidData)?;
+                    text.0 = std::string::String::from_utf8(bytes)
+                        .map_err(|_| ErrorKind::InvalidData)?;
                     return Ok(len);
                 }
                 room *= 2;
@@ -256,7 +261,11 @@ pub mod io {
 
     /// Writes a text. The macros call it.
     pub fn print(mut output: Stream, text: Arguments<'_>) -> Result<()> {
-        let mut line = Line { output: &mut output, bytes: [0; 512], len: 0 };
+        let mut line = Line {
+            output: &mut output,
+            bytes: [0; 512],
+            len: 0,
+        };
         line.write_fmt(text)?;
         line.flush()
     }
@@ -327,7 +336,8 @@ impl String {
     }
 
     pub fn repeat(text: &str, alloc: Global, count: usize) -> Result<Self, AllocError> {
-        let mut texts = String::with_capacity(alloc, text.len().checked_mul(count).ok_or(AllocError)?)?;
+        let mut texts =
+            String::with_capacity(alloc, text.len().checked_mul(count).ok_or(AllocError)?)?;
         (0..count).try_for_each(|_| texts.push_str(text))?;
         Ok(texts)
     }

@@ -59,7 +59,11 @@ impl Value {
         };
         let value = reader.value(128)?;
         reader.skip_space();
-        if reader.rest.is_empty() { Ok(value) } else { Err(Error::NotJson) }
+        if reader.rest.is_empty() {
+            Ok(value)
+        } else {
+            Err(Error::NotJson)
+        }
     }
 
     pub fn as_array(&self) -> Option<&[Value]> {
@@ -92,7 +96,8 @@ impl Display for Value {
             Value::Integer(number) => number.fmt(f),
             Value::Text(text) => {
                 f.write_char('"')?;
-                text.chars().try_for_each(|letter| write_letter(f, letter))?;
+                text.chars()
+                    .try_for_each(|letter| write_letter(f, letter))?;
                 f.write_char('"')
             }
             Value::List(values) => {
@@ -145,7 +150,11 @@ impl Reader<'_> {
     }
 
     fn pass(&mut self, text: &str) -> Result<(), Error> {
-        if self.passes(text) { Ok(()) } else { Err(Error::NotJson) }
+        if self.passes(text) {
+            Ok(())
+        } else {
+            Err(Error::NotJson)
+        }
     }
 
     fn letter(&mut self) -> Result<char, Error> {
@@ -165,7 +174,9 @@ impl Reader<'_> {
             }
             Some(b'[') if nested > 0 => {
                 let mut values = Vec::new(self.alloc);
-                self.items("[", "]", |reader| Ok(values.push(reader.value(nested - 1)?)?))?;
+                self.items("[", "]", |reader| {
+                    Ok(values.push(reader.value(nested - 1)?)?)
+                })?;
                 Ok(Value::List(values))
             }
             Some(b'{') if nested > 0 => self.items("{", "}", |reader| {
@@ -203,10 +214,16 @@ impl Reader<'_> {
     }
 
     fn digits(&mut self) -> Result<(), Error> {
-        let rest = self.rest.trim_start_matches(|letter: char| letter.is_ascii_digit());
+        let rest = self
+            .rest
+            .trim_start_matches(|letter: char| letter.is_ascii_digit());
         let had_some = rest.len() < self.rest.len();
         self.rest = rest;
-        if had_some { Ok(()) } else { Err(Error::NotJson) }
+        if had_some {
+            Ok(())
+        } else {
+            Err(Error::NotJson)
+        }
     }
 
     fn number(&mut self) -> Result<Value, Error> {
@@ -255,7 +272,11 @@ impl Reader<'_> {
     /// Reads the four digits of an escaped letter, and those of the next one where two make a letter.
     fn unicode(&mut self) -> Result<char, Error> {
         let mut units = [self.unit()?, 0];
-        let count = if matches!(units[0], 0xd800..0xdc00) { 2 } else { 1 };
+        let count = if matches!(units[0], 0xd800..0xdc00) {
+            2
+        } else {
+            1
+        };
         if count == 2 {
             self.pass("\\u")?;
             units[1] = self.unit()?;
