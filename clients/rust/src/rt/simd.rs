@@ -7,7 +7,7 @@ pub mod prelude {
 /// Sixteen bytes.
 #[allow(non_camel_case_types)]
 #[derive(Clone, Copy)]
-pub struct u8x16([u8; 16]);
+pub struct u8x16(lanes::Lanes);
 
 /// Which of sixteen bytes are equal: bit `i` for byte `i`.
 #[derive(Clone, Copy)]
@@ -25,43 +25,80 @@ impl u8x16 {
     /// Returns the first sixteen bytes of these. Panics if there are fewer.
     #[inline(always)]
     pub fn from_slice(bytes: &[u8]) -> Self {
-        u8x16(*bytes.first_chunk().expect("sixteen bytes"))
+        u8x16(lanes::of(bytes.first_chunk().expect("sixteen bytes")))
     }
 
     /// Returns a byte sixteen times.
     #[inline(always)]
     pub fn splat(byte: u8) -> Self {
-        u8x16([byte; 16])
+        u8x16(lanes::repeated(byte))
     }
 
     /// Compares byte by byte.
     #[inline(always)]
     pub fn simd_eq(self, other: Self) -> Mask {
-        Mask(equal_bytes(&self.0, &other.0))
+        Mask(lanes::equal(self.0, other.0))
     }
 }
 
+// From some version on the compiler takes calls that only want the vectors for safe.
 #[cfg(all(target_feature = "sse2", not(any(miri, string_interner_words))))]
-#[inline(always)]
-fn equal_bytes(one: &[u8; 16], other: &[u8; 16]) -> u16 {
-    use core::arch::x86_64::{_mm_cmpeq_epi8, _mm_loadu_si128, _mm_movemask_epi8};
-    // SAFETY: the target has SSE2, and the addresses, which need not be aligned, are those of sixteen bytes.
-    unsafe {
-        let [one, other] = [one, other].map(|bytes| _mm_loadu_si128(bytes.as_ptr().cast()));
-        _mm_movemask_epi8(_mm_cmpeq_epi8(one, other)) as u16
+#[allow(unused_unsafe)]
+mod lanes {
+    use core::arch::x86_64::{
+        __m128i, _mm_cmpeq_epi8, _mm_loadu_si128, _mm_movemask_epi8, _mm_set1_epi8,
+    };
+
+    pub type Lanes = __m128i;
+
+    #[inline(always)]
+    pub fn of(bytes: &[u8; 16]) -> Lanes {
+        // SAFETY: the target has SSE2, and the address, which need not be aligned, is that of sixteen bytes.
+        unsafe { _mm_loadu_si128(bytes.as_ptr().cast()) }
+    }
+
+    #[inline(always)]
+    pub fn repeated(byte: u8) -> Lanes {
+        // SAFETY: the target has SSE2.
+        unsafe { _mm_set1_epi8(byte as i8) }
+    }
+
+    #[inline(always)]
+    pub fn equal(one: Lanes, other: Lanes) -> u16 {
+        // SAFETY: the target has SSE2.
+        unsafe { _mm_movemask_epi8(_mm_cmpeq_epi8(one, other)) as u16 }
     }
 }
 
 #[cfg(all(target_feature = "neon", not(any(miri, string_interner_words))))]
-#[inline(always)]
-fn equal_bytes(one: &[u8; 16], other: &[u8; 16]) -> u16 {
-    use core::arch::aarch64::{vaddv_u8, vandq_u8, vceqq_u8, vget_high_u8, vget_low_u8, vld1q_u8};
-    const BITS: [u8; 16] = [1, 2, 4, 8, 16, 32, 64, 128, 1, 2, 4, 8, 16, 32, 64, 128];
-    // SAFETY: the target has NEON, and the addresses are those of sixteen bytes.
-    unsafe {
-        let [one, other, bits] = [one, other, &BITS].map(|bytes| vld1q_u8(bytes.as_ptr()));
-        let equal = vandq_u8(vceqq_u8(one, other), bits);
-        u16::from(vaddv_u8(vget_low_u8(equal))) | u16::from(vaddv_u8(vget_high_u8(equal))) << 8
+#[allow(unused_unsafe)]
+mod lanes {
+    use core::arch::aarch64::{
+        uint8x16_t, vaddv_u8, vandq_u8, vceqq_u8, vdupq_n_u8, vget_high_u8, vget_low_u8, vld1q_u8,
+    };
+
+    pub type Lanes = uint8x16_t;
+
+    #[inline(always)]
+    pub fn of(bytes: &[u8; 16]) -> Lanes {
+        // SAFETY: the target has NEON, and the address is that of sixteen bytes.
+        unsafe { vld1q_u8(bytes.as_ptr()) }
+    }
+
+    #[inline(always)]
+    pub fn repeated(byte: u8) -> Lanes {
+        // SAFETY: the target has NEON.
+        unsafe { vdupq_n_u8(byte) }
+    }
+
+    #[inline(always)]
+    pub fn equal(one: Lanes, other: Lanes) -> u16 {
+        let bits = of(&[1, 2, 4, 8, 16, 32, 64, 128, 1, 2, 4, 8, 16, 32, 64, 128]);
+        // SAFETY: the target has NEON.
+        unsafe {
+            let equal = vandq_u8(vceqq_u8(one, other), bits);
+            u16::from(vaddv_u8(vget_low_u8(equal))) | u16::from(vaddv_u8(vget_high_u8(equal))) << 8
+        }
     }
 }
 
@@ -70,7 +107,24 @@ fn equal_bytes(one: &[u8; 16], other: &[u8; 16]) -> u16 {
     string_interner_words,
     not(any(target_feature = "sse2", target_feature = "neon"))
 ))]
-use equal_by_words as equal_bytes;
+mod lanes {
+    pub type Lanes = [u8; 16];
+
+    #[inline(always)]
+    pub fn of(bytes: &[u8; 16]) -> Lanes {
+        *bytes
+    }
+
+    #[inline(always)]
+    pub fn repeated(byte: u8) -> Lanes {
+        [byte; 16]
+    }
+
+    #[inline(always)]
+    pub fn equal(one: Lanes, other: Lanes) -> u16 {
+        super::equal_by_words(&one, &other)
+    }
+}
 
 /// The same by two words.
 #[inline(always)]
