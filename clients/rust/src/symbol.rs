@@ -55,8 +55,11 @@ macro_rules! symbol {
         impl Symbol for $name {
             #[inline]
             fn try_from_usize(index: usize) -> Option<Self> {
-                let value = <$number>::try_from(index).ok()?.checked_add(1)?;
-                <$non_zero>::new(value).map(|value| Self { value })
+                // The compiler sees that a second question after this one has the same answer.
+                if index >= <$number>::MAX as usize {
+                    return None;
+                }
+                <$non_zero>::new(index as $number + 1).map(|value| Self { value })
             }
 
             #[inline]
