@@ -24,12 +24,27 @@ unsafe fn cut(joined: &str, start: usize, end: usize) -> &str {
     unsafe { joined.get_unchecked(start..end) }
 }
 
+/// Returns where a text begins and ends, if its end is one of those of four bytes.
+///
+/// The part of the list up to that end is taken first, so that the two ends behind it need no further check of bounds.
+#[inline(always)]
+fn narrow_span(narrow: &[u32], number: usize) -> Option<(usize, usize)> {
+    match narrow.get(..=number)? {
+        [.., start, end] => Some((*start as usize, *end as usize)),
+        [end] => Some((0, *end as usize)),
+        [] => None,
+    }
+}
+
 /// Returns the text with a number, if there is one.
 #[inline(always)]
 pub(super) fn find(texts: &StringBackend<usize>, number: usize) -> Option<&str> {
     let (joined, ends) = texts.as_parts();
-    let (start, end) = find_span(ends, number)?;
-    // SAFETY: these are the end of the text before and the end of this one.
+    let (start, end) = match narrow_span(ends.as_slices().0, number) {
+        Some(narrow) => narrow,
+        None => find_span(ends, number)?,
+    };
+    // SAFETY: these are the end of the text before, or 0, and the end of this one.
     Some(unsafe { cut(joined, start, end) })
 }
 
@@ -37,7 +52,10 @@ pub(super) fn find(texts: &StringBackend<usize>, number: usize) -> Option<&str> 
 #[inline(always)]
 pub(super) fn at(texts: &StringBackend<usize>, number: usize) -> &str {
     let (joined, ends) = texts.as_parts();
-    let (start, end) = span(ends, number);
+    let (start, end) = match narrow_span(ends.as_slices().0, number) {
+        Some(narrow) => narrow,
+        None => span(ends, number),
+    };
     // SAFETY: as in `find`.
     unsafe { cut(joined, start, end) }
 }
