@@ -1,5 +1,4 @@
-"""Folders of cases, which are read as cram reads a test of one command, and of tables, which have a row for each of many inputs
-that end alike."""
+"""Folders of cases, which are read as cram reads a test, and of tables, which have a row for each of many inputs that end alike."""
 
 import re
 import shlex
@@ -14,10 +13,10 @@ from edits import TOP
 FIRST_INPUT = 512
 # How much a large input has.
 MANY, MEBIBYTE = 200000, 2**20
-# What stands before the command; standard input, which another command or the lines behind it give; the arguments; what is
-# printed, and the status where it is not 0.
-CASE = re.compile(rb"(?:(?!  ).*\n)*  \$ (?:printf '(.*)' \| )?\w+(.*?)(?: <<'END'\n((?:  > .*\n)*)  > END)?\n"
-                  rb"((?:  .*\n)*?)(?:  \[(\d+)\]\n)?")
+# The name; standard input, which another command or the lines behind it give; the arguments; what is printed, and the status
+# where it is not 0.
+CASE = re.compile(rb"\n?(?! )(.+):\n\n  \$ (?:printf '(.*)' \| )?\w+(.*?)(?: <<'END'\n((?:  > .*\n)*)  > END)?\n"
+                  rb"((?:  (?!\$ ).*\n)*?)(?:  \[(\d+)\]\n)?(?=\n|\Z)")
 # A line of what is printed, whether it has no newline, and whether its bytes are escaped.
 LINE = re.compile(rb"  (.*?)( \(no-eol\))?( \(esc\))?\n")
 
@@ -44,29 +43,39 @@ class Case:
     end: tuple[int, bytes, bytes]
 
     @classmethod
-    def read(cls, path: Path) -> Self:
-        """Reads a case. What it prints is standard output where the status is 0, and else standard error."""
-        found = CASE.fullmatch(path.read_bytes())
-        if not found:
-            raise ValueError(f"{path.name} does not read as a case")
-        made, words, lines, printed, status = found.groups()
+    def of(cls, stem: str, found: re.Match[bytes]) -> Self:
+        """The case of a file. What it prints is standard output where the status is 0, and else standard error."""
+        name, made, words, lines, printed, status = found.groups()
         data = re.sub(rb"(?m)^  > ", b"", lines or b"") if made is None else unescape(made.replace(b"%%", b"%"))
         told = b"".join((unescape(line) if is_escaped else line) + b"\n" * (not is_cut)
                         for line, is_cut, is_escaped in LINE.findall(printed))
         end = (int(status), b"", told) if status else (0, told, b"")
-        return cls(path.stem, [word.encode() for word in shlex.split(words.decode())], data, end)
+        return cls(f"{stem}, {name.decode()}", [word.encode() for word in shlex.split(words.decode())], data, end)
+
+
+def read_cases(path: Path) -> list[Case]:
+    """Reads the cases of a file."""
+    text, found, end = path.read_bytes(), [], 0
+    while end < len(text):
+        one = CASE.match(text, end)
+        if not one:
+            line = text.count(b"\n", 0, end) + 1
+            raise ValueError(f"{path.name}: no case from line {line} on")
+        found.append(Case.of(path.stem, one))
+        end = one.end()
+    return found
 
 
 def try_folder(_: Any, folder: str) -> Iterator[tuple[str, Any, Any]]:
-    """There are cases, and each file is one, or a table."""
+    """There are cases, and each file has some, or is a table."""
     files = sorted((TOP / folder).iterdir())
-    yield f"files of {folder} that are no case", [it.name for it in files if it.suffix not in ("", ".md", ".t")], []
+    yield f"files of {folder} that have no case", [it.name for it in files if it.suffix not in ("", ".md", ".t")], []
     yield f"there are cases in {folder}", any(it.suffix == ".t" for it in files), True
 
 
 def cases(folder: str, try_case: Callable[..., Any]) -> Iterator[tuple[Any, ...]]:
     yield try_folder, folder
-    yield from ((try_case, path) for path in sorted((TOP / folder).glob("*.t")))
+    yield from ((try_case, case) for path in sorted((TOP / folder).glob("*.t")) for case in read_cases(path))
 
 
 def try_table(_: Any, name: str, count: int) -> Iterator[tuple[str, Any, Any]]:

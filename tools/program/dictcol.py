@@ -14,7 +14,7 @@ from itertools import chain, count, product
 from pathlib import Path
 
 from program import closed, columns, shards, shell
-from program.cases import MANY, MEBIBYTE, Case, cases, rows
+from program.cases import MANY, MEBIBYTE, cases, rows
 from program.reckon import MEMORY, answer, failed, misused, unreadable, unwritable, warned
 from program.requests import OUTPUT_BUFFER, asks_of_lines
 from program.shards import MULTIPLIER, START, mixed
@@ -86,8 +86,7 @@ def try_asks(program, name, words, data):
     yield f"{name}, what it asks for to write", asks[end:], behind
 
 
-def try_case(program, path):
-    case = Case.read(path)
+def try_case(program, case):
     if case.words[0] in (b"encode", b"count") and case.end[0] == 0 and b"--encoded" not in case.words:
         case.end = *case.end[:2], warned(case.data)
     if case.end[0] == 0 and case.words[0] == b"merge":

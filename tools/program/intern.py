@@ -3,7 +3,7 @@
 import random
 
 from asks import COMMAND, REPLY, Calls
-from program.cases import MANY, MEBIBYTE, Case, cases, rooms_of_input, rows
+from program.cases import MANY, MEBIBYTE, cases, rooms_of_input, rows
 from program.streams import Streams
 from program.texts import BACKENDS, OUT_OF_MEMORY, UNREADABLE, UNWRITABLE, USAGE, answer, bad_line, lines_of
 
@@ -70,9 +70,8 @@ def asked_again(program, case, number, purpose, asks):
     return program.run_with_asks(case.words, data, number)[1][number:]
 
 
-def try_case(program, path):
+def try_case(program, case):
     """A case, and again with each of its requests for memory refused."""
-    case = Case.read(path)
     name = case.name
     yield f"{name}, the case by the rules", answer(case.words, case.data), case.end
     yield name, program.run(case.words, case.data), case.end

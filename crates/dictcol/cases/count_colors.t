@@ -1,7 +1,0 @@
-  $ dictcol count <<'END'
-  > red
-  > green
-  > red
-  > END
-  2 red
-  1 green

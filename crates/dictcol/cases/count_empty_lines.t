@@ -1,8 +1,0 @@
-  $ dictcol count <<'END'
-  > 
-  > 
-  > a
-  > 
-  > END
-  3 
-  1 a

@@ -1,2 +1,0 @@
-  $ dictcol count <<'END'
-  > END

@@ -1,9 +1,0 @@
-  $ dictcol count --sorted --backend buffer <<'END'
-  > b
-  > a
-  > 
-  > a
-  > END
-  2 a
-  1 b
-  1 

@@ -1,2 +1,0 @@
-  $ printf '{"dictionary":[""],"final_newline":true,"lines":[0]}' | dictcol decode
-  

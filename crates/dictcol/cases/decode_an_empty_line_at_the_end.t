@@ -1,3 +1,0 @@
-  $ printf '{"dictionary":["a",""],"final_newline":true,"lines":[0,1]}' | dictcol decode
-  a
-  

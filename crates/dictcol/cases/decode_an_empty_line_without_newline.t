@@ -1,1 +1,0 @@
-  $ printf '{"dictionary":[""],"final_newline":false,"lines":[0]}' | dictcol decode

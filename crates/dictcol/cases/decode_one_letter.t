@@ -1,2 +1,0 @@
-  $ printf '{"dictionary":["a"],"final_newline":false,"lines":[0]}' | dictcol decode
-  a (no-eol)

@@ -1,2 +1,0 @@
-  $ printf '{"lines":[7],"dictionary":["a"],"final_newline":true,"lines":[0]}' | dictcol decode
-  a

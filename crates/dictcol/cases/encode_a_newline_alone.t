@@ -1,4 +1,0 @@
-  $ dictcol encode <<'END'
-  > 
-  > END
-  {"dictionary":[""],"final_newline":true,"lines":[0]}

@@ -1,5 +1,0 @@
-  $ dictcol encode <<'END'
-  > a
-  > 
-  > END
-  {"dictionary":["a",""],"final_newline":true,"lines":[0,1]}

@@ -1,2 +1,0 @@
-  $ printf '\na' | dictcol encode
-  {"dictionary":["","a"],"final_newline":false,"lines":[0,1]}

@@ -1,3 +1,0 @@
-  $ dictcol encode <<'END'
-  > END
-  {"dictionary":[],"final_newline":false,"lines":[]}

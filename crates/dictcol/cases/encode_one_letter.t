@@ -1,2 +1,0 @@
-  $ printf 'a' | dictcol encode
-  {"dictionary":["a"],"final_newline":false,"lines":[0]}

@@ -1,2 +1,0 @@
-  $ printf 'b\na\n\nb\na\nc' | dictcol encode --backend buffer
-  {"dictionary":["b","a","","c"],"final_newline":false,"lines":[0,1,2,0,1,3]}

@@ -1,3 +1,0 @@
-  $ printf 'a\n\342\202' | dictcol encode
-  dictcol: line 2 is not UTF-8 (see --invalid)
-  [2]

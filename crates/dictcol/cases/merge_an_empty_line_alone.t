@@ -1,2 +1,0 @@
-  $ printf '{"dictionary":[""],"final_newline":false,"lines":[0]}' | dictcol merge -
-  {"dictionary":[],"final_newline":false,"lines":[]}

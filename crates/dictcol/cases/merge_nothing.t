@@ -1,2 +1,0 @@
-  $ printf '{"dictionary":[],"final_newline":false,"lines":[]}' | dictcol merge -
-  {"dictionary":[],"final_newline":false,"lines":[]}

@@ -1,3 +1,0 @@
-  $ printf 'x\ni a\377' | intern string
-  cannot read input
-  [1]

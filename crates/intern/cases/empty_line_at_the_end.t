@@ -1,6 +1,0 @@
-  $ intern string <<'END'
-  > len
-  > 
-  > END
-  bad line 2
-  [2]

@@ -1,6 +1,0 @@
-  $ intern string <<'END'
-  > i 
-  > r 0
-  > END
-  symbol 0
-  text 

@@ -1,8 +1,0 @@
-  $ intern string <<'END'
-  > i a
-  > i b
-  > x
-  > y
-  > END
-  bad line 3
-  [2]

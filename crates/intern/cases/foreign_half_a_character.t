@@ -1,3 +1,0 @@
-  $ printf 'i \001é\nn 1\n' | intern buffer
-  symbol 0
-  none

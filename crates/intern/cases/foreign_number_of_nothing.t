@@ -1,4 +1,0 @@
-  $ intern buffer <<'END'
-  > n 0
-  > END
-  none

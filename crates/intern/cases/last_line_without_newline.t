@@ -1,2 +1,0 @@
-  $ printf 'len' | intern string
-  len 0

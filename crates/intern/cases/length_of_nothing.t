@@ -1,4 +1,0 @@
-  $ intern string <<'END'
-  > len
-  > END
-  len 0

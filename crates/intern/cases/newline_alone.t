@@ -1,5 +1,0 @@
-  $ intern string <<'END'
-  > 
-  > END
-  bad line 1
-  [2]

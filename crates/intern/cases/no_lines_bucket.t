@@ -1,2 +1,0 @@
-  $ intern bucket <<'END'
-  > END

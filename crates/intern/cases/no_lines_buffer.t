@@ -1,2 +1,0 @@
-  $ intern buffer <<'END'
-  > END

@@ -1,2 +1,0 @@
-  $ intern string <<'END'
-  > END

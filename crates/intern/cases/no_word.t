@@ -1,5 +1,0 @@
-  $ intern <<'END'
-  > i Elephant
-  > END
-  usage: intern string|bucket|buffer
-  [2]

@@ -1,4 +1,0 @@
-  $ intern <<'END'
-  > END
-  usage: intern string|bucket|buffer
-  [2]

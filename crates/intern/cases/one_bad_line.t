@@ -1,5 +1,0 @@
-  $ intern string <<'END'
-  > x
-  > END
-  bad line 1
-  [2]

@@ -1,4 +1,0 @@
-  $ intern string <<'END'
-  > r 0
-  > END
-  no reply

@@ -1,3 +1,0 @@
-  $ printf 'i Elephant\ni Tiger' | intern string
-  symbol 0
-  symbol 1

@@ -1,5 +1,0 @@
-  $ intern string <<'END'
-  > r 18446744073709551616
-  > END
-  bad line 1
-  [2]

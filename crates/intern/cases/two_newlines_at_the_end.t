@@ -1,6 +1,0 @@
-  $ intern string <<'END'
-  > i a
-  > 
-  > END
-  bad line 2
-  [2]

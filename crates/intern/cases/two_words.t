@@ -1,5 +1,0 @@
-  $ intern string string <<'END'
-  > i Elephant
-  > END
-  usage: intern string|bucket|buffer
-  [2]
