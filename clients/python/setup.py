@@ -1,11 +1,18 @@
-"""Builds the module in C with the library for C, which clients/build makes, linked in. One file serves CPython from 3.11 on."""
+"""Builds the module in C with the library for C linked in, and packs the sources of both. One file serves CPython from 3.11 on.
+
+The library is the one that STRING_INTERNER_LIB names, or else in the repository the one that clients/build made. Where there is none,
+cargo compiles it, of the sources that are here, too.
+"""
 
 import os
+import shutil
+import subprocess
 import sysconfig
 from pathlib import Path
 
 from setuptools import Extension, setup
 from setuptools.command.build_ext import build_ext
+from setuptools.command.sdist import sdist
 
 try:
     from setuptools.command.bdist_wheel import bdist_wheel
@@ -14,6 +21,10 @@ except ImportError:  # setuptools before 70.1
 
 ARCHIVE = "libstring_interner.a"
 HERE = Path(__file__).resolve().parent
+# The sources of the library: in the archive of this package's sources, and in the repository. No other package is used.
+PACKED = HERE / "library"
+SOURCES = PACKED if PACKED.exists() else HERE.parent
+PARTS = ["c/Cargo.toml", "c/src", "c/string_interner.h", *(f"rust/src/{it}" for it in ("error.rs", "json.rs", "unchecked.rs", "proved", "rt"))]
 FLAGS = ["-O2", "-std=c11", "-Wall", "-Wextra", "-Wno-cast-function-type", "-Wno-missing-field-initializers", "-fvisibility=hidden", "-g0"]
 
 
@@ -21,7 +32,7 @@ class BuildWithLibrary(build_ext):
     def build_extensions(self):
         if sysconfig.get_config_var("Py_GIL_DISABLED"):
             raise SystemExit("setup.py: the module needs the global lock, which this Python is built without")
-        headers, archive = find_library()
+        headers, archive = find_library() or compile_library(Path(self.build_temp).resolve() / "library")
         for extension in self.extensions:
             extension.include_dirs.append(str(headers))
             extension.extra_objects.append(str(archive))
@@ -36,16 +47,47 @@ class ManyLinuxWheel(bdist_wheel):
         return python, abi, platform.replace("linux_x86_64", "manylinux_2_17_x86_64")
 
 
+class SourcesOfAll(sdist):
+    def make_release_tree(self, base_dir, files):
+        super().make_release_tree(base_dir, files)
+        for part in PARTS:
+            target = Path(base_dir, "library", part)
+            target.parent.mkdir(parents=True, exist_ok=True)
+            if (SOURCES / part).is_dir():
+                shutil.copytree(SOURCES / part, target)
+            else:
+                shutil.copyfile(SOURCES / part, target)
+
+
 def find_library():
-    """Returns the folder of the header and the archive: of what STRING_INTERNER_LIB names, or else of what clients/build made."""
-    folder = Path(os.environ.get("STRING_INTERNER_LIB") or HERE.parent / "out")
+    """Returns the folder of the header and the archive: of what STRING_INTERNER_LIB names, or else of what clients/build made, if it
+    did."""
+    named = os.environ.get("STRING_INTERNER_LIB")
+    folder = Path(named or HERE.parent / "out")
     for headers, archive in ((folder, folder / ARCHIVE), (folder / "include", folder / "lib" / ARCHIVE)):
         if archive.exists():
             return headers, archive
-    raise SystemExit(
-        f"setup.py: no {folder / ARCHIVE}: run clients/build, or name its folder in STRING_INTERNER_LIB. The library is proved and built "
-        "in the repository of string_interner, and the archive for C of each release has it: unpack that, and name its folder"
-    )
+    if named:
+        raise SystemExit(
+            f"setup.py: no {folder / ARCHIVE}: run clients/build, or name its folder in STRING_INTERNER_LIB. The archive for C of each "
+            "release has it, too: unpack that, and name its folder. Without STRING_INTERNER_LIB cargo compiles the library"
+        )
+    return None
+
+
+def compile_library(folder):
+    """Returns the folder of the header and the archive that cargo makes in a folder, without a network."""
+    command = ["cargo", "build", "--quiet", "--release", "--offline", "--manifest-path", str(SOURCES / "c/Cargo.toml"), "--target-dir", str(folder)]
+    try:
+        subprocess.run(command, check=True)
+    except FileNotFoundError:
+        raise SystemExit(
+            "setup.py: no cargo, which compiles the library: install Rust 1.85 or later, or name the folder of a library in "
+            "STRING_INTERNER_LIB"
+        ) from None
+    except subprocess.CalledProcessError:
+        raise SystemExit("setup.py: cargo did not compile the library") from None
+    return SOURCES / "c", folder / "release" / ARCHIVE
 
 
 setup(
@@ -59,6 +101,6 @@ setup(
             extra_link_args=["-Wl,--exclude-libs,ALL"],
         )
     ],
-    cmdclass={"build_ext": BuildWithLibrary, "bdist_wheel": ManyLinuxWheel},
+    cmdclass={"build_ext": BuildWithLibrary, "bdist_wheel": ManyLinuxWheel, "sdist": SourcesOfAll},
     options={"bdist_wheel": {"py_limited_api": "cp311"}},
 )

@@ -23,6 +23,7 @@ static int fill_module(PyObject *module) {
   bool is_done = draw_keys(state) && add_type(module, &state->interner, &method_spec) && add_type(module, &state->walk, &walk_spec) &&
                  add_type(module, &state->codes, &codes_spec) && add_type(module, &state->column, &column_spec) &&
                  add_type(module, &state->rows_walk, &rows_walk_spec) && add_type(module, &state->parts, &parts_spec);
+  is_done = is_done && !PyModule_AddStringConstant(module, "_BUILD", interner_build());
   is_done = is_done && !PyModule_AddIntConstant(module, "_MOST_NARROW", MOST_NARROW);
   return is_done && !PyModule_AddIntConstant(module, "_VALUES_AT_ONCE", VALUES_AT_ONCE) ? 0 : -1;
 }

@@ -88,6 +88,8 @@ else:
 
 __all__ = ["Backend", "Column", "Hasher", "Interner", "Typecode"]
 __version__ = "0.1.0"
+__build__ = _native._BUILD
+"""How the library in this module was built: `proved by rt`, or `proved source, compiled by rustc`."""
 
 
 def __dir__() -> list[str]:

@@ -13,6 +13,7 @@ from ._column import Column as _Column
 _T = TypeVar("_T")
 _Index = TypeVar("_Index", bound=SupportsIndex)
 
+_BUILD: str
 _MOST_NARROW: int
 _VALUES_AT_ONCE: int
 

@@ -66,7 +66,19 @@ class Metadata(unittest.TestCase):
             ended = self.run_setup("build_ext", "--build-lib", folder, "--build-temp", folder, STRING_INTERNER_LIB=folder)
         self.assertNotEqual(ended.returncode, 0)
         self.assertIn(f"no {folder}/libstring_interner.a: run clients/build, or name its folder in STRING_INTERNER_LIB", ended.stderr)
-        self.assertIn("the archive for C of each release has it", ended.stderr)
+        self.assertIn("The archive for C of each release has it", ended.stderr)
+
+    def test_a_build_without_cargo_says_what_is_missing(self):
+        """In the archive of the sources, where no library is found."""
+        with tempfile.TemporaryDirectory() as folder:
+            self.assertEqual(self.run_setup("sdist", "--formats=tar", "-d", folder).returncode, 0)
+            (packed,) = Path(folder).glob("*.tar")
+            shutil.unpack_archive(packed, folder)
+            kept = {name: value for name, value in os.environ.items() if name != "STRING_INTERNER_LIB"}
+            ended = subprocess.run([sys.executable, "-B", "-W", "ignore", "setup.py", "--quiet", "build_ext"], cwd=packed.with_suffix(""),
+                                   env=kept | {"PATH": folder}, capture_output=True, text=True, timeout=HANGS)
+        self.assertNotEqual(ended.returncode, 0)
+        self.assertIn("no cargo, which compiles the library: install Rust 1.85 or later, or name the folder", ended.stderr)
 
 
 class Imports(unittest.TestCase):
@@ -112,10 +124,17 @@ class Imports(unittest.TestCase):
         self.assertEqual((hints["hasher"], hints["return"]), (string_interner.Hasher, typing.Self))
 
     def test_it_shows_its_names(self):
-        self.assertLessEqual({*string_interner.__all__, "__version__"}, {*dir(string_interner)})
+        self.assertLessEqual({*string_interner.__all__, "__version__", "__build__"}, {*dir(string_interner)})
 
     def test_the_version(self):
         self.assertRegex(string_interner.__version__, r"^\d+\.\d+\.\d+$")
+
+    def test_the_build(self):
+        library = Path(os.environ.get("STRING_INTERNER_LIB") or PACKAGE.parent.parent / "out", "libstring_interner.a")
+        builds = ["proved by rt", "proved source, compiled by rustc"]
+        self.assertIn(string_interner.__build__, builds)
+        if library.exists():
+            self.assertEqual([it for it in builds if it.encode() in library.read_bytes()], [string_interner.__build__])
 
     def test_each_call_has_words(self):
         for kind in (Interner, Column):
