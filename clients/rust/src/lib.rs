@@ -24,7 +24,7 @@
 //! - Interning a new text asks `Symbol::try_from_usize` twice, and the original's once.
 //! - With serde the original reads each symbol as the next one, see below.
 //! - If memory is refused, the backends of this crate panic, and stay as they were. The original aborts the process; here only what
-//!   makes a `String`, `Debug` and [`sync`] do.
+//!   makes a `String` or a new [`sync::Interner`], and `Debug`, do.
 //! - `extend` of a new interner makes room at once for as many texts as the iterator says, up to 4,096, and the original's for none.
 //! - `shrink_to_fit` moves the texts to a smaller block, for which there must be memory beside them.
 //! - `resolve`, and looking up a text, of a [`BufferBackend`](backend::BufferBackend) whose symbol type is the program's own checks
@@ -49,7 +49,8 @@
 //! |---|---|
 //! | `Rodeo` | [`StringInterner`] |
 //! | `ThreadedRodeo` | [`sync::Interner`], whose `get_or_intern` takes `&self`, too |
-//! | `RodeoReader`, `RodeoResolver` | no types of their own: share a `&StringInterner`, which threads read at the same time without a lock |
+//! | `RodeoReader`, `RodeoResolver` | no types of their own: share a `&StringInterner`, which threads read at the same time without a lock, or a `&StringBackend` |
+//! | `into_reader`, `into_resolver` of a `ThreadedRodeo` | [`into_interner`](sync::Interner::into_interner), [`into_backend`](sync::Interner::into_backend) |
 //! | `Spur`, `MiniSpur`, `LargeSpur` | [`SymbolU32`](symbol::SymbolU32), [`SymbolU16`](symbol::SymbolU16), [`SymbolUsize`](symbol::SymbolUsize); there is none of one byte |
 //! | the trait `Key` | [`Symbol`], which is safe to implement |
 //! | `resolve(&key)`, which panics if the key is of another | [`resolve(symbol)`](StringInterner::resolve), which returns an `Option` |
@@ -107,7 +108,8 @@
 //! | `proved/dedup/tagged.rs`: slots are read without checks of bounds | what `unchecked.rs` says of them |
 //! | `proved`, of a buffer and of buckets: bytes are a text | they are those of a text that was interned: what a number of a program's own symbol type leads to is checked instead |
 //! | `proved`, of static texts: their bytes are read at their address | the address is made of a `&'static str`, in one place |
-//! | `sync/shard.rs`: texts are lent without a lock | buckets do not move, and no text is dropped |
+//! | `sync/texts.rs`: texts are lent without a lock | buckets do not move, and no text is dropped |
+//! | `sync/arrays.rs`: what threads read while it grows | it is published by a release, and freed by `&mut` alone |
 //! | `rt/simd.rs`: vectors | the target has them |
 
 #![no_std]

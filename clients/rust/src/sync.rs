@@ -1,7 +1,7 @@
 //! An interner that threads share.
 //!
-//! [`StringInterner`](crate::StringInterner) needs `&mut self` to intern, so threads that share one wait for each other behind a lock. The calls of an
-//! [`Interner`] take `&self`:
+//! [`StringInterner`](crate::StringInterner) needs `&mut self` to intern, so threads that share one wait for each other behind a
+//! lock. The calls of an [`Interner`] take `&self`:
 //!
 //! ```
 //! use string_interner::sync::Interner;
@@ -37,6 +37,8 @@ mod freeze;
 mod index;
 mod iter;
 mod orders;
+#[cfg(feature = "serde")]
+mod serde;
 mod shard;
 mod shared;
 #[cfg(test)]

@@ -115,7 +115,11 @@ const TABLES: usize = 15;
 /// The slots of a cache line, whose address leaves six bits for something else.
 #[derive(Default)]
 #[repr(align(64))]
-struct Line([AtomicU64; 8]);
+struct Line {
+    /// Read by the addresses of slots.
+    #[allow(dead_code)]
+    slots: [AtomicU64; SLOTS_OF_LINE],
+}
 
 const SLOTS_OF_LINE: usize = 8;
 
@@ -179,7 +183,11 @@ impl Tables {
     #[cold]
     pub(super) fn grow(&self, fill: impl FnOnce(Table<'_>)) -> Result<(), InternError> {
         let is_made = |place: &AtomicPtr<Line>| !place.load(Relaxed).is_null();
-        let next = self.all.iter().rposition(is_made).map_or(0, |last| last + 1);
+        let next = self
+            .all
+            .iter()
+            .rposition(is_made)
+            .map_or(0, |last| last + 1);
         let Some(place) = self.all.get(next) else {
             return Ok(());
         };

@@ -6,6 +6,7 @@ use std::fmt::Debug;
 use serde::{de::DeserializeOwned, Deserialize, Serialize};
 use string_interner::backend::{Backend, BucketBackend, BufferBackend, StringBackend};
 use string_interner::symbol::{SymbolU16, SymbolU32, SymbolUsize};
+use string_interner::sync::Interner;
 use string_interner::{DefaultStringInterner, DefaultSymbol, StringInterner, Symbol};
 
 /// A program's own table, as it is kept in a file.
@@ -68,6 +69,25 @@ fn over<B: Backend + PartialEq>() {
         let said = serde_json::from_str::<StringInterner<B>>(json);
         assert!(said.is_err(), "{json}");
     }
+}
+
+#[test]
+fn a_shared_interner_is_a_sequence() {
+    let names: Interner<SymbolU16> = ["b", "", "a", "b"].into_iter().collect();
+    let json = serde_json::to_string(&names).unwrap();
+    assert_eq!(json, r#"["b","","a"]"#);
+    for json in [&*json, r#"["b","","b","a",""]"#] {
+        let read: Interner<SymbolU16> = serde_json::from_str(json).unwrap();
+        assert!(read.iter().eq(names.iter()) && read.get("a") == names.get("a"));
+    }
+    for json in ["{}", "[1]", "[\"a\"", "\"a\""] {
+        assert!(serde_json::from_str::<Interner>(json).is_err(), "{json}");
+    }
+    let bytes = bincode::serialize(&names).unwrap();
+    assert!(bincode::deserialize::<Interner<SymbolU16>>(&bytes)
+        .unwrap()
+        .iter()
+        .eq(names.iter()));
 }
 
 #[test]

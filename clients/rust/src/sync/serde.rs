@@ -1,0 +1,69 @@
+//! The traits of serde for a shared interner, in the form of a plain one: the sequence of its texts in the order of their numbers.
+
+use super::Interner;
+use crate::symbol::Symbol;
+use core::fmt;
+use core::hash::BuildHasher;
+use core::marker::PhantomData;
+use serde::de::{DeserializeSeed, Deserializer, Error, SeqAccess, Visitor};
+use serde::ser::{SerializeSeq, Serializer};
+use serde::{Deserialize, Serialize};
+
+impl<S: Symbol, H> Serialize for Interner<S, H> {
+    /// Writes the texts that there are now, so that each has the same symbol when it is read.
+    fn serialize<T: Serializer>(&self, serializer: T) -> Result<T::Ok, T::Error> {
+        let texts = self.iter();
+        let mut sequence = serializer.serialize_seq(Some(texts.len()))?;
+        for (_, text) in texts {
+            sequence.serialize_element(text)?;
+        }
+        sequence.end()
+    }
+}
+
+impl<'de, S: Symbol, H: BuildHasher + Default> Deserialize<'de> for Interner<S, H> {
+    /// Reads a sequence of texts. Repeats add no text.
+    fn deserialize<D: Deserializer<'de>>(deserializer: D) -> Result<Self, D::Error> {
+        deserializer.deserialize_seq(OfTexts(PhantomData))
+    }
+}
+
+/// Reads an interner.
+struct OfTexts<S, H>(PhantomData<(S, H)>);
+
+impl<'de, S: Symbol, H: BuildHasher + Default> Visitor<'de> for OfTexts<S, H> {
+    type Value = Interner<S, H>;
+
+    fn expecting(&self, f: &mut fmt::Formatter<'_>) -> fmt::Result {
+        f.write_str("a sequence of strings")
+    }
+
+    fn visit_seq<A: SeqAccess<'de>>(self, mut texts: A) -> Result<Self::Value, A::Error> {
+        let mut interner = Interner::with_hasher(H::default());
+        while texts.next_element_seed(OneText(&mut interner))?.is_some() {}
+        Ok(interner)
+    }
+}
+
+/// Reads a text into an interner.
+struct OneText<'a, S, H>(&'a mut Interner<S, H>);
+
+impl<'de, S: Symbol, H: BuildHasher> DeserializeSeed<'de> for OneText<'_, S, H> {
+    type Value = ();
+
+    fn deserialize<D: Deserializer<'de>>(self, deserializer: D) -> Result<(), D::Error> {
+        deserializer.deserialize_str(self)
+    }
+}
+
+impl<S: Symbol, H: BuildHasher> Visitor<'_> for OneText<'_, S, H> {
+    type Value = ();
+
+    fn expecting(&self, f: &mut fmt::Formatter<'_>) -> fmt::Result {
+        f.write_str("a string")
+    }
+
+    fn visit_str<E: Error>(self, text: &str) -> Result<(), E> {
+        self.0.intern_alone(text).map(drop).map_err(E::custom)
+    }
+}
