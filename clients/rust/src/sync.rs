@@ -17,8 +17,13 @@
 //!
 //! # What a call costs
 //!
-//! A known text, [`get`](Interner::get) and [`resolve`](Interner::resolve) take no lock and write nothing that another thread reads.
-//! A new text takes the lock of one of 32 shards, which its hash code chooses.
+//! A known text, [`get`](Interner::get) and [`resolve`](Interner::resolve) take no lock and write nothing that another thread reads:
+//! by processor time four threads do four times the work of one. A new text takes the lock of one of 32 shards, which its hash code
+//! chooses.
+//!
+//! Beside a plain interner, with one thread and texts of 10 bytes: a known text takes 1.2 to 1.45 times the time, and less time than
+//! there if there are a million texts; a new one about 3 times; resolving 1.6 to 1.8 times. A text takes 85 to 115 bytes, and 35
+//! there. Once all texts are known, [`into_interner`](Interner::into_interner) makes a plain one.
 //!
 //! # How it works
 //!

@@ -70,6 +70,8 @@ extern "C" fn body(argument: *mut c_void) -> *mut c_void {
 
 fn main() {
     let names = &Interner::new();
+    // Draws the keys of hash codes, which are in a cell of std's.
+    assert!(!names.contains("no text"));
     let mut tasks = [1, 7, 11, 13, 17, 19, 23, 29].map(|step| Task { names, step });
     let mut ids = [0; THREADS];
     for (id, task) in ids.iter_mut().zip(&mut tasks) {
