@@ -85,9 +85,6 @@
 //! what either crate wrote is read as it was meant. The original reads a symbol as the number that is written, so each symbol that
 //! it wrote comes back as the next one.
 //!
-//! Cargo asks a registry for each dependency, also for an optional one that nothing uses. So the crate in the repository lacks
-//! serde, and builds without a registry. That of a release has it.
-//!
 //! # What is proved, and what is trusted
 //!
 //! The module `proved` is the library of the repository, whose every function is proved to keep its contract. A tool, `tools/erase`,
@@ -123,9 +120,6 @@
 compile_error!(
     "string-interner needs a target whose `usize` has 64 bits, as the proof of its library assumes"
 );
-
-#[cfg(feature = "serde")] // pack: drop
-compile_error!("the feature `serde` is in the crate that a release has: name the folder that clients/rust/pack makes"); // pack: drop
 
 extern crate alloc;
 #[cfg(any(feature = "std", test))]
