@@ -2,13 +2,14 @@
 //! call back, walks that are left, interners that are swapped, leaked or left in the middle of a call.
 //!
 //! RANDOM_CALLS says how many calls each run makes, and RANDOM_SEED which; more than the default are for a run under a checker
-//! of memory.
+//! of memory. In the build for libFuzzer (tests/fuzz) the bytes of its inputs choose the calls.
 
 use std::cell::Cell;
 use std::env;
 use std::mem;
 use std::panic::{catch_unwind, AssertUnwindSafe};
 use std::str;
+use std::vec;
 
 mod common;
 
@@ -17,15 +18,29 @@ use string_interner::backend::{BucketBackend, BufferBackend, StringBackend};
 use string_interner::symbol::{SymbolU16, SymbolUsize};
 use string_interner::{StringInterner, Symbol};
 
-/// Random numbers by xorshift.
-struct Random(u64);
+/// The numbers that bytes choose, and random ones by xorshift behind them.
+struct Random {
+    chosen: vec::IntoIter<u8>,
+    state: u64,
+}
 
 impl Random {
+    fn new(seed: u64) -> Self {
+        Random {
+            chosen: Vec::new().into_iter(),
+            state: seed,
+        }
+    }
+
     fn below(&mut self, bound: usize) -> usize {
-        self.0 ^= self.0 << 13;
-        self.0 ^= self.0 >> 7;
-        self.0 ^= self.0 << 17;
-        (self.0 % bound as u64) as usize
+        if let Some(low) = self.chosen.next() {
+            let high = if bound > 256 { self.chosen.next() } else { None };
+            return usize::from(u16::from_le_bytes([low, high.unwrap_or(0)])) % bound;
+        }
+        self.state ^= self.state << 13;
+        self.state ^= self.state >> 7;
+        self.state ^= self.state << 17;
+        (self.state % bound as u64) as usize
     }
 
     fn text(&mut self) -> String {
@@ -69,9 +84,9 @@ struct Beside<B: Backend> {
 }
 
 impl<B: Backend> Beside<B> {
-    fn new(seed: u64) -> Self {
+    fn new(random: Random) -> Self {
         Beside {
-            random: Random(seed),
+            random,
             interner: StringInterner::new(),
             texts: Vec::new(),
             symbols: Vec::new(),
@@ -196,7 +211,7 @@ fn calls() -> usize {
 fn run<B: Backend>() {
     let first = number_of("RANDOM_SEED", 1) as u64;
     for seed in first..first + 3 {
-        let mut beside = Beside::<B>::new(seed.max(1));
+        let mut beside = Beside::<B>::new(Random::new(seed.max(1)));
         (0..calls()).for_each(|_| beside.call());
     }
 }
@@ -244,11 +259,10 @@ impl Symbol for Liar {
 }
 
 /// Makes calls while symbols lie. What is read is text all the same. A symbol that lied is in the index, so later calls may panic.
-fn lie<B: Backend<Symbol = Liar>>() {
-    let mut random = Random(7);
+fn lie<B: Backend<Symbol = Liar>>(mut random: Random, calls: usize) {
     let mut interner = StringInterner::<B>::new();
     let mut symbols = Vec::new();
-    for _ in 0..calls() / 5 {
+    for _ in 0..calls {
         LIE.set(random.below(5));
         let text = random.text();
         let _ = catch_unwind(AssertUnwindSafe(|| {
@@ -272,14 +286,40 @@ fn lie<B: Backend<Symbol = Liar>>() {
 
 #[test]
 fn symbols_that_lie() {
-    lie::<StringBackend<Liar>>();
-    lie::<BucketBackend<Liar>>();
-    lie::<BufferBackend<Liar>>();
+    lie::<StringBackend<Liar>>(Random::new(7), calls() / 5);
+    lie::<BucketBackend<Liar>>(Random::new(7), calls() / 5);
+    lie::<BufferBackend<Liar>>(Random::new(7), calls() / 5);
+}
+
+/// Makes the calls that bytes choose, over a backend that the first one chooses.
+#[cfg(fuzzing)]
+pub fn make_chosen_calls(bytes: &[u8]) {
+    fn make<B: Backend>(random: Random) {
+        let mut beside = Beside::<B>::new(random);
+        while beside.random.chosen.len() > 0 {
+            beside.call();
+        }
+    }
+    let mut random = Random {
+        chosen: bytes.to_vec().into_iter(),
+        ..Random::new(1)
+    };
+    match random.below(9) {
+        0 => make::<StringBackend>(random),
+        1 => make::<StringBackend<usize>>(random),
+        2 => make::<BucketBackend>(random),
+        3 => make::<BucketBackend<SymbolUsize>>(random),
+        4 => make::<BufferBackend>(random),
+        5 => make::<BufferBackend<usize>>(random),
+        6 => lie::<StringBackend<Liar>>(random, bytes.len() / 5),
+        7 => lie::<BucketBackend<Liar>>(random, bytes.len() / 5),
+        _ => lie::<BufferBackend<Liar>>(random, bytes.len() / 5),
+    }
 }
 
 /// Texts go in until the symbols of two bytes run out. All that went in stays.
 fn run_out_of_symbols<B: Backend<Symbol = SymbolU16>>() {
-    let mut random = Random(5);
+    let mut random = Random::new(5);
     let mut interner = StringInterner::<B>::new();
     while catch_unwind(AssertUnwindSafe(|| interner.get_or_intern(random.text()))).is_ok() {}
     for (symbol, text) in &interner {
