@@ -34,7 +34,11 @@ impl Random {
 
     fn below(&mut self, bound: usize) -> usize {
         if let Some(low) = self.chosen.next() {
-            let high = if bound > 256 { self.chosen.next() } else { None };
+            let high = if bound > 256 {
+                self.chosen.next()
+            } else {
+                None
+            };
             return usize::from(u16::from_le_bytes([low, high.unwrap_or(0)])) % bound;
         }
         self.state ^= self.state << 13;
