@@ -14,19 +14,11 @@ from pathlib import Path
 from built import holding
 from needs import python_with
 from program.cases import MANY
-from program.reckon import answer, skip_invalid, unwritten, warned
+from program.reckon import answer, failed, skip_invalid, told, unwritten, warned
 from program.streams import limit_files
 
 BACKENDS = (b"string", b"bucket", b"buffer")
 OK = 0, b"", b""
-
-
-def failed(status, message):
-    return status, b"", b"dictcol: %s\n" % message
-
-
-def told(error):
-    return b"%s (os error %d)" % (os.strerror(error).encode(), error)
 
 
 def array(kind, order, shape):

@@ -12,8 +12,8 @@ from collections import Counter
 from pathlib import Path
 
 from edits import TOP
-from program.columns import OK, UNFINISHED, columns_of, each_stop, failed, files_in, is_begun, npy, told
-from program.reckon import skip_invalid, warned
+from program.columns import OK, UNFINISHED, columns_of, each_stop, files_in, is_begun, npy
+from program.reckon import failed, skip_invalid, told, warned
 
 MULTIPLIER, START = 0x9E3779B97F4A7C15, 0x243F6A8885A308D3
 
