@@ -9,7 +9,7 @@
 #include <string.h>
 #include <time.h>
 
-enum { LENGTH = 32, FEW = 4000, MANY = 80000, HOMES = 8192 };
+enum { LENGTH = 32, FEW = 3000, MANY = 16000, HOMES = 4096 };
 
 __extension__ typedef unsigned __int128 product;
 
