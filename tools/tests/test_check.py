@@ -220,7 +220,9 @@ class TestsTest(unittest.TestCase):
         self.assertEqual([name for name, _ in begun], names)
         clients, pages = dict(begun)[names[2]], dict(begun)[names[-1]]
         self.assertEqual((clients[-1], pages[2:]), ("libstring_interner_c.a", ["README.md"]))
-        self.assertEqual(left_out, ["the steps of docs/rattle.md, which prove (./check)", "proofs (./check)"])
+        self.assertIn("--once", clients)
+        self.assertEqual((left_out[0], left_out[-1]), ("the steps of docs/rattle.md, which prove (./check)", "proofs (./check)"))
+        self.assertRegex(left_out[1], r"^clients under checkers .* \(\./check\)$")
 
     def test_a_program_without_a_record(self):
         begun, left_out = self.parts_of_tests(["dictcol"])
