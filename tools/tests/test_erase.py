@@ -232,6 +232,15 @@ class EraseTest(TestCase):
         for other in ("tags[at]", "self.tags[at + 1]", "&tags[..at]", "&self.tags[at..]"):
             self.refuses(f"fn lanes_with() {{\n    {other}\n}}\n", 2, "in another form", "dedup/tagged/tags.rs")
 
+    def test_parts_of_the_joined_texts(self):
+        source = "fn {}() {{\n    Some(&joined[ends[0]..ends[1]]);\n    joined[a..b].as_bytes(); ends[..1]\n}}\n"
+        of = TOOL["HANDLES"]
+        erased = ERASE(source.format("string_entries"), "any/entries.rs", of)
+        self.assertIn("Some(crate::unchecked::cut(joined, ends[0]..ends[1]));\n", erased)
+        self.assertIn("crate::unchecked::cut(joined, a..b).as_bytes(); ends[..1]\n", erased)
+        for name, place in (("string_entries", "any.rs"), ("entries", "any/entries.rs")):
+            self.assertNotIn("unchecked", ERASE(source.format(name), place, of))
+
     def test_the_prelude_is_on_the_line_of_the_first_item(self):
         self.assertEqual(ERASE("//! Docs.\nghost use A;\n\n/// It.\n#[inline]\nfn f() {}\n").splitlines()[3], f"{PRELUDE}/// It.")
 
@@ -383,7 +392,7 @@ class SourcesTest(TestCase):
             return text
         text = re.sub(r"(&(?:'a )?)mut Handle\b", r"\1Handle", text).replace(".interner()", ".read()").replace("try_to_vec", "to_vec")
         if of.crate == "handles":
-            return text
+            return re.sub(r"crate::unchecked::cut\(joined, (.*?\.\..*?)\)", r"joined[\1]", text.replace("&joined[", "joined["))
         text = re.sub(r"\b(\w+): \*const ([^,]*), \1_len: usize", r"\1: &[\2]", text)
         text = re.sub(r"\b(\w+): \*mut ([^,]*), \1_len: usize", r"\1: &mut [\2]", text)
         text = re.sub(r" let alloc = Global;| let (\w+) = unsafe \{ crate::border::slice(_mut)?\(\1, \1_len\) \};", "", text)

@@ -5,7 +5,7 @@
 //! ask what only a proof can promise. So this package names its files, and does not depend on that crate.
 //!
 //! Written by hand are the stand-ins for the prover's standard library (`rt`, `serde_json`), a handle and its address (`handle`,
-//! `address`), and what C passes (`border`). They are tested, and not proved.
+//! `address`), what C passes (`border`), memory (`memory`), and which checks are left out (`unchecked`). They are tested, and not proved.
 
 #![no_std]
 #![warn(unsafe_op_in_unsafe_fn, clippy::undocumented_unsafe_blocks)]
@@ -21,6 +21,7 @@ mod handle;
 mod memory;
 mod rt;
 mod serde_json;
+mod unchecked;
 
 #[allow(clippy::all, dead_code)]
 #[path = "../../rust/src/error.rs"]
@@ -28,8 +29,6 @@ mod error;
 #[allow(dead_code)]
 #[path = "../../rust/src/json.rs"]
 mod json_text;
-#[path = "../../rust/src/unchecked.rs"]
-mod unchecked;
 
 // The linter and the compiler warn of what the source's language asks for.
 macro_rules! proved {

@@ -38,6 +38,14 @@
 //! Symbols are copied by their bits (`Sym`), so no `Clone` runs while `items` is filled or copied. `try_copy` copies a list whole or
 //! fails.
 
+use core::ops::Range;
+
+/// Returns a part of a text, which begins and ends with a character. It is checked, because a program's own types may say where.
+#[inline(always)]
+pub fn cut(text: &str, part: Range<usize>) -> &str {
+    &text[part]
+}
+
 /// Access without a check. With `--cfg string_interner_checks` there is one.
 pub trait Unchecked<T> {
     /// Returns an element.

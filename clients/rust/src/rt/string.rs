@@ -90,7 +90,7 @@ impl Index<Range<usize>> for String {
 
     #[inline(always)]
     fn index(&self, part: Range<usize>) -> &str {
-        &self.0[part]
+        crate::unchecked::cut(&self.0, part)
     }
 }
 

@@ -117,7 +117,7 @@ fn string_entries<'a>(
         // Field by field: a whole entry would be written with the bytes between its fields.
         let entry = &mut room[index];
         entry.symbol = (place + index) as u32;
-        entry.text.bytes = joined[start..end].as_bytes();
+        entry.text.bytes = crate::unchecked::cut(joined, start..end).as_bytes();
         start = end;
     }
     cursor.index += many;
