@@ -564,6 +564,24 @@ static void command(interner **handle, list *known, interner **other) {
   agreed++;
 }
 
+/* A byte that begins no character is seen at each place of a text of each short length. */
+static void see_each_byte(void) {
+  char bytes[100];
+  interner *h = NULL;
+  interner_symbol symbol = 7777;
+  size_t len, at;
+  MUST(interner_new(INTERNER_STRING, &h) == INTERNER_OK);
+  for (len = 1; len <= sizeof bytes; len++) {
+    for (at = 0; at < len; at++) {
+      memset(bytes, 'a', len);
+      bytes[at] = '\x80';
+      MUST(interner_get_or_intern(h, bytes, len, &symbol) == INTERNER_BAD_TEXT && symbol == 7777);
+    }
+  }
+  MUST(interner_len(h) == 0);
+  interner_free(h);
+}
+
 int main(int count, char **words) {
   static const interner_kind kinds[] = {INTERNER_STRING, INTERNER_BUCKET, INTERNER_BUFFER};
   unsigned long wanted = count > 1 ? strtoul(words[1], 0, 10) : 600000;
@@ -572,6 +590,7 @@ int main(int count, char **words) {
   size_t round = 0;
   state = (count > 2 ? strtoull(words[2], 0, 10) : 7) * 0x9e3779b97f4a7c15u + 1;
   MUST(interner_version() == INTERNER_VERSION);
+  see_each_byte();
   while (agreed < wanted) {
     make_anew(&h, &known, kinds[round++ % 3]);
     do command(&h, &known, &other);

@@ -1,11 +1,12 @@
 //! The library for C by cargo alone. `clients/build --cargo` makes it; `string_interner.h` is its interface.
 //!
-//! The modules `proved`, `handles`, `exports` and `proved_json` are proved source, of which `tools/erase` made plain Rust. They stand
+//! The modules `proved`, `handles`, `exports` and `json` are proved source, of which `tools/erase` made plain Rust. They stand
 //! where each is erased to, once: the library itself in the crate for Rust, which keeps it to itself, because some of its functions
 //! ask what only a proof can promise. So this package names its files, and does not depend on that crate.
 //!
-//! Written by hand are the stand-ins for the prover's standard library (`rt`, `serde_json`), a handle and its address (`handle`,
-//! `address`), what C passes (`border`), memory (`memory`), and which checks are left out (`unchecked`). They are tested, and not proved.
+//! Written by hand are the stand-ins for the prover's standard library (`rt`, and `serde_json` over what the crate for Rust reads JSON
+//! by), a handle and its address (`handle`, `address`), what C passes (`border`), memory (`memory`), and which checks are left out
+//! (`unchecked`). They are tested, and not proved.
 
 #![no_std]
 #![warn(unsafe_op_in_unsafe_fn, clippy::undocumented_unsafe_blocks)]

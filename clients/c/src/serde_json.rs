@@ -122,10 +122,16 @@ fn write_array(json: &mut Vec<u8>, elements: &[Value]) -> Result<(), AllocError>
 fn write_element(json: &mut Vec<u8>, element: &Value) -> Result<(), AllocError> {
     let mut rest = element.as_str().unwrap_or_default().as_bytes();
     json.push(b'"')?;
-    while let Some(plain) = rest.iter().position(|byte| is_escaped(*byte)) {
-        json.extend_from_slice(&rest[..plain])?;
-        write_escaped(json, rest[plain])?;
-        rest = &rest[plain + 1..];
+    // Most texts have nothing to escape, which a loop that reads each byte tells sooner.
+    let has_escaped = rest
+        .iter()
+        .fold(false, |found, byte| found | is_escaped(*byte));
+    if has_escaped {
+        while let Some(plain) = rest.iter().position(|byte| is_escaped(*byte)) {
+            json.extend_from_slice(&rest[..plain])?;
+            write_escaped(json, rest[plain])?;
+            rest = &rest[plain + 1..];
+        }
     }
     json.extend_from_slice(rest)?;
     json.push(b'"')

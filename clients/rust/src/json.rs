@@ -178,7 +178,8 @@ impl Reader<'_> {
         loop {
             let plain = self
                 .rest
-                .find(|letter: char| matches!(letter, '"' | '\\' | '\0'..' '))
+                .bytes()
+                .position(|byte| matches!(byte, b'"' | b'\\' | 0..=31))
                 .ok_or(JsonError::NotJson)?;
             append(&mut read, &self.rest[..plain])?;
             self.rest = &self.rest[plain..];
