@@ -9,9 +9,10 @@ import signal
 import struct
 import subprocess
 import tempfile
+import time
 from pathlib import Path
 
-from built import holding
+from built import SECONDS, holding
 from needs import python_with
 from program.cases import MANY
 from program.reckon import answer, failed, skip_invalid, told, unwritten, warned
@@ -33,12 +34,18 @@ def npy(codes, said=None):
     return b"\x93NUMPY\1\0" + struct.pack("<H", len(said)) + said + struct.pack(f"<{len(codes)}I", *codes)
 
 
-def pair_of(lines, codes):
-    """What the third file says of so many lines and these codes: the checksum is FNV-1a's, over codes in the place of bytes."""
+def pair_of(lines, codes, is_cut=False):
+    """What the third file says of so many lines, these codes and the last line: the checksum is FNV-1a's, over codes in the place of
+    bytes."""
     checksum = 0xCBF29CE484222325
     for code in codes:
         checksum = (checksum ^ code) * (2**40 + 2**8 + 0xB3) % 2**64
-    return b"lines %d\nnumbers %d\nchecksum %d\n" % (lines, len(codes), checksum)
+    return b"lines %d\nnumbers %d\nchecksum %d\nno_final_newline %d\n" % (lines, len(codes), checksum, is_cut)
+
+
+def pair_before(pair):
+    """The third file as earlier versions wrote it."""
+    return b"".join(pair.splitlines(keepends=True)[:3])
 
 
 def columns_of(data, before=()):
@@ -46,8 +53,9 @@ def columns_of(data, before=()):
     lines = data.removesuffix(b"\n").split(b"\n") if data else []
     index = {line: number for number, line in enumerate(dict.fromkeys([*before, *lines]))}
     codes = [index[line] for line in lines]
-    files = {"dict.txt": b"".join(line + b"\n" for line in index), "codes.npy": npy(codes), "pair.txt": pair_of(len(index), codes)}
-    return files | ({"no_final_newline": b""} if data and not data.endswith(b"\n") else {})
+    is_cut = bool(data) and not data.endswith(b"\n")
+    files = {"dict.txt": b"".join(line + b"\n" for line in index), "codes.npy": npy(codes), "pair.txt": pair_of(len(index), codes, is_cut)}
+    return files | ({"no_final_newline": b""} if is_cut else {})
 
 
 def files_in(folder):
@@ -267,6 +275,49 @@ def try_missing(program):
         ended = program.run(b"encode --plain bytes".split(), b"a\n\xff", folder=folder)
         yield "bytes that are not UTF-8", ended, failed(2, b"line 2 is not UTF-8 (see --invalid)")
         yield "no folder of them", Path(folder, "bytes").exists(), False
+        Path(folder, "there").mkdir()
+        for name in b"new/a/b", b"./new//a/", b"there", b"there/a/../b", f"{folder}/new".encode():
+            ended = program.run([b"encode", b"--plain", name], b"a\n\xff", folder=folder)
+            yield f"bytes that are not UTF-8 in {name}", ended, failed(2, b"line 2 is not UTF-8 (see --invalid)")
+            found = Path(folder, "new").exists(), os.listdir(f"{folder}/there")
+            yield f"bytes that are not UTF-8 in {name}, what is left", found, (False, [])
+
+
+def try_unreadable(program):
+    """What cannot be read is told by its name, and not as the input or as a folder in the place of a file."""
+    with tempfile.TemporaryDirectory() as folder:
+        Path(folder, "lines").write_bytes(b"a\n")
+        for name in "pair.txt", "no_final_newline":
+            files = columns_of(b"red\ngreen")
+            write_files(f"{folder}/{name}", files)
+            Path(folder, name, name).unlink()
+            Path(folder, name, name).symlink_to(name)
+            message = b"%b: cannot read %b: %b" % (name.encode(), name.encode(), told(errno.ELOOP))
+            yield f"{name}, decoded", program.run([b"decode", name.encode()], folder=folder), failed(1, message)
+            for given in [], [b"lines"]:
+                words = [b"encode", b"--plain", b"new", b"--onto", name.encode(), *given]
+                yield f"{words}", program.run(words, b"a\n", folder=folder), failed(1, message)
+
+
+# So many bytes are asked for by no run but for a line that is as long.
+LONG = 1 << 24
+
+
+def try_memory_told(program):
+    """The file is named for whose lines memory is missing."""
+    with tempfile.TemporaryDirectory() as folder:
+        for name, length in ("none", 0), ("short", 1), ("long", LONG):
+            Path(folder, name).write_bytes(b"a" * length + b"\n" * bool(length))
+            write_files(f"{folder}/columns of {name}", columns_of(b"a" * length + b"\n"))
+        for onto, given, wanted in (b"long", b"none", b"columns of long"), (b"short", b"long", b"long"):
+            words = [b"encode", b"--plain", b"new", b"--onto", b"columns of " + onto, given]
+            asks = program.run_with_asks(words, b"", folder=folder)[1]
+            large = [number for number, size in enumerate(asks, 1) if size >= LONG]
+            yield f"{words}, large requests", len(large) > 1, True
+            for number in large:
+                shutil.rmtree(f"{folder}/new", ignore_errors=True)
+                ended, asked = program.run_with_asks(words, b"", number, folder=folder)
+                yield f"{words}, request {number} of {asked[-1]} bytes refused", ended, failed(1, wanted + b": out of memory")
 
 
 NOT_A_PAIR = b"it: dict.txt and codes.npy are not of one run (see pair.txt)"
@@ -287,6 +338,12 @@ OF_TWO_RUNS = (
     (b"a\nb\na\n", {"pair.txt": pair_of(2, [0, 1, 1])}, None),
     (b"a\nb\na\n", {"pair.txt": pair_of(3, [0, 1, 0])}, None),
     (b"", {"dict.txt": b"a\n"}, None),
+    (b"a\nb\na\n", {"pair.txt": pair_before(pair_of(2, [0, 1, 0]))}, b"a\nb\na\n"),
+    (b"a\nb\na", {"pair.txt": pair_before(pair_of(2, [0, 1, 0]))}, b"a\nb\na"),
+    (b"a\nb\na\n", {"pair.txt": pair_before(pair_of(2, [0, 1, 1]))}, None),
+    (b"a\nb\na\n", {"pair.txt": pair_of(2, [0, 1, 0])[:-1]}, None),
+    (b"a\nb\na\n", {"pair.txt": pair_before(pair_of(2, [0, 1, 0])) + b"no_final_newline 2\n"}, None),
+    (b"a\nb\na\n", {"pair.txt": pair_before(pair_of(2, [0, 1, 0])) + b"no_final_newline\n"}, None),
 )
 
 
@@ -305,6 +362,31 @@ def try_pair(program, text, changed, decoded):
         yield f"{text!r} with {changed}, written onto", ended, wanted
         found = files_in(f"{folder}/new") if Path(folder, "new").exists() else None
         yield f"{text!r} with {changed}, what was written onto it", found, columns_of(b"b\nc\n", lines) if is_taken else None
+
+
+# A text, and the end of another one, with what is told.
+OF_ANOTHER_END = (
+    (b"a\nb\na", False, b"no_final_newline is missing (see pair.txt)"),
+    (b"a\nb\na\n", True, b"no_final_newline is of another run (see pair.txt)"),
+    (b"\n", True, b"no_final_newline is of another run (see pair.txt)"),
+    (b"", True, b"no_final_newline is of another run (see pair.txt)"),
+)
+
+
+def try_end(program, text, is_cut, message):
+    """Whether the last line has a newline is of one run with the other files. What is damaged is told first."""
+    with tempfile.TemporaryDirectory() as folder:
+        files = {it: content for it, content in columns_of(text).items() if it != "no_final_newline"}
+        write_files(f"{folder}/it", files | ({"no_final_newline": b""} if is_cut else {}))
+        yield f"{text!r}, decoded", program.run([b"decode", b"it"], folder=folder), failed(2, b"it: " + message)
+        ended = program.run(b"encode --onto it --plain new".split(), b"b\nc\n", folder=folder)
+        yield f"{text!r}, written onto", ended, failed(2, b"it: " + message)
+        yield f"{text!r}, what was written", Path(folder, "new").exists(), False
+        ended = program.run(b"encode --onto-dictionary it --plain new".split(), b"b\nc\n", folder=folder)
+        yield f"{text!r}, written onto the dictionary", ended, OK
+        Path(folder, "it/pair.txt").write_bytes(pair_before(files["pair.txt"]))
+        written = text.removesuffix(b"\n") if is_cut else text + b"\n" * bool(text)
+        yield f"{text!r} of an earlier version", program.run([b"decode", b"it"], folder=folder), (0, written, b"")
 
 
 def try_exchange(program):
@@ -431,6 +513,47 @@ def try_readers(program):
                 yield f"{name}, {ended}", (ended.output, ended.error.count(b"\n")), (b"", 1)
 
 
+EXTEND = b"encode --onto it --plain it".split()
+
+
+def try_extenders(program):
+    """Wherever a second run extends a folder beside a first one that does, no line of a run that ended well is lost, and no code."""
+    for name, folder, run in each_stop(program, EXTEND, b"blue\n", LINES):
+        second = program.run(EXTEND, b"white\n", folder=folder)
+        ends = run.end(), second
+        yield f"{name}, {ends}", OK in ends and all(it == OK or it[:2] == (1, b"") and it[2].count(b"\n") == 1 for it in ends), True
+        # The first one is the last to end if it was stopped.
+        order = [(ends[1], b"white"), (ends[0], b"blue")] if run.is_stopped else [(ends[0], b"blue"), (ends[1], b"white")]
+        *before, last = [b"red", b"green", *(line for ended, line in order if ended == OK)]
+        yield f"{name}, files", files_in(f"{folder}/it"), columns_of(last + b"\n", before)
+
+
+def wait_for(is_there):
+    end = time.monotonic() + SECONDS
+    while not is_there() and time.monotonic() < end:
+        time.sleep(0.001)
+    return is_there()
+
+
+def try_writer_that_reads(program, words, before):
+    """From before it reads until it has written, a run has the folder alone. A second one fails at once, and changes nothing."""
+    with tempfile.TemporaryDirectory() as folder:
+        if before:
+            write_files(f"{folder}/it", columns_of(LINES))
+        pipe = subprocess.PIPE
+        with subprocess.Popen([program.path, *words], stdin=pipe, stdout=pipe, stderr=pipe, cwd=folder) as first:
+            yield f"{words}, begun", wait_for(Path(folder, "it", UNFINISHED).exists), True
+            first.stdin.write(b"blue\n")
+            first.stdin.flush()
+            # One that came before the first one had locked the folder would win.
+            time.sleep(0.1)
+            busy = failed(1, b"it: cannot write files: resource busy")
+            yield f"{words}, the second", program.run(words, b"white\n", folder=folder), busy
+            told = first.communicate(timeout=SECONDS)
+        yield f"{words}, the first", (first.returncode, *told), OK
+        yield f"{words}, files", files_in(f"{folder}/it"), columns_of(b"blue\n", before)
+
+
 # So many times two runs write at once, and a third one reads.
 RACES = 60
 
@@ -535,13 +658,18 @@ def trials():
         *((try_damaged, *given) for given in DAMAGED),
         *((try_repeated, *given) for given in REPEATED),
         *((try_pair, *given) for given in OF_TWO_RUNS),
+        *((try_end, *given) for given in OF_ANOTHER_END),
         (try_exchange,),
         (try_stored,),
         (try_links,),
         *((trial, old) for trial in (try_killed_writers, try_writers) for old in (None, SECOND, THIRD)),
+        (try_extenders,),
+        *((try_writer_that_reads, *given) for given in ((WRITE, ()), (EXTEND, (b"red", b"green")))),
         (try_readers,),
         (try_race,),
         (try_missing,),
+        (try_unreadable,),
+        (try_memory_told,),
         (try_refused,),
         (try_numpy,),
         *((try_random, seed) for seed in range(100)),

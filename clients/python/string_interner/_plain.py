@@ -58,8 +58,25 @@ def format_pair(lines: int, codes: memoryview) -> bytes:
     return f"lines {lines}\nnumbers {len(codes)}\nchecksum {_native.Column._checksum(codes)}\n".encode()
 
 
+def format_end(is_cut: bool) -> bytes:
+    """What `pair.txt` says behind that: whether a file says that the last line has no newline."""
+    return f"{CUT} {is_cut:d}\n".encode()
+
+
+def check_pair(pair: bytes | None, lines: int, codes: memoryview, is_cut: bool) -> None:
+    """Refuses files of two runs. Earlier versions wrote no pair, or one without its last line."""
+    if pair is None:
+        return
+    front = format_pair(lines, codes)
+    end = pair.removeprefix(front)
+    if not pair.startswith(front) or end not in (b"", format_end(True), format_end(False)):
+        raise ValueError(f"{DICTIONARY} and {CODES} are of two runs")
+    if end and end != format_end(is_cut):
+        raise ValueError(f"{CUT} {'is of another run' if is_cut else 'is missing'}")
+
+
 def read_pair(folder: str) -> bytes | None:
-    """What `pair.txt` says. Earlier versions wrote none."""
+    """What `pair.txt` says."""
     try:
         with open(os.path.join(folder, PAIR), "rb") as file:
             return file.read()
@@ -80,14 +97,13 @@ def make_column(cls: type[Columns], lines: _native.Column, codes: memoryview) ->
 def read(cls: type[Columns], folder: str, hasher: _types.Hasher) -> Columns:
     path = os.path.join(folder, CODES)
     with open(path, "rb") as codes_file, open(os.path.join(folder, DICTIONARY), "rb") as dictionary:
-        pair = read_pair(folder)
+        pair, is_cut = read_pair(folder), os.path.exists(os.path.join(folder, CUT))
         # While it is there, the other files are of its run. So all are of one run if it still is in its place.
         if not os.path.samestat(os.fstat(codes_file.fileno()), os.stat(path)):
             raise busy(folder)
         codes, lines = read_codes(codes_file.read()), read_lines(dictionary.fileno(), hasher)
     column = make_column(cls, lines, codes)
-    if pair not in (None, format_pair(len(lines), codes)):
-        raise ValueError(f"{DICTIONARY} and {CODES} are of two runs")
+    check_pair(pair, len(lines), codes, is_cut)
     return column
 
 
@@ -154,7 +170,7 @@ def write(column: Column, folder: str) -> None:
     with unfinished(folder) as new:
         write_file(new, DICTIONARY, lines)
         write_file(new, CODES, format_header(len(codes)), codes)
-        write_file(new, PAIR, format_pair(column.distinct, codes))
+        write_file(new, PAIR, format_pair(column.distinct, codes), format_end(False))
         # There is no codes.npy while the other files are not those of the new one.
         for name in (CODES, CUT):
             try:

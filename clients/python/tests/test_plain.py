@@ -20,11 +20,13 @@ except ImportError:
 DICTCOL = shutil.which("dictcol")
 
 
-def format_pair(lines, codes):
+def format_pair(lines, codes, cut=False):
+    """Without its last line where `cut` is None."""
     checksum = 14695981039346656037
     for code in codes:
         checksum = (checksum ^ code) * 1099511628211 % 2**64
-    return f"lines {len(lines)}\nnumbers {len(codes)}\nchecksum {checksum}\n"
+    end = "" if cut is None else f"no_final_newline {int(cut)}\n"
+    return f"lines {len(lines)}\nnumbers {len(codes)}\nchecksum {checksum}\n{end}"
 
 
 def write_folder(folder, lines, codes, cut=False, pair=True):
@@ -35,7 +37,7 @@ def write_folder(folder, lines, codes, cut=False, pair=True):
     header = b"\x93NUMPY\x01\x00" + (118).to_bytes(2, "little") + words.ljust(117).encode() + b"\n"
     (folder / "codes.npy").write_bytes(header + b"".join(code.to_bytes(4, "little") for code in codes))
     if pair:
-        (folder / "pair.txt").write_text(format_pair(lines, codes))
+        (folder / "pair.txt").write_text(format_pair(lines, codes, cut))
     if cut:
         (folder / "no_final_newline").touch()
 
@@ -59,6 +61,22 @@ class Plain(unittest.TestCase):
                 for given in (self.folder, str(self.folder), os.fsencode(self.folder)):
                     column = Column.from_plain(given, hasher="fixed")
                     self.assertEqual((column.dictionary, column.codes.tolist(), column.hasher), (lines, codes, "fixed"))
+
+    def test_reads_what_earlier_versions_wrote(self):
+        for cut in (False, True):
+            write_folder(self.folder, ["red", "green"], [0, 1, 0], cut)
+            (self.folder / "pair.txt").write_text(format_pair(["red", "green"], [0, 1, 0], None))
+            self.assertEqual(list(Column.from_plain(self.folder)), ["red", "green", "red"])
+
+    def test_the_end_of_another_text(self):
+        write_folder(self.folder, ["red"], [0], cut=True)
+        (self.folder / "no_final_newline").unlink()
+        with self.assertRaisesRegex(ValueError, "^no_final_newline is missing$"):
+            Column.from_plain(self.folder)
+        write_folder(self.folder, ["red"], [0])
+        (self.folder / "no_final_newline").touch()
+        with self.assertRaisesRegex(ValueError, "^no_final_newline is of another run$"):
+            Column.from_plain(self.folder)
 
     def test_writes_what_the_page_says(self):
         other = self.top / "wanted"
@@ -108,6 +126,8 @@ class Plain(unittest.TestCase):
             ("dict.txt", b"red\n", "^row 1 has code 1, and the dictionary has 1 texts$"), ("dict.txt", lines + b"blue\n", "are of two runs$"),
             ("codes.npy", codes[:-8] + codes[-4:] + codes[-8:-4], "are of two runs$"), ("codes.npy", codes[:-4] + b"\0" * 4, "are of two runs$"),
             ("pair.txt", b"", "are of two runs$"), ("pair.txt", format_pair(["a", "b"], [1, 0]).encode(), "are of two runs$"),
+            ("pair.txt", format_pair(["a", "b"], [0, 1]).encode() + b"\n", "are of two runs$"),
+            ("pair.txt", format_pair(["a", "b"], [0, 1], None).encode() + b"no_final_newline 2\n", "are of two runs$"),
         ):
             write_folder(self.folder, ["red", "green"], [0, 1])
             (self.folder / name).write_bytes(content)

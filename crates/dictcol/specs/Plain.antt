@@ -80,6 +80,10 @@ pub record IsPlain (before text dictionary numbers : Text) (is_cut : Bool) : Typ
   pub dictionary_is : IsDictionary (known ++ fresh known lines) dictionary
   pub numbers_are : IsCodesFile (known ++ fresh known lines) lines numbers
 
+-- These rows are the lines of a dictionary from before, as many as `count`, and no text is behind them.
+abbrev pub IsBegun : Text → List Text → ℕ → Type 0
+IsBegun before rows count = IsDictionary rows before × (count ≡ length rows)
+
 -- These rows are the lines of a dictionary from before, as many as `count`, and those of a text behind them.
 pub record IsOnto (before text : Text) (rows : List Text) (count : ℕ) (is_cut : Bool) : Type 0 where
   pub known : List Text

@@ -5,43 +5,39 @@ use crate::fault::Fault;
 use crate::hasher::LineHasher;
 use crate::inputs::{Inputs, report_progress};
 use crate::mend::Mended;
+use crate::plain::folder::Place;
 use crate::plain::{Plain, folder};
 use crate::{tell_skipped, warn_of_encoded};
 use std::io;
-use std::io::Read;
 use string_interner::backend::{Backend, BucketBackend, BufferBackend, StringBackend};
 
-/// Reads the lines of the dictionary from before, if there is one, and behind them those of an input.
-fn read_onto<B: Backend + Drop, R: Read>(
+/// Reads the lines of the dictionary from before, if there is one.
+fn read_before<B: Backend + Drop>(
     rt: &HostRuntime,
     hasher: LineHasher,
     onto: Option<Onto<'_>>,
-    input: &mut R,
 ) -> Result<Plain<B>, Fault> {
     match onto {
-        Some(onto) => {
-            let mut before = folder::open_dictionary(rt, onto)?;
-            Plain::<B>::read(rt.alloc(), hasher, &mut before, input)
-        }
-        None => Plain::<B>::read(rt.alloc(), hasher, &mut io::empty(), input),
+        Some(onto) => folder::read_dictionary(rt, hasher, onto),
+        None => Plain::<B>::begin(rt.alloc(), hasher, &mut io::empty()),
     }
 }
 
-/// Does what `read_onto` does, of input that is mended if the arguments say so.
+/// Reads the lines of an input behind those from before. The input is mended if the arguments say so.
 fn read<B: Backend + Drop>(
     rt: &HostRuntime,
     hasher: LineHasher,
-    onto: Option<Onto<'_>>,
+    plain: &mut Plain<B>,
     reading: Reading,
     inputs: &mut Inputs<'_>,
-) -> Result<Plain<B>, Fault> {
+) -> Result<(), Fault> {
     let Some(mending) = reading.mending else {
-        return read_onto(rt, hasher, onto, inputs);
+        return plain.read(rt.alloc(), hasher, inputs);
     };
     let mut mended = Mended::new(rt.alloc(), inputs, mending);
-    let plain = read_onto(rt, hasher, onto, &mut mended)?;
+    plain.read(rt.alloc(), hasher, &mut mended)?;
     tell_skipped(rt, mended.skipped());
-    Ok(plain)
+    Ok(())
 }
 
 /// Writes the lines of the input, which are stored in the backend `B` while it runs. Returns how it ended, and where.
@@ -49,28 +45,26 @@ fn write_over<'a, B: Backend + Drop>(
     rt: &HostRuntime,
     hasher: LineHasher,
     columns: Columns<'a>,
+    place: &Place<'_>,
     reading: Reading,
     inputs: &mut Inputs<'a>,
 ) -> (Source<'a>, Result<(), Fault>) {
-    match (
-        read::<B>(rt, hasher, columns.onto, reading, inputs),
-        columns.onto,
-    ) {
-        (Ok(plain), _) => {
-            let folder = Source::File(columns.folder);
-            (folder, folder::write(rt, columns.folder, &plain))
-        }
-        (Err(fault), Some(onto)) if fault.is_of_columns() => {
-            (Source::File(onto.folder), Err(fault))
-        }
-        (Err(fault), _) => {
+    let mut plain = match (read_before::<B>(rt, hasher, columns.onto), columns.onto) {
+        (Ok(plain), _) => plain,
+        (Err(fault), Some(onto)) => return (Source::File(onto.folder), Err(fault)),
+        (Err(fault), None) => return (Source::StandardInput, Err(fault)),
+    };
+    match read(rt, hasher, &mut plain, reading, inputs) {
+        Ok(()) => (Source::File(columns.folder), place.write(rt, &plain)),
+        Err(fault) => {
             let (source, fault) = inputs.locate(fault);
             (source, Err(fault))
         }
     }
 }
 
-/// Writes the lines of the files, or of standard input, into a folder. Returns how it ended, and where.
+/// Writes the lines of the files, or of standard input, into a folder, which is taken before anything is read: what is read of it
+/// is still there when it gets new files. Returns how it ended, and where.
 pub fn write<'a>(
     rt: &'a HostRuntime,
     choice: Choice,
@@ -82,15 +76,26 @@ pub fn write<'a>(
         Ok(hasher) => hasher,
         Err(fault) => return (Source::StandardInput, Err(fault)),
     };
-    let mut inputs = Inputs::new(rt, files, reading.is_zero_ended);
-    let ended = match choice {
-        Choice::String => { write_over::<StringBackend>(rt, hasher, columns, reading, &mut inputs) }
-        Choice::Bucket => { write_over::<BucketBackend>(rt, hasher, columns, reading, &mut inputs) }
-        Choice::Buffer => { write_over::<BufferBackend>(rt, hasher, columns, reading, &mut inputs) }
+    let place = match Place::take(rt, columns.folder) {
+        Ok(place) => place,
+        Err(fault) => return (Source::File(columns.folder), Err(fault)),
     };
+    let inputs = &mut Inputs::new(rt, files, reading.is_zero_ended);
+    let ended = match choice {
+        Choice::String => {
+            write_over::<StringBackend>(rt, hasher, columns, &place, reading, inputs)
+        }
+        Choice::Bucket => {
+            write_over::<BucketBackend>(rt, hasher, columns, &place, reading, inputs)
+        }
+        Choice::Buffer => {
+            write_over::<BufferBackend>(rt, hasher, columns, &place, reading, inputs)
+        }
+    };
+    place.leave(rt, ended.1.is_ok());
     if ended.1.is_ok() {
         report_progress(rt, inputs.length(), "done");
-        warn_of_encoded(rt, &inputs);
+        warn_of_encoded(rt, inputs);
     }
     ended
 }

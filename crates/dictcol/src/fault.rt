@@ -81,12 +81,24 @@ pub enum Fault {
     /// `dict.txt` has more or fewer lines than `pair.txt` says, or `codes.npy` other numbers.
     #[error("dict.txt and codes.npy are not of one run (see pair.txt)")]
     NotAPair,
+    /// `no_final_newline` is not there, and `pair.txt` says that it is.
+    #[error("no_final_newline is missing (see pair.txt)")]
+    NoCut,
+    /// `no_final_newline` is there, and `pair.txt` says that it is not.
+    #[error("no_final_newline is of another run (see pair.txt)")]
+    OtherCut,
     /// `dict.txt` cannot be read.
     #[error("cannot read dict.txt: {0}")]
     DictionaryFile(io::Error),
     /// `codes.npy` cannot be read.
     #[error("cannot read codes.npy: {0}")]
     NumbersFile(io::Error),
+    /// `pair.txt` cannot be read.
+    #[error("cannot read pair.txt: {0}")]
+    PairFile(io::Error),
+    /// The system does not tell whether `no_final_newline` is there.
+    #[error("cannot read no_final_newline: {0}")]
+    CutFile(io::Error),
     /// A folder or its files cannot be written.
     #[error("cannot write files: {0}")]
     Folder(io::Error),
@@ -174,23 +186,14 @@ impl Fault {
         }
     }
 
-    /// Returns whether the fault is one of plain columns.
-    pub fn is_of_columns(&self) -> bool {
-        matches!(
-            self,
-            Fault::DictionaryFile(_)
-                | Fault::DictionaryNotUtf8(_)
-                | Fault::NotEnded
-                | Fault::RepeatedLine(_)
-                | Fault::NumbersFile(_)
-                | Fault::NotNpy
-                | Fault::OtherType
-                | Fault::OtherOrder
-                | Fault::OtherShape
-                | Fault::OtherLength
-                | Fault::NotALine(_)
-                | Fault::NotAPair
-        )
+    /// Returns a fault of reading the input as one of reading `pair.txt`.
+    pub fn of_pair(fault: Fault) -> Fault
+        ensures { IsNoDamage fault → IsNoDamage result }
+    {
+        match fault {
+            Fault::Input(error) => Fault::PairFile(error),
+            fault => fault,
+        }
     }
 
     /// Returns the exit status: 2 if the arguments or the input are wrong, 1 if the system failed or there is too much. If
@@ -203,6 +206,8 @@ impl Fault {
             Fault::Input(_)
             | Fault::DictionaryFile(_)
             | Fault::NumbersFile(_)
+            | Fault::PairFile(_)
+            | Fault::CutFile(_)
             | Fault::Folder(_)
             | Fault::NoKeys(_)
             | Fault::TooMany

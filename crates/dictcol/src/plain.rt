@@ -12,7 +12,7 @@ ghost use Rattle.string_interner.specs.Text.{Text};
 ghost use Rattle.dictcol.specs.Blocks.{IsLinesFault};
 ghost use Rattle.dictcol.specs.Fault.{IsLinesWriteFault, IsNotUtf8, IsParseFault, IsWriteFault, OfDictionary, WritesLast};
 ghost use Rattle.dictcol.specs.Lines.{AreLines};
-ghost use Rattle.dictcol.specs.Plain.{HoldPlain, IsDictionaryFault, IsOnto, WritesPlain};
+ghost use Rattle.dictcol.specs.Plain.{HoldPlain, IsBegun, IsDictionaryFault, IsOnto, WritesPlain};
 ghost use Rattle.dictcol.specs.Writes.{Writes};
 
 use crate::blocks;
@@ -65,6 +65,7 @@ fn append_lines<B: Backend + Drop, R: Read>(
 ) -> Result<bool, Fault>
     ensures ok { IfOk result (λ is_ended. (more : List Text) × (lines.new ≡ lines.old ++ more)
         × IfSome (R.remaining input.old) (λ text. AreLines text more is_ended)) }
+    ensures kept { length lines.old ≤ length lines.new }
     ensures fault { IfErr result (IsLinesFault (R.remaining input.old)) }
 {
     let (more, is_ended) = read_lines::<B, R>(alloc, hasher, input)?;
@@ -79,30 +80,46 @@ fn append_lines<B: Backend + Drop, R: Read>(
 }
 
 impl<B: Backend + Drop> Plain<B> {
-    /// Reads a file `dict.txt` from before, which may be empty, and a text.
-    pub fn read<D: Read, R: Read>(
-        alloc: Global,
-        hasher: LineHasher,
-        before: &mut D,
-        input: &mut R,
-    ) -> Result<Self, Fault>
-        ensures ok { IfOk result (λ plain.
-            IfSome (D.remaining before.old) (λ known. IfSome (R.remaining input.old) (λ text.
-            IsOnto known text plain.lines plain.known plain.is_cut))) }
+    /// Reads a file `dict.txt` from before, which may be empty. Behind its lines there is no text yet.
+    pub fn begin<D: Read>(alloc: Global, hasher: LineHasher, before: &mut D) -> Result<Self, Fault>
+        ensures ok { IfOk result (λ plain. IfSome (D.remaining before.old) (λ known.
+            IsBegun known plain.lines plain.known)) }
 
-        // The file is called damaged only if it is, and either not UTF-8 only if it is not.
-        ensures err { IfErr result (λ fault. IsDictionaryFault (D.remaining before.old) fault
-            ⊎ IsLinesFault (R.remaining input.old) fault) }
+        // The file is called damaged only if it is, and not UTF-8 only if it is not.
+        ensures err { IfErr result (IsDictionaryFault (D.remaining before.old)) }
     {
-        let mut lines = dictionary::read::<B, D>(alloc, hasher, before)?;
+        let lines = dictionary::read::<B, D>(alloc, hasher, before)?;
         let known = lines.len();
-        let is_ended = append_lines(alloc, hasher, &mut lines, input)?;
-        let is_cut = !is_ended && known < lines.len();
         Ok(Plain {
             lines,
             known,
-            is_cut,
+            is_cut: false,
         })
+    }
+
+    /// Returns how many lines are of the dictionary from before.
+    pub fn known(&self) -> usize
+        ensures { result ≡ self.now.known }
+    {
+        self.known
+    }
+
+    /// Reads a text behind the lines of the dictionary.
+    pub fn read<R: Read>(
+        &mut self,
+        alloc: Global,
+        hasher: LineHasher,
+        input: &mut R,
+    ) -> Result<(), Fault>
+        ensures ok { (before : Text) → IsBegun before self.old.lines self.old.known
+            → OnOk result (IfSome (R.remaining input.old) (λ text.
+            IsOnto before text self.new.lines self.new.known self.new.is_cut)) }
+        ensures fault { IfErr result (IsLinesFault (R.remaining input.old)) }
+    {
+        let is_ended = append_lines(alloc, hasher, &mut self.lines, input)?;
+        let is_cut = !is_ended && self.known < self.lines.len();
+        self.is_cut = is_cut;
+        Ok(())
     }
 
     /// Returns whether the last line of the text has no newline.
@@ -116,7 +133,7 @@ impl<B: Backend + Drop> Plain<B> {
     fn format_pair(&self, alloc: Global) -> Result<String, Fault> {
         let (numbers, _) = self.lines.codes().as_slices();
         let codes = numbers.get(self.known..).unwrap_or(&[]);
-        pair::format_numbers(alloc, self.lines.dictionary().len(), codes)
+        pair::format_numbers(alloc, self.lines.dictionary().len(), codes, self.is_cut)
     }
 
     /// Writes the files of the text: the distinct lines, and the numbers of its lines.

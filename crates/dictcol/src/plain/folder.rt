@@ -7,10 +7,11 @@ use super::{Plain, npy, pair};
 use crate::arguments::Onto;
 use crate::blocks::count_byte;
 use crate::fault::Fault;
+use crate::hasher::LineHasher;
 use crate::unfinished::{Unfinished, busy, is_same, store};
 use std::alloc::Global;
 use std::fs::File;
-use std::io::{ErrorKind, Read, Seek, Write};
+use std::io::{ErrorKind, Read, Write};
 use std::{fs, io};
 use string_interner::backend::Backend;
 
@@ -20,7 +21,7 @@ const DICTIONARY: &str = "dict.txt";
 /// The number of each line.
 const NUMBERS: &str = "codes.npy";
 
-/// What the other two have.
+/// What the other files have.
 const PAIR: &str = "pair.txt";
 
 /// This file is there if the last line has no newline.
@@ -118,8 +119,8 @@ impl Files {
         let numbers = open(rt, paths.numbers.as_str());
         let dictionary = open(rt, paths.dictionary.as_str()).map_err(Fault::of_dictionary)?;
         let numbers = numbers.map_err(Fault::of_numbers)?;
-        let pair = read_pair(rt, paths.pair.as_str())?;
-        let is_cut = fs::exists(rt, paths.cut.as_str()).map_err(Fault::of_read)?;
+        let pair = read_pair(rt, paths.pair.as_str()).map_err(Fault::of_pair)?;
+        let is_cut = fs::exists(rt, paths.cut.as_str()).map_err(Fault::CutFile)?;
         check_place(rt, &numbers, paths.numbers.as_str()).map_err(Fault::NumbersFile)?;
         Ok(Files {
             dictionary,
@@ -129,60 +130,55 @@ impl Files {
         })
     }
 
-    /// Returns whether `pair.txt` is of a dictionary of so many lines and of these numbers, or is not there.
-    fn is_pair(&self, alloc: Global, lines: usize, numbers: &[u8]) -> Result<bool, Fault> {
+    /// Checks that `pair.txt`, if it is there, is of a dictionary of so many lines, of these numbers, and of the end of the text.
+    fn check_pair(&self, alloc: Global, lines: usize, numbers: &[u8]) -> Result<(), Fault> {
         let Some(pair) = &self.pair else {
-            return Ok(true);
+            return Ok(());
         };
         let bytes = numbers.get(npy::HEADER..).unwrap_or(&[]);
-        let wanted = pair::format_bytes(alloc, lines, bytes)?;
-        Ok(pair.as_slice() == wanted.as_bytes())
+        let front = pair::format_bytes(alloc, lines, bytes)?;
+        let Some(end) = pair.as_slice().strip_prefix(front.as_bytes()) else {
+            return Err(Fault::NotAPair);
+        };
+        if end.is_empty() || end == pair::end_line(self.is_cut).as_bytes() {
+            return Ok(());
+        }
+        Err(if end != pair::end_line(!self.is_cut).as_bytes() {
+            Fault::NotAPair
+        } else if self.is_cut {
+            Fault::OtherCut
+        } else {
+            Fault::NoCut
+        })
     }
 }
 
-/// Counts the newlines that it is given.
-#[derive(Drop)]
-struct LineCount {
-    lines: usize,
-}
-
-impl Write for LineCount {
-    fn write(&mut self, buf: &[u8]) -> io::Result<usize> {
-        self.lines = self.lines.saturating_add(count_byte(b'\n', buf));
-        Ok(buf.len())
-    }
-
-    fn flush(&mut self) -> io::Result<()> {
-        Ok(())
-    }
-}
-
-/// Returns the fault of files of two runs. What is damaged in them has a message of its own.
-fn find_fault(alloc: Global, dictionary: &[u8], numbers: &[u8]) -> Fault {
+/// Returns the fault of files that are not of one run, or one that tells what is damaged in them.
+fn find_fault(alloc: Global, dictionary: &[u8], numbers: &[u8], fault: Fault) -> Fault {
     match super::decode(alloc, dictionary, numbers, false, &mut io::sink()) {
-        Ok(()) => Fault::NotAPair,
+        Ok(()) => fault,
         Err(fault) => fault,
     }
 }
 
-/// Opens the dictionary that further columns begin with. Unless it is to be taken alone, its numbers show that no line is missing.
-pub fn open_dictionary(rt: &HostRuntime, onto: Onto<'_>) -> Result<File, Fault> {
+/// Reads the dictionary that further columns begin with. Unless it is to be taken alone, its numbers show that no line is missing.
+pub fn read_dictionary<B: Backend + Drop>(
+    rt: &HostRuntime,
+    hasher: LineHasher,
+    onto: Onto<'_>,
+) -> Result<Plain<B>, Fault> {
     let alloc = rt.alloc();
     if onto.is_dictionary {
         let path = join(alloc, onto.folder, DICTIONARY)?;
-        return open(rt, path.as_str()).map_err(Fault::of_dictionary);
+        let mut dictionary = open(rt, path.as_str()).map_err(Fault::of_dictionary)?;
+        return Plain::begin(alloc, hasher, &mut dictionary);
     }
     let mut files = Files::open(rt, onto.folder)?;
-    let mut count = LineCount { lines: 0 };
-    let _ = io::copy(&mut files.dictionary, &mut count).map_err(Fault::DictionaryFile)?;
-    files.dictionary.rewind().map_err(Fault::DictionaryFile)?;
+    let before = Plain::begin(alloc, hasher, &mut files.dictionary)?;
     let numbers = read(alloc, &mut files.numbers).map_err(Fault::of_numbers)?;
-    let _ = npy::read(alloc, &numbers, count.lines)?;
-    if files.is_pair(alloc, count.lines, &numbers)? {
-        return Ok(files.dictionary);
-    }
-    let dictionary = read(alloc, &mut files.dictionary).map_err(Fault::of_dictionary)?;
-    Err(find_fault(alloc, &dictionary, &numbers))
+    let _ = npy::read(alloc, &numbers, before.known())?;
+    files.check_pair(alloc, before.known(), &numbers)?;
+    Ok(before)
 }
 
 /// Writes the text of a folder.
@@ -191,10 +187,9 @@ pub fn decode<W: Write>(rt: &HostRuntime, folder: &str, output: &mut W) -> Resul
     let mut files = Files::open(rt, folder)?;
     let dictionary = read(alloc, &mut files.dictionary).map_err(Fault::of_dictionary)?;
     let numbers = read(alloc, &mut files.numbers).map_err(Fault::of_numbers)?;
-    if files.is_pair(alloc, count_byte(b'\n', &dictionary), &numbers)? {
-        super::decode(alloc, &dictionary, &numbers, files.is_cut, output)
-    } else {
-        Err(find_fault(alloc, &dictionary, &numbers))
+    match files.check_pair(alloc, count_byte(b'\n', &dictionary), &numbers) {
+        Ok(()) => super::decode(alloc, &dictionary, &numbers, files.is_cut, output),
+        Err(fault) => Err(find_fault(alloc, &dictionary, &numbers, fault)),
     }
 }
 
@@ -248,30 +243,67 @@ fn exchange(rt: &HostRuntime, new: &Paths, old: &Paths, is_cut: bool) -> io::Res
     fs::rename(rt, new.numbers.as_str(), old.numbers.as_str())
 }
 
-/// Writes new files, and then puts them into the place of the old ones.
-fn replace<B: Backend + Drop>(
-    rt: &HostRuntime,
-    folder: &str,
-    unfinished: &Unfinished,
-    plain: &Plain<B>,
-) -> Result<(), Fault> {
-    let old = Paths::new(rt.alloc(), folder)?;
-    let new = Paths::new(rt.alloc(), unfinished.path())?;
-    write_new(rt, &new, plain)?;
-    exchange(rt, &new, &old, plain.is_cut()).map_err(Fault::Folder)
+/// Returns the paths of a folder and of those that it lies in, as far as they are not there.
+fn list_missing<'a>(rt: &HostRuntime, path: &'a str) -> Result<Vec<&'a str>, Fault> {
+    let mut missing = Vec::new(rt.alloc());
+    for end in 1..=path.len() {
+        match path.split_at_checked(end) {
+            Some((front, rest)) if rest.is_empty() || rest.starts_with('/') => {
+                if fs::symlink_metadata(rt, front).is_err() {
+                    missing.push(front).map_err(|_| Fault::Memory)?;
+                }
+            }
+            _ => {}
+        }
+    }
+    Ok(missing)
 }
 
-/// Writes the files of a folder, which is made if it is not there. A run that fails, or is killed, leaves the files that were
-/// there, or no `codes.npy`. Fails while another run writes there.
-pub fn write<B: Backend + Drop>(
-    rt: &HostRuntime,
-    folder: &str,
-    plain: &Plain<B>,
-) -> Result<(), Fault> {
-    fs::create_dir_all(rt, folder).map_err(Fault::Folder)?;
-    let path = join(rt.alloc(), folder, UNFINISHED)?;
-    let unfinished = Unfinished::make(rt, path).map_err(Fault::Folder)?;
-    let outcome = replace(rt, folder, &unfinished, plain);
-    unfinished.remove(rt);
-    outcome
+/// A folder that one run alone writes into.
+#[derive(Drop)]
+pub struct Place<'a> {
+    folder: &'a str,
+    /// What was made for it, each behind that which it lies in.
+    made: Vec<&'a str>,
+    unfinished: Unfinished,
+}
+
+impl<'a> Place<'a> {
+    /// Takes a folder, which is made if it is not there. Fails while another run has it.
+    pub fn take(rt: &HostRuntime, folder: &'a str) -> Result<Place<'a>, Fault> {
+        let path = join(rt.alloc(), folder, UNFINISHED)?;
+        let made = list_missing(rt, folder)?;
+        fs::create_dir_all(rt, folder).map_err(Fault::Folder)?;
+        let unfinished = Unfinished::make(rt, path).map_err(Fault::Folder)?;
+        Ok(Place {
+            folder,
+            made,
+            unfinished,
+        })
+    }
+
+    /// Writes new files, and then puts them into the place of the old ones. A run that fails, or is killed, leaves the files that
+    /// were there, or no `codes.npy`.
+    pub fn write<B: Backend + Drop>(
+        &self,
+        rt: &HostRuntime,
+        plain: &Plain<B>,
+    ) -> Result<(), Fault> {
+        let old = Paths::new(rt.alloc(), self.folder)?;
+        let new = Paths::new(rt.alloc(), self.unfinished.path())?;
+        write_new(rt, &new, plain)?;
+        exchange(rt, &new, &old, plain.is_cut()).map_err(Fault::Folder)
+    }
+
+    /// Leaves the folder to other runs. What was made for it stays if it was written, or if files are in it.
+    pub fn leave(&self, rt: &HostRuntime, is_written: bool) {
+        self.unfinished.remove(rt);
+        if is_written {
+            return;
+        }
+        for folder in self.made.iter().rev() {
+            // One with files cannot be removed.
+            let _ = fs::remove_dir(rt, *folder);
+        }
+    }
 }

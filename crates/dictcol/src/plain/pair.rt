@@ -14,23 +14,40 @@ fn add(checksum: u64, number: u32) -> u64 {
     (checksum ^ u64::from(number)).wrapping_mul(FACTOR)
 }
 
-/// Returns the text of the file.
+/// Returns the lines about the dictionary and the numbers.
 fn format(alloc: Global, lines: usize, numbers: usize, checksum: u64) -> Result<String, Fault> {
     format!(in alloc; "lines {lines}\nnumbers {numbers}\nchecksum {checksum}\n").map_err(
         |_| Fault::Memory,
     )
 }
 
-/// Returns the text of a dictionary of so many lines and of these numbers.
-pub fn format_numbers(alloc: Global, lines: usize, numbers: &[u32]) -> Result<String, Fault> {
+/// Returns the line behind these. Earlier versions did not write it.
+pub fn end_line(is_cut: bool) -> &'static str {
+    if is_cut {
+        "no_final_newline 1\n"
+    } else {
+        "no_final_newline 0\n"
+    }
+}
+
+/// Returns the text of the file for a dictionary of so many lines, these numbers, and a text whose last line has no newline or
+/// has one.
+pub fn format_numbers(
+    alloc: Global,
+    lines: usize,
+    numbers: &[u32],
+    is_cut: bool,
+) -> Result<String, Fault> {
     let mut checksum = START;
     for number in numbers {
         checksum = add(checksum, *number);
     }
-    format(alloc, lines, numbers.len(), checksum)
+    let mut text = format(alloc, lines, numbers.len(), checksum)?;
+    text.push_str(end_line(is_cut)).map_err(|_| Fault::Memory)?;
+    Ok(text)
 }
 
-/// Returns the text of a dictionary of so many lines and of the numbers that these bytes are, four each.
+/// Returns the lines about a dictionary of so many lines and the numbers that these bytes are, four each.
 pub fn format_bytes(alloc: Global, lines: usize, bytes: &[u8]) -> Result<String, Fault> {
     let mut checksum = START;
     for number in bytes.chunks_exact(4) {
