@@ -247,11 +247,14 @@ def try_encoded(program):
 EXCHANGED = bytes.maketrans(b"\n\0", b"\0\n")
 # Longer than a block of the input, and more newlines than a number of 16 bits counts.
 MANY_LINES = b"a\n" * 200000
-# Some files, and the one that is named for a line that is not UTF-8, with the number of the line there.
+# Some files, and the one that is named for a line that is not UTF-8, with the number of the line there: that in which it begins.
 BAD_LINES = (
-    ((b"a\n\xff\n", b"b"), 0, 2), ((b"a", b"\xff\n"), 1, 1), ((b"a\nb\n", b"", b"c\n\xff", b""), 2, 2),
+    ((b"a\n\xff\n", b"b"), 0, 2), ((b"a", b"\xff\n"), 0, 1), ((b"a\nb\n", b"", b"c\n\xff", b""), 2, 2),
     ((b"a\n", b"\n\n\xff\n\n"), 1, 3),
-    ((b"\xff", b""), 0, 1), ((b"", b"\xff"), 1, 1), ((b"a\n", b"\xc3", b"x\n"), 2, 1), ((b"a\n", b"\xc3\n", b"\xa9\n"), 1, 1),
+    ((b"\xff", b""), 0, 1), ((b"", b"\xff"), 1, 1), ((b"a\n", b"\xc3", b"x\n"), 1, 1), ((b"a\n", b"\xc3\n", b"\xa9\n"), 1, 1),
+    ((b"a\nb", b"\n\xff\n"), 1, 2), ((b"a\nb", b"", b"\xff"), 0, 2), ((b"a\nb", b"c", b"d\xff\n"), 0, 2), ((b"a\nb", b"c", b"d\n\xff"), 2, 2),
+    ((b"a\nb", b"c", b"d\n", b"\xff"), 3, 1), ((b"", b"a", b"", b"\xff\n"), 1, 1), ((b"a\n", b"", b"\xff\n"), 2, 1),
+    ((MANY_LINES + b"a", b"b" * 300000 + b"\xff\n"), 0, 200001), ((MANY_LINES + b"a", b"b" * 300000 + b"\n\xff\n"), 1, 2),
     ((b"a\n" * 300, b"b\n" * 200 + b"\xff"), 1, 201),
     ((b"a\n", MANY_LINES + b"\xff\n"), 1, 200001), ((MANY_LINES, b"a\n\xff\n"), 1, 2), ((b"\n" * 200000, b"\xff"), 1, 1),
     ((MANY_LINES + b"\xff\n", b"a\n"), 0, 200001), ((b"\n" * 70000, MANY_LINES, b"\n" * 70000 + b"\xff"), 2, 70001),

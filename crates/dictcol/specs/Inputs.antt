@@ -1,6 +1,7 @@
 -- Which of several files a line is of.
 -- Cited by `inputs`.
-use Rattle.std.specs.Prelude.{◌≡◌, ℕ, ◌+◌, ◌-◌, ◌^◌, ◌<◌, ◌≤◌, List, [], ◌∷◌, ◌++◌, All, length, min, count_by, nat_lt, slice_index_or, if◌then◌else◌, ◌⊎◌}
+use Rattle.std.specs.Prelude.{◌≡◌, ℕ, ◌+◌, ◌-◌, ◌^◌, ◌<◌, ◌≤◌, Bool, not, List, [], ◌∷◌, ◌++◌, All, length, min, count_by, nat_lt, slice_get, slice_index_or, if◌then◌else◌, ◌⊎◌}
+use Rattle.std.specs.Option.{option_map_or}
 use Rattle.string_interner.specs.Text.{Text}
 use Rattle.dictcol.specs.Lines.{is_newline}
 use Rattle.dictcol.specs.declared.arguments.Source.{Source}
@@ -22,18 +23,27 @@ noted sources begins begin = if nat_lt 1 (length sources) then begins ++ begin �
 abbrev pub newlines_with : List Source → ℕ → Text → ℕ
 newlines_with sources newlines bytes = if nat_lt 1 (length sources) then min (newlines + count_by is_newline bytes) (2 ^ 64 - 1) else newlines
 
--- The line is of the file that begins here, and so of the last that begins before the line ends.
+-- a line goes on behind some bytes if the last of them is no newline; if there is none, it does if it did before
+abbrev pub goes_on : Bool → Text → Bool
+goes_on before bytes = option_map_or (λ byte. not (is_newline byte)) (slice_get bytes (length bytes - 1)) before
+
+-- so many lines have begun: one for each newline, which ends it, and one more where a line goes on; the greatest `usize` if they are
+-- more
+abbrev pub lines_begun : ℕ → Bool → ℕ
+lines_begun newlines is_within = if is_within then min (newlines + 1) (2 ^ 64 - 1) else newlines
+
+-- The line begins in the file that begins here: the last that fewer lines begin before.
 pub record IsLineOf (begins : List Begin) (line : ℕ) (begin : Begin) : Type 0 where
   pub earlier : List Begin
   pub later : List Begin
   pub stands : begins ≡ earlier ++ begin ∷ later
-  pub begun : begin.newlines < line
-  pub last : All (λ other. line ≤ other.newlines) later
+  pub begun : begin.lines < line
+  pub last : All (λ other. line ≤ other.lines) later
 
--- A fault is told of this file in this way: a line is counted from the begin of the file that it is of, and any other fault is one of
--- the file that is read.
+-- A fault is told of this file in this way: a line is counted from the begin of the file that it begins in, and any other fault is one
+-- of the file that is read.
 abbrev pub IsLocated : List Begin → Source → Fault → Source × Fault → Type 0
 IsLocated begins read (NotUtf8 line) (source, fault) =
     ((begin : Begin) × IsLineOf begins line begin × (source ≡ begin.source) × (fault ≡ NotUtf8 (line - begin.newlines)))
-    ⊎ (All (λ begin. line ≤ begin.newlines) begins × (source ≡ read) × (fault ≡ NotUtf8 line))
+    ⊎ (All (λ begin. line ≤ begin.lines) begins × (source ≡ read) × (fault ≡ NotUtf8 line))
 IsLocated begins read other (source, fault) = (source ≡ read) × (fault ≡ other)

@@ -1,7 +1,7 @@
 //! The input: files that are read one after another, as `cat` writes them.
 
 ghost use Rattle.std.specs.Prelude.{◌≡◌, ◌≤◌, length, true, IfOk, OnOk};
-ghost use Rattle.dictcol.specs.Inputs.{source_at, newlines_with, noted, IsLocated};
+ghost use Rattle.dictcol.specs.Inputs.{goes_on, lines_begun, newlines_with, noted, source_at, IsLocated};
 
 use crate::arguments::Source;
 use crate::blocks::count_byte;
@@ -31,6 +31,8 @@ struct Begin<'a> {
     source: Source<'a>,
     /// How many newlines come before it.
     newlines: usize,
+    /// How many lines begin before it: one more if its first bytes are of a line of an earlier file.
+    lines: usize,
 }
 
 /// Reads some files one after another. If a file does not end in a newline, its last line and the first of the next file are one.
@@ -51,6 +53,8 @@ pub struct Inputs<'a> {
     is_ended: bool,
     /// How many newlines were read.
     newlines: usize,
+    /// Whether there is a line behind the last of them.
+    is_within: bool,
     /// Of several files those that gave bytes so far.
     begins: Vec<Begin<'a>>,
     /// The first of them that looks like one that `encode` wrote.
@@ -70,6 +74,7 @@ impl<'a> Inputs<'a> {
             length: 0,
             is_ended: false,
             newlines: 0,
+            is_within: false,
             begins: Vec::new(rt.alloc()),
             encoded: None,
         }
@@ -98,6 +103,7 @@ impl<'a> Inputs<'a> {
             self.old.begins.items record {
               source = source_at self.old.sources.now self.old.at;
               newlines = self.old.newlines;
+              lines = lines_begun self.old.newlines self.old.is_within;
             }) }
     {
         let source = self.current();
@@ -107,6 +113,11 @@ impl<'a> Inputs<'a> {
         let begin = Begin {
             source,
             newlines: self.newlines,
+            lines: if self.is_within {
+                self.newlines.saturating_add(1)
+            } else {
+                self.newlines
+            },
         };
         self.has_bytes = true;
         if self.sources.len() > 1 && self.begins.push(begin).is_err() {
@@ -122,6 +133,15 @@ impl<'a> Inputs<'a> {
     {
         if self.sources.len() > 1 {
             self.newlines = self.newlines.saturating_add(count_byte(b'\n', bytes));
+        }
+    }
+
+    /// Notes whether a line goes on behind the bytes.
+    fn note_end(&mut self, bytes: &[u8])
+        ensures { self.new.is_within ≡ goes_on self.old.is_within bytes.now }
+    {
+        if let Some(last) = bytes.last() {
+            self.is_within = *last != b'\n';
         }
     }
 
@@ -156,7 +176,7 @@ impl<'a> Inputs<'a> {
     }
 
     /// Returns the file that a fault is about, if it is about one, and the fault as one of this file: lines are counted from its
-    /// own first one, and a line of two files is one of the later.
+    /// own first one, and a line of two files is one of that in which it begins.
     pub fn locate(&self, fault: Fault) -> (Source<'a>, Fault)
         ensures { IsLocated self.now.begins.items
             (source_at self.now.sources.now self.now.at) fault result }
@@ -167,8 +187,11 @@ impl<'a> Inputs<'a> {
         let count = self.begins.len();
         for later in 0..count {
             let begin = self.begins[count - 1 - later];
-            if begin.newlines < line {
-                return (begin.source, Fault::NotUtf8(line - begin.newlines));
+            if begin.lines < line {
+                return (
+                    begin.source,
+                    Fault::NotUtf8(line.saturating_sub(begin.newlines)),
+                );
             }
         }
         (self.current(), fault)
@@ -206,6 +229,7 @@ impl Read for Inputs<'_> {
             self.note_begin(bytes)?;
         }
         self.count_newlines(bytes);
+        self.note_end(bytes);
         Ok(count)
     }
 }

@@ -3,4 +3,4 @@ use Rattle.dictcol.proofs.inputs.Inputs.locate.Given as goal
 
 -- the later files begin behind the line
 abbrev pub invariant-loop-later : goal.invariant-loop-later
-invariant-loop-later l = All (λ begin. l.line ≤ begin.newlines) (drop (l.count - l.later) l.self.begins.items)
+invariant-loop-later l = All (λ begin. l.line ≤ begin.lines) (drop (l.count - l.later) l.self.begins.items)
