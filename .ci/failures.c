@@ -15,6 +15,8 @@
    TELL_DRAWN=1     says `draws BYTES` on standard error at the end: how many random bytes were drawn
    TELL_UNSTORED=1  says `unstored FILES` on standard error before each file or folder is renamed: to how many files was written
                     that the system was not asked to store since, by fsync
+   TELL_FOLDERS=1   says `renamed` or `removed` on standard error behind each call that renames or removes a file or folder by its
+                    path, and `stored` behind each fsync of a folder
    STOP_AT=N        stops the process, as SIGSTOP does, before the Nth call, counted from 1, that looks for, opens, makes, locks,
                     renames or removes a file or folder
 
@@ -29,6 +31,8 @@ extern void *dlsym(void *library, const char *name);
 extern int snprintf(char *line, size_type room, const char *format, ...);
 extern size_type malloc_usable_size(void *block);
 extern int raise(int signal);
+extern int openat(int folder, const char *path, int flags, ...);
+extern int close(int file);
 
 #define STANDARD_INPUT 0
 #define STANDARD_OUTPUT 1
@@ -39,6 +43,9 @@ extern int raise(int signal);
 #define NO_SUCH_CALL 38
 #define CONNECTION_RESET 104
 #define STOP 19
+/* Linux's flags for opening a folder alone, and for opening nothing but its path. */
+#define FOLDER 0200000
+#define PATH 010000000
 /* Finds the function of this name in the library after this one, and calls it `next`. */
 #define FIND_NEXT(name)                      \
     static __typeof__(&(name)) next;         \
@@ -122,10 +129,29 @@ static void tell(const char *format, size_type one, size_type other) {
     write(STANDARD_ERROR, line, snprintf(line, sizeof line, format, one, other));
 }
 
+static void tell_of_folders(const char *done) {
+    if (getenv("TELL_FOLDERS")) {
+        tell(done, 0, 0);
+    }
+}
+
+static int is_folder(int file) {
+    int found = openat(file, ".", FOLDER | PATH);
+    if (found < 0) {
+        return 0;
+    }
+    close(found);
+    return 1;
+}
+
 int fsync(int file) {
     FIND_NEXT(fsync)
     note_stored(file, 1);
-    return next(file);
+    int outcome = next(file);
+    if (is_folder(file)) {
+        tell_of_folders("stored\n");
+    }
+    return outcome;
 }
 
 /* What is closed stays as it is, stored or not. */
@@ -185,13 +211,17 @@ int rename(const char *old, const char *path) {
     if (getenv("TELL_UNSTORED")) {
         tell("unstored %lu\n", unstored, 0);
     }
-    return next(old, path);
+    int outcome = next(old, path);
+    tell_of_folders("renamed\n");
+    return outcome;
 }
 
 int unlink(const char *path) {
     FIND_NEXT(unlink)
     count_call();
-    return next(path);
+    int outcome = next(path);
+    tell_of_folders("removed\n");
+    return outcome;
 }
 
 int unlinkat(int folder, const char *path, int flags) {

@@ -6,6 +6,7 @@ import tempfile
 from itertools import product
 from pathlib import Path
 
+from edits import TOP
 from program.columns import columns_of, files_in, write_files
 from program.reckon import answer, failed, misused, skip_invalid, told, unreadable, unwritable, warned
 from program.shards import shards_of
@@ -13,7 +14,9 @@ from program.shards import shards_of
 TEXT, BROKEN, MORE = b"red\ngreen\nred", b"a\n\xff\nb\n\xc3\na\n", b"blue\nred\n"
 ENCODED = answer([b"encode"], TEXT)[1]
 GOOD, SKIPPED = skip_invalid(BROKEN)
-FILES = {"text": TEXT, "broken": BROKEN, "encoded": ENCODED, "empty": b""}
+FILES = {"text": TEXT, "broken": BROKEN, "encoded": ENCODED, "empty": b"", "list": b"text\0text\0", "bad list": b"text\0\0"}
+# What the source of the program has between quotes.
+HELP = (TOP / "crates/dictcol/src/help.rt").read_bytes().split(b'"\\\n')[1].split(b'";')[0]
 SKIP = b"--invalid=skip"
 
 
@@ -30,6 +33,9 @@ def forms():
         yield [word, b"broken"], None, failed(2, b"broken: line 2 is not UTF-8 (see --invalid)"), None
         yield [word, b"missing"], None, failed(1, b"missing: cannot read input: " + told(errno.ENOENT)), None
         yield [word, b"empty"], None, answer([word], b""), None
+        yield [word, b"--files0-from=list"], None, answer([word], TEXT + TEXT), None
+        yield [word, b"--files0-from=-"], FILES["list"], answer([word], TEXT + TEXT), None
+        yield [word, b"--files0-from=bad list"], None, failed(2, b"bad list:2: invalid zero-length file name"), None
     yield [b"count", b"-z", SKIP, b"broken"], None, answer([b"count", b"-z", SKIP], BROKEN), None
     yield [b"count", b"--sorted", b"--encoded"], ENCODED, answer([b"count", b"--sorted"], TEXT), None
     yield [b"count", b"--encoded", b"encoded"], None, answer([b"count"], TEXT), None
@@ -43,15 +49,20 @@ def forms():
     yield plain, TEXT, (0, b"", b""), columns_of(TEXT)
     yield [*plain, SKIP, b"broken"], None, (0, b"", SKIPPED), columns_of(GOOD)
     yield [*plain, b"--onto", b"plain", SKIP], BROKEN, (0, b"", SKIPPED), columns_of(GOOD, [b"red", b"green"])
+    yield [*plain, b"--onto-dictionary", b"plain"], MORE, (0, b"", b""), columns_of(MORE, [b"red", b"green"])
+    yield [*plain, b"--onto-dictionary=text", b"text"], None, failed(1, b"text: cannot read dict.txt: " + told(errno.ENOTDIR)), None
+    yield [*plain, b"--files0-from=list"], None, (0, b"", b""), columns_of(TEXT + TEXT)
     yield [*plain, b"encoded"], None, (0, b"", warned(ENCODED, b"encoded: ")), columns_of(ENCODED)
     yield [*plain, b"broken"], None, failed(2, b"broken: line 2 is not UTF-8 (see --invalid)"), None
     shard = [b"shard", b"3", b"new"]
     yield shard, TEXT, (0, b"", b""), shards_of(TEXT, 3)
     yield [*shard, SKIP], BROKEN, (0, b"", SKIPPED), shards_of(GOOD, 3)
     yield [*shard, SKIP, b"broken"], None, (0, b"", SKIPPED), shards_of(GOOD, 3)
+    yield [*shard, b"--files0-from=-"], FILES["list"], (0, b"", b""), shards_of(TEXT + TEXT, 3)
     yield [*shard, b"encoded", b"text"], None, (0, b"", warned(ENCODED, b"encoded: ")), shards_of(ENCODED + TEXT, 3)
     yield [*shard, b"broken"], None, failed(2, b"broken: line 2 is not UTF-8 (see --invalid)"), None
     yield [b"--version"], None, (0, b"dictcol 0.1.0\n", b""), None
+    yield [b"--help"], None, (0, HELP, b""), None
     yield [b"count", b"--sort"], None, misused(b"unknown option '--sort'"), None
 
 

@@ -320,6 +320,7 @@ def try_memory_told(program):
                 yield f"{words}, request {number} of {asked[-1]} bytes refused", ended, failed(1, wanted + b": out of memory")
 
 
+NOT_LEFT = b"cannot write files: DIR%b is not what a killed run leaves: move it away"
 NOT_A_PAIR = b"it: dict.txt and codes.npy are not of one run (see pair.txt)"
 # A text, and files that come into the place of its own, with what is decoded then, or nothing where they are no pair.
 OF_TWO_RUNS = (
@@ -421,15 +422,68 @@ def try_links(program):
             found = {path: content for path, content in files_in(f"{folder}/it").items() if not path.endswith(".new")}
             yield f"{name} is a link, files", found, columns_of(b"a")
             shutil.rmtree(f"{folder}/it")
-        for target, message in (("files", b"resource busy"), ("precious", b"resource busy"), ("nowhere", told(errno.EEXIST))):
+        for target in "files", "precious", "nowhere", UNFINISHED:
             Path(folder, "it").mkdir()
             Path(folder, "it", UNFINISHED).symlink_to(f"../{target}")
             ended = program.run(b"encode --plain it".split(), b"a", folder=folder)
-            yield f"a link to {target}", ended, failed(1, b"it: cannot write files: " + message)
+            yield f"a link to {target}", ended, failed(1, b"it: " + NOT_LEFT % (b"/" + UNFINISHED.encode()))
             Path(folder, "it", UNFINISHED).unlink()
             Path(folder, "it").rmdir()
         yield "what links led to", files_in(f"{folder}/files") | {"": Path(folder, "precious").read_bytes()}, {
             "precious": b"kept\n", "": b"kept\n"}
+
+
+def make_unlike(place):
+    """What no killed run leaves, each in turn in this place, with a name."""
+    os.mkfifo(place)
+    yield "a pipe"
+    place.unlink()
+    place.write_bytes(b"kept\n")
+    yield "a file"
+    place.unlink()
+    for name in "precious", b"\xff", "dict.txt.new", "dict.txt\n", "1.5", "00", "-1":
+        for others in [], ["dict.txt", "codes.npy"], ["order", "0", "1"]:
+            place.mkdir()
+            for other in [*others, name]:
+                Path(place, os.fsdecode(other)).write_bytes(b"kept\n")
+            yield f"a folder with {[*others, name]}"
+            shutil.rmtree(place)
+    for name in "dict.txt", "order", "0":
+        Path(place, name).mkdir(parents=True)
+        yield f"a folder with a folder {name}"
+        Path(place, name).rmdir()
+        Path(place, name).symlink_to("precious")
+        yield f"a folder with a link {name}"
+        shutil.rmtree(place)
+
+
+def all_in(folder):
+    """The paths of all that a folder has, with what they are and have."""
+    return {path: path.read_bytes() if path.is_file() else path.lstat().st_mode for path in Path(folder).rglob("*")}
+
+
+def try_unlike(program):
+    """What has the name of an unfinished folder and no killed run left stays as it is."""
+    with tempfile.TemporaryDirectory() as folder:
+        Path(folder, "it").mkdir()
+        for name in make_unlike(Path(folder, "it", UNFINISHED)):
+            before = all_in(folder)
+            ended = program.run(b"encode --plain it".split(), b"a", folder=folder)
+            yield name, ended, failed(1, b"it: " + NOT_LEFT % (b"/" + UNFINISHED.encode()))
+            yield f"{name}, what is there", all_in(folder), before
+
+
+def try_folders_stored(program):
+    """Each step is stored before the next, so that also a power cut leaves the files from before, or no numbers, or the new ones."""
+    with tempfile.TemporaryDirectory() as folder:
+        Path(folder, "it").mkdir()
+        for data in b"red\ngreen\n", b"red\ngreen":
+            cut = b"removed\n" if data.endswith(b"\n") else b"renamed\n"
+            wanted = b"removed\nstored\nrenamed\n" + cut + b"renamed\nstored\nrenamed\nstored\n"
+            for name, made in (b"it", 0), (f"it/in/{cut.decode()[:-1]}".encode(), 2):
+                ended = program.run([b"encode", b"--plain", name], data, folder=folder, TELL_FOLDERS=1)
+                is_new = made and b"removed" in cut
+                yield f"{data} in {name}", ended, (0, b"", wanted + b"stored\n" * (made if is_new else made // 2))
 
 
 def try_stored(program):
@@ -662,6 +716,8 @@ def trials():
         (try_exchange,),
         (try_stored,),
         (try_links,),
+        (try_unlike,),
+        (try_folders_stored,),
         *((trial, old) for trial in (try_killed_writers, try_writers) for old in (None, SECOND, THIRD)),
         (try_extenders,),
         *((try_writer_that_reads, *given) for given in ((WRITE, ()), (EXTEND, (b"red", b"green")))),

@@ -12,8 +12,8 @@ from collections import Counter
 from pathlib import Path
 
 from edits import TOP
-from program.columns import OK, UNFINISHED, columns_of, each_stop, files_in, is_begun, npy
-from program.reckon import failed, skip_invalid, told, warned
+from program.columns import NOT_LEFT, OK, UNFINISHED, all_in, columns_of, each_stop, files_in, is_begun, make_unlike, npy
+from program.reckon import failed, misused, skip_invalid, told, warned
 
 MULTIPLIER, START = 0x9E3779B97F4A7C15, 0x243F6A8885A308D3
 
@@ -199,15 +199,39 @@ def try_beside(program):
 
 def try_links(program):
     """What has the name of an unfinished folder and is none stays as it is."""
-    for target, message in (("files", b"resource busy"), ("files/precious", b"resource busy"), ("nowhere", told(errno.EEXIST))):
+    for target in "files", "files/precious", "nowhere", f"it.{UNFINISHED}":
         with tempfile.TemporaryDirectory() as folder:
             Path(folder, "files").mkdir()
             Path(folder, "files/precious").write_bytes(b"kept\n")
             Path(folder, f"it.{UNFINISHED}").symlink_to(target)
             ended = program.run(SHARD, COLORS, folder=folder)
-            yield f"a link to {target}", ended, failed(1, b"it: cannot write files: " + message)
+            yield f"a link to {target}", ended, failed(1, b"it: " + NOT_LEFT % (b"." + UNFINISHED.encode()))
             yield f"a link to {target}, files", files_in(f"{folder}/files"), {"precious": b"kept\n"}
             yield f"a link to {target}, folders", sorted(os.listdir(folder)), ["files", f"it.{UNFINISHED}"]
+
+
+def try_unlike(program):
+    """What has the name of an unfinished folder and no killed run left stays as it is."""
+    with tempfile.TemporaryDirectory() as folder:
+        for name in make_unlike(Path(folder, f"it.{UNFINISHED}")):
+            before = all_in(folder)
+            ended = program.run(SHARD, COLORS, folder=folder)
+            yield name, ended, failed(1, b"it: " + NOT_LEFT % (b"." + UNFINISHED.encode()))
+            yield f"{name}, what is there", all_in(folder), before
+
+
+def try_folders_stored(program):
+    """The folder is stored before it gets its name, and the name before the run ends."""
+    with tempfile.TemporaryDirectory() as folder:
+        for name in b"it", b"it/in/", f"{folder}/other".encode():
+            ended = program.run([b"shard", b"2", name], COLORS, folder=folder, TELL_FOLDERS=1)
+            yield f"{name}", ended, (0, b"", b"stored\nrenamed\nstored\n")
+
+
+def try_no_name(program):
+    """The folder has a name."""
+    for words in [b"shard", b"2", b""], [b"shard", b"2", b"", b"lines"], [b"shard", b"2", b"--", b""]:
+        yield f"{words}", program.run(words), misused(b"the DIR of shard is empty")
 
 
 def try_names(program):
@@ -264,6 +288,9 @@ def trials():
         (try_killed,),
         (try_beside,),
         (try_links,),
+        (try_unlike,),
+        (try_folders_stored,),
+        (try_no_name,),
         (try_names,),
         (try_refused,),
         (try_in_little_memory,),

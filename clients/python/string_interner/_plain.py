@@ -120,6 +120,14 @@ def lock(folder: str) -> int:
     return descriptor
 
 
+def check_left(folder: str) -> None:
+    """Refuses a folder that has anything but files of a run."""
+    with os.scandir(folder) as entries:
+        for entry in entries:
+            if entry.name not in (DICTIONARY, CODES, PAIR, CUT) or not entry.is_file(follow_symlinks=False):
+                raise FileExistsError(errno.EEXIST, "not what a killed run leaves: move it away", folder)
+
+
 def remove(folder: str, descriptor: int) -> None:
     """Removes a folder that this run has locked."""
     try:
@@ -137,6 +145,11 @@ def unfinished(folder: str) -> Iterator[str]:
     except FileNotFoundError:
         pass
     else:
+        try:
+            check_left(path)
+        except BaseException:
+            os.close(left)
+            raise
         remove(path, left)
     try:
         os.mkdir(path)
@@ -158,6 +171,19 @@ def write_file(folder: str, name: str, *parts: ReadableBuffer) -> None:
         os.fsync(file.fileno())
 
 
+def store(folder: str) -> None:
+    """Waits until the names in a folder are stored."""
+    descriptor = os.open(folder, os.O_RDONLY | os.O_DIRECTORY | os.O_CLOEXEC)
+    try:
+        os.fsync(descriptor)
+    except OSError as error:
+        # The file system stores them in its own time.
+        if error.errno != errno.EINVAL:
+            raise
+    finally:
+        os.close(descriptor)
+
+
 def write(column: Column, folder: str) -> None:
     # As it is now, whatever others add.
     column = column[:]
@@ -177,5 +203,7 @@ def write(column: Column, folder: str) -> None:
                 os.remove(os.path.join(folder, name))
             except FileNotFoundError:
                 pass
+            store(folder)
         for name in (PAIR, DICTIONARY, CODES):
             os.rename(os.path.join(new, name), os.path.join(folder, name))
+            store(folder)

@@ -158,6 +158,45 @@ class Plain(unittest.TestCase):
         self.assertEqual((list(Column.from_plain(self.folder)), (self.folder / "notes").read_text()), (["new"], "stays"))
         self.assertFalse({"dictcol-unfinished", "no_final_newline"} & {*self.files()})
 
+    def test_what_no_run_left_stays(self):
+        Column(["old"]).to_plain(self.folder)
+        left = self.folder / "dictcol-unfinished"
+        before, descriptors = self.files(), os.listdir("/proc/self/fd")
+        for name in ("notes", "dict.txt.new", "0", os.fsdecode(b"\xff")):
+            left.mkdir()
+            (left / "dict.txt").write_text("stays")
+            (left / name).write_text("stays")
+            with self.assertRaisesRegex(FileExistsError, "not what a killed run leaves"):
+                Column(["new"]).to_plain(self.folder)
+            self.assertEqual({path.read_text() for path in left.iterdir()}, {"stays"})
+            shutil.rmtree(left)
+        for make in (lambda path: path.mkdir(), lambda path: path.symlink_to("nowhere")):
+            left.mkdir()
+            make(left / "dict.txt")
+            with self.assertRaisesRegex(FileExistsError, "not what a killed run leaves"):
+                Column(["new"]).to_plain(self.folder)
+            self.assertEqual([path.name for path in left.iterdir()], ["dict.txt"])
+            shutil.rmtree(left)
+        os.mkfifo(left)
+        with self.assertRaises(NotADirectoryError):
+            Column(["new"]).to_plain(self.folder)
+        left.unlink()
+        self.assertEqual((self.files(), os.listdir("/proc/self/fd")), (before, descriptors))
+
+    def test_folders_are_stored_in_turn(self):
+        Column(["old"]).to_plain(self.folder)
+        done = []
+        for name in ("remove", "rename", "fsync"):
+            def note(*given, call=getattr(os, name), name=name):
+                is_folder = name != "fsync" or os.path.isdir(f"/proc/self/fd/{given[0]}")
+                done.extend([name] if is_folder else [])
+                return call(*given)
+            patch = mock.patch(f"os.{name}", note)
+            patch.start()
+            self.addCleanup(patch.stop)
+        Column(["new"]).to_plain(self.folder)
+        self.assertEqual(done, ["remove", "fsync"] * 2 + ["rename", "fsync"] * 3)
+
     def test_one_run_writes_at_a_time(self):
         Column(["old"]).to_plain(self.folder)
         (self.folder / "dictcol-unfinished").mkdir()

@@ -10,7 +10,7 @@ use Rattle.string_interner.specs.declared.backend.InternError.{InternError}
 use Rattle.string_interner.specs.declared.backend.InternError.TheVariants.{NoSymbol, Memory as InternMemory}
 use Rattle.dictcol.specs.Lines.{is_newline}
 use Rattle.dictcol.specs.declared.fault.Fault.{Fault}
-use Rattle.dictcol.specs.declared.fault.Fault.TheVariants.{Argument, Input, NotUtf8, DictionaryNotUtf8, DictionaryFile, NumbersFile, PairFile, CutFile, Folder, NoKeys, TooMany, Memory, Output, ClosedOutput}
+use Rattle.dictcol.specs.declared.fault.Fault.TheVariants.{Argument, Input, NotUtf8, DictionaryNotUtf8, DictionaryFile, NumbersFile, PairFile, CutFile, Folder, NotLeft, NoKeys, TooMany, Memory, Output, ClosedOutput}
 
 -- 2 if the arguments or the input are wrong, 1 if the system failed or there is too much, 141 if the output is closed
 abbrev pub status_of : Fault → ℕ
@@ -20,6 +20,7 @@ status_of (NumbersFile _) = 1
 status_of (PairFile _) = 1
 status_of (CutFile _) = 1
 status_of (Folder _) = 1
+status_of (NotLeft _) = 1
 status_of (NoKeys _) = 1
 status_of TooMany = 1
 status_of Memory = 1
@@ -102,6 +103,7 @@ IsDamage (NumbersFile _) = ⊥
 IsDamage (PairFile _) = ⊥
 IsDamage (CutFile _) = ⊥
 IsDamage (Folder _) = ⊥
+IsDamage (NotLeft _) = ⊥
 IsDamage (NoKeys _) = ⊥
 IsDamage TooMany = ⊥
 IsDamage Memory = ⊥

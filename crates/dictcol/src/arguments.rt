@@ -9,6 +9,12 @@ use std::alloc::Global;
 use std::num::NonZeroUsize;
 use thiserror::Error;
 
+/// What may be done about the name of a file that is not UTF-8.
+pub const NAME_ADVICE: &str = " (a file with such a name can be standard input)";
+
+/// What is said of a second `-`.
+pub const INPUT_TWICE: &str = "standard input is named twice";
+
 /// Which backend the texts are stored in.
 #[derive(Clone, Copy)]
 pub enum Choice {
@@ -157,7 +163,9 @@ pub enum Misuse<'a> {
     NoParts,
     #[error("shard takes a number of files, and not {0}")]
     NoCount(ShownWord<'a>),
-    #[error("standard input is named twice")]
+    #[error("the DIR of shard is empty")]
+    EmptyFolder,
+    #[error("{INPUT_TWICE}")]
     InputTwice,
     /// An allocation failed, which is no fault of the arguments.
     #[error("out of memory")]
@@ -315,6 +323,7 @@ impl<'a> Given<'a> {
     /// Takes how many shards are written, or where.
     fn take_parts(&mut self, word: &'a str) -> Result<(), Misuse<'a>> {
         match self.count {
+            Some(_) if word.is_empty() => return Err(Misuse::EmptyFolder),
             Some(count) => {
                 let folder = word;
                 self.parts = Some(Parts { count, folder });

@@ -102,6 +102,9 @@ pub enum Fault {
     /// A folder or its files cannot be written.
     #[error("cannot write files: {0}")]
     Folder(io::Error),
+    /// What has the name of an unfinished folder is not what a killed run left. This stands in the name behind that of the folder.
+    #[error("cannot write files: DIR{0}dictcol-unfinished is not what a killed run leaves: move it away")]
+    NotLeft(char),
     /// The system gave no random keys.
     #[error("cannot draw random keys: {0}")]
     NoKeys(io::Error),
@@ -209,6 +212,7 @@ impl Fault {
             | Fault::PairFile(_)
             | Fault::CutFile(_)
             | Fault::Folder(_)
+            | Fault::NotLeft(_)
             | Fault::NoKeys(_)
             | Fault::TooMany
             | Fault::Memory

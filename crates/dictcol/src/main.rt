@@ -27,7 +27,7 @@ mod streams;
 mod unfinished;
 mod zero;
 
-use arguments::{Action, Choice, Files, Form, Misuse, Reading, Request, Source, Task};
+use arguments::{Action, Choice, Files, Form, Misuse, NAME_ADVICE, Reading, Request, Source, Task};
 use fault::Fault;
 use hasher::LineHasher;
 use help::{HELP, USAGE};
@@ -49,9 +49,6 @@ const MISUSED: u8 = 2;
 
 /// What `--version` prints.
 const VERSION: &str = "dictcol 0.1.0\n";
-
-/// What may be done about the name of a file that is not UTF-8.
-const NAME_ADVICE: &str = " (a file with such a name can be standard input)";
 
 /// What is said of lines that look like what `encode` writes.
 const LOOKS_ENCODED: &str = "lines were read from what encode wrote (see decode, count --encoded)";

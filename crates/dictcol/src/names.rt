@@ -6,7 +6,7 @@ ghost use Rattle.string_interner.specs.Text.{Text};
 ghost use Rattle.std.specs.List.{AllZip, slice_split};
 ghost use Rattle.dictcol.specs.Names.{dash, is_dash, is_zero, names_of, AreGood, IsListFault, IsNamesFault, IsWrong, Names};
 
-use crate::arguments::Source;
+use crate::arguments::{INPUT_TWICE, NAME_ADVICE, Source};
 use crate::blocks::count_byte;
 use std::alloc::{AllocError, Global};
 use thiserror::Error;
@@ -18,13 +18,13 @@ pub enum NameFault {
     #[error("{0}: invalid zero-length file name")]
     Empty(usize),
     /// The name with this number (1-based) is the first that is not UTF-8.
-    #[error("{0}: the file name is not UTF-8 (a file with such a name can be standard input)")]
+    #[error("{0}: the file name is not UTF-8{NAME_ADVICE}")]
     NotUtf8(usize),
     /// The name with this number (1-based) is standard input, which the list comes from.
     #[error("{0}: no file name may be '-' if the names come from standard input")]
     ListIsInput(usize),
     /// The name with this number (1-based) is standard input, as one before it.
-    #[error("{0}: standard input is named twice")]
+    #[error("{0}: {INPUT_TWICE}")]
     InputTwice(usize),
     /// An allocation failed, which is no fault of the list.
     #[error("out of memory")]
@@ -88,7 +88,8 @@ fn name_files<'a>(
     Ok(files)
 }
 
-/// Returns the files that a list names, or the first name that names none.
+/// Returns the files that a list names. What is wrong with the list is told of the first name that is not UTF-8, and if there is
+/// none, of the first name that is not good otherwise.
 pub fn find_files<'a>(
     alloc: Global,
     list: &'a [u8],

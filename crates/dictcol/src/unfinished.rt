@@ -24,6 +24,25 @@ pub fn store(file: &File) -> Result<(), Fault> {
     file.sync_all().map_err(Fault::Folder)
 }
 
+/// Waits until the names in a folder are stored.
+pub fn store_folder(folder: &File) -> io::Result<()> {
+    match folder.sync_all() {
+        // The file system stores them in its own time.
+        Err(error) if error.kind() == ErrorKind::InvalidInput => Ok(()),
+        outcome => outcome,
+    }
+}
+
+/// Waits until a name is stored in the folder that it is in.
+pub fn store_parent(rt: &HostRuntime, path: &str) -> io::Result<()> {
+    let parent = match path.trim_end_matches('/').rsplit_once('/') {
+        Some(("", _)) => "/",
+        Some((parent, _)) => parent,
+        None => ".",
+    };
+    store_folder(&File::open(rt, parent)?)
+}
+
 /// Returns the error of a file that another run is writing.
 pub fn busy() -> io::Error {
     io::Error::from(ErrorKind::ResourceBusy)
@@ -43,23 +62,67 @@ fn lock(rt: &HostRuntime, folder: &File, path: &str) -> io::Result<()> {
     }
 }
 
-/// Removes the folder that a killed run left, if there is one.
-fn remove_left(rt: &HostRuntime, path: &str) -> io::Result<()> {
+/// Returns whether a folder has nothing but files with names that a run gives.
+fn has_names<N: Fn(&str) -> bool>(rt: &HostRuntime, path: &str, is_name: &N) -> io::Result<bool>
+    requires { N.IsAlwaysCallable is_name.now }
+{
+    for entry in fs::read_dir(rt, path)? {
+        let entry = match entry {
+            // It is not UTF-8.
+            Err(error) if error.kind() == ErrorKind::InvalidFilename => return Ok(false),
+            outcome => outcome?,
+        };
+        if !entry.file_type()?.is_file() || !is_name(entry.file_name()) {
+            return Ok(false);
+        }
+    }
+    Ok(true)
+}
+
+/// Removes what a killed run left, and returns whether nothing else is there. A link is not followed.
+fn remove_left<N: Fn(&str) -> bool>(rt: &HostRuntime, path: &str, is_name: &N) -> io::Result<bool>
+    requires { N.IsAlwaysCallable is_name.now }
+{
+    match fs::symlink_metadata(rt, path) {
+        Err(error) if error.kind() == ErrorKind::NotFound => return Ok(true),
+        outcome => {
+            if !outcome?.is_dir() {
+                return Ok(false);
+            }
+        }
+    }
     let folder = match File::open(rt, path) {
-        Err(error) if error.kind() == ErrorKind::NotFound => return Ok(()),
+        Err(error) if error.kind() == ErrorKind::NotFound => return Ok(true),
         outcome => outcome?,
     };
     lock(rt, &folder, path)?;
-    fs::remove_dir_all(rt, path)
+    if !has_names(rt, path, is_name)? {
+        return Ok(false);
+    }
+    fs::remove_dir_all(rt, path)?;
+    Ok(true)
 }
 
 impl Unfinished {
-    /// Makes the folder, in the place of one that a killed run left. Fails while another run writes it.
-    pub fn make(rt: &HostRuntime, path: String) -> io::Result<Unfinished> {
-        remove_left(rt, path.as_str())?;
-        fs::create_dir(rt, path.as_str())?;
-        let folder = File::open(rt, path.as_str())?;
-        lock(rt, &folder, path.as_str())?;
+    /// Makes the folder, in the place of one that a killed run left: that has nothing but files with names that a run gives. The
+    /// name is that of another folder, and behind it the separator and `dictcol-unfinished`. Fails while another run writes it.
+    pub fn make<N: Fn(&str) -> bool>(
+        rt: &HostRuntime,
+        folder: &str,
+        separator: char,
+        is_name: &N,
+    ) -> Result<Unfinished, Fault>
+        requires { N.IsAlwaysCallable is_name.now }
+    {
+        let path = format!(in rt.alloc(); "{folder}{separator}dictcol-unfinished").map_err(
+            |_| Fault::Memory,
+        )?;
+        if !remove_left(rt, path.as_str(), is_name).map_err(Fault::Folder)? {
+            return Err(Fault::NotLeft(separator));
+        }
+        fs::create_dir(rt, path.as_str()).map_err(Fault::Folder)?;
+        let folder = File::open(rt, path.as_str()).map_err(Fault::Folder)?;
+        lock(rt, &folder, path.as_str()).map_err(Fault::Folder)?;
         Ok(Unfinished { path, folder })
     }
 
@@ -68,9 +131,11 @@ impl Unfinished {
         self.path.as_str()
     }
 
-    /// Gives the folder another name, which may be that of an empty one.
+    /// Gives the folder another name, which may be that of an empty one. Both are stored then, and the files in it, if they were.
     pub fn rename(&self, rt: &HostRuntime, path: &str) -> io::Result<()> {
-        fs::rename(rt, self.path.as_str(), path)
+        store_folder(&self.folder)?;
+        fs::rename(rt, self.path.as_str(), path)?;
+        store_parent(rt, path)
     }
 
     /// Removes it with what it holds.

@@ -8,7 +8,7 @@ use crate::arguments::Onto;
 use crate::blocks::count_byte;
 use crate::fault::Fault;
 use crate::hasher::LineHasher;
-use crate::unfinished::{Unfinished, busy, is_same, store};
+use crate::unfinished::{Unfinished, busy, is_same, store, store_folder, store_parent};
 use std::alloc::Global;
 use std::fs::File;
 use std::io::{ErrorKind, Read, Write};
@@ -26,9 +26,6 @@ const PAIR: &str = "pair.txt";
 
 /// This file is there if the last line has no newline.
 const CUT: &str = "no_final_newline";
-
-/// The folder of files that are not all written.
-const UNFINISHED: &str = "dictcol-unfinished";
 
 /// The paths of the files of a folder.
 #[derive(Drop)]
@@ -230,9 +227,18 @@ fn remove(rt: &HostRuntime, path: &str) -> io::Result<()> {
     }
 }
 
-/// Gives new files their places. There is no `codes.npy` while the other files are not those of the new one.
-fn exchange(rt: &HostRuntime, new: &Paths, old: &Paths, is_cut: bool) -> io::Result<()> {
+/// Gives new files their places. There is no `codes.npy` while the other files are not those of the new one, also after a power
+/// cut: each step is stored before the next.
+fn exchange(
+    rt: &HostRuntime,
+    folder: &str,
+    new: &Paths,
+    old: &Paths,
+    is_cut: bool,
+) -> io::Result<()> {
+    let folder = File::open(rt, folder)?;
     remove(rt, old.numbers.as_str())?;
+    store_folder(&folder)?;
     fs::rename(rt, new.pair.as_str(), old.pair.as_str())?;
     if is_cut {
         fs::rename(rt, new.cut.as_str(), old.cut.as_str())?;
@@ -240,7 +246,14 @@ fn exchange(rt: &HostRuntime, new: &Paths, old: &Paths, is_cut: bool) -> io::Res
         remove(rt, old.cut.as_str())?;
     }
     fs::rename(rt, new.dictionary.as_str(), old.dictionary.as_str())?;
-    fs::rename(rt, new.numbers.as_str(), old.numbers.as_str())
+    store_folder(&folder)?;
+    fs::rename(rt, new.numbers.as_str(), old.numbers.as_str())?;
+    store_folder(&folder)
+}
+
+/// Returns whether a file of this name is written.
+fn is_name(name: &str) -> bool {
+    name == DICTIONARY || name == NUMBERS || name == PAIR || name == CUT
 }
 
 /// Returns the paths of a folder and of those that it lies in, as far as they are not there.
@@ -271,10 +284,9 @@ pub struct Place<'a> {
 impl<'a> Place<'a> {
     /// Takes a folder, which is made if it is not there. Fails while another run has it.
     pub fn take(rt: &HostRuntime, folder: &'a str) -> Result<Place<'a>, Fault> {
-        let path = join(rt.alloc(), folder, UNFINISHED)?;
         let made = list_missing(rt, folder)?;
         fs::create_dir_all(rt, folder).map_err(Fault::Folder)?;
-        let unfinished = Unfinished::make(rt, path).map_err(Fault::Folder)?;
+        let unfinished = Unfinished::make(rt, folder, '/', &is_name)?;
         Ok(Place {
             folder,
             made,
@@ -292,7 +304,11 @@ impl<'a> Place<'a> {
         let old = Paths::new(rt.alloc(), self.folder)?;
         let new = Paths::new(rt.alloc(), self.unfinished.path())?;
         write_new(rt, &new, plain)?;
-        exchange(rt, &new, &old, plain.is_cut()).map_err(Fault::Folder)
+        exchange(rt, self.folder, &new, &old, plain.is_cut()).map_err(Fault::Folder)?;
+        for folder in &self.made {
+            store_parent(rt, *folder).map_err(Fault::Folder)?;
+        }
+        Ok(())
     }
 
     /// Leaves the folder to other runs. What was made for it stays if it was written, or if files are in it.

@@ -16,8 +16,8 @@ use std::io::ErrorKind;
 use std::{fs, io};
 use string_interner::dedup::FoldState;
 
-/// What stands behind the name of a folder while its files are written.
-const UNFINISHED: &str = ".dictcol-unfinished";
+/// The file that has the number of each line's shard.
+const ORDER: &str = "order";
 
 /// Linux's number for a file that is there already.
 const EXISTS: i32 = 17;
@@ -68,7 +68,7 @@ fn write_files(
     inputs: &mut Inputs<'_>,
 ) -> Result<usize, Fault> {
     let (alloc, folder) = (rt.alloc(), parts.folder);
-    let path = format!(in alloc; "{folder}/order").map_err(|_| Fault::Memory)?;
+    let path = format!(in alloc; "{folder}/{ORDER}").map_err(|_| Fault::Memory)?;
     let order = create(rt, path.as_str(), false)?;
     let outputs = create_files(rt, parts, reading.is_zero_ended)?;
     let mut shards = Shards::new(FoldState::default(), outputs, order);
@@ -87,6 +87,12 @@ fn write_files(
     Ok(skipped)
 }
 
+/// Returns whether a file of this name is written: that of a shard has its number.
+fn is_name(name: &str) -> bool {
+    let is_number = name.bytes().all(|byte| byte.is_ascii_digit());
+    name == ORDER || name == "0" || is_number && !name.starts_with('0')
+}
+
 /// Makes the folder that becomes this one, which may not be there.
 fn begin(rt: &HostRuntime, folder: &str) -> Result<Unfinished, Fault> {
     match fs::symlink_metadata(rt, folder) {
@@ -94,9 +100,7 @@ fn begin(rt: &HostRuntime, folder: &str) -> Result<Unfinished, Fault> {
         Err(error) if error.kind() == ErrorKind::NotFound => {}
         Err(error) => return Err(Fault::Folder(error)),
     }
-    let name = folder.trim_end_matches('/');
-    let path = format!(in rt.alloc(); "{name}{UNFINISHED}").map_err(|_| Fault::Memory)?;
-    Unfinished::make(rt, path).map_err(Fault::Folder)
+    Unfinished::make(rt, folder.trim_end_matches('/'), '.', &is_name)
 }
 
 /// Does what `write_files` does, in a folder that gets its name once all its files are stored.
