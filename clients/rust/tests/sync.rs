@@ -3,14 +3,12 @@
 
 use std::collections::{HashMap, HashSet};
 use std::env;
-use std::hint::black_box;
 use std::panic::{catch_unwind, RefUnwindSafe, UnwindSafe};
 use std::sync::{Arc, Barrier, LazyLock};
 use std::thread;
-use std::time::Instant;
 
 use string_interner::sync::Interner;
-use string_interner::{DefaultStringInterner, DefaultSymbol, Symbol};
+use string_interner::{DefaultSymbol, Symbol};
 
 const THREADS: u64 = 8;
 
@@ -247,54 +245,4 @@ fn a_text_calls_back() {
     assert_eq!(interner.len(), 1);
     interner.get_or_intern(CallsBack(&interner, true));
     assert_eq!(interner.len(), 2);
-}
-
-/// Prints the nanoseconds of a call that finds a known text: of a plain interner, and of a shared one with more and more threads.
-#[test]
-#[ignore = "prints times; run it alone, with --nocapture and --release"]
-fn times() {
-    const ROUNDS: usize = 20;
-    let texts: Vec<String> = (0..10_000)
-        .map(|number| format!("identifier{number}"))
-        .collect();
-    let mut plain: DefaultStringInterner = texts.iter().collect();
-    let shared: Interner = texts.iter().collect();
-    let mut least = [f64::MAX; 4];
-    let mut keep = |place: usize, begun: Instant| {
-        let took = begun.elapsed().as_nanos() as f64 / (ROUNDS * texts.len()) as f64;
-        least[place] = least[place].min(took);
-    };
-    for _ in 0..30 {
-        let begun = Instant::now();
-        for text in (0..ROUNDS).flat_map(|_| &texts) {
-            black_box(plain.get_or_intern(text));
-        }
-        keep(0, begun);
-        for (place, threads) in [(1, 1), (2, 2), (3, 4)] {
-            let start = Barrier::new(threads + 1);
-            let begun = thread::scope(|scope| {
-                for thread in 0..threads {
-                    let (texts, shared, start) = (&texts, &shared, &start);
-                    scope.spawn(move || {
-                        start.wait();
-                        let (front, back) = texts.split_at(thread * texts.len() / threads);
-                        for text in (0..ROUNDS).flat_map(|_| back.iter().chain(front)) {
-                            black_box(shared.get_or_intern(text));
-                        }
-                    });
-                }
-                start.wait();
-                Instant::now()
-            });
-            keep(place, begun);
-        }
-    }
-    let [plain, one, two, four] = least;
-    println!("nanoseconds: plain {plain:.1}, one thread {one:.1}, two {two:.1}, four {four:.1}");
-    println!("one thread takes {:.2} of the plain time", one / plain);
-    println!(
-        "two threads do {:.2} times the work of one, four {:.2}",
-        2.0 * one / two,
-        4.0 * one / four
-    );
 }

@@ -41,21 +41,23 @@ fn put(table: Table, content: u64) {
 /// Looks for a text with this code in a table.
 #[inline(always)]
 pub(super) fn look(table: Table, code: u32, texts: &Texts, text: &str) -> Look {
-    let content = table.slot(code as usize).load(ACQUIRE);
-    if let Some(number) = number_in(content, code, texts, text) {
-        return Look::Found(number);
-    }
-    match content {
-        0 => Look::Absent,
-        _ => look_on(table, code, texts, text),
+    let home = code as usize;
+    // Most texts are in the first two slots. Both are read, so that nothing branches by which of them it is.
+    let first = table.slot(home).load(ACQUIRE);
+    let second = table.slot(home + 1).load(ACQUIRE);
+    let is_first = (first >> 32) as u32 == code;
+    let content = if is_first { first } else { second };
+    match number_in(content, code, texts, text) {
+        Some(number) => Look::Found(number),
+        None => look_on(table, code, texts, text),
     }
 }
 
-/// Goes on with a look behind its home.
+/// Looks from the home of a code on.
 #[inline(never)]
 fn look_on(table: Table, code: u32, texts: &Texts, text: &str) -> Look {
     let home = code as usize;
-    for place in home + 1..home + WINDOW {
+    for place in home..home + WINDOW {
         let content = table.slot(place).load(ACQUIRE);
         if content == 0 {
             return Look::Absent;
