@@ -1,5 +1,8 @@
 //! Prints the processor time of calls on a shared interner beside those on a plain one, by medians. Processor time tells how much
 //! work calls are, also on a busy machine; the time of a clock beside it tells how long threads wait.
+//!
+//! New texts take memory that the system has to hand out. On some machines that takes longer than all else, and more so for a shared
+//! interner, which takes three times as much.
 
 use std::hint::black_box;
 use std::sync::Barrier;
@@ -134,7 +137,7 @@ fn measure(count: usize) {
 #[ignore = "prints times; run it alone, with --nocapture and --release"]
 fn times() {
     println!("{:40} {:>8} {:>8}", "nanoseconds a call", "used", "took");
-    for count in [10_000, 1_000_000] {
+    for count in [10_000, 100_000] {
         measure(count);
     }
 }
