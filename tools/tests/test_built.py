@@ -30,6 +30,13 @@ class ScriptTest(unittest.TestCase):
         with holding(b"file") as file:
             self.assertEqual(program.run([b"a"], file).output, b"file")
 
+    def test_the_library_that_refuses_needs_no_toolchain(self):
+        without_rt = unittest.mock.patch("built.is_there", lambda need: need != "rt" and shutil.which(need))
+        without_folder = unittest.mock.patch("built.toolchain_folder", side_effect=FileNotFoundError)
+        with without_rt, without_folder, tempfile.TemporaryDirectory() as folder:
+            ended, asks = Program("/bin/true", folder).run_with_asks([], b"")
+        self.assertEqual((ended, asks), ((0, b"", b""), []))
+
     def test_settings_are_all_of_the_environment(self):
         program = self.program('echo "$REFUSE $HOME"')
         self.assertEqual(program.run([], REFUSE=2).output, b"2 \n")
