@@ -238,6 +238,8 @@ class EraseTest(TestCase):
         erased = ERASE(source.format("string_entries"), "any/entries.rs", of)
         self.assertIn("Some(crate::unchecked::cut(joined, ends[0]..ends[1]));\n", erased)
         self.assertIn("crate::unchecked::cut(joined, a..b).as_bytes(); ends[..1]\n", erased)
+        narrow = "fn string_entries() { narrow[place + index] as usize; narrow[place - 1] }\n"
+        self.assertIn("{ *crate::unchecked::at(narrow, place + index) as usize; narrow[place - 1] }", ERASE(narrow, "any/entries.rs", of))
         for name, place in (("string_entries", "any.rs"), ("entries", "any/entries.rs")):
             self.assertNotIn("unchecked", ERASE(source.format(name), place, of))
 
@@ -392,6 +394,7 @@ class SourcesTest(TestCase):
             return text
         text = re.sub(r"(&(?:'a )?)mut Handle\b", r"\1Handle", text).replace(".interner()", ".read()").replace("try_to_vec", "to_vec")
         if of.crate == "handles":
+            text = text.replace("*crate::unchecked::at(narrow, place + index)", "narrow[place + index]")
             return re.sub(r"crate::unchecked::cut\(joined, (.*?\.\..*?)\)", r"joined[\1]", text.replace("&joined[", "joined["))
         text = re.sub(r"\b(\w+): \*const ([^,]*), \1_len: usize", r"\1: &[\2]", text)
         text = re.sub(r"\b(\w+): \*mut ([^,]*), \1_len: usize", r"\1: &mut [\2]", text)

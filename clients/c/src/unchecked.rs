@@ -24,3 +24,14 @@ pub fn cut(text: &str, part: Range<usize>) -> &str {
     // SAFETY: the part is one of the text, by the proof.
     unsafe { text.get_unchecked(part) }
 }
+
+/// Returns an element of a list. As above.
+#[inline(always)]
+pub fn at<T>(list: &[T], place: usize) -> &T {
+    debug_assert!(place < list.len());
+    if cfg!(string_interner_checks) {
+        return &list[place];
+    }
+    // SAFETY: there are more elements than the place, by the proof.
+    unsafe { list.get_unchecked(place) }
+}

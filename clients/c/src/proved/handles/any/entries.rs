@@ -113,7 +113,7 @@ fn string_entries<'a>(
         narrow[place - 1] as usize
     };
     for index in 0..many {
-        let end = narrow[place + index] as usize;
+        let end = *crate::unchecked::at(narrow, place + index) as usize;
         // Field by field: a whole entry would be written with the bytes between its fields.
         let entry = &mut room[index];
         entry.symbol = (place + index) as u32;
