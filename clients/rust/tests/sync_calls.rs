@@ -35,11 +35,9 @@ fn counts_up<S: Symbol + std::fmt::Debug, H: BuildHasher + Default>() {
         assert_eq!(alone.resolve(symbol), Some(&*text));
     }
     alone.shrink_to_fit();
-    for names in [
-        &shared,
-        &alone,
-        &plain.iter().map(|(_, text)| text).collect(),
-    ] {
+    let mut again = Interner::<S, H>::with_hasher(H::default());
+    again.extend(plain.iter().map(|(_, text)| text));
+    for names in [&shared, &alone, &again] {
         assert!(names.iter().eq(&plain) && names.len() == plain.len());
         assert!(names
             .iter()

@@ -20,10 +20,12 @@ impl<S: Symbol, H> fmt::Debug for Interner<S, H> {
     }
 }
 
-impl<S: Symbol, H: BuildHasher + Default, T: AsRef<str>> FromIterator<T> for Interner<S, H> {
+/// For the default types alone, so that `Interner::from_iter` needs no annotation. For others there are
+/// [`with_hasher`](Interner::with_hasher) and `extend`.
+impl<T: AsRef<str>> FromIterator<T> for Interner {
     #[track_caller]
     fn from_iter<I: IntoIterator<Item = T>>(iter: I) -> Self {
-        let mut interner = Self::with_hasher(H::default());
+        let mut interner = Self::new();
         interner.extend(iter);
         interner
     }
