@@ -1,12 +1,51 @@
-"""The format of planted bugs."""
+"""The format of planted bugs, and which functions have one."""
 
+import re
 import unittest
 
 from small import edits
 
 import scenarios
 import trial
+from files import read
 from program import dictcol, intern
+from source import block_around, block_name, end_of_generics, find_functions, functions
+
+ITEM = re.compile(r'^pub (?:unsafe )?(?:extern "C" )?(?:struct|enum|trait|fn) (\w+)', re.M)
+USE = re.compile(r"^pub use ([^;]*);", re.M)
+# The functions of which no contract refuses another body of the same type: they lend a field, give back an allocator or a builder,
+# free memory, write a message, or only say what saves time or memory; and examples, of which nothing is promised. Tests see what
+# they do.
+UNPLANTED = set("""
+    StringInterner::backend Scopes::interner Column::dictionary Column::codes TableTextIndex::allocator NumberList::allocator
+    StdHasher::new ReturnedDrop::drop HandleDrop::drop interner_free SymbolU16Symbol::has_narrow_numbers
+    SymbolU32Symbol::has_narrow_numbers StringInterner::is_large KeyedStateDebug::fmt SeededStateDebug::fmt PartsErrorDisplay::fmt
+    count_bytes collect encode""".split())
+
+
+def is_open(path, src):
+    """Whether other crates reach the module of a source by its path."""
+    above = src / "lib.rt" if path.parent == src else path.parent.with_suffix(".rt")
+    return path == src / "lib.rt" or f"\npub mod {path.stem};" in read(above) and is_open(above, src)
+
+
+def is_public(text, function, shown):
+    """Whether a user of a library can call a function, of which these names are shown."""
+    block, owner = block_around(text, function), function.name
+    if block:
+        head = text[end_of_generics(text, block.end("kind")):block.end()].rpartition(" for ")[2]
+        owner = (re.findall(r"[A-Z]\w*", head) or [None])[0]
+    is_of_trait = block and (block["kind"] == "trait" or " for " in block[0])
+    return owner in shown and bool(is_of_trait or re.match(r" *pub (?!\()", function.text))
+
+
+def public_functions(src):
+    """The public functions with a body of a library with these sources, each with its file and path."""
+    texts = {it: read(it) for it in src.rglob("*.rt")}
+    shown = {None, *(name for it in texts if is_open(it, src) for name in ITEM.findall(texts[it]))}
+    shown.update(name for text in texts.values() for used in USE.findall(text) for name in re.findall(r"\w+", used))
+    return [(path, "::".join(filter(None, (block_name(text, it), it.name))), it) for path, text in texts.items()
+            for it in functions(text) if is_public(text, it, shown) and not it.text.endswith((";", "{}"))]
 
 
 class ReadTableTest(unittest.TestCase):
@@ -48,6 +87,19 @@ class PlantedBugsTest(unittest.TestCase):
     def test_names_are_of_one_bug(self):
         names = [it.name for it in [*self.every(), *self.every(True)]]
         self.assertEqual(sorted(set(names)), sorted(names))
+
+    def test_each_public_function_has_one(self):
+        planted = set()
+        for edit in [*self.every(), *self.every(True)]:
+            crate = edits.TOP / "crates" / edit.crate
+            planted |= {(crate / edit.source, it.start) for it in find_functions(read(crate / edit.source), edit.function)}
+            for file, start, *_ in trial.placed(edit) if edit.scenario else ():
+                planted |= {(crate / file, it.start) for it in functions(trial.text_of(crate / file)) if it.start <= start < it.end}
+        libraries = [it for it in edits.crates() if (edits.TOP / "crates" / it / "src/lib.rt").exists()]
+        every = [it for name in libraries for it in public_functions(edits.TOP / "crates" / name / "src")]
+        without = {name for path, name, it in every if (path, it.start) not in planted}
+        self.assertGreater(len(every), 300)
+        self.assertEqual(without, UNPLANTED)
 
     def test_each_scenario_is_there(self):
         parts = {"intern": set(intern.parts()), "dictcol": set(dictcol.parts())}
