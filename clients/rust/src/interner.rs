@@ -109,7 +109,12 @@ impl<B: Backend, H: BuildHasher> StringInterner<B, H> {
 
     #[inline(always)]
     fn find(&self, text: &str) -> Option<B::Symbol> {
-        let code = self.hasher.hash_text(text);
+        self.find_coded(self.hasher.hash_text(text), text)
+    }
+
+    /// Looks for a text with this code.
+    #[inline(always)]
+    fn find_coded(&self, code: u64, text: &str) -> Option<B::Symbol> {
         let Sym(symbol) = TextIndex::find(&self.index, code, &self.backend, text)?;
         Some(symbol)
     }
@@ -166,6 +171,12 @@ impl<B: Backend, H: BuildHasher> StringInterner<B, H> {
     #[inline(always)]
     fn intern(&mut self, given: Given<'_>) -> Result<B::Symbol, InternError> {
         let code = self.hasher.hash_text(given.text());
+        self.intern_with(code, given)
+    }
+
+    /// Interns a text with this code.
+    #[inline(always)]
+    fn intern_with(&mut self, code: u64, given: Given<'_>) -> Result<B::Symbol, InternError> {
         let Sym(symbol) = intern_coded(
             &mut self.backend,
             &self.hasher,
@@ -198,11 +209,12 @@ impl<B: Backend, H: BuildHasher> StringInterner<B, H> {
     ) -> Option<B::Symbol> {
         let text = self.resolve(symbol)?;
         let part = text.get((range.start_bound().cloned(), range.end_bound().cloned()))?;
-        if let Some(known) = self.find(part) {
+        let code = self.hasher.hash_text(part);
+        if let Some(known) = self.find_coded(code, part) {
             return Some(known);
         }
         let copy = expect(Copied::from_str(Global, part));
-        Some(self.get_or_intern(copy.as_str()))
+        Some(expect(self.intern_with(code, Given::Copied(copy.as_str()))))
     }
 
     /// Interns many texts, and returns the symbol of each.

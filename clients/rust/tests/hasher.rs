@@ -1,6 +1,7 @@
 //! Hashers: `DefaultHashBuilder` as the hasher of something else, what an interner answers under each, and how long texts take
 //! that are chosen to have one hash code.
 
+use std::cell::Cell;
 use std::collections::{HashMap, HashSet, VecDeque};
 use std::hash::{BuildHasher, BuildHasherDefault, DefaultHasher, Hasher, RandomState};
 use std::time::{Duration, Instant};
@@ -79,6 +80,32 @@ fn an_interner_answers_alike_under_each() {
     let read = StringInterner::<BufferBackend, FixedHashBuilder>::from_json(&usual.to_json());
     assert!(read.unwrap() == fixed && keyed.clone() == keyed);
     assert_eq!(keyed.clone().get("Horse"), usual.get("Horse"));
+}
+
+#[test]
+fn a_call_hashes_its_text_once() {
+    /// Counts the hashers that it makes.
+    struct Counting<'a>(&'a Cell<usize>);
+
+    impl BuildHasher for Counting<'_> {
+        type Hasher = DefaultHasher;
+
+        fn build_hasher(&self) -> DefaultHasher {
+            self.0.set(self.0.get() + 1);
+            DefaultHasher::new()
+        }
+    }
+
+    let made = Cell::new(0);
+    let mut interner = StringInterner::<DefaultBackend, _>::with_hasher(Counting(&made));
+    let path = interner.get_or_intern("bin/cargo");
+    assert_eq!(made.take(), 1);
+    assert!(interner.contains("bin/cargo"));
+    assert_eq!(made.take(), 1);
+    assert!(interner.get_or_intern_part(path, ..3).is_some());
+    assert_eq!(made.take(), 1, "of a new text");
+    assert!(interner.get_or_intern_part(path, ..3).is_some());
+    assert_eq!(made.take(), 1, "of a known text");
 }
 
 /// Interns in an interner that may have any hasher.
