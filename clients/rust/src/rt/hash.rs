@@ -88,17 +88,20 @@ impl Hasher for FoldHasher {
             return;
         }
         let mut state = self.state.wrapping_add(len as u64);
-        let mut rest = bytes;
-        while rest.len() > 16 {
-            state = join_product(first_eight(rest) ^ state, first_eight(&rest[8..]) ^ FACTOR);
-            rest = &rest[16..];
-        }
-        // The last block is as long as the others, so it begins in the one before.
-        let last = &bytes[len.saturating_sub(16)..];
-        self.state = join_product(
-            first_eight(last) ^ state,
-            first_eight(&bytes[len - 8..]) ^ FACTOR,
-        );
+        // Most texts have at most sixteen bytes, which are the last block.
+        let first = if len <= 16 {
+            first_eight(bytes)
+        } else {
+            let mut rest = bytes;
+            while rest.len() > 16 {
+                state = join_product(first_eight(rest) ^ state, first_eight(&rest[8..]) ^ FACTOR);
+                rest = &rest[16..];
+            }
+            // The last block is as long as the others, so it begins in the one before.
+            first_eight(&bytes[len - 16..])
+        };
+        let last = first_eight(&bytes[len - 8..]);
+        self.state = join_product(first ^ state, last ^ FACTOR);
     }
 
     #[inline]
