@@ -103,6 +103,7 @@
 //! | `backend.rs`: symbols of the index are resolved unchecked | an index has only symbols that its backend returned, copied by their bits |
 //! | `backend/joined.rs`: parts of a joined text are cut unchecked | its ends are those of whole texts; a text's number is checked before |
 //! | `proved/dedup/tagged.rs`: slots are read without checks of bounds | what `unchecked.rs` says of them |
+//! | `unchecked.rs`: a short text is appended by words | there is room, which is tested before |
 //! | `proved`, of a buffer and of buckets: bytes are a text | they are those of a text that was interned: what a number of a program's own symbol type leads to is checked instead |
 //! | `proved`, of static texts: their bytes are read at their address | the address is made of a `&'static str`, in one place |
 //! | `sync/texts.rs`: texts are lent without a lock | buckets do not move, and no text is dropped |

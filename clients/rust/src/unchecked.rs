@@ -1,4 +1,6 @@
-//! Looking a text up in the tagged table without checks of bounds.
+//! Looking a text up in the tagged table without checks of bounds, and appending a short text without a call.
+//!
+//! # Looking up
 //!
 //! The proof of the table assumes that a program's own symbols, hashers and backends keep their contracts. Memory must not depend on
 //! that. So `item_with` and `lanes_with`, which read slots and tags in a look-up, are the only functions of proved code that index
@@ -37,6 +39,12 @@
 //!
 //! Symbols are copied by their bits (`Sym`), so no `Clone` runs while `items` is filled or copied. `try_copy` copies a list whole or
 //! fails.
+//!
+//! # Appending
+//!
+//! `append` tests for itself that there is room. It rests on nothing else.
+
+use alloc::string::String;
 
 use core::ops::Range;
 
@@ -82,5 +90,41 @@ impl<T> Unchecked<T> for [T] {
         }
         // SAFETY: the caller promises that so many elements are there, and an array is laid out as they are.
         unsafe { &*self.as_ptr().add(place).cast() }
+    }
+}
+
+/// Appends a text. Most texts are short, and a call that copies so few bytes takes longer than the copy.
+#[inline(always)]
+pub fn append(text: &mut String, more: &str) {
+    let has_room = more.len() <= text.capacity() - text.len() && !cfg!(string_interner_checks);
+    match more.len() {
+        // SAFETY: there is room, and there are so many bytes.
+        8..=16 if has_room => unsafe { append_ends::<8>(text, more) },
+        // SAFETY: as above.
+        4..=7 if has_room => unsafe { append_ends::<4>(text, more) },
+        _ => text.push_str(more),
+    }
+}
+
+/// Appends a text as its first `N` bytes and its last `N`, which overlap.
+///
+/// # Safety
+///
+/// There is room, and the text has `N` to `2 * N` bytes.
+#[inline(always)]
+unsafe fn append_ends<const N: usize>(text: &mut String, more: &str) {
+    let (len, at) = (more.len(), text.len());
+    debug_assert!(N <= len && len <= 2 * N && len <= text.capacity() - at);
+    let from = more.as_ptr();
+    // SAFETY: both are read within `more` and written within the room, without a claim how they are aligned. Together they are all
+    // bytes of `more`, so what is there is a text.
+    unsafe {
+        let bytes = text.as_mut_vec();
+        let to = bytes.as_mut_ptr().add(at);
+        let first: [u8; N] = from.cast::<[u8; N]>().read();
+        let last: [u8; N] = from.add(len - N).cast::<[u8; N]>().read();
+        to.cast::<[u8; N]>().write(first);
+        to.add(len - N).cast::<[u8; N]>().write(last);
+        bytes.set_len(at + len);
     }
 }

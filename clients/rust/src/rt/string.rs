@@ -1,6 +1,7 @@
 //! `String`.
 
 use super::alloc::{AllocError, Global};
+use crate::unchecked::append;
 use core::ops::{Deref, Index, Range};
 
 type Text = alloc::string::String;
@@ -64,7 +65,7 @@ impl String {
     #[inline(always)]
     pub fn push_str(&mut self, text: &str) -> Result<(), AllocError> {
         self.reserve(text.len())?;
-        self.0.push_str(text);
+        append(&mut self.0, text);
         Ok(())
     }
 

@@ -161,6 +161,20 @@ fn a_text_has_what_was_appended_and_stays_where_it_is() {
     assert!(catch_unwind(|| copy[2..3].len()).is_err());
 }
 
+/// Short texts are appended by words, and others by a call.
+#[test]
+fn texts_of_each_length_are_appended() {
+    let source = "the quick brown fox jumps over the lazy dog";
+    for len in 0..=source.len() {
+        for (before, room) in [("", len), ("", 0), ("earth", len), ("earth", 64)] {
+            let mut text = String::with_capacity(Global, before.len() + room).unwrap();
+            text.push_str(before).unwrap();
+            text.push_str(&source[..len]).unwrap();
+            assert_eq!(text.as_str(), [before, &source[..len]].concat());
+        }
+    }
+}
+
 /// Sixteen random bytes, of which some are alike.
 fn bytes(state: &mut u64) -> [u8; 16] {
     [(); 16].map(|()| {
