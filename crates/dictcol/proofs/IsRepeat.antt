@@ -45,14 +45,8 @@ module _ (lines : List Text) (codes : List ℕ) (row : ℕ) (are : AreCodes (dic
       let e = one_entry (dictionary_of lines) (get_or lines j d) i j (dictionary-distinct lines) at_i at_j in
       absurd (omega (arith, e, less))
 
-  -- one of the lines has another code if they are not distinct
-  pub row-within : length (dictionary_of lines) < length lines → row < length lines
-  row-within fewer = elim (cases_lt row (length lines)) [
-    | inl below ↦ below
-    | inr above ↦
-        let all = subst IsDistinct (take_all (length lines) lines (omega arith)) (front-distinct (length lines) (omega (arith, above)) (omega arith)) in
-        absurd (omega (arith, fewer, ap length (distinct-dictionary lines all)))
-  ]
+  pub own-distinct : length lines ≤ row → IsDistinct lines
+  own-distinct all = subst IsDistinct (take_all (length lines) lines (omega arith)) (front-distinct (length lines) all (omega arith))
 
   pub first-repeat : slice_get codes row ≢ Some row → length codes ≡ length lines → row < length lines → IsRepeat lines row
   first-repeat other count within = record {

@@ -1,17 +1,13 @@
--- Where a file is damaged.
-use Rattle.std.proofs.Common.{◌≡◌, ℕ, ◌+◌, ◌-◌, ◌^◌, ◌/◌, ◌≤◌, List, [], ◌∷◌, ◌++◌, length, take, drop, Some, None, w32, refl, sym, ap, ap₂, subst, ◌∙◌, arith}
+-- Where a file ends early.
+use Rattle.std.proofs.Common.{◌≡◌, ℕ, ◌+◌, ◌-◌, ◌^◌, [], ◌∷◌, ◌++◌, length, take, drop, Some, None, refl, sym, ap, ap₂, subst, ◌∙◌, arith}
 use Rattle.std.specs.Prelude.{min, count_by}
-use Rattle.std.specs.Int.{from_le_bytes}
-use Rattle.std.specs.List.{flat_map}
-use Rattle.std.proofs.lemmas.List.{append_assoc, append-nil, length-append}
+use Rattle.std.proofs.lemmas.List.{append_assoc, append-nil}
 use Rattle.memchr.specs.Find.{is_byte, IsLastByte}
 use Rattle.string_interner.specs.Text.{Text}
 use Rattle.dictcol.specs.Blocks.{EndsAtNewline}
 use Rattle.dictcol.specs.Lines.{is_newline}
-use Rattle.dictcol.specs.Places.{IsEarlyEnd, IsLastLine, IsNotALine}
-use Rattle.dictcol.specs.Plain.{code_bytes}
-use Rattle.dictcol.specs.declared.fault.Fault.TheVariants.{EndsEarly, NotALine}
-use Rattle.dictcol.proofs.PlainColumns.{AreNumbersTo, numbers-long}
+use Rattle.dictcol.specs.Places.{IsEarlyEnd, IsLastLine}
+use Rattle.dictcol.specs.declared.fault.Fault.TheVariants.{EndsEarly}
 use Rattle.dictcol.proofs.Taken.{last-none, last-some}
 
 -- the last line is behind the last newline
@@ -33,21 +29,3 @@ line_of_all text none = ([], refl, last-none text none)
 pub early_end : (text : Text) (begin line column : ℕ) → IsLastLine text begin → line ≡ min (count_by is_newline text + 1) (2 ^ 64 - 1) → column ≡ min (length (drop begin text) + 1) (2 ^ 64 - 1)
     → IsEarlyEnd text (EndsEarly line column)
 early_end text begin line column is line-is column-is = (begin, is, ap₂ EndsEarly line-is column-is)
-
--- the number behind those that are below a limit is the first that is not
-pub first-above : (limit number index : ℕ) (bytes rest first : Text) (to : AreNumbersTo limit bytes rest) → limit ≤ number → number ≡ from_le_bytes w32 first → first ≡ take 4 rest
-    → 4 ≤ length rest → index ≡ (length bytes - length rest) / 4 → IsNotALine limit bytes (NotALine index)
-first-above limit number index bytes rest first to above is first-is enough index-is =
-    let total = ap length to.so_far ∙ length-append (flat_map code_bytes to.numbers) rest in
-    let many = numbers-long to.numbers in
-    let at : number ≡ from_le_bytes w32 (take 4 rest) = is ∙ ap (from_le_bytes w32) first-is in
-    let same : index ≡ length to.numbers = omega (arith, total, many, index-is) in (
-      to.numbers,
-      flat_map code_bytes to.numbers,
-      rest,
-      to.so_far,
-      record { bytes_are = refl; each_fits = to.fits; within = to.within },
-      enough,
-      omega (arith, at, above),
-      ap NotALine same,
-    )

@@ -5,13 +5,13 @@ use Rattle.std.specs.Int.{from_le_bytes}
 use Rattle.std.specs.Io.KnownBytes.{Appends, Keeps}
 use Rattle.std.specs.List.{flat_map, join_with_byte, onto_first, IsSplitAt}
 use Rattle.std.specs.Option.{option_map_or}
-use Rattle.std.proofs.Math.Seq.{take-append_seam, drop-append_seam, get_or-append_seam}
+use Rattle.std.proofs.Math.Seq.{take-append_seam, drop-append_seam}
 use Rattle.std.proofs.lemmas.Bool.{lt-ltb}
 use Rattle.std.proofs.lemmas.Bool.Decides.{nat_tests}
 use Rattle.std.proofs.lemmas.Fmt.{length-decimal-le}
 use Rattle.std.proofs.lemmas.Grind.{flat_map-append}
 use Rattle.std.proofs.lemmas.List.Elements.{All-push}
-use Rattle.std.proofs.lemmas.List.{append_assoc, append-nil, length-append, length-replicate, take_all, get_or-take, length-take, take-append-drop}
+use Rattle.std.proofs.lemmas.List.{append_assoc, append-nil, length-append, length-drop, length-replicate, take_all, length-take, take-append-drop}
 use Rattle.std.proofs.lemmas.Slice.Zip.{AllZip-long}
 use Rattle.std.proofs.lemmas.Nat.{from_le_bytes-to_le_bytes_4, le_bytes_4}
 use Rattle.string_interner.specs.Text.{Text, IsDistinct, first}
@@ -19,12 +19,15 @@ use Rattle.string_interner.specs.Extend.{fresh}
 use Rattle.string_interner.proofs.Lemmas.Interner.Extends.{fresh-append}
 use Rattle.string_interner.proofs.Lemmas.Json.Reads.{new_text}
 use Rattle.string_column.specs.Column.{AreCodes, dictionary_of, rows_of}
+use Rattle.string_column.specs.Parts.{IsOutside}
+use Rattle.string_column.proofs.Lemmas.AreNumbered.{slice_get-push, slice_get-append}
 use Rattle.string_column.proofs.Lemmas.Counts.{fresh-distinct, dictionary-distinct}
 use Rattle.string_column.proofs.Lemmas.Rows.{rows-are}
 use Rattle.dictcol.specs.Blocks.{IsTextOf}
 use Rattle.dictcol.specs.File.{HaveEntries}
 use Rattle.dictcol.specs.Lines.{has_newline, text_of_ended, text_of_lines, lines_of, AreLines}
-use Rattle.dictcol.specs.Plain.{plain_text, IsLinesFile, IsDictionary, code_bytes, npy_start, npy_header, AreNumbers, IsNpy, IsOnto, IsPlain, line_bounds, AreRows, HoldPlain}
+use Rattle.dictcol.specs.Plain.{plain_text, IsLinesFile, IsDictionary, code_bytes, npy_start, npy_header, AreNumbers, IsNotALine, IsNpy, IsOnto, IsPlain, line_bounds, AreRows, HoldPlain}
+use Rattle.dictcol.specs.declared.fault.Fault.TheVariants.{NotALine}
 use Rattle.dictcol.proofs.Lines.{text-of-lines, lines-plain, fresh-plain}
 use Rattle.dictcol.proofs.Merged.{are-ended, are-rest, ended-first, ended-lines, both-plain, one-ended, more-rest}
 
@@ -216,22 +219,19 @@ other-header numbers file header bytes right split made other is =
     let none : length bytes % 4 ≡ 0 = omega (arith, long) in
     other none (parts.0 ∙ ap npy_header (sym count) ∙ sym made)
 
--- the bytes behind a header of as many numbers
-pub npy-bytes : (numbers : List ℕ) (file bytes : Text) (count : ℕ) → IsNpy numbers file → file ≡ npy_header count ++ bytes → length bytes ≡ 4 * count → count < 2 ^ 64 → bytes ≡ flat_map code_bytes numbers
-npy-bytes numbers file bytes count is file-is long fits =
-    let one = header-long count fits in
-    let other = header-long (length numbers) is.count_fits in
-    sym (drop-append_seam (npy_header count) bytes) ∙ ap₂ drop (one ∙ sym other) (sym file-is ∙ is.bytes) ∙ drop-append_seam (npy_header (length numbers)) (flat_map code_bytes numbers)
-
 -- bytes of numbers behind their header are a file of them
-pub is-npy : (limit : ℕ) (numbers : List ℕ) (file bytes : Text) (count : ℕ) → count < 2 ^ 64 → file ≡ npy_header count ++ bytes → length bytes ≡ 4 * count → AreNumbers limit numbers bytes → IsNpy numbers file
-is-npy limit numbers file bytes count fits file-is long are =
-    let total = ap length are.bytes_are ∙ numbers-long numbers in
+pub npy-of : (numbers : List ℕ) (file bytes : Text) (count : ℕ) → count < 2 ^ 64 → file ≡ npy_header count ++ bytes → length bytes ≡ 4 * count → bytes ≡ flat_map code_bytes numbers
+    → AreSmall numbers → IsNpy numbers file
+npy-of numbers file bytes count fits file-is long are small =
+    let total = ap length are ∙ numbers-long numbers in
     let same : count ≡ length numbers = omega (arith, total, long) in record {
-      bytes = file-is ∙ ap₂ (λ n bs. npy_header n ++ bs) same are.bytes_are;
+      bytes = file-is ∙ ap₂ (λ n bs. npy_header n ++ bs) same are;
       count_fits = omega (arith, same, fits);
-      each_fits = are.each_fits;
+      each_fits = small;
     }
+
+pub is-npy : (limit : ℕ) (numbers : List ℕ) (file bytes : Text) (count : ℕ) → count < 2 ^ 64 → file ≡ npy_header count ++ bytes → length bytes ≡ 4 * count → AreNumbers limit numbers bytes → IsNpy numbers file
+is-npy limit numbers file bytes count fits file-is long are = npy-of numbers file bytes count fits file-is long are.bytes_are are.each_fits
 
 small-at : (numbers : List ℕ) → ((i : ℕ) → get_or numbers i 0 < 2 ^ 32) → (i d : ℕ) → i < length numbers → get_or numbers i d < 2 ^ 32
 small-at [] small i d inside = absurd (omega (arith, inside))
@@ -266,19 +266,57 @@ one-number limit number bytes rest first behind to is so_far small below = recor
   within = All-push (λ n. n < limit) to.numbers number to.within below;
 }
 
--- a number that is not below a limit is none of numbers that are
-pub not-below : (limit number : ℕ) (numbers : List ℕ) (bytes rest first behind : Text) (to : AreNumbersTo limit bytes rest) → code_bytes number ≡ first
-    → bytes ≡ flat_map code_bytes to.numbers ++ (first ++ behind) → number < 2 ^ 32 → limit ≤ number → ¬ (AreNumbers limit numbers bytes)
-not-below limit number numbers bytes rest first behind to is so_far fits above are =
+all-first : (P : ℕ → Type 0) (n : ℕ) (ns : List ℕ) → P n → All P ns → All P (n ∷ ns)
+all-first P n ns one all zero d inside = one
+all-first P n ns one all (suc i) d inside = all i d (omega (arith, inside))
+
+all-both : (P : ℕ → Type 0) (xs ys : List ℕ) → All P xs → All P ys → All P (xs ++ ys)
+all-both P [] ys front behind = behind
+all-both P (x ∷ xs) ys front behind =
+    all-first P x (xs ++ ys) (front 0 0 (omega arith)) (all-both P xs ys (λ k e within. front (suc k) e (omega (arith, within))) behind)
+
+-- bytes, four for each number, are numbers
+numbers-of : (count : ℕ) (bytes : Text) → ((i : ℕ) → get_or bytes i 0 < 256) → length bytes ≡ 4 * count → (numbers : List ℕ) × (bytes ≡ flat_map code_bytes numbers) × AreSmall numbers
+numbers-of zero bytes small long = ([], no-items bytes (omega (arith, long)), λ i d inside. absurd (omega (arith, inside)))
+numbers-of (suc n) bytes small long =
+    let number = from_le_bytes w32 (take 4 bytes) in
+    let low = small-front 4 bytes small in
+    let fits : from_le_bytes w32 (take 4 bytes) < 2 ^ 32 = omega (arith, low 0, low 1, low 2, low 3) in
+    let next = next-number bytes bytes (take 4 bytes) (drop 4 bytes) [] number small refl (omega (arith, long)) refl refl refl in
+    let behind = small-behind (take 4 bytes) (drop 4 bytes) (subst (λ text. (i : ℕ) → get_or text i 0 < 256) next.1 small) in
+    let more = numbers-of n (drop 4 bytes) behind (omega (arith, long, length-drop 4 bytes)) in
+    (number ∷ more.0, next.1 ∙ ap₂ (λ a b. a ++ b) (sym next.0) more.1, all-first (λ m. m < 2 ^ 32) number more.0 fits more.2)
+
+-- the number behind those that are below a limit is the first that is not
+pub first-outside : (limit number count index : ℕ) (bytes rest four behind : Text) (to : AreNumbersTo limit bytes rest) → ((i : ℕ) → get_or bytes i 0 < 256) → length bytes ≡ 4 * count
+    → 4 ≤ length rest → four ≡ take 4 rest → behind ≡ drop 4 rest → number ≡ from_le_bytes w32 four → number < 2 ^ 32 → limit ≤ number → index ≡ (length bytes - length rest) / 4
+    → (numbers : List ℕ) × (bytes ≡ flat_map code_bytes numbers) × AreSmall numbers × IsNotALine limit numbers (NotALine index)
+first-outside limit number count index bytes rest four behind to small long enough four-is behind-is is fits above index-is =
     let front = to.numbers in
-    let longer : flat_map code_bytes (front ++ number ∷ []) ++ behind ≡ flat_map code_bytes numbers =
-    numbers-push front number behind ∙ ap (λ text. flat_map code_bytes front ++ (text ++ behind)) is ∙ sym so_far ∙ are.bytes_are in
-    let begin = numbers-begin (front ++ number ∷ []) numbers behind (All-push (λ n. n < 2 ^ 32) front number to.fits fits) are.each_fits longer in
-    let count = length-append front (number ∷ []) in
-    let at : get_or numbers (length front) 0 ≡ number =
-    sym (get_or-take (length (front ++ number ∷ [])) numbers (length front) 0 (omega (arith, count))) ∙ ap (λ xs. get_or xs (length front) 0) begin.1 ∙ get_or-append_seam front number [] 0 in
-    let one = are.within (length front) 0 (omega (arith, count, begin.2)) in
-    omega (arith, at, one, above)
+    let next = next-number bytes rest four behind front number small to.so_far enough four-is behind-is is in
+    let total = ap length to.so_far ∙ length-append (flat_map code_bytes front) rest in
+    let many = numbers-long front in
+    let same : index ≡ length front = omega (arith, total, many, index-is) in
+    let few : length behind ≡ 4 * (count - length front - 1) = omega (arith, ap length behind-is, length-drop 4 rest, total, many, long, enough) in
+    let whole = next.1 ∙ sym (append_assoc (flat_map code_bytes front) four behind) in
+    let low = small-behind (flat_map code_bytes front ++ four) behind (subst (λ text. (i : ℕ) → get_or text i 0 < 256) whole small) in
+    let more = numbers-of (count - length front - 1) behind low few in
+    let one = append_assoc front (number ∷ []) more.0 in
+    let at = slice_get-append (front ++ number ∷ []) more.0 (length front) number (slice_get-push front number) in (
+      front ++ number ∷ more.0,
+      next.1 ∙ ap₂ (λ a b. flat_map code_bytes front ++ (a ++ b)) (sym next.0) more.1 ∙ sym (flat_map-append code_bytes front (number ∷ more.0)),
+      subst AreSmall one (all-both (λ m. m < 2 ^ 32) (front ++ number ∷ []) more.0 (All-push (λ m. m < 2 ^ 32) front number to.fits fits) more.2),
+      (
+        index,
+        refl,
+        subst (IsOutside limit (front ++ number ∷ more.0)) (sym same) record {
+          code = number;
+          stands = subst (λ ns. slice_get ns (length front) ≡ Some number) one at;
+          outside = above;
+          within = subst (All (λ m. m < limit)) (sym (take-append_seam front (number ∷ more.0))) to.within;
+        },
+      ),
+    )
 
 -- all numbers
 pub all-numbers : (limit count : ℕ) (bytes rest : Text) (to : AreNumbersTo limit bytes rest) → length bytes ≡ 4 * count → length rest < 4 → AreNumbers limit to.numbers bytes
@@ -428,13 +466,3 @@ rows-held lines numbers bounds dictionary bytes is places are = record { lines =
 pub plain-held : (lines : List Text) (numbers : List ℕ) (dictionary file : Text) (is_cut : Bool) → IsLinesFile lines dictionary → IsNpy numbers file → HaveEntries lines numbers
     → HoldPlain dictionary file is_cut (plain_text (rows_of lines numbers) is_cut)
 plain-held lines numbers dictionary file is_cut is npy entries = record { lines = lines; lines_are = is; codes_are = numbers; numbers_are = npy; within = entries; text_is = refl }
-
--- files of which one is none hold no text
-pub no-lines-file : (file numbers : Text) (is_cut : Bool) → ((lines : List Text) → ¬ (IsLinesFile lines file)) → (text : Text) → ¬ (HoldPlain file numbers is_cut text)
-no-lines-file file numbers is_cut not text holds = not holds.lines holds.lines_are
-
-pub no-numbers : (lines : List Text) (limit : ℕ) (dictionary numbers : Text) (is_cut : Bool) → limit ≡ length lines → IsLinesFile lines dictionary
-    → ((codes : List ℕ) → All (λ code. code < limit) codes → ¬ (IsNpy codes numbers)) → (text : Text) → ¬ (HoldPlain dictionary numbers is_cut text)
-no-numbers lines limit dictionary numbers is_cut count is not text holds =
-    let same : length holds.lines ≡ limit = ap length (sym (file-lines holds.lines dictionary holds.lines_are) ∙ file-lines lines dictionary is) ∙ sym count in
-    not holds.codes_are (subst (λ n. All (λ code. code < n) holds.codes_are) same holds.within) holds.numbers_are

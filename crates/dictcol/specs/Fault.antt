@@ -10,7 +10,7 @@ use Rattle.string_interner.specs.declared.backend.InternError.{InternError}
 use Rattle.string_interner.specs.declared.backend.InternError.TheVariants.{NoSymbol, Memory as InternMemory}
 use Rattle.dictcol.specs.Lines.{is_newline}
 use Rattle.dictcol.specs.declared.fault.Fault.{Fault}
-use Rattle.dictcol.specs.declared.fault.Fault.TheVariants.{Argument, Input, NotUtf8, DictionaryNotUtf8, DictionaryFile, NumbersFile, PairFile, CutFile, Folder, NotLeft, NoKeys, TooMany, Memory, Output, ClosedOutput}
+use Rattle.dictcol.specs.declared.fault.Fault.TheVariants.{Argument, Input, NotUtf8, DictionaryNotUtf8, NotNpy, OtherType, OtherOrder, OtherShape, OtherLength, DictionaryFile, NumbersFile, PairFile, CutFile, Folder, NotLeft, NoKeys, TooMany, Memory, Output, ClosedOutput}
 
 -- 2 if the arguments or the input are wrong, 1 if the system failed or there is too much, 141 if the output is closed
 abbrev pub status_of : Fault → ℕ
@@ -110,6 +110,15 @@ IsDamage Memory = ⊥
 IsDamage (Output _) = ⊥
 IsDamage ClosedOutput = ⊥
 IsDamage _ = ⊤
+
+-- the faults that say that a file is no array of numbers
+abbrev pub IsArrayDamage : Fault → Type 0
+IsArrayDamage NotNpy = ⊤
+IsArrayDamage OtherType = ⊤
+IsArrayDamage OtherOrder = ⊤
+IsArrayDamage OtherShape = ⊤
+IsArrayDamage OtherLength = ⊤
+IsArrayDamage _ = ⊥
 
 -- the fault does not say that the file is damaged
 abbrev pub IsNoDamage : Fault → Type 0

@@ -1,12 +1,10 @@
--- Where a file is damaged.
--- Cited by `file` and `plain::npy`.
-use Rattle.std.specs.Prelude.{◌≡◌, ℕ, ◌+◌, ◌-◌, ◌^◌, ◌≤◌, List, ◌++◌, length, take, drop, min, count_by, false}
-use Rattle.std.specs.Int.{w32, from_le_bytes}
+-- Where a file ends early.
+-- Cited by `file`.
+use Rattle.std.specs.Prelude.{◌≡◌, ℕ, ◌+◌, ◌-◌, ◌^◌, List, length, drop, min, count_by, false}
 use Rattle.string_interner.specs.Text.{Text}
 use Rattle.dictcol.specs.Lines.{has_newline, is_newline, text_of_ended}
-use Rattle.dictcol.specs.Plain.{AreNumbers}
 use Rattle.dictcol.specs.declared.fault.Fault.{Fault}
-use Rattle.dictcol.specs.declared.fault.Fault.TheVariants.{EndsEarly, NotALine}
+use Rattle.dictcol.specs.declared.fault.Fault.TheVariants.{EndsEarly}
 
 -- the last line of a text begins at this index
 abbrev pub IsLastLine : Text → ℕ → Type 0
@@ -18,9 +16,3 @@ abbrev pub IsEarlyEnd : Text → Fault → Type 0
 IsEarlyEnd text fault =
     (begin : ℕ) × IsLastLine text begin
     × (fault ≡ EndsEarly (min (count_by is_newline text + 1) (2 ^ 64 - 1)) (min (length (drop begin text) + 1) (2 ^ 64 - 1)))
-
--- the fault tells the first of the numbers that the bytes begin with that is not below `limit`
-abbrev pub IsNotALine : ℕ → Text → Fault → Type 0
-IsNotALine limit bytes fault =
-    (numbers : List ℕ) × (front behind : Text) × (bytes ≡ front ++ behind) × AreNumbers limit numbers front × (4 ≤ length behind)
-    × (limit ≤ from_le_bytes w32 (take 4 behind)) × (fault ≡ NotALine (length numbers))

@@ -1,17 +1,17 @@
 -- Plain columns: the file `dict.txt` has the distinct lines, and `codes.npy` the number of its line there for each line.
 -- Cited by `plain`.
-use Rattle.std.specs.Prelude.{◌≡◌, ℕ, ◌+◌, ◌-◌, ◌^◌, ◌<◌, List, [], ◌∷◌, ◌++◌, All, length, replicate, Bool, false, not, ◌&&◌, if◌then◌else◌, nat_lt, codes, decimal, ◌⊎◌, Option, IfSome}
+use Rattle.std.specs.Prelude.{◌≡◌, ℕ, ◌+◌, ◌-◌, ◌^◌, ◌<◌, List, [], ◌∷◌, ◌++◌, All, length, replicate, Bool, false, not, ◌&&◌, if◌then◌else◌, nat_lt, codes, decimal, ◌⊎◌, Option, Some, IfSome}
 use Rattle.std.specs.Int.{w32, to_le_bytes}
 use Rattle.std.specs.Io.KnownBytes.{Appends}
 use Rattle.std.specs.List.{list_any, flat_map, join_with_byte}
 use Rattle.string_interner.specs.Text.{Text, IsDistinct}
 use Rattle.string_interner.specs.Extend.{fresh}
 use Rattle.string_column.specs.Column.{AreCodes, rows_of}
-use Rattle.string_column.specs.Parts.{IsRepeat}
+use Rattle.string_column.specs.Parts.{IsOutside, IsRepeat}
 use Rattle.dictcol.specs.declared.fault.Fault.{Fault}
-use Rattle.dictcol.specs.declared.fault.Fault.TheVariants.{NotEnded, RepeatedLine}
+use Rattle.dictcol.specs.declared.fault.Fault.TheVariants.{Memory, NotALine, NotEnded, RepeatedLine}
 use Rattle.dictcol.specs.Blocks.{IsLinesFault}
-use Rattle.dictcol.specs.Fault.{OfDictionary}
+use Rattle.dictcol.specs.Fault.{IsArrayDamage, IsNotUtf8, IsWriteFault, OfDictionary}
 use Rattle.dictcol.specs.File.{HaveEntries}
 use Rattle.dictcol.specs.Lines.{has_newline, lines_of, text_of_ended, AreLines}
 
@@ -33,11 +33,17 @@ pub record IsDictionary (lines : List Text) (file : Text) : Type 0 where
 abbrev pub IsRepeatedLine : Option Text → Fault → Type 0
 IsRepeatedLine file fault = (index : ℕ) × (fault ≡ RepeatedLine (index + 1)) × IfSome file (λ text. IsRepeat (lines_of text) index)
 
+-- the fault says that the last line of a file has no newline: so it is no file of lines
+abbrev pub IsNotEnded : Option Text → Fault → Type 0
+IsNotEnded file fault = (fault ≡ NotEnded) × IfSome file (λ text. (lines : List Text) → ¬ (IsLinesFile lines text))
+
 -- the faults of reading a file as a dictionary: those of reading its lines, the last line has no newline, or a line repeats an earlier one
 abbrev pub IsDictionaryFault : Option Text → Fault → Type 0
-IsDictionaryFault file fault =
-    OfDictionary (IsLinesFault file) fault ⊎ ((fault ≡ NotEnded) × IfSome file (λ text. (lines : List Text) → ¬ (IsLinesFile lines text))
-    ⊎ IsRepeatedLine file fault)
+IsDictionaryFault file fault = OfDictionary (IsLinesFault file) fault ⊎ (IsNotEnded file fault ⊎ IsRepeatedLine file fault)
+
+-- the faults of finding the lines of a file, which may be there twice
+abbrev pub IsBoundsFault : Text → Fault → Type 0
+IsBoundsFault file fault = OfDictionary (IsNotUtf8 0 (Some file)) fault ⊎ ((fault ≡ Memory) ⊎ IsNotEnded (Some file) fault)
 
 -- four bytes, the lowest first
 abbrev pub code_bytes : ℕ → Text
@@ -64,6 +70,18 @@ pub record AreNumbers (limit : ℕ) (numbers : List ℕ) (bytes : Text) : Type 0
   pub bytes_are : bytes ≡ flat_map code_bytes numbers
   pub each_fits : All (λ number. number < 2 ^ 32) numbers
   pub within : All (λ number. number < limit) numbers
+
+-- the faults of reading a file as an array: no memory is left, or it is none
+abbrev pub IsArrayFault : Text → Fault → Type 0
+IsArrayFault file fault = (fault ≡ Memory) ⊎ (IsArrayDamage fault × ((numbers : List ℕ) → ¬ (IsNpy numbers file)))
+
+-- the fault tells the index of the first of the numbers that is not below `limit`
+abbrev pub IsNotALine : ℕ → List ℕ → Fault → Type 0
+IsNotALine limit numbers fault = (index : ℕ) × (fault ≡ NotALine index) × IsOutside limit numbers index
+
+-- the faults of reading a file as numbers below `limit`: it is no array, or one of its numbers is not below
+abbrev pub IsNumbersFault : ℕ → Text → Fault → Type 0
+IsNumbersFault limit file fault = IsArrayFault file fault ⊎ ((numbers : List ℕ) × IsNpy numbers file × IsNotALine limit numbers fault)
 
 -- the file is `codes.npy` of the numbers of these rows in the dictionary
 abbrev pub IsCodesFile : List Text → List Text → Text → Type 0
@@ -122,3 +140,8 @@ pub record HoldPlain (dictionary numbers : Text) (is_cut : Bool) (text : Text) :
   pub numbers_are : IsNpy codes_are numbers
   pub within : HaveEntries lines codes_are
   pub text_is : text ≡ plain_text (rows_of lines codes_are) is_cut
+
+-- The faults of reading the text that both files hold, and writing it. A number is no line if it is not below the count of lines.
+abbrev pub IsPlainFault : Text → Text → Fault → Type 0
+IsPlainFault dictionary numbers fault =
+    IsBoundsFault dictionary fault ⊎ (((lines : List Text) × IsLinesFile lines dictionary × IsNumbersFault (length lines) numbers fault) ⊎ IsWriteFault fault)

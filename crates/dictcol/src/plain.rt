@@ -7,12 +7,12 @@ mod npy;
 mod pair;
 mod rows;
 
-ghost use Rattle.std.specs.Prelude.{◌≡◌, ◌≤◌, ◌++◌, ◌⊎◌, List, length, Some, IfOk, IfErr, IfSome, OnOk};
+ghost use Rattle.std.specs.Prelude.{◌≡◌, ◌≤◌, ◌++◌, ◌⊎◌, List, length, IfOk, IfErr, IfSome, OnOk};
 ghost use Rattle.string_interner.specs.Text.{Text};
 ghost use Rattle.dictcol.specs.Blocks.{IsLinesFault};
-ghost use Rattle.dictcol.specs.Fault.{IsLinesWriteFault, IsNotUtf8, IsParseFault, IsWriteFault, OfDictionary, WritesLast};
+ghost use Rattle.dictcol.specs.Fault.{IsLinesWriteFault, WritesLast};
 ghost use Rattle.dictcol.specs.Lines.{AreLines};
-ghost use Rattle.dictcol.specs.Plain.{HoldPlain, IsBegun, IsDictionaryFault, IsOnto, WritesPlain};
+ghost use Rattle.dictcol.specs.Plain.{HoldPlain, IsBegun, IsDictionaryFault, IsOnto, IsPlainFault, WritesPlain};
 ghost use Rattle.dictcol.specs.Writes.{Writes};
 
 use crate::blocks;
@@ -175,10 +175,8 @@ pub fn decode<W: Write>(
     ensures written { OnOk result (Writes (HoldPlain dictionary.now numbers.now is_cut)
         (W.contents output.old) (W.contents output.new)) }
 
-    // Files are called damaged only if they hold no text, and the first not UTF-8 only if it is not.
-    ensures err { IfErr result (λ fault. OfDictionary (IsNotUtf8 0 (Some dictionary.now)) fault
-        ⊎ (IsParseFault ((text : Text) → ¬ (HoldPlain dictionary.now numbers.now is_cut text)) fault
-        ⊎ IsWriteFault fault)) }
+    // Files that hold a text are never called damaged, and the first is called not UTF-8 only if it is not.
+    ensures err { IfErr result (IsPlainFault dictionary.now numbers.now) }
 
     // Unless all went well or a write failed, the output was not touched.
     ensures silent { WritesLast result output.old output.new }

@@ -1,11 +1,12 @@
 //! The file `dict.txt`: distinct lines, of which each ends in a newline.
 
-ghost use Rattle.std.specs.Prelude.{◌≡◌, ◌+◌, ◌<◌, List, [], ◌∷◌, ◌++◌, ◌⊎◌, ℕ, ◌≢◌, min, slice_get, length, Some, IfOk, IfErr, IfSome, OnOk, vec_len, vec_capacity};
+ghost use Rattle.std.specs.Prelude.{◌≡◌, ◌+◌, ◌<◌, List, [], ◌∷◌, ◌++◌, ℕ, length, IfOk, IfErr, IfSome, MatchOption, OnOk, vec_len, vec_capacity};
 ghost use Rattle.std.specs.Io.KnownBytes.{Appends};
 ghost use Rattle.string_interner.specs.Text.{Text, IsDistinct};
-ghost use Rattle.dictcol.specs.Fault.{IsLinesWriteFault, IsNotUtf8, IsParseFault, OfDictionary, WritesLast};
+ghost use Rattle.string_column.specs.Parts.{IsRepeat};
+ghost use Rattle.dictcol.specs.Fault.{IsLinesWriteFault, WritesLast};
 ghost use Rattle.dictcol.specs.Lines.{text_of_ended};
-ghost use Rattle.dictcol.specs.Plain.{line_bounds, IsDictionary, IsDictionaryFault, IsLinesFile};
+ghost use Rattle.dictcol.specs.Plain.{line_bounds, IsBoundsFault, IsDictionary, IsDictionaryFault, IsLinesFile};
 
 use super::read_lines;
 use crate::blocks::check_utf8;
@@ -15,7 +16,7 @@ use memchr::memchr;
 use std::alloc::Global;
 use std::io;
 use std::io::{Read, Write};
-use string_column::{Codes, Column};
+use string_column::Column;
 use string_interner::StringInterner;
 use string_interner::backend::Backend;
 use string_interner::dedup::TaggedIndex;
@@ -91,18 +92,22 @@ pub fn write_file<B: Backend, W: Write>(
     output.flush().map_err(Fault::of_write)
 }
 
-/// Returns the number (1-based) of the first line that has the code of an earlier one.
-fn find_repeat(codes: &Codes) -> usize
-    ensures { (row : ℕ) × (result ≡ min (row + 1) (length codes.now.items))
-        × ((i : ℕ) → i < row → slice_get codes.now.items i ≡ Some i)
-        × (slice_get codes.now.items row ≢ Some row) }
+/// Returns the number (1-based) of the first line that equals an earlier one. Returns `None` if all lines are distinct.
+fn find_repeat<B: Backend>(lines: &Column<B, LineHasher>) -> Option<usize>
+    ensures { MatchOption result (IsDistinct lines.now)
+        (λ number. (index : ℕ) × (number ≡ index + 1) × IsRepeat lines.now index) }
 {
+    if lines.distinct() == lines.len() {
+        return None;
+    }
+    // Up to the first that repeats, each line is an entry of its own, and its code is its index.
+    let codes = lines.codes();
     for row in 0..codes.len() {
         if codes.at(row) != row {
-            return row + 1;
+            return Some(row + 1);
         }
     }
-    codes.len()
+    None
 }
 
 /// Returns a column of the lines of a file.
@@ -122,18 +127,17 @@ pub fn read<B: Backend + Drop, R: Read>(
     if !is_ended && !lines.is_empty() {
         return Err(Fault::NotEnded);
     }
-    if lines.distinct() < lines.len() {
-        return Err(Fault::RepeatedLine(find_repeat(lines.codes())));
+    match find_repeat(&lines) {
+        None => Ok(lines),
+        Some(number) => Err(Fault::RepeatedLine(number)),
     }
-    Ok(lines)
 }
 
 /// Returns where each line of a file begins, and where the last one ends. Lines may be there twice.
 pub fn find_bounds(alloc: Global, file: &[u8]) -> Result<Vec<usize>, Fault>
     ensures ok { IfOk result (λ bounds. (lines : List Text)
         × IsLinesFile lines file.now × (bounds.items ≡ line_bounds 0 lines)) }
-    ensures err { IfErr result (λ fault. OfDictionary (IsNotUtf8 0 (Some file.now)) fault
-        ⊎ IsParseFault ((lines : List Text) → ¬ (IsLinesFile lines file.now)) fault) }
+    ensures err { IfErr result (IsBoundsFault file.now) }
 {
     if let Err(fault) = check_utf8(0, file) {
         return Err(Fault::of_dictionary(fault));

@@ -3,10 +3,9 @@
 ghost use Rattle.std.specs.Prelude.{◌≡◌, ℕ, ◌*◌, ◌^◌, ◌<◌, ◌≤◌, ◌++◌, List, All, length, take, IfOk, IfErr, OnOk};
 ghost use Rattle.std.specs.Io.KnownBytes.{Appends};
 ghost use Rattle.std.specs.List.{flat_map};
-ghost use Rattle.dictcol.specs.Fault.{IsDamage, IsParseFault, IsWriteFault};
+ghost use Rattle.dictcol.specs.Fault.{IsArrayDamage, IsWriteFault};
 ghost use Rattle.string_interner.specs.Text.{Text};
-ghost use Rattle.dictcol.specs.Places.{IsNotALine};
-ghost use Rattle.dictcol.specs.Plain.{code_bytes, npy_header, AreNumbers, IsNpy};
+ghost use Rattle.dictcol.specs.Plain.{code_bytes, npy_header, AreNumbers, IsArrayFault, IsNotALine, IsNpy, IsNumbersFault};
 ghost use Rattle.dictcol.specs.Writes.{Writes};
 
 use crate::fault::Fault;
@@ -81,7 +80,7 @@ pub fn write_file<W: Write>(output: &mut W, header: &[u8], numbers: &[u32]) -> R
 
 /// Returns what is wrong with a header.
 fn find_fault(header: &[u8]) -> Fault
-    ensures { IsDamage result }
+    ensures { IsArrayDamage result }
 {
     if !header.starts_with(b"\x93NUMPY\x01\x00") {
         return Fault::NotNpy;
@@ -102,7 +101,7 @@ fn find_fault(header: &[u8]) -> Fault
 fn split_header(alloc: Global, file: &[u8]) -> Result<&[u8], Fault>
     ensures ok { IfOk result (λ numbers. (count : ℕ) × (file.now ≡ npy_header count ++ numbers.now)
         × (length numbers.now ≡ 4 * count) × (count < 2 ^ 64)) }
-    ensures err { IfErr result (IsParseFault ((numbers : List ℕ) → ¬ (IsNpy numbers file.now))) }
+    ensures err { IfErr result (IsArrayFault file.now) }
 {
     let Some((header, numbers)) = file.split_at_checked(HEADER) else {
         return Err(Fault::NotNpy);
@@ -121,9 +120,9 @@ fn split_header(alloc: Global, file: &[u8]) -> Result<&[u8], Fault>
 fn check_numbers(bytes: &[u8], limit: usize) -> Result<(), Fault>
     requires { (count : ℕ) × (length bytes.now ≡ 4 * count) }
     ensures ok { OnOk result ((numbers : List ℕ) × AreNumbers limit numbers bytes.now) }
-    ensures err { IfErr result (λ fault. IsDamage fault × ((numbers : List ℕ)
-        → ¬ (AreNumbers limit numbers bytes.now))) }
-    ensures place { IfErr result (IsNotALine limit bytes.now) }
+    ensures err { IfErr result (λ fault. (numbers : List ℕ)
+        × (bytes.now ≡ flat_map code_bytes numbers) × All (λ number. number < 2 ^ 32) numbers
+        × IsNotALine limit numbers fault) }
 {
     let mut rest = bytes;
     'numbers: while let Some((first, behind)) = rest.split_first_chunk::<4>() {
@@ -139,8 +138,7 @@ fn check_numbers(bytes: &[u8], limit: usize) -> Result<(), Fault>
 pub fn read(alloc: Global, file: &[u8], limit: usize) -> Result<&[u8], Fault>
     ensures ok { IfOk result (λ bytes. (codes : List ℕ)
         × AreNumbers limit codes bytes.now × IsNpy codes file.now) }
-    ensures err { IfErr result (IsParseFault ((codes : List ℕ)
-        → All (λ code. code < limit) codes → ¬ (IsNpy codes file.now))) }
+    ensures err { IfErr result (IsNumbersFault limit file.now) }
 {
     let bytes = split_header(alloc, file)?;
     check_numbers(bytes, limit)?;

@@ -1,12 +1,9 @@
-use Rattle.std.proofs.Common.{◌≡◌, ℕ, ◌<◌, ◌+◌, ◌-◌, List, All, ◌⊎◌, IfErr, Some, length, inl, inr, ap, subst, ◌∙◌, arith, rules}
+use Rattle.std.proofs.Common.{◌≡◌, ◌+◌, ◌-◌, IfErr, length, inl, inr, ap, subst, ◌∙◌, arith, rules}
 use Rattle.std.proofs.lemmas.Result.{on_ok_weaker, IfErr-weaker}
 use Rattle.string_column.specs.Column.{rows_of}
-use Rattle.string_interner.specs.Text.{Text}
-use Rattle.dictcol.specs.Fault.{IsNotUtf8, IsParseFault, OfDictionary}
-use Rattle.dictcol.specs.Plain.{plain_text, AreNumbers, IsLinesFile, IsNpy}
+use Rattle.dictcol.specs.Plain.{plain_text, AreNumbers, IsNumbersFault}
 use Rattle.dictcol.proofs.LineBounds.{bounds-long}
-use Rattle.dictcol.proofs.ParseFault.{parse-weaker}
-use Rattle.dictcol.proofs.PlainColumns.{rows-held, plain-held, no-lines-file, no-numbers}
+use Rattle.dictcol.proofs.PlainColumns.{rows-held, plain-held}
 use Rattle.dictcol.proofs.plain.decode.Goals as goal
 
 pub overflow_sub-len : goal.overflow_sub-len
@@ -16,23 +13,15 @@ overflow_sub-len g c =
     let same : c.len.result ≡ length c.in_ok-bounds.bounds.items = search rules in
     omega (arith, long, same)
 
-pub returns-in_err-bounds-clause-err : goal.returns-in_err-bounds-clause-err
-returns-in_err-bounds-clause-err g c =
-    let none : IfErr c.from_residual.result (λ fault. OfDictionary (IsNotUtf8 0 (Some c.args.dictionary.now)) fault ⊎ IsParseFault ((lines : List Text) → ¬ (IsLinesFile lines c.args.dictionary.now)) fault) = search rules in
-    IfErr-weaker c.from_residual.result _ _ (λ fault why. elim why [
-      | inl bad ↦ inl bad
-      | inr parse ↦ inr (inl (parse-weaker fault (no-lines-file c.args.dictionary.now c.args.numbers.now c.args.is_cut) parse))
-    ]) none
-
 pub returns-in_err-codes-clause-err : goal.returns-in_err-codes-clause-err
 returns-in_err-codes-clause-err g c =
     let read = c.in_ok-bounds.ensures.ok in
     let long : length c.in_ok-bounds.bounds.items ≡ length read.0 + 1 = ap length read.2 ∙ bounds-long 0 read.0 in
     let same : c.len.result ≡ length c.in_ok-bounds.bounds.items = search rules in
     let count : c.len.result - 1 ≡ length read.0 = omega (arith, long, same) in
-    let none : IfErr c.from_residual-in_err-codes.result (IsParseFault ((codes : List ℕ) → All (λ code. code < c.len.result - 1) codes → ¬ (IsNpy codes c.args.numbers.now))) = search rules in
+    let none : IfErr c.from_residual-in_err-codes.result (IsNumbersFault (c.len.result - 1) c.args.numbers.now) = search rules in
     IfErr-weaker c.from_residual-in_err-codes.result _ _ (λ fault why.
-    inr (inl (parse-weaker fault (no-numbers read.0 (c.len.result - 1) c.args.dictionary.now c.args.numbers.now c.args.is_cut count read.1) why))) none
+    inr (inl (read.0, read.1, subst (λ n. IsNumbersFault n c.args.numbers.now fault) count why))) none
 
 pub write_rows-requires : goal.write_rows-requires
 write_rows-requires g c =

@@ -1,4 +1,4 @@
-use Rattle.std.proofs.Common.{◌≡◌, ◌≤◌, ◌<◌, ◌+◌, ◌-◌, ◌++◌, ◌∷◌, [], Some, None, length, inl, inr, take, drop, subst, arith, rules}
+use Rattle.std.proofs.Common.{◌≡◌, ◌≤◌, ◌<◌, ◌+◌, ◌-◌, ◌++◌, ◌∷◌, [], Some, None, length, inl, inr, take, drop, refl, subst, arith, rules}
 use Rattle.std.proofs.lemmas.List.{take_rest, length-drop}
 use Rattle.memchr.specs.Find.{is_byte, IsFirstByte}
 use Rattle.dictcol.proofs.LineBounds.{no-bounds, one-more, all-bounds, not-ended}
@@ -30,7 +30,7 @@ returns-then-end-file-clause-err c =
     let raw : IsFirstByte (is_byte 10) (take (length c.args.file.now - c.lines.end) (drop c.lines.end c.args.file.now)) None = search rules in
     let none = subst (λ text. IsFirstByte (is_byte 10) text None) (take_rest file end) raw in
     let behind : c.lines.end < length c.args.file.now = search rules in
-    inr (inr (tt, λ lines. not-ended file c.lines.bounds.items end lines c.lines.invariant.so_far none behind))
+    inr (inr (refl, λ lines. not-ended file c.lines.bounds.items end lines c.lines.invariant.so_far none behind))
 
 pub returns-clause-ok : goal.returns-clause-ok
 returns-clause-ok c =

@@ -1,7 +1,6 @@
 use Rattle.std.proofs.Common.{◌≡◌, ℕ, ◌<◌, ◌^◌, ◌≤◌, length, take, drop, get_or, w32, refl, arith, rules}
 use Rattle.std.specs.Int.{from_le_bytes}
-use Rattle.dictcol.proofs.PlainColumns.{next-number, no-numbers-yet, one-number, not-below, all-numbers}
-use Rattle.dictcol.proofs.Places.{first-above}
+use Rattle.dictcol.proofs.PlainColumns.{next-number, no-numbers-yet, one-number, first-outside, all-numbers}
 use Rattle.dictcol.proofs.plain.npy.check_numbers.Goals as goal
 
 pub numbers-init : goal.numbers-init
@@ -23,7 +22,6 @@ numbers-preserved c =
 
 pub returns-then-from_le_bytes-limit-clause-err : goal.returns-then-from_le_bytes-limit-clause-err
 returns-then-from_le_bytes-limit-clause-err c =
-    let number = c.from_le_bytes.result in
     let fits : c.from_le_bytes.result < 2 ^ 32 = c.from_le_bytes.type_inv in
     let above : c.args.limit ≤ c.from_le_bytes.result = search rules in
     let enough : 4 ≤ length c.numbers.rest.now = search rules in
@@ -31,17 +29,8 @@ returns-then-from_le_bytes-limit-clause-err c =
     let behind : c.in-Some.behind.now ≡ drop 4 c.numbers.rest.now = search rules in
     let is : c.from_le_bytes.result ≡ from_le_bytes w32 c.in-Some.first.now = c.from_le_bytes.ensures in
     let small : (i : ℕ) → get_or c.args.bytes.now i 0 < 256 = λ i. omega (arith, c.type_inv.bytes i) in
-    let to = c.numbers.invariant in
-    let next = next-number c.args.bytes.now c.numbers.rest.now c.in-Some.first.now c.in-Some.behind.now to.numbers number small to.so_far enough first behind is in
-    (tt, λ numbers. not-below c.args.limit number numbers c.args.bytes.now c.numbers.rest.now c.in-Some.first.now c.in-Some.behind.now to next.0 next.1 fits above)
-
-pub returns-then-from_le_bytes-limit-clause-place : goal.returns-then-from_le_bytes-limit-clause-place
-returns-then-from_le_bytes-limit-clause-place c =
-    let above : c.args.limit ≤ c.from_le_bytes.result = search rules in
-    let enough : 4 ≤ length c.numbers.rest.now = search rules in
-    let first : c.in-Some.first.now ≡ take 4 c.numbers.rest.now = search rules in
-    let is : c.from_le_bytes.result ≡ from_le_bytes w32 c.in-Some.first.now = c.from_le_bytes.ensures in
-    first-above c.args.limit c.from_le_bytes.result _ c.args.bytes.now c.numbers.rest.now c.in-Some.first.now c.numbers.invariant above is first enough refl
+    first-outside c.args.limit c.from_le_bytes.result c.requires.0 _ c.args.bytes.now c.numbers.rest.now c.in-Some.first.now c.in-Some.behind.now c.numbers.invariant small c.requires.1
+    enough first behind is fits above refl
 
 pub returns-clause-ok : goal.returns-clause-ok
 returns-clause-ok c =
