@@ -1,6 +1,6 @@
 -- Counts with one line more.
-use Rattle.std.proofs.Common.{◌≡◌, ◌≢◌, ℕ, ◌+◌, ◌-◌, ◌^◌, ◌<◌, ◌≤◌, min, Bool, true, false, List, [], ◌∷◌, ◌++◌, length, take, get_or, map, Option, Some, None, Ok, refl, sym, ap, subst, ◌∙◌, arith}
-use Rattle.std.specs.Prelude.{slice_get, slice_set, MatchOption, IfSome}
+use Rattle.std.proofs.Common.{◌≡◌, ◌≢◌, ℕ, ◌+◌, ◌-◌, ◌^◌, ◌<◌, ◌≤◌, min, Bool, true, false, List, [], ◌∷◌, ◌++◌, length, take, get_or, map, Option, Some, None, Result, Ok, Err, refl, sym, ap, subst, ◌∙◌, arith}
+use Rattle.std.specs.Prelude.{slice_get, slice_set, MatchOption, IfSome, OnErr}
 use Rattle.std.specs.Option.{option_map_or}
 use Rattle.std.specs.Str.{bytes_eq}
 use Rattle.std.proofs.lemmas.List.{append-nil, append_assoc, length_push, length-map, take_at, take_all}
@@ -11,6 +11,8 @@ use Rattle.string_interner.specs.Backend.{Appends}
 use Rattle.string_interner.specs.Extend.{fresh}
 use Rattle.string_interner.specs.Interner.{Interns, entry_symbol}
 use Rattle.string_interner.specs.Numbering.{Numbering}
+use Rattle.string_interner.specs.declared.backend.InternError.{InternError}
+use Rattle.string_interner.proofs.Laws.{refused-keeps}
 use Rattle.string_interner.proofs.Lemmas.Texts.First.{first_within, first_is, first_none}
 use Rattle.string_column.specs.Column.{counts_of, dictionary_of}
 use Rattle.string_column.proofs.Lemmas.AreNumbered.{slice_get-append, slice_get-push}
@@ -122,6 +124,11 @@ counted-again entries counts total lines line index count more at within read su
     let most = count-below entries counts total lines index 0 within has in
     let one : more ≡ get_or counts index 0 + 1 = omega (arith, sum, is, most) in
     counted-known entries counts (slice_set counts index more) total lines line index at (ap (slice_set counts index) one) has
+
+-- a text that is refused leaves the list
+pub refused-same : {S : Type 0} (numbering : Numbering S) (old : List Text) (text : Text) (outcome : Result S InternError) (new : List Text) → Interns numbering old text outcome new → OnErr outcome (new ≡ old)
+refused-same numbering old text (Ok symbol) new interns = tt
+refused-same numbering old text (Err error) new interns = refused-keeps numbering old new text error interns
 
 -- a text that was put last is new
 pub new-unknown : {S : Type 0} (numbering : Numbering S) (old : List Text) (text : Text) (symbol : S) (new : List Text) → Interns numbering old text (Ok symbol) new → new ≡ old ++ text ∷ [] → first old text ≡ None

@@ -1,13 +1,24 @@
 use Rattle.std.proofs.Common.{rules, ◌≡◌, Some, None, Ok, length, length-set, ◌+◌, ◌^◌, ◌<◌, sym, ap, subst, ◌∙◌, arith}
-use Rattle.std.specs.Prelude.{slice_get}
+use Rattle.std.specs.Prelude.{slice_get, OnErr}
 use Rattle.std.proofs.lemmas.Option.{slice_get_within}
 use Rattle.string_interner.specs.Text.{first}
 use Rattle.string_interner.specs.Interner.{Interns}
 use Rattle.string_interner.specs.StandsFor.{StandsFor}
 use Rattle.string_column.proofs.Lemmas.AreNumbered.{text-is, ascend, known-same, new-pushed, numbered-push}
 use Rattle.dictcol.specs.Counts.{HasCounted, contents_of}
-use Rattle.dictcol.proofs.Counted.{counted-again, counted-new, new-unknown}
+use Rattle.dictcol.proofs.Counted.{counted-again, counted-new, new-unknown, refused-same}
 use Rattle.dictcol.proofs.count.Counts.add.Goals as goal
+
+pub invariant_of-self-in_err-symbol : goal.invariant_of-self-in_err-symbol
+invariant_of-self-in_err-symbol g c =
+    let numbering = g.B.Backend.numbering in
+    let old = c.self.inside.lines.texts in
+    let new = c.get_or_intern.new.self.texts in
+    let refused : OnErr c.get_or_intern.result (new ≡ old) = refused-same numbering old c.args.line.now c.get_or_intern.result new c.get_or_intern.ensures.interns in
+    let same : new ≡ old = search rules in (
+      rw (same, c.reserve.ensures.items) c.self.invariant.0,
+      ap length c.reserve-2.ensures.items ∙ c.self.invariant.1 ∙ sym (ap length c.reserve.ensures.items),
+    )
 
 pub index_of-index-requires-clause-ascend : goal.index_of-index-requires-clause-ascend
 index_of-index-requires-clause-ascend g c =
