@@ -1,8 +1,9 @@
 -- Laws of files, for whoever doubts the definitions.
-use Rattle.std.proofs.Common.{◌≡◌, ◌==◌, ℕ, Bool, List, [], ◌∷◌, ◌++◌, sym, ap, ap₂, subst, ◌∙◌}
+use Rattle.std.proofs.Common.{◌≡◌, ◌==◌, ◌⊎◌, ℕ, Bool, List, [], ◌∷◌, ◌++◌, length, Some, inl, inr, sym, ap, ap₂, subst, ◌∙◌, arith}
+use Rattle.std.specs.Prelude.{slice_get}
 use Rattle.std.specs.List.{filter}
 use Rattle.std.proofs.lemmas.List.{append_assoc}
-use Rattle.std.proofs.lemmas.Option.{same_Some}
+use Rattle.std.proofs.lemmas.Option.{same_Some, slice_get-get_or, slice_get_within}
 use Rattle.string_interner.specs.Text.{Text}
 use Rattle.string_interner.specs.Extend.{fresh}
 use Rattle.string_column.specs.Column.{AreCodes, rows_of}
@@ -11,8 +12,11 @@ use Rattle.string_column.proofs.Lemmas.AreNumbered.{slice_get-append}
 use Rattle.string_column.proofs.Lemmas.Rows.{codes-within, rows-are}
 use Rattle.dictcol.specs.Counts.{counted}
 use Rattle.dictcol.specs.Lines.{lines_of}
-use Rattle.dictcol.specs.Plain.{plain_text, IsDictionary, IsPlain, HoldPlain}
+use Rattle.dictcol.specs.Fault.{IsNotUtf8, IsWriteFault, OfDictionary}
+use Rattle.dictcol.specs.Plain.{plain_text, IsDictionary, IsPlain, IsPlainFault, HoldPlain}
 use Rattle.dictcol.specs.File.{HoldsText, IsColumnFile, DecodesFile}
+use Rattle.dictcol.specs.declared.fault.Fault.{Fault}
+use Rattle.dictcol.specs.declared.fault.Fault.TheVariants.{Memory}
 use Rattle.dictcol.specs.Shards.{shard_lines}
 use Rattle.dictcol.proofs.HoldsLines.{holds-once, comes-back}
 use Rattle.dictcol.proofs.ShardCounts.{counted-passed}
@@ -83,3 +87,22 @@ old-codes-hold before text dictionary numbers is_cut lines rows codes plain is a
 -- What is counted of a shard is what is counted of the whole, the lines of the shard alone.
 pub shard-counts : (code : Text → ℕ) (count shard : ℕ) (lines : List Text) → counted (shard_lines code count shard lines) ≡ filter (λ row. shard_of code count row.1 == shard) (counted lines)
 shard-counts code count shard lines = counted-passed (λ line. shard_of code count line == shard) lines
+
+-- Plain columns that hold a text are never called damaged.
+pub plain-undamaged : (dictionary numbers text : Text) (is_cut : Bool) (fault : Fault) → HoldPlain dictionary numbers is_cut text → IsPlainFault dictionary numbers fault
+    → OfDictionary (IsNotUtf8 0 (Some dictionary)) fault ⊎ ((fault ≡ Memory) ⊎ IsWriteFault fault)
+plain-undamaged dictionary numbers text is_cut fault holds (inl (inl bad)) = inl bad
+plain-undamaged dictionary numbers text is_cut fault holds (inl (inr (inl memory))) = inr (inl memory)
+plain-undamaged dictionary numbers text is_cut fault holds (inl (inr (inr cut))) = absurd (cut.1 holds.lines holds.lines_are)
+plain-undamaged dictionary numbers text is_cut fault holds (inr (inr writing)) = inr (inr writing)
+plain-undamaged dictionary numbers text is_cut fault holds (inr (inl (lines, is, inl (inl memory)))) = inr (inl memory)
+plain-undamaged dictionary numbers text is_cut fault holds (inr (inl (lines, is, inl (inr damage)))) = absurd (damage.1 holds.codes_are holds.numbers_are)
+plain-undamaged dictionary numbers text is_cut fault holds (inr (inl (lines, is, inr (codes, npy, (index, told, outside))))) =
+    let same = same-numbers holds.codes_are codes numbers holds.numbers_are npy in
+    let read : slice_get holds.codes_are index ≡ Some outside.code = ap (λ ns. slice_get ns index) same ∙ outside.stands in
+    let within = slice_get_within holds.codes_are index outside.code read in
+    let code = same_Some _ _ (sym (slice_get-get_or holds.codes_are index 0 within) ∙ read) in
+    let count = ap length (sym (file-lines holds.lines dictionary holds.lines_are) ∙ file-lines lines dictionary is) in
+    let above = outside.outside in
+    let below = holds.within index 0 within in
+    absurd (omega (arith, code, count, above, below))
