@@ -17,10 +17,10 @@ USE = re.compile(r"^pub use ([^;]*);", re.M)
 # free memory, write a message, or only say what saves time or memory; and examples, of which nothing is promised. Tests see what
 # they do.
 UNPLANTED = set("""
-    StringInterner::backend Scopes::interner Column::dictionary Column::codes TableTextIndex::allocator NumberList::allocator
-    StdHasher::new ReturnedDrop::drop HandleDrop::drop interner_free SymbolU16Symbol::has_narrow_numbers
-    SymbolU32Symbol::has_narrow_numbers StringInterner::is_large KeyedStateDebug::fmt SeededStateDebug::fmt PartsErrorDisplay::fmt
-    count_bytes collect encode""".split())
+    StringInterner::backend Scopes::interner Handle::interner Column::dictionary Column::codes TableTextIndex::allocator
+    NumberList::allocator StdHasher::new ReturnedDrop::drop HandleDrop::drop interner_free
+    SymbolU16Symbol::has_narrow_numbers SymbolU32Symbol::has_narrow_numbers StringInterner::is_large KeyedStateDebug::fmt
+    SeededStateDebug::fmt PartsErrorDisplay::fmt count_bytes collect encode""".split())
 
 
 def is_open(path, src):
