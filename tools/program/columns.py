@@ -272,11 +272,15 @@ def try_missing(program):
         for words, error in ((b"encode --plain file", errno.EEXIST), (b"encode --plain file/new", errno.ENOTDIR)):
             message = b"%s: cannot write files: %s" % (words.split()[-1], told(error))
             yield f"{words}", program.run(words.split(), LINES, folder=folder), failed(1, message)
+        long = b"new/a/" + b"x" * 300
+        message = b"%s: cannot write files: %s" % (long, told(errno.ENAMETOOLONG))
+        yield "a name that is too long", program.run([b"encode", b"--plain", long], LINES, folder=folder), failed(1, message)
+        yield "what is made before it", Path(folder, "new").exists(), False
         ended = program.run(b"encode --plain bytes".split(), b"a\n\xff", folder=folder)
         yield "bytes that are not UTF-8", ended, failed(2, b"line 2 is not UTF-8 (see --invalid)")
         yield "no folder of them", Path(folder, "bytes").exists(), False
         Path(folder, "there").mkdir()
-        for name in b"new/a/b", b"./new//a/", b"there", b"there/a/../b", f"{folder}/new".encode():
+        for name in b"new/a/b", b"./new//a/", b"there", b"there/a/../b", b"new/../there", f"{folder}/new".encode():
             ended = program.run([b"encode", b"--plain", name], b"a\n\xff", folder=folder)
             yield f"bytes that are not UTF-8 in {name}", ended, failed(2, b"line 2 is not UTF-8 (see --invalid)")
             found = Path(folder, "new").exists(), os.listdir(f"{folder}/there")

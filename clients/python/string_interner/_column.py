@@ -82,7 +82,8 @@ class Column(_native.Column):
 
         The folder is made if it is not there, and files of these names are replaced. Raises ValueError for a row that is None, and
         for a text of the dictionary with a newline, BlockingIOError if another run writes there, and OSError. Then the files that
-        were there stay. Only if they could not be replaced, there may be no codes.npy, so that no one reads those of two runs.
+        were there stay. Only if replacing them failed, there may be no codes.npy, so that no one reads those of two runs, or the new
+        files.
         """
         from os import fsdecode
 

@@ -33,19 +33,29 @@ pub fn store_folder(folder: &File) -> io::Result<()> {
     }
 }
 
-/// Waits until a name is stored in the folder that it is in.
-pub fn store_parent(rt: &HostRuntime, path: &str) -> io::Result<()> {
+/// Opens the folder that a name is in.
+fn open_parent(rt: &HostRuntime, path: &str) -> io::Result<File> {
     let parent = match path.trim_end_matches('/').rsplit_once('/') {
         Some(("", _)) => "/",
         Some((parent, _)) => parent,
         None => ".",
     };
-    store_folder(&File::open(rt, parent)?)
+    File::open(rt, parent)
+}
+
+/// Waits until a name is stored in the folder that it is in.
+pub fn store_parent(rt: &HostRuntime, path: &str) -> io::Result<()> {
+    store_folder(&open_parent(rt, path)?)
 }
 
 /// Returns the error of a file that another run is writing.
 pub fn busy() -> io::Error {
     io::Error::from(ErrorKind::ResourceBusy)
+}
+
+/// Returns the error, or that another run is writing if the error is of the kind that shows that one was faster.
+fn busy_if(kind: ErrorKind, error: io::Error) -> io::Error {
+    if error.kind() == kind { busy() } else { error }
 }
 
 /// Locks a folder that was opened by this path. Fails if another run has locked it, or if the path leads elsewhere by now.
@@ -55,7 +65,11 @@ fn lock(rt: &HostRuntime, folder: &File, path: &str) -> io::Result<()> {
         Err(TryLockError::WouldBlock) => return Err(busy()),
         Err(TryLockError::Error(error)) => return Err(error),
     }
-    if is_same(&folder.metadata()?, &fs::symlink_metadata(rt, path)?) {
+    let there = fs::symlink_metadata(rt, path).map_err(|error| busy_if(
+        ErrorKind::NotFound,
+        error,
+    ))?;
+    if is_same(&folder.metadata()?, &there) {
         Ok(())
     } else {
         Err(busy())
@@ -103,6 +117,14 @@ fn remove_left<N: Fn(&str) -> bool>(rt: &HostRuntime, path: &str, is_name: &N) -
     Ok(true)
 }
 
+/// Makes a folder and locks it. Fails if another run does so at the same time.
+fn make_locked(rt: &HostRuntime, path: &str) -> io::Result<File> {
+    fs::create_dir(rt, path).map_err(|error| busy_if(ErrorKind::AlreadyExists, error))?;
+    let folder = File::open(rt, path).map_err(|error| busy_if(ErrorKind::NotFound, error))?;
+    lock(rt, &folder, path)?;
+    Ok(folder)
+}
+
 impl Unfinished {
     /// Makes the folder, in the place of one that a killed run left: that has nothing but files with names that a run gives. The
     /// name is that of another folder, and behind it the separator and `dictcol-unfinished`. Fails while another run writes it.
@@ -120,10 +142,10 @@ impl Unfinished {
         if !remove_left(rt, path.as_str(), is_name).map_err(Fault::Folder)? {
             return Err(Fault::NotLeft(separator));
         }
-        fs::create_dir(rt, path.as_str()).map_err(Fault::Folder)?;
-        let folder = File::open(rt, path.as_str()).map_err(Fault::Folder)?;
-        lock(rt, &folder, path.as_str()).map_err(Fault::Folder)?;
-        Ok(Unfinished { path, folder })
+        match make_locked(rt, path.as_str()) {
+            Ok(folder) => Ok(Unfinished { path, folder }),
+            Err(error) => Err(Fault::Folder(error)),
+        }
     }
 
     /// Returns its path.
@@ -133,9 +155,10 @@ impl Unfinished {
 
     /// Gives the folder another name, which may be that of an empty one. Both are stored then, and the files in it, if they were.
     pub fn rename(&self, rt: &HostRuntime, path: &str) -> io::Result<()> {
+        let parent = open_parent(rt, path)?;
         store_folder(&self.folder)?;
         fs::rename(rt, self.path.as_str(), path)?;
-        store_parent(rt, path)
+        store_folder(&parent)
     }
 
     /// Removes it with what it holds.

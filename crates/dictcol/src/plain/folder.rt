@@ -256,20 +256,29 @@ fn is_name(name: &str) -> bool {
     name == DICTIONARY || name == NUMBERS || name == PAIR || name == CUT
 }
 
-/// Returns the paths of a folder and of those that it lies in, as far as they are not there.
-fn list_missing<'a>(rt: &HostRuntime, path: &'a str) -> Result<Vec<&'a str>, Fault> {
-    let mut missing = Vec::new(rt.alloc());
+/// Makes a folder and those that it lies in, as far as they are not there. Adds the paths of those that it made, each behind that
+/// which it lies in.
+fn make_missing<'a>(rt: &HostRuntime, path: &'a str, made: &mut Vec<&'a str>) -> Result<(), Fault> {
     for end in 1..=path.len() {
         match path.split_at_checked(end) {
             Some((front, rest)) if rest.is_empty() || rest.starts_with('/') => {
-                if fs::symlink_metadata(rt, front).is_err() {
-                    missing.push(front).map_err(|_| Fault::Memory)?;
+                made.reserve(1).map_err(|_| Fault::Memory)?;
+                if fs::create_dir(rt, front).is_ok() {
+                    made.push_reserved(front);
                 }
             }
             _ => {}
         }
     }
-    Ok(missing)
+    // Says what is wrong if it is not there now.
+    fs::create_dir_all(rt, path).map_err(Fault::Folder)
+}
+
+/// Removes folders that a run made, each behind that which it lies in. One with files cannot be removed.
+fn remove_made(rt: &HostRuntime, made: &[&str]) {
+    for folder in made.iter().rev() {
+        let _ = fs::remove_dir(rt, *folder);
+    }
 }
 
 /// A folder that one run alone writes into.
@@ -284,18 +293,26 @@ pub struct Place<'a> {
 impl<'a> Place<'a> {
     /// Takes a folder, which is made if it is not there. Fails while another run has it.
     pub fn take(rt: &HostRuntime, folder: &'a str) -> Result<Place<'a>, Fault> {
-        let made = list_missing(rt, folder)?;
-        fs::create_dir_all(rt, folder).map_err(Fault::Folder)?;
-        let unfinished = Unfinished::make(rt, folder, '/', &is_name)?;
-        Ok(Place {
-            folder,
-            made,
-            unfinished,
-        })
+        let mut made = Vec::new(rt.alloc());
+        let unfinished = match make_missing(rt, folder, &mut made) {
+            Ok(()) => Unfinished::make(rt, folder, '/', &is_name),
+            Err(fault) => Err(fault),
+        };
+        match unfinished {
+            Ok(unfinished) => Ok(Place {
+                folder,
+                made,
+                unfinished,
+            }),
+            Err(fault) => {
+                remove_made(rt, &made);
+                Err(fault)
+            }
+        }
     }
 
     /// Writes new files, and then puts them into the place of the old ones. A run that fails, or is killed, leaves the files that
-    /// were there, or no `codes.npy`.
+    /// were there, no `codes.npy`, or all of the new files.
     pub fn write<B: Backend + Drop>(
         &self,
         rt: &HostRuntime,
@@ -304,11 +321,10 @@ impl<'a> Place<'a> {
         let old = Paths::new(rt.alloc(), self.folder)?;
         let new = Paths::new(rt.alloc(), self.unfinished.path())?;
         write_new(rt, &new, plain)?;
-        exchange(rt, self.folder, &new, &old, plain.is_cut()).map_err(Fault::Folder)?;
         for folder in &self.made {
             store_parent(rt, *folder).map_err(Fault::Folder)?;
         }
-        Ok(())
+        exchange(rt, self.folder, &new, &old, plain.is_cut()).map_err(Fault::Folder)
     }
 
     /// Leaves the folder to other runs. What was made for it stays if it was written, or if files are in it.
@@ -317,9 +333,6 @@ impl<'a> Place<'a> {
         if is_written {
             return;
         }
-        for folder in self.made.iter().rev() {
-            // One with files cannot be removed.
-            let _ = fs::remove_dir(rt, *folder);
-        }
+        remove_made(rt, &self.made);
     }
 }

@@ -118,8 +118,8 @@ fn write_folder(
     Ok(skipped)
 }
 
-/// Writes the lines of the files, or of standard input, into a folder, which is made for them. A run that fails leaves no folder,
-/// and one that is killed leaves none of this name. Returns how it ended, and where.
+/// Writes the lines of the files, or of standard input, into a folder, which is made for them. A run that fails or is killed leaves
+/// none of this name, or a whole one. Returns how it ended, and where.
 pub fn write<'a>(
     rt: &'a HostRuntime,
     parts: Parts<'a>,
