@@ -487,7 +487,7 @@ def try_folders_stored(program):
             for name, made in (b"it", 0), (f"it/in/{cut.decode()[:-1]}".encode(), 2):
                 ended = program.run([b"encode", b"--plain", name], data, folder=folder, TELL_FOLDERS=1)
                 is_new = made and b"removed" in cut
-                yield f"{data} in {name}", ended, (0, b"", wanted + b"stored\n" * (made if is_new else made // 2))
+                yield f"{data} in {name}", ended, (0, b"", b"stored\n" * (made if is_new else made // 2) + wanted)
 
 
 def try_stored(program):
