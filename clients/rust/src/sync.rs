@@ -17,9 +17,13 @@
 //!
 //! # What a call costs
 //!
-//! A known text, [`get`](Interner::get) and [`resolve`](Interner::resolve) take no lock and write nothing that another thread reads:
-//! by processor time four threads do four times the work of one. A new text takes the lock of one of 32 shards, which its hash code
-//! chooses.
+//! [`resolve`](Interner::resolve) takes no lock. A known text and [`get`](Interner::get) mostly take none, and then write nothing that
+//! another thread reads: by processor time four threads do four times the work of one. There are 32 locks, and a text's hash code
+//! chooses one. It is taken for
+//!
+//! - a new text;
+//! - a text that its index may not show because all 64 slots for it are taken: 1 to 3 in 10,000, and more by a poor hasher;
+//! - a text with the code of one that another thread is adding.
 //!
 //! Beside a plain interner, with one thread and texts of 10 bytes, as `tests/sync_times.rs` measured it on a busy machine:
 //!
@@ -28,15 +32,16 @@
 //! | processor time of a known text | 1.2 to 1.6 | 0.8 to 1.1 |
 //! | of a new text | 3 to 3.4 | not measured |
 //! | of resolving | 1.6 to 1.8 | not measured |
-//! | bytes of a text, which are 35 in a plain one | 113 | 87 |
+//! | memory of a text | about 3 | about 3 |
 //!
 //! Once all texts are known, [`into_interner`](Interner::into_interner) makes a plain one.
 //!
 //! # How it works
 //!
 //! - Each shard is an interner of the proved library behind a lock. It alone says whether a text is new.
-//! - Beside it is an index that threads read without a lock. What it shows is compared with the text, byte for byte, and what it
-//!   does not show is asked of the shard. So a wrong index would cost time, and give no wrong symbol.
+//! - Beside it is an index that threads read without a lock. What it shows is compared with the text, byte for byte. Whoever interns
+//!   asks the shard about a text that it does not show. So a wrong index would give no wrong symbol.
+//! - `get` believes an index that has an empty slot where the text would be, and otherwise asks the shard, too.
 //! - One table has the address and the length of each text by its number.
 //! - Indexes and the table grow by memory that is added to them. What threads may still read is freed with the interner, or by a
 //!   call that takes `&mut self`.
@@ -76,8 +81,9 @@ use std::sync::{Mutex, MutexGuard, PoisonError};
 /// most 2³² − 1, and no more than the symbol type has. Texts stay until the interner is dropped. Hold it in an
 /// [`Arc`](std::sync::Arc), in a `static` or on the stack of a [scope](std::thread::scope).
 ///
-/// If a hasher or a symbol type of a program's own panics, that call does, and the interner has the texts that it had before. A
-/// symbol type must not intern in the same interner while it converts a number.
+/// If a hasher or a symbol type of a program's own panics, that call does, and the interner has the texts that it had before. A hasher
+/// must not call the same interner while it hashes a text, nor a symbol type while it converts a number: such a call may wait for
+/// itself.
 pub struct Interner<S = DefaultSymbol, H = DefaultHashBuilder> {
     shared: Shared<S, H>,
     shards: Box<[Apart<Mutex<Shard>>]>,
@@ -116,7 +122,8 @@ impl<S: Symbol, H: BuildHasher> Interner<S, H> {
         }
     }
 
-    /// Returns the symbol of a text, if it is known. Takes no lock.
+    /// Returns the symbol of a text, if it is known. Takes a lock only for the few texts that [an index may not
+    /// show](self#what-a-call-costs).
     #[inline]
     pub fn get<T: AsRef<str>>(&self, string: T) -> Option<S> {
         let text = string.as_ref();
@@ -135,13 +142,13 @@ impl<S: Symbol, H: BuildHasher> Interner<S, H> {
         lock(&self.shards[shard_of(code)]).find(code, text)
     }
 
-    /// Reports whether a text is known. Takes no lock.
+    /// Reports whether a text is known. Takes a lock when [`get`](Self::get) does.
     #[inline]
     pub fn contains<T: AsRef<str>>(&self, string: T) -> bool {
         self.get(string).is_some()
     }
 
-    /// Returns the symbol of a text. Appends a text that is not known. Takes a lock only then.
+    /// Returns the symbol of a text. Appends a text that is not known. Takes a lock then, and when [`get`](Self::get) does.
     ///
     /// # Panics
     ///

@@ -59,6 +59,48 @@ impl Hasher for Constant {
     }
 }
 
+/// A hasher whose codes have the same low bits, so that an index has no place for most texts.
+#[derive(Default)]
+struct SameLowBits(u64);
+
+impl Hasher for SameLowBits {
+    fn write(&mut self, bytes: &[u8]) {
+        for byte in bytes {
+            self.0 = self.0.wrapping_mul(31).wrapping_add(u64::from(*byte));
+        }
+    }
+
+    fn finish(&self) -> u64 {
+        self.0 << 8
+    }
+}
+
+/// Each text is found that was interned, also one for which its index had no place.
+fn all_are_found<H: BuildHasher + Default>(count: usize) {
+    let names = Interner::<DefaultSymbol, H>::with_hasher(H::default());
+    let spell = |number: usize| format!("text{number}");
+    let symbols: Vec<_> = (0..count)
+        .map(|number| names.get_or_intern(spell(number)))
+        .collect();
+    let is_found = |number: &usize| names.get(spell(*number)) == Some(symbols[*number]);
+    let denied: Vec<_> = (0..count).filter(|number| !is_found(number)).collect();
+    assert_eq!(denied, []);
+    assert!((0..count).all(|number| names.contains(spell(number))));
+    assert!((count..2 * count).all(|number| names.get(spell(number)).is_none()));
+}
+
+/// A few of so many texts have no place in an index.
+#[test]
+fn many_texts_are_found() {
+    all_are_found::<FixedHashBuilder>(100_000);
+    all_are_found::<DefaultHashBuilder>(100_000);
+}
+
+#[test]
+fn texts_with_poor_codes_are_found() {
+    all_are_found::<BuildHasherDefault<SameLowBits>>(769);
+}
+
 #[test]
 fn one_thread_counts_up() {
     counts_up::<DefaultSymbol, DefaultHashBuilder>();

@@ -3,30 +3,44 @@
 //!
 //! To whoever interns it is a hint. What it shows is compared with the text, and what it does not show is asked of the shard. So
 //! whatever it shows, no text gets two symbols, and none gets that of another text. Only a text that is looked up, and not interned,
-//! is unknown because an index says so.
+//! is unknown because an index says so. It says so where it has an empty slot for the text: whoever adds a text takes the first
+//! empty slot that it may have.
 
 use super::arrays::{Table, Tables};
 use super::orders::{ACQUIRE, RELEASE};
+use super::shard::Shard;
 use super::texts::Texts;
 use crate::error::InternError;
 use crate::proved::equal_texts::texts_are_equal;
 use std::sync::atomic::Ordering::Relaxed;
 
-/// So many slots from its home on may have a text's number. Of texts with chosen codes those that come later are not in the index.
+/// So many slots from its home on may have a text's number. A text that comes when they are full is not in the index.
 const WINDOW: usize = 64;
 
 /// What an index shows of a text.
 pub(super) enum Look {
     Found(u32),
-    /// It was not in the index when the look began.
+    /// It was not known when the look began.
     Absent,
-    /// It may be in the shard all the same.
+    /// Its shard has to be asked.
     Unknown,
 }
 
-/// From hash codes to numbers. A slot is 0, or has a code above the number of a text plus one.
+/// From hash codes to numbers. A slot is 0, or what [`slot_of`] returns.
 pub(super) struct Index {
     tables: Tables,
+}
+
+/// Returns what the slot of a text has, which is not 0: the text's code above its number plus one.
+#[inline(always)]
+pub(super) fn slot_of(code: u32, number: u32) -> u64 {
+    u64::from(code) << 32 | u64::from(number + 1)
+}
+
+/// Returns the number of a text of which this is the slot's content.
+#[inline(always)]
+pub(super) fn number_of(content: u64) -> Option<u32> {
+    (content as u32).checked_sub(1)
 }
 
 /// Puts a slot's content into the first empty slot of the window from its home on, if there is one.
@@ -47,9 +61,9 @@ pub(super) fn look(table: Table, code: u32, texts: &Texts, text: &str) -> Look {
     let second = table.slot(home + 1).load(ACQUIRE);
     let is_first = (first >> 32) as u32 == code;
     let content = if is_first { first } else { second };
-    match number_in(content, code, texts, text) {
-        Some(number) => Look::Found(number),
-        None => look_on(table, code, texts, text),
+    match look_at(content, code, texts, text) {
+        Look::Found(number) => Look::Found(number),
+        _ => look_on(table, code, texts, text),
     }
 }
 
@@ -62,22 +76,26 @@ fn look_on(table: Table, code: u32, texts: &Texts, text: &str) -> Look {
         if content == 0 {
             return Look::Absent;
         }
-        if let Some(number) = number_in(content, code, texts, text) {
-            return Look::Found(number);
+        match look_at(content, code, texts, text) {
+            Look::Absent => {}
+            shown => return shown,
         }
     }
     Look::Unknown
 }
 
-/// Returns the number in a slot, if it is that of a text with this code.
+/// Returns what a slot shows of a text with this code. Its text may be about to be published: its shard is locked until then.
 #[inline(always)]
-fn number_in(content: u64, code: u32, texts: &Texts, text: &str) -> Option<u32> {
+fn look_at(content: u64, code: u32, texts: &Texts, text: &str) -> Look {
     if (content >> 32) as u32 != code {
-        return None;
+        return Look::Absent;
     }
     let number = (content as u32).wrapping_sub(1);
-    let found = texts.get(number)?;
-    texts_are_equal(found, text).then_some(number)
+    match texts.get(number) {
+        Some(found) if texts_are_equal(found, text) => Look::Found(number),
+        Some(_) => Look::Absent,
+        None => Look::Unknown,
+    }
 }
 
 impl Index {
@@ -102,27 +120,23 @@ impl Index {
         }
     }
 
-    /// Makes room for one number more beside so many. The caller has the shard's lock.
+    /// Makes room for one text more beside those of the shard, which the caller has locked. A larger table gets all of them, also
+    /// those for which the table before had no place.
     #[inline]
-    pub(super) fn make_room(&self, numbers: usize) -> Result<(), InternError> {
-        let before = self.table();
-        if before.is_some_and(|table| numbers < table.len() / 4 * 3) {
+    pub(super) fn make_room(&self, shard: &Shard) -> Result<(), InternError> {
+        let has_room = |table: Table| shard.len() < table.len() / 4 * 3;
+        if self.table().is_some_and(has_room) {
             return Ok(());
         }
-        self.tables.grow(|larger| {
-            let Some(before) = before else { return };
-            (0..before.len())
-                .map(|place| before.slot(place).load(Relaxed))
-                .filter(|content| *content != 0)
-                .for_each(|content| put(larger, content));
-        })
+        self.tables
+            .grow(|larger| shard.slots().for_each(|content| put(larger, content)))
     }
 
-    /// Adds a number, for which room was made. The caller has the shard's lock.
+    /// Adds a text by what its slot has. Room was made for it. The caller has the shard's lock.
     #[inline]
-    pub(super) fn insert(&self, code: u32, number: u32) {
+    pub(super) fn insert(&self, content: u64) {
         if let Some(table) = self.table() {
-            put(table, u64::from(code) << 32 | u64::from(number + 1));
+            put(table, content);
         }
     }
 

@@ -91,9 +91,8 @@ impl<S: Symbol, H: BuildHasher> Shared<S, H> {
         // SAFETY: the bytes stay as long as the shard, as `text_at` says, and the shard as long as `self`: an interner has both.
         let entry = unsafe { self.texts.entry_of(shard.text_at(place))? };
         let (number, symbol) = self.take_number()?;
-        shard.set_number(place, number);
+        index.insert(shard.set_number(place, code as u32, number));
         self.texts.publish(number, entry);
-        index.insert(code as u32, number);
         Ok(symbol)
     }
 
@@ -102,7 +101,7 @@ impl<S: Symbol, H: BuildHasher> Shared<S, H> {
     fn make_room(&self, shard: &mut Shard, index: &Index) -> Result<(), InternError> {
         self.make_room_for(self.count())?;
         shard.make_room()?;
-        index.make_room(shard.len())
+        index.make_room(shard)
     }
 
     /// Makes room for the text of a number, and returns its symbol.

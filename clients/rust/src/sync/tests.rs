@@ -31,18 +31,19 @@ impl Writer {
         let (shared, shard) = (&names.shared, shard_of(self.code));
         match self.steps {
             0 => {
-                let shard = &mut lock(&names.shards[shard]);
-                shared.indexes[shard_of(self.code)]
-                    .make_room(shard.len())
-                    .unwrap();
+                let index = &shared.indexes[shard];
+                index.make_room(&lock(&names.shards[shard])).unwrap();
                 self.number = Some(shared.take_number().unwrap().0);
             }
             1 => {
+                let content = index::slot_of(self.code as u32, self.number.unwrap());
+                shared.indexes[shard].insert(content);
+            }
+            _ => {
                 // SAFETY: the text is static.
                 let entry = unsafe { shared.texts.entry_of(self.text).unwrap() };
                 shared.texts.publish(self.number.unwrap(), entry);
             }
-            _ => shared.indexes[shard].insert(self.code as u32, self.number.unwrap()),
         }
         self.steps += 1;
     }
@@ -53,8 +54,11 @@ impl Writer {
             .number
             .and_then(|number| DefaultSymbol::try_from_usize(number as usize));
         let resolved = number.and_then(|symbol| names.resolve(symbol));
-        assert_eq!(resolved, (self.steps > 1).then_some(self.text));
+        assert_eq!(resolved, (self.steps > 2).then_some(self.text));
         assert_eq!(names.get(self.text), number.filter(|_| self.steps > 2));
+        // Its shard is asked, and answers once the text is published.
+        let shown = names.shared.find(self.code, self.text);
+        assert_eq!(matches!(shown, Look::Unknown), self.steps == 2);
     }
 }
 

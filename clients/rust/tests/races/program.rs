@@ -38,8 +38,7 @@ fn spell(number: usize) -> String {
 fn read_what_others_intern(names: &Interner, number: usize) {
     let symbol = DefaultSymbol::try_from_usize(number).unwrap();
     if let Some(text) = names.resolve(symbol) {
-        // It can be resolved a moment before it is found.
-        assert!(names.get(text).is_none_or(|found| found == symbol));
+        assert_eq!(names.get(text), Some(symbol));
     }
     if let Some(symbol) = names.get(spell(number)) {
         assert_eq!(names.resolve(symbol), Some(&*spell(number)));
