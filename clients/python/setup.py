@@ -76,10 +76,14 @@ def find_library():
 
 
 def compile_library(folder):
-    """Returns the folder of the header and the archive that cargo makes in a folder, without a network."""
-    command = ["cargo", "build", "--quiet", "--release", "--offline", "--manifest-path", str(SOURCES / "c/Cargo.toml"), "--target-dir", str(folder)]
+    """Returns the folder of the header and the archive that cargo makes in a folder, without a network. It is for this machine, whatever
+    target a setting of cargo names."""
+    source = SOURCES / "c"
+    command = ["cargo", "build", "--quiet", "--release", "--offline", "--target-dir", str(folder), "--target"]
     try:
-        subprocess.run(command, check=True)
+        about = subprocess.run(["cargo", "-vV"], check=True, stdout=subprocess.PIPE, encoding="utf-8", cwd=source).stdout
+        host = next(line.removeprefix("host: ") for line in about.splitlines() if line.startswith("host: "))
+        subprocess.run([*command, host], check=True, cwd=source)
     except FileNotFoundError:
         raise SystemExit(
             "setup.py: no cargo, which compiles the library: install Rust 1.85 or later, or name the folder of a library in "
@@ -87,7 +91,7 @@ def compile_library(folder):
         ) from None
     except subprocess.CalledProcessError:
         raise SystemExit("setup.py: cargo did not compile the library") from None
-    return SOURCES / "c", folder / "release" / ARCHIVE
+    return source, folder / host / "release" / ARCHIVE
 
 
 setup(

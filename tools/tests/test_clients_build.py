@@ -20,11 +20,16 @@ echo 'void *rattle_alloc(void); unsigned interner_version(void) {{ return rattle
 cc -fPIC -c out/lib.c -o out/lib.o && ar rcs out/libstring_interner_c.a out/lib.o
 """
 
-# Stands for cargo: makes an archive of what the header names and of something else.
+# Stands for cargo: says what machine this is, and makes an archive of what the header names and of something else, for a target.
 CARGO = """#!/bin/sh
+[ "$1" = -vV ] && {{ echo 'host: this-machine'; exit; }}
 echo cargo >> '{top}/calls'
-while [ "$1" != --target-dir ]; do shift; done
-mkdir -p "$2/release" && cd "$2/release"
+target=$CARGO_BUILD_TARGET
+while [ "$1" != --target-dir ]; do
+  [ "$1" != --target ] || target=$2
+  shift
+done
+mkdir -p "$2/$target/release" && cd "$2/$target/release"
 echo 'unsigned interner_version(void) {{ return 1; }} const char *interner_build(void) {{ return "proved source, compiled by rustc"; }}
 unsigned rust_panic(void) {{ return 1; }}' > lib.c
 echo 'unsigned rest_of_core(void) {{ return 1; }}' > core.c
@@ -73,9 +78,9 @@ class ClientsBuild(unittest.TestCase):
         subprocess.run(["cc", "-fPIC", "-c", heap.with_suffix(".c"), "-o", heap.with_suffix(".o")], check=True)
         subprocess.run(["ar", "rcs", heap.with_name("liblibc_c.a"), heap.with_suffix(".o")], check=True)
 
-    def build(self, *words, has_rt=True, has_cargo=False, fails=False):
+    def build(self, *words, has_rt=True, has_cargo=False, fails=False, **settings):
         path = (f"{self.top}/rt:" if has_rt else "") + (f"{self.top}/cargo:" if has_cargo else "") + "/usr/bin:/bin"
-        ran = subprocess.run([self.top / "clients/build", *words], env={"PATH": path}, stdin=subprocess.DEVNULL, cwd=self.top,
+        ran = subprocess.run([self.top / "clients/build", *words], env={"PATH": path, **settings}, stdin=subprocess.DEVNULL, cwd=self.top,
                              capture_output=True, encoding="utf-8", check=False)
         self.assertEqual(ran.returncode, fails, ran)
         return ran
@@ -169,6 +174,10 @@ class ClientsBuild(unittest.TestCase):
         self.edit(self.top / "clients/rust/src/json.rs", stamp="cargo.stamp")
         self.build(has_rt=False, has_cargo=True)
         self.assertEqual((self.top / "calls").read_text().split().count("cargo"), 2)
+
+    def test_builds_by_cargo_for_this_machine(self):
+        self.build(has_rt=False, has_cargo=True, CARGO_BUILD_TARGET="another-machine")
+        self.assertEqual(self.shown("libstring_interner.a"), ["interner_build", "interner_version"])
 
     def test_builds_by_rt_where_both_are(self):
         self.build(has_cargo=True)
