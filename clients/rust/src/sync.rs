@@ -22,7 +22,7 @@
 //! chooses one. It is taken for
 //!
 //! - a new text;
-//! - a text that its index may not show because all 64 slots for it are taken: 1 to 3 in 10,000, and more by a poor hasher;
+//! - a text that its index may not show because all 64 slots for it are taken: up to 3 in 10,000, and more by a poor hasher;
 //! - a text with the code of one that another thread is adding.
 //!
 //! Beside a plain interner, with one thread and texts of 10 bytes, as `tests/sync_times.rs` measured it on a busy machine:
