@@ -92,7 +92,8 @@ where
 }
 
 /// A call that interns a text, and returns its symbol.
-type Call<B> = fn(&mut StringInterner<B>, String) -> <B as string_interner::backend::Backend>::Symbol;
+type Call<B> =
+    fn(&mut StringInterner<B>, String) -> <B as string_interner::backend::Backend>::Symbol;
 
 /// Each call that interns, so often that each moves the texts.
 fn after_texts_come<B: Backend>()
