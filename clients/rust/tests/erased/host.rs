@@ -94,22 +94,10 @@ pub mod memchr {
 
 /// As in Rattle the builder may be copied, and a hasher has the keys 0 by default.
 pub mod hash {
-    pub use crate::rt::hash::{BuildHasher, DefaultHasher, FoldHasher, Hasher};
+    pub use crate::rt::hash::{BuildHasher, BuildHasherDefault, DefaultHasher, FoldHasher, Hasher};
     pub use std::hash::Hash;
 
     use crate::rt::hash::keyed_hasher;
-    use core::marker::PhantomData;
-
-    #[derive(Clone, Copy, Default)]
-    pub struct BuildHasherDefault<H>(PhantomData<H>);
-
-    impl<H: Hasher + Default> BuildHasher for BuildHasherDefault<H> {
-        type Hasher = H;
-
-        fn build_hasher(&self) -> H {
-            H::default()
-        }
-    }
 
     impl DefaultHasher {
         pub fn new() -> Self {

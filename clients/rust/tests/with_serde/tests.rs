@@ -73,7 +73,8 @@ fn over<B: Backend + PartialEq>() {
 
 #[test]
 fn a_shared_interner_is_a_sequence() {
-    let names: Interner<SymbolU16> = ["b", "", "a", "b"].into_iter().collect();
+    let mut names = Interner::<SymbolU16>::with_hasher(Default::default());
+    names.extend(["b", "", "a", "b"]);
     let json = serde_json::to_string(&names).unwrap();
     assert_eq!(json, r#"["b","","a"]"#);
     for json in [&*json, r#"["b","","b","a",""]"#] {
