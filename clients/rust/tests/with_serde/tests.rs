@@ -7,7 +7,9 @@ use serde::{de::DeserializeOwned, Deserialize, Serialize};
 use string_interner::backend::{Backend, BucketBackend, BufferBackend, StringBackend};
 use string_interner::symbol::{SymbolU16, SymbolU32, SymbolUsize};
 use string_interner::sync::Interner;
-use string_interner::{DefaultStringInterner, DefaultSymbol, StringInterner, Symbol};
+use string_interner::{
+    DefaultHashBuilder, DefaultStringInterner, DefaultSymbol, StringInterner, Symbol,
+};
 
 /// A program's own table, as it is kept in a file.
 #[derive(Debug, PartialEq, Serialize, Deserialize)]
@@ -73,7 +75,7 @@ fn over<B: Backend + PartialEq>() {
 
 #[test]
 fn a_shared_interner_is_a_sequence() {
-    let mut names = Interner::<SymbolU16>::with_hasher(Default::default());
+    let mut names: Interner<SymbolU16> = Interner::with_hasher(DefaultHashBuilder);
     names.extend(["b", "", "a", "b"]);
     let json = serde_json::to_string(&names).unwrap();
     assert_eq!(json, r#"["b","","a"]"#);
