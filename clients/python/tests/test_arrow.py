@@ -92,6 +92,9 @@ def read_rows(array, form):
 
 class Consumers(unittest.TestCase):
     def test_random_columns(self):
+        # So that each collection looks at what a turn made, and not at all modules.
+        gc.freeze()
+        self.addCleanup(gc.unfreeze)
         source = random.Random(1)
         for _ in range(1000):
             rows = [source.choice((None, "", "é", "a" * 50, str(source.random()))) for _ in range(source.randrange(40))]
