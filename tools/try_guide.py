@@ -29,7 +29,8 @@ from needs import missing, python_with
 # What a page needs besides a shell and `rt`.
 NEEDS = {
     "docs/c.md": ["cc", "pkg-config"],
-    "docs/python.md": ["cc", "python3-config", "python distributed pandas", "python pip setuptools wheel"],
+    "docs/columns.md": ["cc", "python3-config", "python distributed pandas"],
+    "docs/python.md": ["cc", "python3-config", "python pip setuptools wheel"],
     "docs/rust.md": ["cc", "cargo"],
 }
 # Puts what was built elsewhere into its place, where it counts as newer than its sources.
