@@ -16,7 +16,7 @@
 //! Of the table over it, `proved/dedup/table.rs`:
 //!
 //! - **E**: no look-up begins while `count` is 0: `entry`, `symbol_of` and `guess` test that.
-//! - **F**: what is put into slots begins with a read that is checked, so it passes no tags if there are none.
+//! - **F**: `put` begins with a checked read of the home, and alone calls `put_behind`: neither passes tags if there are none.
 //!
 //! | Index | Is |
 //! |---|---|

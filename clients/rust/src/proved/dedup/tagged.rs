@@ -4,9 +4,9 @@ use crate::rt::prelude::*; pub(crate) mod tags;
 
 //~ ghost use Rattle.std.specs.Prelude.{◌≡◌, ◌≢◌, ◌+◌, ◌<◌, ◌≤◌, ◌%◌, ℕ, length, slice_index_or, replicate, vec_capacity, vec_len, IfNone, IfSome, None, Some};
 //~ ghost use Rattle.string_interner.specs.Entry.{entry_text};
-//~ ghost use Rattle.string_interner.specs.Slots.{probe_cluster};
+//~ ghost use Rattle.string_interner.specs.Slots.{probe_cluster, symbols};
 //~ ghost use Rattle.string_interner.specs.Index.{has_text};
-//~ ghost use Rattle.string_interner.specs.Layout.{FitsCode};
+//~ ghost use Rattle.string_interner.specs.Layout.{Fills, FitsCode};
 //~ ghost use Rattle.string_interner.specs.Probe.{FindsFirst, HasFreeSlot, StepsTo};
 //~ ghost use Rattle.string_interner.specs.Tagged.{HasAnotherTag, symbols_in, tag_of, tagged_layout};
 //~ ghost use Rattle.string_interner.specs.declared.dedup.probe.Step.TheVariants.{On};
@@ -124,6 +124,29 @@ impl<S: Symbol> TaggedSlots<S> {
         at + lanes_passed(&self.tags, at, tag)
     }
 
+    /// Puts the symbol of a text with this code into the first empty slot from its home on. Filled slots are passed up to
+    /// sixteen at once. Few symbols come here, so it is a call.
+    #[inline(never)]
+    fn put_behind(&mut self, home: usize, symbol: S, code: u64)
+        //~ requires home { home < length (symbols_in self.old) }
+        //~ requires free { length (symbols (symbols_in self.old)) < length (symbols_in self.old) }
+        //~ ensures { Fills tagged_layout self.old self.new home symbol code }
+    {
+        let count = self.len();
+        let mut at = home;
+        for _step in 0..count {
+            let reached = self.pass(at, 0);
+            if reached == count {
+                at = 0;
+            } else if self.item_at(reached).is_none() {
+                self.set(reached, symbol, code);
+                return;
+            } else {
+                at = slot_after(reached, count);
+            }
+        }
+    }
+
     /// Goes on with a search, whose first step led on to slot `from`. Few texts come here, so it is a call.
     #[cold]
     #[inline(never)]
@@ -234,26 +257,13 @@ impl<S: Symbol> Layout<S> for TaggedSlots<S> {
         self.tags[at] = tag_of(code);
     }
 
-    /// Filled slots are passed up to sixteen at once.
-    #[inline]
+    #[inline(always)]
     fn put(&mut self, home: usize, symbol: S, code: u64) {
         // When a table grows, most homes are empty, which one tag tells.
         if self.item_at(home).is_none() {
             self.set(home, symbol, code);
-            return;
-        }
-        let count = self.len();
-        let mut at = home;
-        for _step in 0..count {
-            let reached = self.pass(at, 0);
-            if reached == count {
-                at = 0;
-            } else if self.item_at(reached).is_none() {
-                self.set(reached, symbol, code);
-                return;
-            } else {
-                at = slot_after(reached, count);
-            }
+        } else {
+            self.put_behind(home, symbol, code);
         }
     }
 

@@ -119,6 +119,9 @@ fn absorb_all(key: u64, start: u64, bytes: &[u8]) -> u64
     let len = bytes.len();
     if len <= 8 {
         absorb(key, start, short_block(bytes))
+    } else if len <= 16 {
+        // Most names end here: no block is before their last one, so there is no need of the loop.
+        absorb(key, start, last_block(bytes))
     } else {
         let (blocks, _) = bytes[..len - 1].as_chunks::<16>();
         let before = blocks.iter().fold(start, |state: u64, block| {

@@ -1,7 +1,7 @@
 use Rattle.std.proofs.Common.{◌≡◌, false}
 use Rattle.string_interner.proofs.Lemmas.Index.ProbeLoop.{Stands}
 use Rattle.string_interner.specs.Tagged.{symbols_in}
-use Rattle.string_interner.proofs.dedup.tagged.TaggedSlotsLayout.put.Given as goal
+use Rattle.string_interner.proofs.dedup.tagged.TaggedSlots.put_behind.Given as goal
 
 abbrev pub invariant-loop-step : goal.invariant-loop-step
 invariant-loop-step g l = record {
