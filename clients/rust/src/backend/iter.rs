@@ -1,9 +1,9 @@
 //! Iterators over the texts of the three backends. Each is a plain struct, so that its lifetime may shrink.
 
-use super::joined::Parts;
 use crate::proved::backend as proved;
 use crate::proved::backend::Backend as _;
 use crate::symbol::Symbol;
+use crate::unchecked::Parts;
 use core::fmt;
 use core::iter::FusedIterator;
 use core::marker::PhantomData;
