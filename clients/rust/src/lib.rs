@@ -102,7 +102,7 @@
 //! |---|---|
 //! | `backend.rs`: symbols of the index are resolved unchecked | an index has only symbols that its backend returned, copied by their bits |
 //! | `unchecked.rs`: slots are read without checks of bounds | what it says of the tagged table, whatever a program's own types do |
-//! | `unchecked.rs`: parts of a joined text are cut unchecked | its ends are those of whole texts; a text's number is checked before |
+//! | `unchecked.rs`: texts are cut unchecked out of a joined one, and out of buckets | ends and entries are those of whole texts; a text's number is checked before |
 //! | `unchecked.rs`: a short text is appended by words | there is room, which is tested before |
 //! | `unchecked.rs`: vectors | the target has them |
 //! | `sync/memory.rs`: texts are lent without a lock | buckets do not move, and no text is dropped |

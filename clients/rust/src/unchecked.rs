@@ -1,12 +1,13 @@
 //! All that is unsafe of what one thread does, but for calls of `resolve_unchecked` (`backend.rs`) and what is in proved source:
-//! looking a text up in the tagged table without checks of bounds, cutting texts out of a joined one, appending a short text without
-//! a call, and comparing sixteen bytes at once.
+//! looking a text up in the tagged table without checks of bounds, cutting texts out of a joined one and out of buckets, appending a
+//! short text without a call, and comparing sixteen bytes at once.
 //!
 //! # Looking up
 //!
 //! The proof of the table assumes that a program's own symbols, hashers and backends keep their contracts. Memory must not depend on
-//! that. So `item_with` and `lanes_with`, which read slots and tags in a look-up, are the only functions of proved code that index
-//! without a check, and what they rest on holds whatever such types do. Whatever writes a slot, or moves one, checks.
+//! that. So `item_with` and `lanes_with`, which read slots and tags in a look-up, and `interned_text`, which cuts a text out of a
+//! bucket, are the only functions of proved code that leave a check out, and what they rest on holds whatever such types do. Whatever
+//! writes a slot, or moves one, checks.
 //!
 //! Of `TaggedSlots`, whose fields only `proved/dedup/tagged.rs` writes:
 //!
@@ -46,10 +47,13 @@
 //!
 //! - **G**: the ends of a `StringBackend` rise. Each is the length that the joined text had when a whole text was appended, and no later
 //!   call lets the joined text end before the last of them: so says the contract of `as_parts`, whose source is proved.
+//! - **H**: an entry of a `BucketBackend` that names a bucket has the place there of a whole text, or in a clone that is being made, of
+//!   texts that follow each other. `store` put them there. No call changes or drops bytes of a bucket, or gives it another number, and
+//!   the entries of a clone are of its own bucket: so says the invariant `IsInBuckets`, whose source is proved.
 //!
-//! It holds whatever a program's own symbols, hashers and backends do, since none of their code runs between a change of the joined
-//! text and that of the ends, and the proved backend of a `StringBackend` numbers texts by `usize`. The number of a text is checked
-//! before a part is cut.
+//! Both hold whatever a program's own symbols, hashers and backends do, since none of their code runs between a change of the bytes and
+//! that of ends or entries, and the proved backends number texts by symbols of the library. What such a type returns is the number of
+//! a text at most: that is checked before its ends or its entry are read. What then says where to cut is no number that it returned.
 //!
 //! # Appending
 //!
