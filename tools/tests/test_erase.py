@@ -227,9 +227,14 @@ class EraseTest(TestCase):
             "fn f() { self.tags[at] }",
             place="dedup/tagged.rs",
         )
+        self.gives(
+            "fn interned_text(it: &'a [u8]) { &bytes[span.from..span.to] }\n",
+            "fn interned_text(it: &'a [u8]) { unsafe { crate::unchecked::cut_unchecked(bytes, span.from..span.to) } }",
+            place="backend/bucket/buckets.rs",
+        )
         for place in ("", "dedup/tagged/tags.rs"):
             self.gives("fn item_with() { self.tags[at] }\n", "fn item_with() { self.tags[at] }", place=place)
-        for other in ("tags[at]", "self.tags[at + 1]", "&tags[..at]", "&self.tags[at..]"):
+        for other in ("tags[at]", "self.tags[at + 1]", "&tags[..at]", "&self.tags[at..]", "&bytes[from..to]", "bytes[span.from..span.to]"):
             self.refuses(f"fn lanes_with() {{\n    {other}\n}}\n", 2, "in another form", "dedup/tagged/tags.rs")
 
     def test_parts_of_the_joined_texts(self):
@@ -369,6 +374,7 @@ class SourcesTest(TestCase):
             erased = re.sub(r"^\} impl ::core::error::Error .*$", "}", erased, flags=re.M)
             erased = re.sub(r"\*unsafe \{ self\.(\w+)\.at_unchecked\((\w+)\) \}", r"self.\1[\2]", erased)
             erased = re.sub(r"unsafe \{ (\w+)\.sixteen_unchecked\((\w+)\) \}", r"&\1[\2..]", erased)
+            erased = re.sub(r"unsafe \{ crate::unchecked::cut_unchecked\((\w+), (.*)\) \}", r"&\1[\2]", erased)
             erased = erased.replace("pub(crate) mod ", "mod ").replace(": Sized + ", ": ").replace(": Sized ", " ")
             source, erased = self.of_handles(source, of), self.of_handles(erased, of)
             source = without_models(source, of).replace("final fn ", "fn ").replace("pub(crate) mod ", "mod ")

@@ -1,6 +1,8 @@
 //! What the programs `suite` and `intern` use of Rattle's std beside the rest of `rt`, with the same requests for memory: what
 //! Rust's own std asks for, as for the buffers of standard input and output, is not asked for.
 
+#![allow(unsafe_code)]
+
 pub use super::{alloc, fmt, iter, json, marker, mem, slice, str, string};
 pub use crate::{erased_eprintln as eprintln, erased_println as println, erased_vec as vec};
 pub use std::{cell, cmp};
