@@ -212,7 +212,6 @@ fn fill_to_end(reader: &mut impl Read, bytes: &mut Vec<u8>, filled: &mut usize) 
 /// more comes.
 fn make_room(bytes: &mut Vec<u8>, filled: usize, first: usize) -> Result<()> {
     let capacity = bytes.capacity();
-    bytes.truncate(filled);
     if filled < capacity {
         return Ok(());
     }
