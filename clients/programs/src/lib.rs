@@ -8,18 +8,20 @@
 //! short calls (`itoa`, `memchr`, `simdutf8`). They are tested, and not proved.
 
 #![warn(unsafe_op_in_unsafe_fn, clippy::undocumented_unsafe_blocks)]
+// The stand-ins have the names of what they stand for.
+#![allow(clippy::new_without_default, clippy::should_implement_trait)]
 
 #[cfg(not(all(target_os = "linux", target_pointer_width = "64")))]
 compile_error!("the programs need Linux on a machine whose `usize` has 64 bits");
 
 extern crate alloc;
 
-mod itoa;
-mod memchr;
+pub mod itoa;
+pub mod memchr;
 pub mod rt;
-mod serde_json;
+pub mod serde_json;
 mod simdutf8;
-mod tokens;
+pub mod tokens;
 #[allow(dead_code)]
 #[path = "../../c/src/unchecked.rs"]
 mod unchecked;
