@@ -272,7 +272,7 @@ impl ExactSizeIterator for Parts<'_> {}
 #[allow(unused_unsafe)]
 pub mod lanes {
     use core::arch::x86_64::{
-        __m128i, _mm_cmpeq_epi8, _mm_loadu_si128, _mm_movemask_epi8, _mm_set1_epi8,
+        __m128i, _mm_cmpeq_epi8, _mm_loadu_si128, _mm_max_epu8, _mm_movemask_epi8, _mm_set1_epi8,
     };
 
     pub type Lanes = __m128i;
@@ -294,6 +294,12 @@ pub mod lanes {
         // SAFETY: the target has SSE2.
         unsafe { _mm_movemask_epi8(_mm_cmpeq_epi8(one, other)) as u16 }
     }
+
+    #[inline(always)]
+    pub fn larger(one: Lanes, other: Lanes) -> Lanes {
+        // SAFETY: the target has SSE2.
+        unsafe { _mm_max_epu8(one, other) }
+    }
 }
 
 /// The same.
@@ -302,6 +308,7 @@ pub mod lanes {
 pub mod lanes {
     use core::arch::aarch64::{
         uint8x16_t, vaddv_u8, vandq_u8, vceqq_u8, vdupq_n_u8, vget_high_u8, vget_low_u8, vld1q_u8,
+        vmaxq_u8,
     };
 
     pub type Lanes = uint8x16_t;
@@ -326,5 +333,11 @@ pub mod lanes {
             let equal = vandq_u8(vceqq_u8(one, other), bits);
             u16::from(vaddv_u8(vget_low_u8(equal))) | u16::from(vaddv_u8(vget_high_u8(equal))) << 8
         }
+    }
+
+    #[inline(always)]
+    pub fn larger(one: Lanes, other: Lanes) -> Lanes {
+        // SAFETY: the target has NEON.
+        unsafe { vmaxq_u8(one, other) }
     }
 }

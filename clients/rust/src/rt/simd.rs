@@ -1,5 +1,7 @@
 //! Sixteen bytes that are compared at once: by a vector where the target has them, and else by two words.
 
+use core::ops::BitOr;
+
 pub mod prelude {
     pub use super::u8x16;
 }
@@ -9,7 +11,7 @@ pub mod prelude {
 #[derive(Clone, Copy)]
 pub struct u8x16(lanes::Lanes);
 
-/// Which of sixteen bytes are equal: bit `i` for byte `i`.
+/// Of which of sixteen bytes something holds: bit `i` for byte `i`.
 #[derive(Clone, Copy)]
 pub struct Mask(u16);
 
@@ -18,6 +20,15 @@ impl Mask {
     #[inline(always)]
     pub fn to_bitmask(self) -> u64 {
         u64::from(self.0)
+    }
+}
+
+impl BitOr for Mask {
+    type Output = Self;
+
+    #[inline(always)]
+    fn bitor(self, other: Self) -> Self {
+        Mask(self.0 | other.0)
     }
 }
 
@@ -38,6 +49,12 @@ impl u8x16 {
     #[inline(always)]
     pub fn simd_eq(self, other: Self) -> Mask {
         Mask(lanes::equal(self.0, other.0))
+    }
+
+    /// Tells which bytes are less than those of the other: for them the larger one is not their own.
+    #[inline(always)]
+    pub fn simd_lt(self, other: Self) -> Mask {
+        Mask(!lanes::equal(self.0, lanes::larger(self.0, other.0)))
     }
 }
 
@@ -68,6 +85,11 @@ mod lanes {
     #[inline(always)]
     pub fn equal(one: Lanes, other: Lanes) -> u16 {
         super::equal_by_words(&one, &other)
+    }
+
+    #[inline(always)]
+    pub fn larger(one: Lanes, other: Lanes) -> Lanes {
+        core::array::from_fn(|at| one[at].max(other[at]))
     }
 }
 

@@ -161,6 +161,11 @@ fn sixteen_bytes_are_compared_alike_on_each_path() {
         assert_eq!(equal_by_words(&one, &other), wanted);
         let by_target = u8x16::from_slice(&one).simd_eq(u8x16::from_slice(&other));
         assert_eq!(by_target.to_bitmask(), u64::from(wanted));
+        let less = (0..16).fold(0, |mask, at| mask | u64::from(one[at] < other[at]) << at);
+        let by_target = u8x16::from_slice(&one).simd_lt(u8x16::from_slice(&other));
+        assert_eq!(by_target.to_bitmask(), less);
+        let equal = u8x16::from_slice(&one).simd_eq(u8x16::from_slice(&other));
+        assert_eq!((by_target | equal).to_bitmask(), less | u64::from(wanted));
         let beside_one = u8x16::splat(one[3]).simd_eq(u8x16::from_slice(&other));
         assert_eq!(beside_one.to_bitmask() >> 5 & 1 == 1, one[3] == other[5]);
     }
