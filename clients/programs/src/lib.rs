@@ -20,7 +20,7 @@ pub mod itoa;
 pub mod memchr;
 pub mod rt;
 pub mod serde_json;
-mod simdutf8;
+pub mod simdutf8;
 pub mod tokens;
 #[allow(dead_code)]
 #[path = "../../c/src/unchecked.rs"]

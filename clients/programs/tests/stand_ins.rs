@@ -6,6 +6,7 @@ use programs::rt::alloc::Global;
 use programs::rt::string::String;
 use programs::rt::vec::Vec;
 use programs::serde_json::Value;
+use programs::simdutf8::from_utf8;
 use programs::tokens::{Reader, Scratch, Token};
 
 /// Numbers that look random, and are the same in each run.
@@ -84,6 +85,52 @@ fn what_is_not_utf8_is_replaced_as_rust_does() {
             .collect();
         let text = String::from_utf8_lossy(Global, &bytes).unwrap();
         assert_eq!(&*text, std::string::String::from_utf8_lossy(&bytes));
+    }
+}
+
+/// Both tell the same, and where bytes are not UTF-8.
+fn same_as_rust(bytes: &[u8]) {
+    assert_eq!(from_utf8(bytes), std::str::from_utf8(bytes), "{bytes:x?}");
+}
+
+#[test]
+fn each_three_bytes_are_utf8_where_rust_says_so() {
+    for bytes in 0..1_u32 << 24 {
+        same_as_rust(&bytes.to_be_bytes()[1..]);
+    }
+}
+
+/// Of the bytes that mean the same somewhere the first and the last one, up to six of them, behind some that are compared at once.
+#[test]
+fn bytes_are_utf8_where_rust_says_so() {
+    let ends = *b"\x00\x7f\x80\x8f\x90\x9f\xa0\xbf\xc0\xc1\xc2\xdf\xe0\xe1\xec\xed\xee\xef\xf0\xf1\xf3\xf4\xf5\xff";
+    let mut random = Random(5);
+    for first in ends {
+        for number in 0..ends.len().pow(3) {
+            let at = |power: u32| ends[number / ends.len().pow(power) % ends.len()];
+            same_as_rust(&[first, at(0), at(1), at(2)]);
+        }
+    }
+    for _ in 0..300_000 {
+        let mut bytes = [b'a'; 40];
+        let start = random.below(30);
+        let letters = [
+            "é",
+            "日",
+            "\u{800}",
+            "\u{d7ff}",
+            "\u{10000}",
+            "🐘",
+            "\u{10ffff}",
+            "z",
+        ];
+        let letter = letters[random.below(letters.len())].as_bytes();
+        bytes[start..start + letter.len()].copy_from_slice(letter);
+        if random.below(2) == 0 {
+            bytes[start + random.below(6)] = ends[random.below(ends.len())];
+        }
+        same_as_rust(&bytes[..random.below(41)]);
+        same_as_rust(&bytes[random.below(41)..]);
     }
 }
 
