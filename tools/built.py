@@ -32,7 +32,8 @@ def holding(data):
 class Program:
     """A built program, and .ci/failures.c, compiled into a folder, whose settings the runs get."""
 
-    def __init__(self, path, folder):
+    def __init__(self, path, folder, is_by_cargo=False):
+        self.is_by_cargo = is_by_cargo
         self.path = str(Path(path).resolve())
         self.library = f"{folder}/failures.so"
         clang = toolchain_folder() / "toolchain/bin/clang" if is_there("rt") else None

@@ -8,8 +8,8 @@ from program.streams import Streams
 from program.texts import BACKENDS, OUT_OF_MEMORY, UNREADABLE, UNWRITABLE, USAGE, answer, bad_line, lines_of
 
 CASES = "crates/intern/cases"
-# In bytes: the buffer of standard output.
-OUTPUT_BUFFER = 8192
+# In bytes: the buffer of standard output, and a reply where rustc compiled it, which has no word of its own for the tag.
+OUTPUT_BUFFER, REPLY_BY_RUSTC = 8192, 24
 # The words of lines, as a run of scenarios calls them.
 CALLS = {b"i": b"Intern", b"g": b"Get", b"r": b"Resolve", b"n": b"Number", b"len": b"Len", b"shrink": b"Shrink"}
 
@@ -24,7 +24,11 @@ def asks_of_lines(case):
         yield from ((number, size) for size in model.memory.asks)
 
 
-def requests(case):
+def size_of_reply(program):
+    return REPLY_BY_RUSTC if program.is_by_cargo else REPLY
+
+
+def requests(case, reply):
     """The requests after those for the words: the number of a line, or a word for what it is for, and its size."""
     yield "output", OUTPUT_BUFFER
     if case.end == USAGE:
@@ -35,7 +39,7 @@ def requests(case):
         return
     yield "commands", COMMAND * count
     if case.end[0] == 0:
-        yield "replies", REPLY * count
+        yield "replies", reply * count
         yield from asks_of_lines(case)
 
 
@@ -60,7 +64,7 @@ def asked_again(program, case, number, purpose, asks):
     if purpose in ("input", "commands", "replies"):
         return asks[number:]
     if purpose == "output":
-        return [] if asks[number:] == [size for _, size in requests(case)][1:] else asks[number:]
+        return [] if asks[number:] == [size for _, size in requests(case, size_of_reply(program))][1:] else asks[number:]
     lines = lines_of(case.data)
     if purpose == "words" or lines[purpose - 1] == b"shrink":
         return []
@@ -78,7 +82,7 @@ def try_case(program, case):
     ended, asks = program.run_with_asks(case.words, case.data)
     yield f"{name}, its requests told", ended, case.end
     words = asks.index(OUTPUT_BUFFER) if OUTPUT_BUFFER in asks else len(asks)
-    wanted = list(requests(case))
+    wanted = list(requests(case, size_of_reply(program)))
     yield f"{name}, what it asks for after the words, by {wanted}", asks[words:], [size for _, size in wanted]
     purposes = ["words"] * words + [purpose for purpose, _ in wanted]
     for number, (purpose, size) in enumerate(zip(purposes, asks), 1):
@@ -136,7 +140,9 @@ def try_random(program, seed, word):
         yield f"random input {seed} over {word}, {data[:60]!r}", program.run([word], data), answer([word], data)
     data = b"\n".join(lines)
     asks = program.run_with_asks([word], data)[1]
-    refused = source.randrange(asks.index(REPLY * len(lines)) + 2, len(asks) + 1)
+    # Behind the request for the commands, which may be for as many bytes as that for the replies.
+    at = asks.index(size_of_reply(program) * len(lines), asks.index(COMMAND * len(lines)) + 1)
+    refused = source.randrange(at + 2, len(asks) + 1)
     ended, _ = program.run_with_asks([word], data, refused)
     replies = ended.output.split(b"\n")
     line = replies.index(b"no memory") + 1 if b"no memory" in replies else None

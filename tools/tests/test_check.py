@@ -12,6 +12,7 @@ from pathlib import Path
 from unittest import mock
 
 from small import edits
+from machine import ask_rt
 
 CHECK = runpy.run_path(str(edits.TOP / "check"))
 
@@ -60,7 +61,7 @@ class PartTest(unittest.TestCase):
         with contextlib.redirect_stdout(io.StringIO()) as printed:
             self.assertEqual(self.gate.tell(), 1)
         lines = printed.getvalue().splitlines()
-        self.assertRegex(lines[1], r"^it: \d+ seconds, \d+ processor seconds$")
+        self.assertRegex(lines[1], r"^it: 3 passed, \d+ seconds, \d+ processor seconds$")
         self.assertEqual(lines[-2:], ["left out: a thing", "3 passed, 2 failed"])
 
 
@@ -143,7 +144,9 @@ class BeforehandTest(unittest.TestCase):
             self.assertEqual(CHECK["run_mode"](gate, "all"), 0)
         lines = printed.getvalue().splitlines()
         self.assertLess(next(i for i, line in enumerate(lines) if line.startswith("./check all takes ")), lines.index("== it: begins"))
-        self.assertIn("ran: ./check all", lines[lines.index("== what it took"):])
+        end = lines[lines.index("== what it took"):]
+        self.assertIn("ran: ./check all", end)
+        self.assertIn(f"toolchain: {ask_rt('version')}", end)
 
 
 class EndedTest(unittest.TestCase):

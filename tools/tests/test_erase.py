@@ -31,7 +31,7 @@ def without_models(text, of):
     """A source text without what is ghost as a whole, in which no brace stands at the margin but the last one."""
     text = re.sub(r"^(?:///.*\n)*impl\b[^{]*\bModel for [^{]*\{\n(?:    .*\n|\n)*\}$", "", text, flags=re.M)
     text = re.sub(r"^use thiserror::Error;$|^ *#\[error\(.*\)\]$|^#!?\[tactic\(.*\)\]$", "", text, flags=re.M)
-    return re.sub(rf"^(pub )?mod ({'|'.join(of.left_out)});$", "", text, flags=re.M)
+    return re.sub(rf"^(#\[cfg\(test\)\]\n)?(pub )?mod ({'|'.join(of.left_out)});$", "", text, flags=re.M)
 
 
 class EraseTest(TestCase):
@@ -187,17 +187,26 @@ class EraseTest(TestCase):
         self.assertIn(f"match self {arms}", erased[8])
         self.assertIn("} impl From<Why> for E { fn from(it: Why) -> Self { Self::Of(it) } } impl ", erased[8])
 
+    def test_errors_that_borrow(self):
+        """Fields of further types, several of them, and constants in the text."""
+        variants = '    #[error("{0} {1}{HINT}")]\n    Two(&\'static str, Shown<\'a>),\n    #[error("{HINT}")]\n    No,\n'
+        erased = ERASE(f"#[derive(Error)]\nenum E<'a> {{\n{variants}}}\n").splitlines()
+        arms = '{ Self::Two(it0, it1) => ::core::write!(f, "{0} {1}{HINT}", it0, it1), Self::No => ::core::write!(f, "{HINT}"), }'
+        self.assertIn(f"match self {arms}", erased[6])
+        self.assertIn("} impl<'a> ::core::error::Error for E<'a> {} impl<'a> ::core::fmt::Display for E<'a> { fn ", erased[6])
+
     def test_names_of_a_program(self):
         """In a program paths and macros lead elsewhere, and other modules are left out."""
-        names = {"library": "library::proved", "println": "crate::rt::println"}
+        names = {"library": "library::proved", "println!": "crate::rt::println", "format!": "crate::rt::format"}
         program = TOOL["Erased"]("", "", "crate::a", frozenset({"b"}), names=names)
-        source = "use library::B;\nmod b;\nfn f() { println!(rt; \"\"); crate::g(library::h, a::library::i) }\n"
-        erased = ERASE(source, "", program).replace(PRELUDE, "", 1).splitlines()
+        source = "use library::B;\nmod b;\nfn main() { println!(rt; \"\"); crate::g(library::h, a::library::i); format::g() }\n"
+        erased = ERASE(source, "main.rs", program).replace(PRELUDE, "", 1).splitlines()
         self.assertEqual(erased, [
             "use library::proved::B;",
             "//~ mod b;",
-            'fn f() { crate::rt::println!(rt; ""); crate::a::g(library::proved::h, a::library::i) }',
+            'pub fn main() { crate::rt::println!(rt; ""); crate::a::g(library::proved::h, a::library::i); format::g() }',
         ])
+        self.gives("fn main() { a.collect(); b.collect(alloc) }\n", "fn main() { a.collect(); b.try_collect(alloc) }")
 
     def test_other_forms(self):
         self.gives("impl A { final fn f() {} }\n", "impl A { fn f() {} }")
@@ -208,6 +217,7 @@ class EraseTest(TestCase):
             "}",
         )
         self.gives("fn fmt<W: fmt::Write>(&self, f: &mut fmt::Formatter<W>) {}\n", "fn fmt(&self, f: &mut fmt::Formatter<'_>) {}")
+        self.gives("fn fmt<W: Write>(&self, f: &mut Formatter<W>) {}\n", "fn fmt(&self, f: &mut Formatter<'_>) {}")
         self.gives(
             "const A: u8 = 1;\nconst _: () = prove!(size_of::<A>() == 1);\n",
             "const A: u8 = 1;",
@@ -227,9 +237,14 @@ class EraseTest(TestCase):
             "fn f() { self.tags[at] }",
             place="dedup/tagged.rs",
         )
+        self.gives(
+            "fn interned_text(it: &'a [u8]) { &bytes[span.from..span.to] }\n",
+            "fn interned_text(it: &'a [u8]) { unsafe { crate::unchecked::cut_unchecked(bytes, span.from..span.to) } }",
+            place="backend/bucket/buckets.rs",
+        )
         for place in ("", "dedup/tagged/tags.rs"):
             self.gives("fn item_with() { self.tags[at] }\n", "fn item_with() { self.tags[at] }", place=place)
-        for other in ("tags[at]", "self.tags[at + 1]", "&tags[..at]", "&self.tags[at..]"):
+        for other in ("tags[at]", "self.tags[at + 1]", "&tags[..at]", "&self.tags[at..]", "&bytes[from..to]", "bytes[span.from..span.to]"):
             self.refuses(f"fn lanes_with() {{\n    {other}\n}}\n", 2, "in another form", "dedup/tagged/tags.rs")
 
     def test_parts_of_the_joined_texts(self):
@@ -267,6 +282,7 @@ class EraseTest(TestCase):
             ("#[derive(Error)]\nstruct A;\n", 2, "no plain enum"),
             ('#[derive(Error)]\nenum A {\n    #[error("{0}")]\n    B(u8, u8),\n}\n', 2, "fields"),
             ('#[derive(Error)]\nenum A {\n    #[error("{0}")]\n    B,\n}\n', 2, "fields"),
+            ('#[derive(Error)]\nenum A {\n    #[error(transparent)]\n    B(u8),\n}\n', 2, "of another form"),
             ("trait A<T {}\n", 1, "without an end"),
             ("fn f( {}\n", 1, "a bracket without an end"),
             ("fn f()\n{ ( }\n", 2, "brackets that do not match"),
@@ -352,7 +368,7 @@ class SourcesTest(TestCase):
             for path in sorted(of.sources.rglob("*.rt")):
                 place = path.relative_to(of.sources).with_suffix(".rs")
                 if of.takes(place):
-                    target = self.top / of.into / ("mod.rs" if str(place) == "lib.rs" else place)
+                    target = self.top / of.into / ("mod.rs" if str(place) in ("lib.rs", "main.rs") else place)
                     yield path.read_text(encoding="utf-8"), target.read_text(encoding="utf-8"), of
 
     def test_each_line_keeps_its_number(self):
@@ -366,15 +382,17 @@ class SourcesTest(TestCase):
         for source, erased, of in self.pairs():
             erased = self.with_paths_of_the_source(erased.replace(PRELUDE, "", 1), of)
             erased = re.sub(r"#\[test\] fn holds_at_line_\d+\(\) \{ assert(.*;) \}", r"const _: () = prove\1", erased)
-            erased = re.sub(r"^\} impl ::core::error::Error .*$", "}", erased, flags=re.M)
+            erased = re.sub(r"^\} impl(<'a>)? ::core::error::Error .*$", "}", erased, flags=re.M)
             erased = re.sub(r"\*unsafe \{ self\.(\w+)\.at_unchecked\((\w+)\) \}", r"self.\1[\2]", erased)
             erased = re.sub(r"unsafe \{ (\w+)\.sixteen_unchecked\((\w+)\) \}", r"&\1[\2..]", erased)
+            erased = re.sub(r"unsafe \{ crate::unchecked::cut_unchecked\((\w+), (.*)\) \}", r"&\1[\2]", erased)
             erased = erased.replace("pub(crate) mod ", "mod ").replace(": Sized + ", ": ").replace(": Sized ", " ")
+            erased = erased.replace("pub fn main(", "fn main(").replace(".try_collect(", ".collect(")
             source, erased = self.of_handles(source, of), self.of_handles(erased, of)
             source = without_models(source, of).replace("final fn ", "fn ").replace("pub(crate) mod ", "mod ")
             source = source.replace("use core::", "use std::")
             source = re.sub(r"#\[derive\((.*)\)\]", self.plain_derive, source)
-            source = source.replace("fmt<W: fmt::Write>(&self, f: &mut Formatter<W>)", "fmt(&self, f: &mut Formatter<'_>)")
+            source = re.sub(r"fmt<W: (?:fmt::)?Write>(\(&self, f: &mut (?:fmt::)?Formatter)<W>\)", r"fmt\1<'_>)", source)
             self.assertEqual(code_of(source), code_of(erased))
 
     @staticmethod
@@ -383,14 +401,16 @@ class SourcesTest(TestCase):
         for crate, modules in TOOL["AT_THE_ROOT"].items():
             for it in modules if crate != of.crate else ():
                 erased = erased.replace(f"crate::{it}::", f"{crate}::{it}::")
-        for crate, name in TOOL["NAMES"].items():
-            erased = erased.replace(f"{name}::", f"{'std' if crate == 'core' else crate}::")
+        # Macros first, because they are in a module that has another name.
+        for crate, name in sorted(of.names.items(), key=lambda it: not it[0].endswith("!")):
+            mark = "!" if crate.endswith("!") else "::"
+            erased = erased.replace(f"{name}{mark}", f"{'std' if crate == 'core' else crate.removesuffix('!')}{mark}")
         return erased
 
     @staticmethod
     def of_handles(text, of):
         """What is passed to the functions of handles, and to exports, in one form."""
-        if of.crate == "string_interner":
+        if of.crate not in ("handles", "string_interner_c"):
             return text
         text = re.sub(r"(&(?:'a )?)mut Handle\b", r"\1Handle", text).replace(".interner()", ".read()").replace("try_to_vec", "to_vec")
         if of.crate == "handles":

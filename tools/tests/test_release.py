@@ -2,19 +2,28 @@
 
 import shutil
 import subprocess
+import sys
 import tempfile
 import unittest
 from pathlib import Path
 
 TOP = Path(__file__).resolve().parents[2]
-LOG = """\
-== what it took
-proofs: 900 seconds, 3288 processor seconds
+sys.path.append(str(TOP / "tools"))
+from gate_log import PARTS
+
+# What the parts said, of which the second counts nothing, and what the gate says of them at its end.
+NAMES = sorted(PARTS)
+SAID = {name: f"== one\n{number} passed, 0 failed\n" if number % 2 else f"Ran {number} tests in 0.5s\n" for number, name in
+        enumerate(NAMES, 1)} | {NAMES[1]: "no record\n"}
+COUNTS = {name: 0 if name == NAMES[1] else number for number, name in enumerate(NAMES, 1)}
+LOG = "".join(f"== {name}: begins\n== {name}\n{said}" for name, said in SAID.items()) + "== what it took\n" + "".join(
+    f"{name}: {count} passed, 9 seconds, 32 processor seconds\n" for name, count in COUNTS.items()) + """\
 ran: ./check all
 checked: commit {commit}
+toolchain: kit-1 logic 1f
 left out: no python3d on this machine: what needs it is left out. Debian's packages: python3-dbg
-1234 passed, 0 failed
-"""
+TOTAL passed, 0 failed
+""".replace("TOTAL", str(sum(COUNTS.values())))
 
 
 class ReleaseTest(unittest.TestCase):
@@ -25,8 +34,10 @@ class ReleaseTest(unittest.TestCase):
         self.addCleanup(folder.cleanup)
         self.top = Path(folder.name, "clone")
         (self.top / "tools").mkdir(parents=True)
-        shutil.copy(TOP / "tools/release", self.top / "tools")
+        for name in ("release", "gate_log.py"):
+            shutil.copy(TOP / "tools" / name, self.top / "tools")
         (self.top / "VERSION").write_text("1.2.3\n")
+        (self.top / "README.md").write_text("whose `rt version` ends in `logic 1f`\n")
         git = ["git", "-C", self.top, "-c", "user.name=a", "-c", "user.email=a@example.org"]
         for words in (["init", "-q"], ["add", "."], ["commit", "-qm", "all"]):
             subprocess.run([*git, *words], check=True)
@@ -51,11 +62,27 @@ class ReleaseTest(unittest.TestCase):
 
     def test_planted_bugs_that_were_left_out(self):
         line = "left out: 219 planted bugs that no change since the last run can touch (./check all)"
-        self.assertEqual(self.said_of(self.log.replace("1234", f"{line}\n1234")), f"release: LOG says {line}")
+        self.assertEqual(self.said_of(self.log.replace("left out: no", f"{line}\nleft out: no")), f"release: LOG says {line}")
 
     def test_a_gate_that_failed_or_ran_elsewhere(self):
         self.assertEqual(self.said_of(self.log.replace("0 failed", "1 failed")), "release: LOG is no log of a gate that passed")
         self.assertIn("release: LOG is of another commit", self.said_of(self.log.replace("checked: commit", "checked:")))
+
+    def test_counts_that_do_not_fit(self):
+        name, total = NAMES[4], sum(COUNTS.values())
+        other = self.log.replace(f"{name}: 5 passed", f"{name}: 6 passed")
+        self.assertEqual(self.said_of(other), f"release: LOG says 6 passed of {name}, which says otherwise")
+        said = self.said_of(self.log.replace(f"{total} passed", f"{total + 1} passed"))
+        self.assertEqual(said, "release: LOG has parts that do not come to the count of all")
+        without = self.log.replace(f"{name}: 5 passed, 9 seconds, 32 processor seconds\n", "")
+        self.assertEqual(self.said_of(without), f"release: LOG has not the parts {name}")
+        ends_alone = self.log[self.log.index("== what it took"):]
+        self.assertIn("which says otherwise", self.said_of(ends_alone))
+
+    def test_another_toolchain(self):
+        said = self.said_of(self.log.replace("logic 1f", "logic 2f"))
+        self.assertEqual(said, "release: LOG is by another toolchain than README.md names: kit-1 logic 2f")
+        self.assertIn("README.md names: none", self.said_of(self.log.replace("toolchain: kit-1 logic 1f\n", "")))
 
 
 if __name__ == "__main__":

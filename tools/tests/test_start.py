@@ -1,4 +1,4 @@
-"""How bin/ starts a program: current, stale or missing, with rt and without."""
+"""How bin/ starts a program: current, stale or missing, with rt, by cargo, and with neither."""
 
 import os
 import pty
@@ -25,8 +25,32 @@ chmod +x out/intern
 echo built
 """
 
+# Stands for cargo, in the same way. A setting of it may name another target than this machine.
+CARGO = """#!/bin/sh
+if [ "$1" = -vV ]; then
+    echo 'host: of_this_machine'
+    exit
+fi
+[ "$*" = 'build --release --offline --target of_this_machine --target-dir target --bin intern' ] || exit 1
+mkdir -p target/of_this_machine/release
+echo "echo \\"by cargo: $(cat src/lib.rs) \\$*\\"" > target/of_this_machine/release/intern
+chmod +x target/of_this_machine/release/intern
+"""
+# What cargo compiles, and where that is.
+COMPILED = ("clients/programs/Cargo.toml", "clients/programs/src/lib.rs", "clients/rust/src/proved/mod.rs", "clients/rust/src/rt/mod.rs",
+            "clients/rust/src/unchecked.rs", "clients/c/src/proved/json.rs", "clients/c/src/rt/str.rs", "clients/c/src/unchecked.rs")
+
 
 class Start(unittest.TestCase):
+    @classmethod
+    def setUpClass(cls):
+        """The commands of this machine, but for cargo, which Debian has among them."""
+        cls.commands = tempfile.TemporaryDirectory()
+        cls.addClassCleanup(cls.commands.cleanup)
+        for path in {it.name: it for place in ("/bin", "/usr/bin") for it in Path(place).iterdir()}.values():
+            if path.name != "cargo":
+                Path(cls.commands.name, path.name).symlink_to(path)
+
     def setUp(self):
         self.folder = tempfile.TemporaryDirectory()
         self.addCleanup(self.folder.cleanup)
@@ -41,9 +65,13 @@ class Start(unittest.TestCase):
         self.source = self.top / "crates/intern/src/main.rt"
         self.write(self.source, "old")
         (self.top / "rt").mkdir()
-        self.rt = self.top / "rt/rt"
-        self.rt.write_text(RT)
-        self.rt.chmod(0o755)
+        for name in COMPILED:
+            (self.top / name).parent.mkdir(parents=True, exist_ok=True)
+            self.write(self.top / name, "old")
+        (self.top / "cargo").mkdir()
+        for path, text in (self.top / "rt/rt", RT), (self.top / "cargo/cargo", CARGO):
+            path.write_text(text)
+            path.chmod(0o755)
 
     def write(self, path, text):
         """Writes a file, with a time in the past: what is older than a second is never taken for newer."""
@@ -51,14 +79,14 @@ class Start(unittest.TestCase):
         os.utime(path, (1, 1))
         os.utime(path.parent, (1, 1))
 
-    def run_bin(self, *words, has_rt=True, **environment):
-        path = f"{self.top}/rt:/usr/bin:/bin" if has_rt else "/usr/bin:/bin"
+    def run_bin(self, *words, has_rt=True, has_cargo=False, **environment):
+        path = ":".join([f"{self.top}/rt"] * has_rt + [f"{self.top}/cargo"] * has_cargo + [self.commands.name])
         return subprocess.run([str(self.top / "bin/intern"), *words], env={"PATH": path} | environment, stdin=subprocess.DEVNULL,
                               capture_output=True, encoding="utf-8", check=False)
 
-    def edit(self, path, text):
+    def edit(self, path, text, folder="crates/intern"):
         path.write_text(text)
-        future = os.stat(self.top / "crates/intern/out/bin-intern.stamp").st_mtime + 10
+        future = os.stat(self.top / folder / "out/bin-intern.stamp").st_mtime + 10
         os.utime(path, (future, future))
 
     def test_builds_what_is_missing(self):
@@ -123,6 +151,36 @@ class Start(unittest.TestCase):
         ran = self.run_bin("string", has_rt=False)
         self.assertEqual((ran.returncode, ran.stdout), (0, "old string\n"))
         self.assertEqual(ran.stderr, "intern: this program may be older than its sources, and cannot be built here\n")
+
+    def test_compiles_by_cargo_without_rt(self):
+        ran = self.run_bin("buffer", "a b", has_rt=False, has_cargo=True)
+        self.assertEqual((ran.returncode, ran.stdout), (0, "by cargo: old buffer a b\n"))
+        self.assertEqual(ran.stderr, "intern: compiling the program by cargo, in a minute, because there is no rt\n")
+        for has_cargo in (True, False):
+            ran = self.run_bin("string", has_rt=False, has_cargo=has_cargo)
+            self.assertEqual((ran.returncode, ran.stdout, ran.stderr), (0, "by cargo: old string\n", ""))
+
+    def test_compiles_again_after_an_edit(self):
+        for name in COMPILED:
+            self.run_bin("string", has_rt=False, has_cargo=True)
+            self.edit(self.top / name, "new", "clients/programs")
+            ran = self.run_bin("string", has_rt=False)
+            self.assertIn("may be older than its sources", ran.stderr, name)
+            self.assertIn("compiling", self.run_bin("string", has_rt=False, has_cargo=True).stderr, name)
+
+    def test_takes_rt_before_cargo(self):
+        ran = self.run_bin("string", has_cargo=True)
+        self.assertEqual((ran.returncode, ran.stdout), (0, "old string\n"))
+        self.edit(self.source, "new")
+        ran = self.run_bin("string", has_rt=False, has_cargo=True)
+        self.assertEqual(ran.stdout, "by cargo: old string\n")
+        self.assertEqual(self.run_bin("string", has_cargo=True).stdout, "new string\n")
+
+    def test_says_why_cargo_failed(self):
+        (self.top / "cargo/cargo").write_text("#!/bin/sh\necho 'no such edition' >&2\nexit 101\n")
+        ran = self.run_bin("string", has_rt=False, has_cargo=True)
+        self.assertEqual((ran.returncode, ran.stdout), (1, ""))
+        self.assertIn("no such edition\nintern: the program was not built\n", ran.stderr)
 
     def test_says_what_is_wanted_where_nothing_is_built(self):
         ran = self.run_bin("string", has_rt=False)

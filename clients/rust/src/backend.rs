@@ -7,15 +7,19 @@
 //! | [`BufferBackend`] | in one buffer, each behind its length | memory counts most; symbol numbers have gaps, because they are byte offsets |
 //! | a type of your own that implements [`Backend`] | as you like | none of these serves |
 
+#![allow(unsafe_code)]
+
+#[deny(unsafe_code)]
 mod iter;
-mod joined;
 
 use crate::error::{expect, InternError};
+use crate::interner::StringInterner;
 use crate::proved::backend as proved;
 use crate::proved::backend::Backend as _;
 use crate::rt::alloc::{AllocError, Global};
 use crate::sealed::Ours;
 use crate::symbol::{DefaultSymbol, Sym, Symbol};
+use crate::unchecked::{find_joined, joined_at};
 use alloc::vec::Vec;
 use core::fmt;
 use core::marker::PhantomData;
@@ -184,6 +188,22 @@ impl<B: Backend> proved::Backend for As<B> {
     }
 }
 
+// Here, so that all of this crate that asks its caller for such a promise is in one file.
+impl<B: Backend, H> StringInterner<B, H> {
+    /// Returns the text of a symbol.
+    ///
+    /// # Safety
+    ///
+    /// This interner returned the symbol, or another one did before this one was cloned of it, and no
+    /// [`truncate`](Self::truncate) has dropped its text since. Of any other symbol an interner over a
+    /// [`BufferBackend`] may return what is no UTF-8.
+    #[inline]
+    pub unsafe fn resolve_unchecked(&self, symbol: B::Symbol) -> &str {
+        // SAFETY: the caller promises the same.
+        unsafe { self.backend.0.resolve_unchecked(symbol) }
+    }
+}
+
 macro_rules! backend {
     ($(#[$doc:meta])* $name:ident, $iter:ident, $find:path, $at:path, $checks_numbers:expr) => {
         $(#[$doc])*
@@ -337,7 +357,7 @@ macro_rules! backend {
 
 backend! {
     /// All texts joined in one string. Symbols number 0, 1, 2, ..
-    StringBackend, StringIter, joined::find, joined::at, true
+    StringBackend, StringIter, find_joined, joined_at, true
 }
 backend! {
     /// Texts in blocks that never move. Symbols number 0, 1, 2, ..

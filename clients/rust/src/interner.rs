@@ -36,7 +36,7 @@ pub struct StringInterner<B, H = DefaultHashBuilder>
 where
     B: Backend,
 {
-    backend: As<B>,
+    pub(crate) backend: As<B>,
     hasher: By<H>,
     index: Index<B>,
 }
@@ -343,19 +343,6 @@ impl<B: Backend, H> StringInterner<B, H> {
     #[inline]
     pub fn resolve(&self, symbol: B::Symbol) -> Option<&str> {
         self.backend.0.resolve(symbol)
-    }
-
-    /// Returns the text of a symbol.
-    ///
-    /// # Safety
-    ///
-    /// This interner returned the symbol, or another one did before this one was cloned of it, and no
-    /// [`truncate`](Self::truncate) has dropped its text since. Of any other symbol an interner over a
-    /// [`BufferBackend`](crate::backend::BufferBackend) may return what is no UTF-8.
-    #[inline]
-    pub unsafe fn resolve_unchecked(&self, symbol: B::Symbol) -> &str {
-        // SAFETY: the caller promises the same.
-        unsafe { self.backend.0.resolve_unchecked(symbol) }
     }
 
     /// Iterates over all texts with their symbols, in insertion order.

@@ -95,22 +95,23 @@
 //!
 //! # Why it is safe
 //!
-//! A symbol, a hasher, a backend, a text or an iterator of a program's own may return anything, panic or call back. Each `unsafe`
-//! says what it rests on:
+//! A symbol, a hasher, a backend, a text or an iterator of a program's own may return anything, panic or call back. Beside the proved
+//! source, three files have unsafe code, and each `unsafe` there says what it rests on:
 //!
 //! | Where | Rests on |
 //! |---|---|
 //! | `backend.rs`: symbols of the index are resolved unchecked | an index has only symbols that its backend returned, copied by their bits |
-//! | `backend/joined.rs`: parts of a joined text are cut unchecked | its ends are those of whole texts; a text's number is checked before |
-//! | `proved/dedup/tagged.rs`: slots are read without checks of bounds | what `unchecked.rs` says of them |
+//! | `unchecked.rs`: slots are read without checks of bounds | what it says of the tagged table, whatever a program's own types do |
+//! | `unchecked.rs`: texts are cut unchecked out of a joined one, and out of buckets | ends and entries are those of whole texts; a text's number is checked before |
 //! | `unchecked.rs`: a short text is appended by words | there is room, which is tested before |
+//! | `unchecked.rs`: vectors | the target has them |
+//! | `sync/memory.rs`: texts are lent without a lock | buckets do not move, and no text is dropped |
+//! | `sync/memory.rs`: what threads read while it grows | it is published by a release, and freed by `&mut` alone |
 //! | `proved`, of a buffer and of buckets: bytes are a text | they are those of a text that was interned: what a number of a program's own symbol type leads to is checked instead |
 //! | `proved`, of static texts: their bytes are read at their address | the address is made of a `&'static str`, in one place |
-//! | `sync/texts.rs`: texts are lent without a lock | buckets do not move, and no text is dropped |
-//! | `sync/arrays.rs`: what threads read while it grows | it is published by a release, and freed by `&mut` alone |
-//! | `rt/simd.rs`: vectors | the target has them |
 
 #![no_std]
+#![deny(unsafe_code)]
 #![warn(
     missing_docs,
     unsafe_op_in_unsafe_fn,
@@ -132,7 +133,7 @@ pub mod hasher;
 mod interner;
 mod json;
 // The linter and the compiler warn of what the source's language asks for.
-#[allow(clippy::all, clippy::undocumented_unsafe_blocks, dead_code, missing_docs, rustdoc::all, unstable_name_collisions, unused)]
+#[allow(clippy::all, clippy::undocumented_unsafe_blocks, dead_code, missing_docs, rustdoc::all, unsafe_code, unstable_name_collisions, unused)]
 #[rustfmt::skip]
 mod proved;
 #[cfg(doctest)]

@@ -49,10 +49,10 @@
 //! That these make one interner together is tested, and not proved. The library's contracts promise no address either: that the
 //! texts of a bucket stay where they are is tested.
 
-mod arrays;
 mod freeze;
 mod index;
 mod iter;
+mod memory;
 mod orders;
 #[cfg(feature = "serde")]
 mod serde;
@@ -60,7 +60,6 @@ mod shard;
 mod shared;
 #[cfg(test)]
 mod tests;
-mod texts;
 mod traits;
 
 use crate::error::{expect, InternError};
@@ -70,10 +69,8 @@ use crate::symbol::{DefaultSymbol, Symbol};
 use core::hash::BuildHasher;
 use index::Look;
 pub use iter::Iter;
-use shard::Shard;
-use shared::{shard_of, Apart, Shared, SHARDS};
-use std::boxed::Box;
-use std::sync::{Mutex, MutexGuard, PoisonError};
+use memory::Memory;
+use shared::{shard_of, Shared};
 
 /// A list of distinct texts, each with a symbol, that many threads may read and extend at the same time.
 ///
@@ -86,13 +83,7 @@ use std::sync::{Mutex, MutexGuard, PoisonError};
 /// itself.
 pub struct Interner<S = DefaultSymbol, H = DefaultHashBuilder> {
     shared: Shared<S, H>,
-    shards: Box<[Apart<Mutex<Shard>>]>,
-}
-
-/// Takes the lock of a shard. No panic leaves one half changed, so a lock that somebody panicked under is as good.
-#[inline]
-fn lock(shard: &Apart<Mutex<Shard>>) -> MutexGuard<'_, Shard> {
-    shard.0.lock().unwrap_or_else(PoisonError::into_inner)
+    memory: Memory,
 }
 
 impl Interner {
@@ -116,9 +107,7 @@ impl<S: Symbol, H: BuildHasher> Interner<S, H> {
     pub fn with_hasher(hash_builder: H) -> Self {
         Interner {
             shared: Shared::new(hash_builder),
-            shards: (0..SHARDS)
-                .map(|_| Apart(Mutex::new(Shard::new())))
-                .collect(),
+            memory: Memory::new(),
         }
     }
 
@@ -128,7 +117,7 @@ impl<S: Symbol, H: BuildHasher> Interner<S, H> {
     pub fn get<T: AsRef<str>>(&self, string: T) -> Option<S> {
         let text = string.as_ref();
         let code = self.shared.code_of(text);
-        let number = match self.shared.find(code, text) {
+        let number = match self.find(code, text) {
             Look::Found(number) => number,
             Look::Absent => return None,
             Look::Unknown => self.ask(code, text)?,
@@ -136,10 +125,17 @@ impl<S: Symbol, H: BuildHasher> Interner<S, H> {
         S::try_from_usize(number as usize)
     }
 
+    /// Looks for a text with this code without a lock.
+    #[inline(always)]
+    fn find(&self, code: u64, text: &str) -> Look {
+        self.shared.find(self.memory.texts(), code, text)
+    }
+
     /// Returns the number of a text by asking its shard.
     #[cold]
     fn ask(&self, code: u64, text: &str) -> Option<u32> {
-        lock(&self.shards[shard_of(code)]).find(code, text)
+        self.memory
+            .with_locked(shard_of(code), |shard| shard.find(code, text))
     }
 
     /// Reports whether a text is known. Takes a lock when [`get`](Self::get) does.
@@ -179,7 +175,7 @@ impl<S: Symbol, H: BuildHasher> Interner<S, H> {
     pub fn try_get_or_intern<T: AsRef<str>>(&self, string: T) -> Result<S, InternError> {
         let text = string.as_ref();
         let code = self.shared.code_of(text);
-        match self.shared.find(code, text) {
+        match self.find(code, text) {
             Look::Found(number) => self.shared.symbol_of(number),
             _ => self.append(code, text),
         }
@@ -193,7 +189,7 @@ impl<S: Symbol, H: BuildHasher> Interner<S, H> {
     #[inline]
     pub fn try_get_or_intern_static(&self, string: &'static str) -> Result<S, InternError> {
         let code = self.shared.code_of(string);
-        match self.shared.find(code, string) {
+        match self.find(code, string) {
             Look::Found(number) => self.shared.symbol_of(number),
             _ => self.append_static(code, string),
         }
@@ -213,19 +209,19 @@ impl<S: Symbol, H: BuildHasher> Interner<S, H> {
 
     #[inline(always)]
     fn append_given(&self, code: u64, given: Given<'_>) -> Result<S, InternError> {
-        let mut shard = lock(&self.shards[shard_of(code)]);
-        self.shared.intern(&mut shard, code, given)
+        self.memory.with_locked(shard_of(code), |shard| {
+            self.shared.intern(shard, code, given)
+        })
     }
 
     /// Interns a text for who has the interner alone: no lock is taken.
     #[inline]
     fn intern_alone(&mut self, text: &str) -> Result<S, InternError> {
         let code = self.shared.code_of(text);
-        if let Look::Found(number) = self.shared.find(code, text) {
+        if let Look::Found(number) = self.find(code, text) {
             return self.shared.symbol_of(number);
         }
-        let shard = self.shards[shard_of(code)].0.get_mut();
-        let shard = shard.unwrap_or_else(PoisonError::into_inner);
+        let shard = self.memory.hold(shard_of(code));
         self.shared.intern(shard, code, Given::Copied(text))
     }
 }
@@ -256,13 +252,13 @@ impl<S: Symbol, H> Interner<S, H> {
     #[inline]
     pub fn resolve(&self, symbol: S) -> Option<&str> {
         let number = u32::try_from(symbol.to_usize()).ok()?;
-        self.shared.texts.get(number)
+        self.memory.texts().get(number)
     }
 
     /// Iterates over the texts that there are now with their symbols, in the order of the symbols' numbers. What threads intern in
     /// the meantime is left out.
     #[inline]
     pub fn iter(&self) -> Iter<'_, S> {
-        Iter::new(&self.shared.texts, self.shared.count())
+        Iter::new(self.memory.texts(), self.shared.count())
     }
 }

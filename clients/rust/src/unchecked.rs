@@ -1,10 +1,13 @@
-//! Looking a text up in the tagged table without checks of bounds, and appending a short text without a call.
+//! All that is unsafe of what one thread does, but for calls of `resolve_unchecked` (`backend.rs`) and what is in proved source:
+//! looking a text up in the tagged table without checks of bounds, cutting texts out of a joined one and out of buckets, appending a
+//! short text without a call, and comparing sixteen bytes at once.
 //!
 //! # Looking up
 //!
 //! The proof of the table assumes that a program's own symbols, hashers and backends keep their contracts. Memory must not depend on
-//! that. So `item_with` and `lanes_with`, which read slots and tags in a look-up, are the only functions of proved code that index
-//! without a check, and what they rest on holds whatever such types do. Whatever writes a slot, or moves one, checks.
+//! that. So `item_with` and `lanes_with`, which read slots and tags in a look-up, and `interned_text`, which cuts a text out of a
+//! bucket, are the only functions of proved code that leave a check out, and what they rest on holds whatever such types do. Whatever
+//! writes a slot, or moves one, checks.
 //!
 //! Of `TaggedSlots`, whose fields only `proved/dedup/tagged.rs` writes:
 //!
@@ -40,18 +43,53 @@
 //! Symbols are copied by their bits (`Sym`), so no `Clone` runs while `items` is filled or copied. `try_copy` copies a list whole or
 //! fails.
 //!
+//! # Cutting texts
+//!
+//! - **G**: the ends of a `StringBackend` rise. Each is the length that the joined text had when a whole text was appended, and no later
+//!   call lets the joined text end before the last of them: so says the contract of `as_parts`, whose source is proved.
+//! - **H**: an entry of a `BucketBackend` that names a bucket has the place there of a whole text, or in a clone that is being made, of
+//!   texts that follow each other. `store` put them there. No call changes or drops bytes of a bucket, or gives it another number, and
+//!   the entries of a clone are of its own bucket: so says the invariant `IsInBuckets`, whose source is proved.
+//!
+//! Both hold whatever a program's own symbols, hashers and backends do, since none of their code runs between a change of the bytes and
+//! that of ends or entries, and the proved backends number texts by symbols of the library. What such a type returns is the number of
+//! a text at most: that is checked before its ends or its entry are read. What then says where to cut is no number that it returned.
+//!
 //! # Appending
 //!
 //! `append` tests for itself that there is room. It rests on nothing else.
+//!
+//! # Vectors
+//!
+//! `lanes` rests on the target, which has the vectors, and on arrays of sixteen bytes.
 
+#![allow(unsafe_code)]
+
+use crate::proved::backend::string::ends::{find_span, span};
+use crate::proved::backend::StringBackend;
 use alloc::string::String;
-
 use core::ops::Range;
+use core::slice;
 
 /// Returns a part of a text, which begins and ends with a character. It is checked, because a program's own types may say where.
 #[inline(always)]
 pub fn cut(text: &str, part: Range<usize>) -> &str {
     &text[part]
+}
+
+/// Returns a part of a text without a check. With `--cfg string_interner_checks` there is one.
+///
+/// # Safety
+///
+/// The part begins and ends with a character, or with the text.
+#[inline(always)]
+pub unsafe fn cut_unchecked(text: &str, part: Range<usize>) -> &str {
+    debug_assert!(text.get(part.clone()).is_some());
+    if cfg!(string_interner_checks) {
+        return &text[part];
+    }
+    // SAFETY: the caller promises that both ends lie within the text, in this order, where characters begin.
+    unsafe { text.get_unchecked(part) }
 }
 
 /// Access without a check. With `--cfg string_interner_checks` there is one.
@@ -126,5 +164,180 @@ unsafe fn append_ends<const N: usize>(text: &mut String, more: &str) {
         to.cast::<[u8; N]>().write(first);
         to.add(len - N).cast::<[u8; N]>().write(last);
         bytes.set_len(at + len);
+    }
+}
+
+/// Returns where a text begins and ends, if its end is one of those of four bytes.
+///
+/// The part of the list up to that end is taken first, so that the two ends behind it need no further check of bounds.
+#[inline(always)]
+fn narrow_span(narrow: &[u32], number: usize) -> Option<(usize, usize)> {
+    match narrow.get(..=number)? {
+        [.., start, end] => Some((*start as usize, *end as usize)),
+        [end] => Some((0, *end as usize)),
+        [] => None,
+    }
+}
+
+/// Returns the text of a `StringBackend` with a number, if there is one.
+#[inline(always)]
+pub fn find_joined(texts: &StringBackend<usize>, number: usize) -> Option<&str> {
+    let (joined, ends) = texts.as_parts();
+    let (start, end) = match narrow_span(ends.as_slices().0, number) {
+        Some(narrow) => narrow,
+        None => find_span(ends, number)?,
+    };
+    // SAFETY: these are the end of the text before, or 0, and the end of this one (G).
+    Some(unsafe { cut_unchecked(joined, start..end) })
+}
+
+/// The same. Panics if there is none.
+#[inline(always)]
+pub fn joined_at(texts: &StringBackend<usize>, number: usize) -> &str {
+    let (joined, ends) = texts.as_parts();
+    let (start, end) = match narrow_span(ends.as_slices().0, number) {
+        Some(narrow) => narrow,
+        None => span(ends, number),
+    };
+    // SAFETY: as in `find_joined`.
+    unsafe { cut_unchecked(joined, start..end) }
+}
+
+/// All texts of a `StringBackend` in order, as the parts of the joined text from each end to the next.
+#[derive(Clone)]
+pub struct Parts<'a> {
+    joined: &'a str,
+    /// The ends of the texts that are left: those of four bytes, and after them those of eight.
+    narrow: slice::Iter<'a, u32>,
+    wide: slice::Iter<'a, usize>,
+    /// The end of the text before, or 0.
+    start: usize,
+}
+
+impl<'a> Parts<'a> {
+    #[inline]
+    pub fn of(texts: &'a StringBackend<usize>) -> Self {
+        let (joined, ends) = texts.as_parts();
+        let (narrow, wide) = ends.as_slices();
+        Parts {
+            joined,
+            narrow: narrow.iter(),
+            wide: wide.iter(),
+            start: 0,
+        }
+    }
+}
+
+impl<'a> Iterator for Parts<'a> {
+    type Item = &'a str;
+
+    #[inline(always)]
+    fn next(&mut self) -> Option<&'a str> {
+        let end = match self.narrow.next() {
+            Some(end) => *end as usize,
+            None => *self.wide.next()?,
+        };
+        // SAFETY: these are the end of the text before, or 0, and the next one (G).
+        let text = unsafe { cut_unchecked(self.joined, self.start..end) };
+        self.start = end;
+        Some(text)
+    }
+
+    #[inline(always)]
+    fn size_hint(&self) -> (usize, Option<usize>) {
+        let left = self.narrow.len() + self.wide.len();
+        (left, Some(left))
+    }
+
+    #[inline(always)]
+    fn fold<A, F: FnMut(A, &'a str) -> A>(self, first: A, mut call: F) -> A {
+        let (joined, mut start) = (self.joined, self.start);
+        let mut step = |so_far, end| {
+            // SAFETY: as in `next`.
+            let text = unsafe { cut_unchecked(joined, start..end) };
+            start = end;
+            call(so_far, text)
+        };
+        let so_far = self
+            .narrow
+            .fold(first, |so_far, end| step(so_far, *end as usize));
+        self.wide.fold(so_far, |so_far, end| step(so_far, *end))
+    }
+}
+
+impl ExactSizeIterator for Parts<'_> {}
+
+/// Sixteen bytes as a vector. From some version on the compiler takes calls that only want the vectors for safe.
+#[cfg(all(target_feature = "sse2", not(any(miri, string_interner_words))))]
+#[allow(unused_unsafe)]
+pub mod lanes {
+    use core::arch::x86_64::{
+        __m128i, _mm_cmpeq_epi8, _mm_loadu_si128, _mm_max_epu8, _mm_movemask_epi8, _mm_set1_epi8,
+    };
+
+    pub type Lanes = __m128i;
+
+    #[inline(always)]
+    pub fn of(bytes: &[u8; 16]) -> Lanes {
+        // SAFETY: the target has SSE2, and the address, which need not be aligned, is that of sixteen bytes.
+        unsafe { _mm_loadu_si128(bytes.as_ptr().cast()) }
+    }
+
+    #[inline(always)]
+    pub fn repeated(byte: u8) -> Lanes {
+        // SAFETY: the target has SSE2.
+        unsafe { _mm_set1_epi8(byte as i8) }
+    }
+
+    #[inline(always)]
+    pub fn equal(one: Lanes, other: Lanes) -> u16 {
+        // SAFETY: the target has SSE2.
+        unsafe { _mm_movemask_epi8(_mm_cmpeq_epi8(one, other)) as u16 }
+    }
+
+    #[inline(always)]
+    pub fn larger(one: Lanes, other: Lanes) -> Lanes {
+        // SAFETY: the target has SSE2.
+        unsafe { _mm_max_epu8(one, other) }
+    }
+}
+
+/// The same.
+#[cfg(all(target_feature = "neon", not(any(miri, string_interner_words))))]
+#[allow(unused_unsafe)]
+pub mod lanes {
+    use core::arch::aarch64::{
+        uint8x16_t, vaddv_u8, vandq_u8, vceqq_u8, vdupq_n_u8, vget_high_u8, vget_low_u8, vld1q_u8,
+        vmaxq_u8,
+    };
+
+    pub type Lanes = uint8x16_t;
+
+    #[inline(always)]
+    pub fn of(bytes: &[u8; 16]) -> Lanes {
+        // SAFETY: the target has NEON, and the address is that of sixteen bytes.
+        unsafe { vld1q_u8(bytes.as_ptr()) }
+    }
+
+    #[inline(always)]
+    pub fn repeated(byte: u8) -> Lanes {
+        // SAFETY: the target has NEON.
+        unsafe { vdupq_n_u8(byte) }
+    }
+
+    #[inline(always)]
+    pub fn equal(one: Lanes, other: Lanes) -> u16 {
+        let bits = of(&[1, 2, 4, 8, 16, 32, 64, 128, 1, 2, 4, 8, 16, 32, 64, 128]);
+        // SAFETY: the target has NEON.
+        unsafe {
+            let equal = vandq_u8(vceqq_u8(one, other), bits);
+            u16::from(vaddv_u8(vget_low_u8(equal))) | u16::from(vaddv_u8(vget_high_u8(equal))) << 8
+        }
+    }
+
+    #[inline(always)]
+    pub fn larger(one: Lanes, other: Lanes) -> Lanes {
+        // SAFETY: the target has NEON.
+        unsafe { vmaxq_u8(one, other) }
     }
 }

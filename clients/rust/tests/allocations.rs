@@ -1,36 +1,12 @@
 //! Calls that ask the allocator for nothing.
 
-use std::alloc::{GlobalAlloc, Layout, System};
-use std::cell::Cell;
-
+mod allocator;
 mod common;
 
+use allocator::REQUESTS;
 use common::Backend;
 use string_interner::backend::{BucketBackend, BufferBackend, StringBackend};
 use string_interner::StringInterner;
-
-thread_local! {
-    static REQUESTS: Cell<usize> = const { Cell::new(0) };
-}
-
-struct Counting;
-
-#[global_allocator]
-static ALLOCATOR: Counting = Counting;
-
-// SAFETY: it hands all on to the system's allocator.
-unsafe impl GlobalAlloc for Counting {
-    unsafe fn alloc(&self, layout: Layout) -> *mut u8 {
-        REQUESTS.set(REQUESTS.get() + 1);
-        // SAFETY: owed by the caller.
-        unsafe { System.alloc(layout) }
-    }
-
-    unsafe fn dealloc(&self, block: *mut u8, layout: Layout) {
-        // SAFETY: owed by the caller.
-        unsafe { System.dealloc(block, layout) }
-    }
-}
 
 /// Returns how often the call asked for memory, with what it returned.
 fn count_requests<T>(call: impl FnOnce() -> T) -> (usize, T) {

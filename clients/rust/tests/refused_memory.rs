@@ -1,44 +1,15 @@
 //! Each request for memory that a call makes is refused once. The call then fails, and all is as it was.
 
+mod allocator;
 mod common;
 
-use std::alloc::{GlobalAlloc, Layout, System};
-use std::cell::Cell;
 use std::panic::{catch_unwind, AssertUnwindSafe};
-use std::ptr;
 
+use allocator::REFUSED;
 use common::Backend;
 use string_interner::backend::{BucketBackend, BufferBackend, StringBackend};
 use string_interner::symbol::SymbolUsize;
 use string_interner::{InternError, JsonError, StringInterner};
-
-thread_local! {
-    /// The request that is refused, counted from 1; none if this is 0.
-    static REFUSED: Cell<usize> = const { Cell::new(0) };
-}
-
-struct Refusing;
-
-#[global_allocator]
-static ALLOCATOR: Refusing = Refusing;
-
-// SAFETY: it hands all on to the system's allocator, or refuses.
-unsafe impl GlobalAlloc for Refusing {
-    unsafe fn alloc(&self, layout: Layout) -> *mut u8 {
-        let left = REFUSED.get();
-        REFUSED.set(left.saturating_sub(1));
-        if left == 1 {
-            return ptr::null_mut();
-        }
-        // SAFETY: owed by the caller.
-        unsafe { System.alloc(layout) }
-    }
-
-    unsafe fn dealloc(&self, block: *mut u8, layout: Layout) {
-        // SAFETY: owed by the caller.
-        unsafe { System.dealloc(block, layout) }
-    }
-}
 
 /// Makes a call over and over, of which each time a later request is refused, until none is. Returns how many were.
 fn refuse_each<T>(mut call: impl FnMut() -> T, mut check: impl FnMut(T)) -> usize {

@@ -1,21 +1,20 @@
 //! What is refused to a shared interner, or panics within it: memory, symbols, hashers and symbol types of a program's own. One text
 //! has one symbol all the same.
 
-use std::alloc::{GlobalAlloc, Layout, System};
+mod allocator;
+
 use std::cell::Cell;
 use std::hash::{BuildHasher, BuildHasherDefault, Hasher};
 use std::panic::{catch_unwind, AssertUnwindSafe};
-use std::ptr;
 use std::sync::atomic::{AtomicUsize, Ordering};
 use std::thread;
 
+use allocator::REFUSED;
 use string_interner::symbol::SymbolU16;
 use string_interner::sync::Interner;
 use string_interner::{DefaultHashBuilder, DefaultSymbol, InternError, Symbol};
 
 thread_local! {
-    /// The request for memory that is refused, counted from 1; none if this is 0.
-    static REFUSED: Cell<usize> = const { Cell::new(0) };
     /// So many calls of a program's own go well before one panics; none does if this is 0.
     static PANICS: Cell<usize> = const { Cell::new(0) };
 }
@@ -25,27 +24,6 @@ fn is_due(count: &'static thread::LocalKey<Cell<usize>>) -> bool {
     let left = count.get();
     count.set(left.saturating_sub(1));
     left == 1
-}
-
-struct Refusing;
-
-#[global_allocator]
-static ALLOCATOR: Refusing = Refusing;
-
-// SAFETY: it hands all on to the system's allocator, or refuses.
-unsafe impl GlobalAlloc for Refusing {
-    unsafe fn alloc(&self, layout: Layout) -> *mut u8 {
-        if is_due(&REFUSED) {
-            return ptr::null_mut();
-        }
-        // SAFETY: owed by the caller.
-        unsafe { System.alloc(layout) }
-    }
-
-    unsafe fn dealloc(&self, block: *mut u8, layout: Layout) {
-        // SAFETY: owed by the caller.
-        unsafe { System.dealloc(block, layout) }
-    }
 }
 
 /// Texts of which some are too long for an entry of the table.

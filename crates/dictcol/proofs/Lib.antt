@@ -4,6 +4,7 @@ pub mod Cut
 pub mod Rows
 pub mod Merged
 pub mod ParseFault
+pub mod Crowded
 pub mod Parts
 pub mod HoldsLines
 pub mod Newline
@@ -12,6 +13,8 @@ pub mod StringTokens
 pub mod IsFileText
 pub mod StreamTokens
 pub mod Taken
+pub mod TooMany
+pub mod Written
 pub mod TrimEnd
 pub mod AreGood
 pub mod IsLineOf

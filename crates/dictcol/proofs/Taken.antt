@@ -1,6 +1,6 @@
 -- Blocks of an input: the lines up to a newline, and where a text ceases to be UTF-8.
 use Rattle.std.proofs.Common.{◌≡◌, ℕ, zero, suc, ◌+◌, ◌-◌, ◌^◌, ◌≤◌, ◌<◌, Bool, true, false, cond, ◌||◌, List, [], ◌∷◌, ◌++◌, length, get_or, take, drop, min, Option, Some, None, refl, sym, ap, ap₂, subst, ◌∙◌, arith, eqb-true, inl, inr}
-use Rattle.std.specs.Prelude.{count_by, IsUtf8, ◌⊎◌, slice_index}
+use Rattle.std.specs.Prelude.{count_by, IsUtf8, IfSome, ◌⊎◌, slice_index}
 use Rattle.std.specs.List.{list_any, flat_map, slice_split, join_with_byte}
 use Rattle.std.specs.Str.{IsValidUpTo}
 use Rattle.std.specs.Io.KnownBytes.{Consumes, IsAtEnd, Keeps}
@@ -18,9 +18,11 @@ use Rattle.string_interner.specs.Text.{Text}
 use Rattle.dictcol.specs.Blocks.{EndsAtNewline, HasRead, IsTextOf, IsTextFault, IsLinesFault}
 use Rattle.dictcol.specs.Fault.{IsBadLine, IsNotUtf8}
 use Rattle.dictcol.specs.declared.fault.Fault.{Fault}
-use Rattle.dictcol.specs.Lines.{is_newline, has_newline, text_of_ended}
+use Rattle.dictcol.specs.Lines.{is_newline, has_newline, lines_of, text_of_ended}
+use Rattle.dictcol.specs.TooMany.{HasRefused}
 use Rattle.dictcol.proofs.Lines.{parts-none}
-use Rattle.dictcol.proofs.Merged.{both-plain, ended-joined, ended}
+use Rattle.dictcol.proofs.Merged.{both-plain, ended-first, ended-joined, ended}
+use Rattle.dictcol.proofs.TooMany.{more-refused, take-weaker}
 
 -- ---- the lines of a text, each with a newline
 
@@ -176,6 +178,25 @@ bad-behind (Some all) (Some more) seen text rest fault plain utf8 consumed ends 
 pub at-most-before : (before n : ℕ) (text : Text) (fault : Fault) → n ≡ min before (2 ^ 64 - 1) → IsNotUtf8 n (Some text) fault → IsNotUtf8 before (Some text) fault
 at-most-before before n text fault cut bad = (bad.0, bad.1, (bad.2.0, bad.2.1, omega (arith, cut, bad.2.2)))
 
+-- ---- what is refused
+
+-- the lines that end in a newline, and those of what is behind it
+lines-behind : (seen : List Text) (text rest : Text) → list_any has_newline seen ≡ false → lines_of (text_of_ended seen (text ++ 10 ∷ rest)) ≡ (seen ++ slice_split is_newline text) ++ lines_of rest
+lines-behind seen text rest plain = ap lines_of (sym (more-taken seen text rest)) ∙ ended-first (seen ++ slice_split is_newline text) rest (plain-taken seen text plain)
+
+-- one of the lines up to a newline is refused, and so one of the input
+refused-front : (Refuses : List Text → Text → Type 0) (input left : Option Text) (seen : List Text) (held : Text) (at : ℕ) → EndsAtNewline held at → list_any has_newline seen ≡ false
+    → Consumes input left (text_of_ended seen held) → HasRefused Refuses (seen ++ slice_split is_newline (take at held)) → IfSome input (λ text. HasRefused Refuses (lines_of text))
+refused-front Refuses None left seen held at ends plain consumed refused = tt
+refused-front Refuses (Some all) None seen held at ends plain consumed refused = absurd consumed
+refused-front Refuses (Some all) (Some more) seen held at ends plain consumed refused =
+    let text = take at held in
+    let rest = drop (at + 1) held in
+    let front = flat_map ended seen in
+    let whole : all ≡ text_of_ended seen (text ++ 10 ∷ (rest ++ more)) =
+    consumed ∙ ap (λ t. text_of_ended seen t ++ more) ends.0 ∙ append_assoc front (text ++ 10 ∷ rest) more ∙ ap (λ t. front ++ t) (append_assoc text (10 ∷ rest) more) in
+    subst (HasRefused Refuses) (sym (ap lines_of whole ∙ lines-behind seen text (rest ++ more) plain)) (more-refused Refuses (seen ++ slice_split is_newline text) (lines_of (rest ++ more)) refused)
+
 -- ---- what was read
 
 module _ {L : Type 0} (has_taken : L → List Text → Type 0) where
@@ -234,17 +255,18 @@ module _ {L : Type 0} (has_taken : L → List Text → Type 0) where
   )
 
   -- a fault of the lines up to a newline
-  pub front-fault : (input left : Option Text) (lines : L) (held : Text) (at : ℕ) (fault : Fault) → EndsAtNewline held at
-      → (has : HasRead has_taken input left lines held) → IsTextFault (length has.seen) (take at held) fault → IsLinesFault input fault
-  front-fault input left lines held at fault ends has (inl take-fault) = inr (inl take-fault)
-  front-fault input left lines held at fault ends has (inr bad) =
+  pub front-fault : (Refuses : List Text → Text → Type 0) (input left : Option Text) (lines : L) (held : Text) (at : ℕ) (fault : Fault) → EndsAtNewline held at
+      → (has : HasRead has_taken input left lines held) → IsTextFault Refuses has.seen (take at held) fault → IsLinesFault Refuses input fault
+  front-fault Refuses input left lines held at fault ends has (inl taking) =
+      inr (inl (take-weaker fault (refused-front Refuses input left has.seen held at ends has.plain has.consumed) taking))
+  front-fault Refuses input left lines held at fault ends has (inr bad) =
       inr (inr (bad-behind input left has.seen (take at held) (10 ∷ drop (at + 1) held) fault has.plain has.utf8
       (subst (λ t. Consumes input left (text_of_ended has.seen t)) ends.0 has.consumed) (λ more is. inr (drop (at + 1) held ++ more, refl)) bad))
 
   -- a fault of what is behind the last newline
-  pub rest-fault : (input left : Option Text) (lines : L) (rest : Text) (fault : Fault) → IsAtEnd left
-      → (has : HasRead has_taken input left lines rest) → IsNotUtf8 (length has.seen) (Some rest) fault → IsLinesFault input fault
-  rest-fault input left lines rest fault end has bad =
+  pub rest-fault : (Refuses : List Text → Text → Type 0) (input left : Option Text) (lines : L) (rest : Text) (fault : Fault) → IsAtEnd left
+      → (has : HasRead has_taken input left lines rest) → IsNotUtf8 (length has.seen) (Some rest) fault → IsLinesFault Refuses input fault
+  rest-fault Refuses input left lines rest fault end has bad =
       inr (inr (bad-behind input left has.seen rest [] fault has.plain has.utf8
       (subst (λ t. Consumes input left (text_of_ended has.seen t)) (sym (append-nil rest)) has.consumed) (λ more is. inl (at-end left more end is)) bad))
     where

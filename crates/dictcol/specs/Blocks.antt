@@ -1,13 +1,14 @@
 -- Reading lines a block at a time: what is held, what was yielded, and the faults.
 -- Cited by `blocks`, and by `merge`, `count`, `plain` and `answer`.
-use Rattle.std.specs.Prelude.{◌≡◌, ℕ, ◌+◌, List, [], ◌∷◌, ◌++◌, take, drop, ◌⊎◌, false, Option, Some, IfSome, IsUtf8}
+use Rattle.std.specs.Prelude.{◌≡◌, ℕ, ◌+◌, List, [], ◌∷◌, ◌++◌, length, take, drop, ◌⊎◌, false, Option, Some, IfSome, IsUtf8}
 use Rattle.std.specs.Io.KnownBytes.{Consumes}
-use Rattle.std.specs.List.{list_any}
+use Rattle.std.specs.List.{list_any, slice_split}
 use Rattle.string_interner.specs.Text.{Text}
-use Rattle.dictcol.specs.Lines.{has_newline, text_of_ended}
+use Rattle.dictcol.specs.Lines.{has_newline, is_newline, lines_of, text_of_ended}
 use Rattle.dictcol.specs.declared.block.Block.{Block}
 use Rattle.dictcol.specs.declared.fault.Fault.{Fault}
 use Rattle.dictcol.specs.Fault.{IsNotUtf8, IsReadFault, IsTakeFault}
+use Rattle.dictcol.specs.TooMany.{HasRefused}
 
 abbrev pub held : Block → Text
 held block = take block.end block.bytes.items
@@ -20,9 +21,10 @@ HoldsNoNewline block = has_newline (held block) ≡ false
 abbrev pub EndsAtNewline : Text → ℕ → Type 0
 EndsAtNewline text at = (text ≡ take at text ++ 10 ∷ drop (at + 1) text) × (has_newline (drop (at + 1) text) ≡ false)
 
--- the faults of taking the lines of a text that so many lines are before
-abbrev pub IsTextFault : ℕ → Text → Fault → Type 0
-IsTextFault before text fault = IsTakeFault fault ⊎ IsNotUtf8 before (Some text) fault
+-- the faults of taking the lines of a text behind those that were seen
+abbrev pub IsTextFault : (List Text → Text → Type 0) → List Text → Text → Fault → Type 0
+IsTextFault Refuses seen text fault =
+    IsTakeFault (HasRefused Refuses (seen ++ slice_split is_newline text)) fault ⊎ IsNotUtf8 (length seen) (Some text) fault
 
 -- So much of an input was read: the lines that were taken, a newline behind each, and then the rest.
 pub record HasRead {L : Type 0} (has_taken : L → List Text → Type 0) (input left : Option Text) (lines : L) (rest : Text) : Type 0 where
@@ -38,6 +40,7 @@ pub record IsTextOf (input : Option Text) (lines : List Text) (rest : Text) : Ty
   pub rest_plain : has_newline rest ≡ false
   pub whole : IfSome input (λ text. text ≡ text_of_ended lines rest)
 
--- the faults of reading the lines of an input: it cannot be read, its lines are not taken, or it is not UTF-8
-abbrev pub IsLinesFault : Option Text → Fault → Type 0
-IsLinesFault input fault = IsReadFault fault ⊎ (IsTakeFault fault ⊎ IsNotUtf8 0 input fault)
+-- the faults of reading the lines of an input: it cannot be read, one of its lines is refused, or it is not UTF-8
+abbrev pub IsLinesFault : (List Text → Text → Type 0) → Option Text → Fault → Type 0
+IsLinesFault Refuses input fault =
+    IsReadFault fault ⊎ (IsTakeFault (IfSome input (λ text. HasRefused Refuses (lines_of text))) fault ⊎ IsNotUtf8 0 input fault)

@@ -10,7 +10,7 @@ use Rattle.string_interner.specs.declared.backend.InternError.{InternError}
 use Rattle.string_interner.specs.declared.backend.InternError.TheVariants.{NoSymbol, Memory as InternMemory}
 use Rattle.dictcol.specs.Lines.{is_newline}
 use Rattle.dictcol.specs.declared.fault.Fault.{Fault}
-use Rattle.dictcol.specs.declared.fault.Fault.TheVariants.{Argument, Input, NotUtf8, DictionaryNotUtf8, NotNpy, OtherType, OtherOrder, OtherShape, OtherLength, DictionaryFile, NumbersFile, PairFile, CutFile, Folder, NotLeft, NoKeys, TooMany, Memory, Output, ClosedOutput}
+use Rattle.dictcol.specs.declared.fault.Fault.TheVariants.{Argument, Input, NotUtf8, NotJson, ByteOrderMark, NoDictionary, NotAText, Repeated, HasNewline, NoLines, NotAnIndex, NoFinalNewline, DictionaryNotUtf8, NotNpy, OtherType, OtherOrder, OtherShape, OtherLength, DictionaryFile, NumbersFile, PairFile, CutFile, Folder, NotLeft, NoKeys, TooMany, Memory, Output, ClosedOutput}
 
 -- 2 if the arguments or the input are wrong, 1 if the system failed or there is too much, 141 if the output is closed
 abbrev pub status_of : Fault → ℕ
@@ -54,6 +54,16 @@ dictionary_fault (Input error) = DictionaryFile error
 dictionary_fault (NotUtf8 line) = DictionaryNotUtf8 line
 dictionary_fault fault = fault
 
+-- the fault of `codes.npy` that a fault of reading it is
+abbrev pub numbers_fault : Fault → Fault
+numbers_fault (Input error) = NumbersFile error
+numbers_fault fault = fault
+
+-- the fault of `pair.txt` that a fault of reading it is
+abbrev pub pair_fault : Fault → Fault
+pair_fault (Input error) = PairFile error
+pair_fault fault = fault
+
 -- a fault of `dict.txt` that is one of these of its lines
 abbrev pub OfDictionary : (Fault → Type 0) → Fault → Type 0
 OfDictionary Is fault = (of_lines : Fault) × Is of_lines × (fault ≡ dictionary_fault of_lines)
@@ -64,11 +74,9 @@ IsReadFault (Input _) = ⊤
 IsReadFault Memory = ⊤
 IsReadFault _ = ⊥
 
--- the faults of taking lines: there are too many distinct ones, or no memory is left for them
-abbrev pub IsTakeFault : Fault → Type 0
-IsTakeFault TooMany = ⊤
-IsTakeFault Memory = ⊤
-IsTakeFault _ = ⊥
+-- the faults of taking lines: no memory is left for them, or there are too many, for this reason
+abbrev pub IsTakeFault : Type 0 → Fault → Type 0
+IsTakeFault Reason fault = (fault ≡ Memory) ⊎ ((fault ≡ TooMany) × Reason)
 
 -- the faults of writing the output
 abbrev pub IsWriteFault : Fault → Type 0
@@ -76,9 +84,14 @@ IsWriteFault (Output _) = ⊤
 IsWriteFault ClosedOutput = ⊤
 IsWriteFault _ = ⊥
 
--- the faults of writing what was asked for of lines: those of taking lines, and those of writing
-abbrev pub IsLinesWriteFault : Fault → Type 0
-IsLinesWriteFault fault = IsTakeFault fault ⊎ IsWriteFault fault
+-- the faults of writing what is there: no memory is left for it, or those of writing
+abbrev pub IsOutputFault : Fault → Type 0
+IsOutputFault fault = (fault ≡ Memory) ⊎ IsWriteFault fault
+
+-- the faults of writing what was asked for of lines: those of taking lines, where there may be too many for this reason, and those
+-- of writing
+abbrev pub IsLinesWriteFault : Type 0 → Fault → Type 0
+IsLinesWriteFault Reason fault = IsTakeFault Reason fault ⊎ IsWriteFault fault
 
 -- the text ceases to be UTF-8 in this line, from 1 on, if so many lines are before it; the greatest `usize` if it is above that
 abbrev pub IsBadLine : ℕ → Text → ℕ → Type 0
@@ -124,6 +137,23 @@ IsArrayDamage _ = ⊥
 abbrev pub IsNoDamage : Fault → Type 0
 IsNoDamage fault = ¬ (IsDamage fault)
 
--- the faults of reading a text as a file: its lines are not taken, or it is damaged, for this reason
-abbrev pub IsParseFault : Type 0 → Fault → Type 0
-IsParseFault Reason fault = IsTakeFault fault ⊎ (IsDamage fault × Reason)
+-- the faults that say that a value of JSON is no file
+abbrev pub IsValueDamage : Fault → Type 0
+IsValueDamage NoDictionary = ⊤
+IsValueDamage (NotAText _) = ⊤
+IsValueDamage (Repeated _) = ⊤
+IsValueDamage (HasNewline _) = ⊤
+IsValueDamage NoLines = ⊤
+IsValueDamage (NotAnIndex _) = ⊤
+IsValueDamage NoFinalNewline = ⊤
+IsValueDamage _ = ⊥
+
+-- the faults that say that bytes are no JSON, and tell no place of ours
+abbrev pub IsSyntaxDamage : Fault → Type 0
+IsSyntaxDamage ByteOrderMark = ⊤
+IsSyntaxDamage (NotJson _) = ⊤
+IsSyntaxDamage _ = ⊥
+
+-- the faults of reading a text as a file: its texts are too many, for this reason, or it is damaged in this way
+abbrev pub IsParseFault : Type 0 → (Fault → Type 0) → Fault → Type 0
+IsParseFault Crowded IsDamaged fault = IsTakeFault Crowded fault ⊎ IsDamaged fault

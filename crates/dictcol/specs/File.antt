@@ -1,6 +1,6 @@
 -- The file that `encode` writes and `decode` reads: which value it is, and which lines it holds.
 -- Cited by `file`, `format`, `stream`, `merge` and `answer`.
-use Rattle.std.specs.Prelude.{◌≡◌, ℕ, ◌<◌, List, [], ◌∷◌, ◌++◌, All, length, map, Bool, false, codes, ◌⊎◌, Option, Some, IfSome, option_map, option_and_then, slice_get}
+use Rattle.std.specs.Prelude.{◌≡◌, ℕ, ◌<◌, List, [], ◌∷◌, ◌++◌, All, length, map, Bool, false, codes, ◌⊎◌, Option, Some, None, IfSome, option_map, option_and_then, slice_get}
 use Rattle.std.specs.List.{list_any}
 use Rattle.serde_json.specs.Data.{Data, boolean, array, object, Items, no_items, item, member, no_members}
 use Rattle.serde_json.specs.Find.{get, as_number, as_u64}
@@ -10,8 +10,9 @@ use Rattle.serde_json.specs.Written.{compact_text}
 use Rattle.string_interner.specs.Text.{Text, IsDistinct}
 use Rattle.string_interner.specs.Json.{json_of_texts, json_of_number}
 use Rattle.string_column.specs.Column.{AreCodes, dictionary_of}
-use Rattle.dictcol.specs.Fault.{IsNotUtf8, IsParseFault}
+use Rattle.dictcol.specs.Fault.{IsNotUtf8, IsParseFault, IsSyntaxDamage, IsValueDamage}
 use Rattle.dictcol.specs.Lines.{has_newline, text_of_lines, AreLines}
+use Rattle.dictcol.specs.Places.{IsEarlyEnd}
 use Rattle.dictcol.specs.declared.fault.Fault.{Fault}
 use Rattle.dictcol.specs.declared.file.Parts.{Parts}
 
@@ -79,6 +80,16 @@ DecodesFile bytes text = (value : Data) × HoldsText value text × (read bytes �
 abbrev pub IsNoFile : Text → Type 0
 IsNoFile bytes = (text : Text) → ¬ (DecodesFile bytes text)
 
--- the faults of reading bytes as a file: they are not UTF-8, or those of reading a text as one
-abbrev pub IsFileFault : Option Text → Fault → Type 0
-IsFileFault bytes fault = IsNotUtf8 0 bytes fault ⊎ IsParseFault (IfSome bytes IsNoFile) fault
+-- the fault says that the bytes are no JSON, which they are not, and where they end if it says that they end early
+abbrev pub IsJsonFault : Text → Fault → Type 0
+IsJsonFault bytes fault = (read bytes ≡ None) × (IsEarlyEnd bytes fault ⊎ IsSyntaxDamage fault)
+
+-- the fault says in which way the bytes are no file
+abbrev pub IsFileDamage : Text → Fault → Type 0
+IsFileDamage bytes fault = IsJsonFault bytes fault ⊎ (IsValueDamage fault × IsNoFile bytes)
+
+-- the faults of reading all that an input yields as a file: it is not UTF-8, or those of reading a text as one, which may have too
+-- many texts for this reason
+abbrev pub IsFileFault : (Text → Type 0) → Option Text → Fault → Type 0
+IsFileFault Crowds input fault =
+    IsNotUtf8 0 input fault ⊎ ((text : Text) × IfSome input (λ all. text ≡ all) × IsParseFault (Crowds text) (IsFileDamage text) fault)

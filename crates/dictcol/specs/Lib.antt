@@ -1,6 +1,7 @@
 pub mod Answer
 pub mod Blocks
 pub mod Counts
+pub mod Crowded
 pub mod Fault
 pub mod File
 pub mod Hasher
@@ -12,4 +13,5 @@ pub mod Plain
 pub mod Shards
 pub mod Shown
 pub mod StreamTokens
+pub mod TooMany
 pub mod Writes

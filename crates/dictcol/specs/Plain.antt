@@ -38,8 +38,8 @@ abbrev pub IsNotEnded : Option Text → Fault → Type 0
 IsNotEnded file fault = (fault ≡ NotEnded) × IfSome file (λ text. (lines : List Text) → ¬ (IsLinesFile lines text))
 
 -- the faults of reading a file as a dictionary: those of reading its lines, the last line has no newline, or a line repeats an earlier one
-abbrev pub IsDictionaryFault : Option Text → Fault → Type 0
-IsDictionaryFault file fault = OfDictionary (IsLinesFault file) fault ⊎ (IsNotEnded file fault ⊎ IsRepeatedLine file fault)
+abbrev pub IsDictionaryFault : (List Text → Text → Type 0) → Option Text → Fault → Type 0
+IsDictionaryFault Refuses file fault = OfDictionary (IsLinesFault Refuses file) fault ⊎ (IsNotEnded file fault ⊎ IsRepeatedLine file fault)
 
 -- the faults of finding the lines of a file, which may be there twice
 abbrev pub IsBoundsFault : Text → Fault → Type 0

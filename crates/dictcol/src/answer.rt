@@ -5,7 +5,7 @@ ghost use Rattle.std.specs.Io.KnownBytes.{Consumes, IsAtEnd};
 ghost use Rattle.dictcol.specs.Fault.{IsReadFault, WritesLast};
 ghost use Rattle.dictcol.specs.File.{DecodesFile};
 ghost use Rattle.dictcol.specs.Writes.{Writes};
-ghost use Rattle.dictcol.specs.Answer.{IsDecodeFault, IsFormOutput, IsLinesTaskFault, IsTaskFault, IsTaskOutput};
+ghost use Rattle.dictcol.specs.Answer.{IsDecodeFault, IsFormOutput, IsLinesTaskFault, IsTaskFault, IsTaskOutput, RefusesFor};
 
 use crate::arguments::{Choice, Form, Task};
 use crate::blocks::check_utf8;
@@ -76,7 +76,8 @@ fn write_form<B: Backend + Drop, R: Read, W: Write>(
     ensures written { OnOk result (IfSome (R.remaining input.old) (λ all.
         Writes (IsFormOutput form all) (W.contents output.old) (W.contents output.new))) }
     ensures silent { WritesLast result output.old output.new }
-    ensures fault { IfErr result (IsLinesTaskFault (R.remaining input.old)) }
+    ensures fault { IfErr result
+        (IsLinesTaskFault (RefusesFor B.numbering form) (R.remaining input.old)) }
 {
     match form {
         Form::File => {
@@ -115,7 +116,8 @@ pub fn answer<R: Read, W: Write>(
     ensures answered { OnOk result (IfSome (R.remaining input.old) (λ all.
         Writes (IsTaskOutput task all) (W.contents output.old) (W.contents output.new))) }
 
-    // A file that holds a text is never called damaged, and lines never are. Where the input ceases to be UTF-8 is told.
+    // A file that holds a text is never called damaged, and lines never are. Where the input ceases to be UTF-8 is told,
+    // and lines are called too many only if one of them is refused.
     ensures err { IfErr result (IsTaskFault task (R.remaining input.old)) }
 
     // Unless all went well or a write failed, the output was not touched.

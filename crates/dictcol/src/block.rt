@@ -3,7 +3,7 @@
 ghost use Rattle.std.specs.Prelude.{◌≡◌, ◌<◌, ◌≤◌, [], ◌++◌, length, take, drop, false, IfOk, IfErr, OnOk, OnErr, MatchOption};
 ghost use Rattle.std.specs.Io.KnownBytes.{Consumes, IsAtEnd, Keeps};
 ghost use Rattle.string_interner.specs.Text.{Text};
-ghost use Rattle.dictcol.specs.Fault.{IsTakeFault};
+ghost use Rattle.dictcol.specs.declared.fault.Fault.TheVariants.{Memory};
 ghost use Rattle.dictcol.specs.Lines.{has_newline};
 
 use crate::fault::Fault;
@@ -30,7 +30,7 @@ impl Block {
     /// Makes a block that holds nothing.
     pub fn new(alloc: Global) -> Result<Self, Fault>
         ensures empty { IfOk result (λ block. held block ≡ []) }
-        ensures fault { IfErr result IsTakeFault }
+        ensures fault { IfErr result (λ fault. fault ≡ Memory) }
     {
         match vec![in alloc; 0_u8; BLOCK] {
             Ok(bytes) => Ok(Block { bytes, end: 0 }),
@@ -42,7 +42,7 @@ impl Block {
     pub fn reserve(&mut self) -> Result<(), Fault>
         ensures same { held self.new ≡ held self.old }
         ensures free { OnOk result (self.new.end < length self.new.bytes.items) }
-        ensures fault { IfErr result IsTakeFault }
+        ensures fault { IfErr result (λ fault. fault ≡ Memory) }
     {
         if self.end < self.bytes.len() {
             return Ok(());

@@ -8,6 +8,7 @@ ghost use Rattle.string_interner.specs.Text.{Text};
 ghost use Rattle.dictcol.specs.Blocks.{held, EndsAtNewline, HasRead, HoldsNoNewline, IsLinesFault, IsTextFault, IsTextOf};
 ghost use Rattle.dictcol.specs.Fault.{IsNotUtf8, IsTakeFault};
 ghost use Rattle.dictcol.specs.Lines.{has_newline, is_newline};
+ghost use Rattle.dictcol.specs.TooMany.{HasRefused};
 
 use crate::block::Block;
 use crate::fault::Fault;
@@ -20,11 +21,15 @@ pub trait TakesLines {
     /// These are the lines that it has taken.
     ghost has_taken: { Self → List Text → Type 0 };
 
+    /// Behind these lines this one is refused, because there are too many.
+    ghost refuses: { List Text → Text → Type 0 };
+
     /// Takes the lines of a text: what stands before, between and behind its newlines.
     fn take_lines(&mut self, text: &str) -> Result<(), Fault>
         ensures ok { OnOk result ((lines : List Text) → has_taken self.old lines
             → has_taken self.new (lines ++ slice_split is_newline text.now)) }
-        ensures fault { IfErr result IsTakeFault };
+        ensures fault { (lines : List Text) → has_taken self.old lines → IfErr result
+            (IsTakeFault (HasRefused refuses (lines ++ slice_split is_newline text.now))) };
 
     /// Returns how many lines it has taken, or `usize::MAX` if there are more.
     fn count_lines(&self) -> usize
@@ -67,7 +72,7 @@ fn take_front<L: TakesLines>(block: &mut Block, at: usize, lines: &mut L) -> Res
     ensures rest { OnOk result (held block.new ≡ drop (at + 1) (held block.old)) }
     ensures utf8 { OnOk result (IsUtf8 (take at (held block.old))) }
     ensures fault { (seen : List Text) → L.has_taken lines.old seen
-        → IfErr result (IsTextFault (length seen) (take at (held block.old))) }
+        → IfErr result (IsTextFault L.refuses seen (take at (held block.old))) }
 {
     let text = check_utf8(lines.count_lines(), block.front(at))?;
     lines.take_lines(text)?;
@@ -89,7 +94,7 @@ fn take_whole_lines<L: TakesLines>(
     ensures rest { OnOk result (HoldsNoNewline block.new) }
     ensures fault { (input left : Option Text)
         → HasRead L.has_taken input left lines.old (held block.old)
-        → IfErr result (IsLinesFault input) }
+        → IfErr result (IsLinesFault L.refuses input) }
 {
     match block.find_newline(start) {
         Some(at) => take_front(block, at, lines),
@@ -111,7 +116,7 @@ pub fn read_block<R: Read, L: TakesLines>(
     ensures end { IfOk result (λ is_end. IsTrue is_end → IsAtEnd (R.remaining input.new)) }
     ensures fault { (all : Option Text)
         → HasRead L.has_taken all (R.remaining input.old) lines.old (held block.old)
-        → IfErr result (IsLinesFault all) }
+        → IfErr result (IsLinesFault L.refuses all) }
 {
     block.reserve()?;
     let start = block.len();
@@ -147,7 +152,7 @@ pub fn read_lines<R: Read, L: TakesLines>(
     requires { L.has_taken lines.old [] }
     ensures ok { IfOk result (λ rest. (seen : List Text) × L.has_taken lines.new seen
         × IsTextOf (R.remaining input.old) seen (string_bytes rest)) }
-    ensures fault { IfErr result (IsLinesFault (R.remaining input.old)) }
+    ensures fault { IfErr result (IsLinesFault L.refuses (R.remaining input.old)) }
 {
     let mut block = Block::new(alloc)?;
     for _ in 0..u64::MAX {

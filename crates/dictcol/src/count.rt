@@ -9,9 +9,11 @@ ghost use Rattle.string_column.specs.Entries.{NumbersAscend};
 ghost use Rattle.dictcol.specs.Answer.{IsLinesTaskFault};
 ghost use Rattle.dictcol.specs.Blocks.{IsLinesFault};
 ghost use Rattle.dictcol.specs.Counts.{AreSorted, HasCounted, IsCountsText, counted, count_line, row_of};
-ghost use Rattle.dictcol.specs.Fault.{IsLinesWriteFault, IsTakeFault, IsWriteFault, WritesLast};
+ghost use Rattle.dictcol.specs.Fault.{IsOutputFault, IsTakeFault, IsWriteFault, WritesLast};
 ghost use Rattle.dictcol.specs.Lines.{lines_of};
+ghost use Rattle.dictcol.specs.TooMany.{LacksCount};
 ghost use Rattle.dictcol.specs.Writes.{Writes};
+ghost use Rattle.dictcol.specs.declared.fault.Fault.TheVariants.{Memory};
 
 use crate::blocks;
 use crate::blocks::TakesLines;
@@ -86,7 +88,8 @@ impl<B: Backend> Counts<B> {
     fn add(&mut self, line: &str) -> Result<(), Fault>
         ensures counted { OnOk result ((lines : List Text) → HasCounted self.old lines
             → HasCounted self.new (lines ++ line.now ∷ [])) }
-        ensures fault { IfErr result IsTakeFault }
+        ensures fault { (lines : List Text) → HasCounted self.old lines
+            → IfErr result (IsTakeFault (LacksCount B.numbering lines line.now)) }
     {
         let total = self.total.checked_add(1).ok_or(Fault::TooMany)?;
         // Before the line is interned, so that nothing has to be undone.
@@ -108,8 +111,11 @@ impl<B: Backend> Counts<B> {
 
 impl<B: Backend> TakesLines for Counts<B> {
     ghost use Rattle.dictcol.specs.Counts.{HasCounted};
+    ghost use Rattle.dictcol.specs.TooMany.{LacksCount};
 
     ghost has_taken = { HasCounted };
+
+    ghost refuses = { LacksCount B.numbering };
 
     fn take_lines(&mut self, text: &str) -> Result<(), Fault> {
         for line in Lines::new(text) {
@@ -131,7 +137,8 @@ fn count_input<B: Backend + Drop, R: Read>(
 ) -> Result<Counts<B>, Fault>
     ensures ok { IfOk result (λ counts. IfSome (R.remaining input.old)
         (λ all. HasCounted counts (lines_of all))) }
-    ensures fault { IfErr result (IsLinesFault (R.remaining input.old)) }
+    ensures fault { IfErr result
+        (IsLinesFault (LacksCount B.numbering) (R.remaining input.old)) }
 {
     let mut counts = Counts::new(alloc, hasher);
     let rest = blocks::read_lines(alloc, input, &mut counts)?;
@@ -145,7 +152,7 @@ fn count_input<B: Backend + Drop, R: Read>(
 fn sort_rows(rows: &mut Vec<(usize, &str)>) -> Result<(), Fault>
     ensures sorted { OnOk result
         (AreSorted (map row_of rows.old.items) (map row_of rows.new.items)) }
-    ensures fault { IfErr result IsTakeFault }
+    ensures fault { IfErr result (λ fault. fault ≡ Memory) }
 {
     match rows.sort_by(|a, b| b.0.cmp(&a.0)) {
         Ok(()) => Ok(()),
@@ -161,7 +168,7 @@ fn list_rows<'t, B: Backend>(
 ) -> Result<Vec<(usize, &'t str)>, Fault>
     requires { length counts.now ≡ length texts.now.texts }
     ensures rows { IfOk result (λ rows. map row_of rows.items ≡ zip counts.now texts.now.texts) }
-    ensures fault { IfErr result IsTakeFault }
+    ensures fault { IfErr result (λ fault. fault ≡ Memory) }
 {
     let mut rows = Vec::with_capacity(alloc, counts.len()).map_err(|_| Fault::Memory)?;
     for (_, text) in texts {
@@ -197,7 +204,7 @@ fn write_sorted<W: Write>(
         → OnOk result (Writes (IsCountsText is_sorted lines)
         (W.contents output.old) (W.contents output.new)) }
     ensures silent { WritesLast result output.old output.new }
-    ensures fault { IfErr result IsLinesWriteFault }
+    ensures fault { IfErr result IsOutputFault }
 {
     if is_sorted {
         sort_rows(&mut rows)?;
@@ -220,7 +227,8 @@ pub fn write_counts<B: Backend + Drop, R: Read, W: Write>(
 
     // Unless all went well or a write failed, the output was not touched.
     ensures silent { WritesLast result output.old output.new }
-    ensures fault { IfErr result (IsLinesTaskFault (R.remaining input.old)) }
+    ensures fault { IfErr result
+        (IsLinesTaskFault (LacksCount B.numbering) (R.remaining input.old)) }
 {
     let counts = count_input::<B, R>(alloc, hasher, input)?;
     let rows = list_rows(alloc, &counts.counts, &counts.lines)?;
@@ -238,7 +246,7 @@ pub fn write_column_counts<B: Backend, W: Write>(
     ensures written { OnOk result (Writes (IsCountsText is_sorted lines.now)
         (W.contents output.old) (W.contents output.new)) }
     ensures silent { WritesLast result output.old output.new }
-    ensures fault { IfErr result IsLinesWriteFault }
+    ensures fault { IfErr result IsOutputFault }
 {
     let counts = lines.counts(alloc).map_err(|_| Fault::Memory)?;
     let rows = list_rows(alloc, &counts, lines.dictionary())?;

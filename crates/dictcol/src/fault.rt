@@ -2,7 +2,8 @@
 
 ghost use Rattle.std.specs.Prelude.{◌≡◌};
 ghost use Rattle.std.specs.IoError.{error_kind};
-ghost use Rattle.dictcol.specs.Fault.{arguments_fault, dictionary_fault, intern_fault, read_fault, write_fault, status_of, IsNoDamage, IsReadFault, IsTakeFault, IsWriteFault};
+ghost use Rattle.string_interner.specs.declared.backend.InternError.TheVariants.{NoSymbol};
+ghost use Rattle.dictcol.specs.Fault.{arguments_fault, dictionary_fault, intern_fault, numbers_fault, pair_fault, read_fault, write_fault, status_of, IsNoDamage, IsReadFault, IsTakeFault, IsWriteFault};
 
 use std::io;
 use std::io::ErrorKind;
@@ -159,7 +160,7 @@ impl Fault {
     /// Returns the fault of lines that an interner does not take.
     pub fn of_intern(error: InternError) -> Fault
         ensures value { result ≡ intern_fault error }
-        ensures taking { IsTakeFault result }
+        ensures taking { IsTakeFault (error ≡ NoSymbol) result }
         ensures sound { IsNoDamage result }
     {
         match error {
@@ -181,7 +182,7 @@ impl Fault {
 
     /// Returns a fault of reading the input as one of reading `codes.npy`.
     pub fn of_numbers(fault: Fault) -> Fault
-        ensures { IsNoDamage fault → IsNoDamage result }
+        ensures { result ≡ numbers_fault fault }
     {
         match fault {
             Fault::Input(error) => Fault::NumbersFile(error),
@@ -191,7 +192,7 @@ impl Fault {
 
     /// Returns a fault of reading the input as one of reading `pair.txt`.
     pub fn of_pair(fault: Fault) -> Fault
-        ensures { IsNoDamage fault → IsNoDamage result }
+        ensures { result ≡ pair_fault fault }
     {
         match fault {
             Fault::Input(error) => Fault::PairFile(error),

@@ -1,6 +1,6 @@
 //! The file: a JSON object with the dictionary, a number for each line, and whether the last line ends in a newline.
 
-ghost use Rattle.std.specs.Prelude.{◌≡◌, ◌≢◌, ◌<◌, ◌≤◌, ◌++◌, ◌⊎◌, List, All, length, Bool, true, false, codes, Some, None, IfOk, IfErr, OnOk};
+ghost use Rattle.std.specs.Prelude.{⊤, ◌≡◌, ◌≢◌, ◌<◌, ◌≤◌, ◌++◌, ◌⊎◌, List, All, length, Bool, true, false, codes, Some, None, IfOk, IfErr, OnOk};
 ghost use Rattle.std.specs.Io.KnownBytes.{Appends};
 ghost use Rattle.std.specs.List.{join_with_byte, list_any};
 ghost use Rattle.serde_json.specs.Data.{boolean, array, Items};
@@ -11,11 +11,15 @@ ghost use Rattle.string_interner.specs.Text.{Text, IsDistinct};
 ghost use Rattle.string_interner.specs.Extend.{texts_of};
 ghost use Rattle.string_interner.specs.Json.{json_of_texts};
 ghost use Rattle.string_column.specs.Column.{rows_of};
-ghost use Rattle.dictcol.specs.Fault.{IsDamage, IsParseFault, IsTakeFault, IsWriteFault, WritesLast};
-ghost use Rattle.dictcol.specs.File.{indexed_texts, AreWithin, HaveEntries, HoldsLines, HoldsText, IsFileFault, IsNoFile, FileHolds, DecodesFile};
+ghost use Rattle.dictcol.specs.Answer.{numbering_over};
+ghost use Rattle.dictcol.specs.Crowded.{CrowdsFile, LacksElement};
+ghost use Rattle.dictcol.specs.Fault.{IsParseFault, IsValueDamage, IsWriteFault, WritesLast};
+ghost use Rattle.dictcol.specs.File.{indexed_texts, AreWithin, HaveEntries, HoldsLines, HoldsText, IsFileDamage, IsFileFault, IsJsonFault, FileHolds, DecodesFile};
 ghost use Rattle.dictcol.specs.Lines.{has_newline, newline_if, text_of_lines};
 ghost use Rattle.dictcol.specs.Places.{IsEarlyEnd, IsLastLine};
 ghost use Rattle.dictcol.specs.Writes.{Writes};
+ghost use Rattle.dictcol.specs.declared.arguments.Choice.TheVariants.{String as StringChoice};
+ghost use Rattle.dictcol.specs.declared.fault.Fault.TheVariants.{Memory};
 
 use crate::blocks::{check_utf8, count_byte};
 use crate::fault::Fault;
@@ -55,8 +59,9 @@ fn read_dictionary<B: Backend + Drop>(
 ) -> Result<Dictionary<B>, Fault>
     ensures ok { IfOk result (λ dictionary.
         get (codes "dictionary") (view file.now) ≡ Some (json_of_texts dictionary.texts)) }
-    ensures err { IfErr result (IsParseFault ((texts : List Text) → IsDistinct texts
-        → get (codes "dictionary") (view file.now) ≢ Some (json_of_texts texts))) }
+    ensures err { IfErr result (IsParseFault (LacksElement B.numbering (view file.now))
+        (λ fault. IsValueDamage fault × ((texts : List Text) → IsDistinct texts
+        → get (codes "dictionary") (view file.now) ≢ Some (json_of_texts texts)))) }
 {
     let value = file.get("dictionary").ok_or(Fault::NoDictionary)?;
     match Dictionary::<B>::from_json_exact_with_hasher(alloc, value, hasher) {
@@ -73,7 +78,7 @@ fn read_dictionary<B: Backend + Drop>(
 /// Checks that each text of the dictionary is one line.
 fn check_texts<B: Backend>(dictionary: &Dictionary<B>) -> Result<(), Fault>
     ensures ok { OnOk result (list_any has_newline dictionary.now.texts ≡ false) }
-    ensures err { IfErr result (λ fault. IsDamage fault
+    ensures err { IfErr result (λ fault. IsValueDamage fault
         × (list_any has_newline dictionary.now.texts ≡ true)) }
 {
     let mut index = 0_usize;
@@ -89,7 +94,7 @@ fn check_texts<B: Backend>(dictionary: &Dictionary<B>) -> Result<(), Fault>
 /// Returns the texts of the dictionary.
 pub fn list_texts(alloc: Global, dictionary: &Dictionary) -> Result<Vec<&str>, Fault>
     ensures ok { IfOk result (λ texts. texts_of texts.items ≡ dictionary.now.texts) }
-    ensures fault { IfErr result IsTakeFault }
+    ensures fault { IfErr result (λ fault. fault ≡ Memory) }
 {
     let mut texts = Vec::with_capacity(alloc, dictionary.len()).map_err(|_| Fault::Memory)?;
     for (_, text) in dictionary {
@@ -107,8 +112,8 @@ fn read_codes<B: Backend>(
     ensures ok { IfOk result (λ codes. indexed_texts dictionary.now.texts (items_view numbers.now)
         ≡ Some (rows_of dictionary.now.texts codes.items)) }
     ensures within { IfOk result (λ codes. HaveEntries dictionary.now.texts codes.items) }
-    ensures err { IfErr result (IsParseFault
-        (indexed_texts dictionary.now.texts (items_view numbers.now) ≡ None)) }
+    ensures err { IfErr result (λ fault. (fault ≡ Memory) ⊎ (IsValueDamage fault
+        × (indexed_texts dictionary.now.texts (items_view numbers.now) ≡ None))) }
 {
     let mut codes = Codes::new(alloc);
     for number in numbers {
@@ -176,7 +181,7 @@ pub fn write_lines<W: Write>(
 fn find_numbers(file: &Value) -> Result<&Vec<Value>, Fault>
     ensures ok { IfOk result (λ numbers.
         get (codes "lines") (view file.now) ≡ Some (array (items_view numbers.now.items))) }
-    ensures err { IfErr result (λ fault. IsDamage fault × ((numbers : Items)
+    ensures err { IfErr result (λ fault. IsValueDamage fault × ((numbers : Items)
         → get (codes "lines") (view file.now) ≢ Some (array numbers))) }
 {
     file.get("lines")
@@ -188,7 +193,7 @@ fn find_numbers(file: &Value) -> Result<&Vec<Value>, Fault>
 fn find_final_newline(file: &Value) -> Result<bool, Fault>
     ensures ok { IfOk result (λ is_ended.
         get (codes "final_newline") (view file.now) ≡ Some (boolean is_ended)) }
-    ensures err { IfErr result (λ fault. IsDamage fault × ((is_ended : Bool)
+    ensures err { IfErr result (λ fault. IsValueDamage fault × ((is_ended : Bool)
         → get (codes "final_newline") (view file.now) ≢ Some (boolean is_ended))) }
 {
     file.get("final_newline")
@@ -205,8 +210,8 @@ fn read_value<B: Backend + Drop>(
     ensures lines { IfOk result (λ parts. HoldsLines (view file.now)
         (rows_of parts.dictionary.texts parts.codes.items) parts.is_ended) }
     ensures within { IfOk result AreWithin }
-    ensures err { IfErr result
-        (IsParseFault ((text : Text) → ¬ (HoldsText (view file.now) text))) }
+    ensures err { IfErr result (IsParseFault (LacksElement B.numbering (view file.now))
+        (λ fault. IsValueDamage fault × ((text : Text) → ¬ (HoldsText (view file.now) text)))) }
 {
     let dictionary = read_dictionary(alloc, hasher, file)?;
     check_texts(&dictionary)?;
@@ -232,8 +237,7 @@ fn find_last_line(file: &[u8]) -> usize
 
 /// Returns the fault of a file that ends within its JSON.
 fn locate_early_end(file: &[u8]) -> Fault
-    ensures damage { IsDamage result }
-    ensures place { IsEarlyEnd file.now result }
+    ensures { IsEarlyEnd file.now result }
 {
     let last_line = &file[find_last_line(file)..];
     Fault::EndsEarly {
@@ -245,7 +249,7 @@ fn locate_early_end(file: &[u8]) -> Fault
 /// Reads the JSON of a file.
 fn parse(alloc: Global, file: &str) -> Result<Value, Fault>
     ensures ok { IfOk result (λ value. read file.now ≡ Some (view value)) }
-    ensures err { IfErr result (IsParseFault (read file.now ≡ None)) }
+    ensures err { IfErr result (λ fault. (fault ≡ Memory) ⊎ IsJsonFault file.now fault) }
 {
     match Value::from_str(alloc, file) {
         Ok(value) => Ok(value),
@@ -266,8 +270,9 @@ pub fn read<B: Backend + Drop>(
         (rows_of parts.dictionary.texts parts.codes.items) parts.is_ended) }
     ensures within { IfOk result AreWithin }
 
-    // A file that holds a text is never called damaged.
-    ensures err { IfErr result (IsParseFault (IsNoFile file.now)) }
+    // A file that holds a text is never called damaged. Where its JSON ends early is told.
+    ensures err { IfErr result
+        (IsParseFault (CrowdsFile B.numbering file.now) (IsFileDamage file.now)) }
 {
     // What `encode` writes needs no tree. Of any other file the tree also tells what is wrong.
     if let Some(parts) = stream::read_stream(alloc, hasher, file)? {
@@ -286,7 +291,7 @@ pub fn read_column<B: Backend + Drop>(
     ensures lines { IfOk result (λ lines. FileHolds bytes.items lines.0 lines.1) }
 
     // A file is called damaged only if it holds no text, and not UTF-8 only if it is not.
-    ensures err { IfErr result (IsFileFault (Some bytes.items)) }
+    ensures err { IfErr result (IsFileFault (λ file. ⊤) (Some bytes.items)) }
 {
     let Parts {
         dictionary,
@@ -318,9 +323,10 @@ pub fn decode<W: Write>(
     ensures written { OnOk result
         (Writes (DecodesFile file.now) (W.contents output.old) (W.contents output.new)) }
 
-    // A file that holds a text is never called damaged.
-    ensures err { IfErr result (λ fault.
-        IsParseFault (IsNoFile file.now) fault ⊎ IsWriteFault fault) }
+    // A file that holds a text is never called damaged. Where its JSON ends early is told.
+    ensures err { IfErr result (λ fault. IsParseFault
+        (CrowdsFile (numbering_over StringChoice) file.now) (IsFileDamage file.now) fault
+        ⊎ IsWriteFault fault) }
 
     // Unless all went well or a write failed, the output was not touched.
     ensures silent { WritesLast result output.old output.new }

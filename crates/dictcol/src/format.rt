@@ -8,7 +8,7 @@ ghost use Rattle.serde_json.specs.Data.{array};
 ghost use Rattle.serde_json.specs.View.{items_of};
 ghost use Rattle.serde_json.specs.Written.{comma_if, compact_text};
 ghost use Rattle.string_interner.specs.Json.{json_of_texts, json_of_number};
-ghost use Rattle.dictcol.specs.Fault.{IsLinesWriteFault, WritesLast};
+ghost use Rattle.dictcol.specs.Fault.{IsOutputFault, WritesLast};
 ghost use Rattle.dictcol.specs.File.{IsColumnFile, IsFileText};
 ghost use Rattle.dictcol.specs.Lines.{AreLines};
 ghost use Rattle.dictcol.specs.Writes.{Puts, Writes};
@@ -261,7 +261,7 @@ pub fn write_file<B: Backend, W: Write>(
     ensures written { (bytes : List ℕ) → AreLines bytes lines.now is_ended → OnOk result
         (Writes (IsColumnFile bytes) (W.contents output.old) (W.contents output.new)) }
     ensures silent { WritesLast result output.old output.new }
-    ensures fault { IfErr result IsLinesWriteFault }
+    ensures fault { IfErr result IsOutputFault }
 {
     let Ok(mut held) = Held::new(alloc) else {
         return Err(Fault::Memory);

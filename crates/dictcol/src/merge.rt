@@ -1,6 +1,6 @@
 //! Merging: a text that grows by what each file holds.
 
-ghost use Rattle.std.specs.Prelude.{◌≡◌, [], ◌∷◌, ◌++◌, drop, false, Some, IfOk, IfErr, IfSome, OnOk};
+ghost use Rattle.std.specs.Prelude.{⊤, ◌≡◌, [], ◌∷◌, ◌++◌, drop, false, Some, IfOk, IfErr, IfSome, OnOk};
 ghost use Rattle.std.specs.List.{flat_map, join_with_byte, list_any};
 ghost use Rattle.string_interner.specs.Text.{Text};
 ghost use Rattle.dictcol.specs.Blocks.{IsLinesFault};
@@ -9,6 +9,8 @@ ghost use Rattle.dictcol.specs.Fault.{IsLinesWriteFault, IsTakeFault, WritesLast
 ghost use Rattle.dictcol.specs.File.{DecodesFile, IsColumnFile, IsFileFault};
 ghost use Rattle.dictcol.specs.Writes.{Writes};
 ghost use Rattle.dictcol.specs.Lines.{behind_newline, has_newline, lines_of, text_of_lines};
+ghost use Rattle.dictcol.specs.TooMany.{HasRefused, LacksLine};
+ghost use Rattle.dictcol.specs.declared.fault.Fault.TheVariants.{Memory};
 
 use crate::blocks::TakesLines;
 use crate::fault::Fault;
@@ -45,7 +47,11 @@ impl<B: Backend> Model for Merged<B> {
 
 /// A column takes lines as rows.
 impl<B: Backend> TakesLines for Column<B, LineHasher> {
+    ghost use Rattle.dictcol.specs.TooMany.{LacksLine};
+
     ghost has_taken = { λ column lines. column ≡ lines };
+
+    ghost refuses = { LacksLine B.numbering };
 
     fn take_lines(&mut self, text: &str) -> Result<(), Fault> {
         match self.encode(Lines::new(text)) {
@@ -63,7 +69,8 @@ impl<B: Backend + Drop> Merged<B> {
     /// Reads the text that is all that an input yields.
     pub fn read<R: Read>(alloc: Global, hasher: LineHasher, input: &mut R) -> Result<Self, Fault>
         ensures text { IfOk result (λ text. IfSome (R.remaining input.old) (λ all. text ≡ all)) }
-        ensures fault { IfErr result (IsLinesFault (R.remaining input.old)) }
+        ensures fault { IfErr result
+            (IsLinesFault (LacksLine B.numbering) (R.remaining input.old)) }
     {
         let mut lines = Column::with_hasher(alloc, hasher);
         let rest = blocks::read_lines(alloc, input, &mut lines)?;
@@ -84,7 +91,7 @@ impl<B: Backend + Drop> Merged<B> {
     fn push_text(&mut self, text: &str) -> Result<(), Fault>
         requires { has_newline text.now ≡ false }
         ensures ok { OnOk result (self.new ≡ self.old ++ text.now) }
-        ensures fault { IfErr result IsTakeFault }
+        ensures fault { IfErr result (λ fault. fault ≡ Memory) }
     {
         match self.rest.push_str(text) {
             Ok(()) => Ok(()),
@@ -95,7 +102,8 @@ impl<B: Backend + Drop> Merged<B> {
     /// Appends a newline.
     fn end_line(&mut self) -> Result<(), Fault>
         ensures ok { OnOk result (self.new ≡ self.old ++ 10 ∷ []) }
-        ensures fault { IfErr result IsTakeFault }
+        ensures fault { IfErr result
+            (IsTakeFault (HasRefused (LacksLine B.numbering) (lines_of (self.old ++ 10 ∷ [])))) }
     {
         match self.lines.push(&self.rest) {
             Ok(_) => {
@@ -111,7 +119,8 @@ impl<B: Backend + Drop> Merged<B> {
         requires { list_any has_newline lines.now ≡ false }
         ensures ok { OnOk result
             (self.new ≡ self.old ++ flat_map behind_newline (drop 1 lines.now)) }
-        ensures fault { IfErr result IsTakeFault }
+        ensures fault { IfErr result (IsTakeFault (HasRefused (LacksLine B.numbering)
+            (lines_of (self.old ++ flat_map behind_newline (drop 1 lines.now))))) }
     {
         let end = lines.len().saturating_sub(1);
         let Some(last) = lines.row(end) else {
@@ -132,7 +141,8 @@ impl<B: Backend + Drop> Merged<B> {
     fn append_joined(&mut self, lines: &Column<B, LineHasher>) -> Result<(), Fault>
         requires { list_any has_newline lines.now ≡ false }
         ensures ok { OnOk result (self.new ≡ self.old ++ join_with_byte 10 lines.now) }
-        ensures fault { IfErr result IsTakeFault }
+        ensures fault { IfErr result (IsTakeFault (HasRefused (LacksLine B.numbering)
+            (lines_of (self.old ++ join_with_byte 10 lines.now)))) }
     {
         let Some(first) = lines.row(0) else {
             return Ok(());
@@ -145,7 +155,8 @@ impl<B: Backend + Drop> Merged<B> {
     fn append(&mut self, lines: &Column<B, LineHasher>, is_ended: bool) -> Result<(), Fault>
         requires { list_any has_newline lines.now ≡ false }
         ensures ok { OnOk result (self.new ≡ self.old ++ text_of_lines lines.now is_ended) }
-        ensures fault { IfErr result IsTakeFault }
+        ensures fault { IfErr result (IsTakeFault (HasRefused (LacksLine B.numbering)
+            (lines_of (self.old ++ text_of_lines lines.now is_ended)))) }
     {
         self.append_joined(lines)?;
         if is_ended {
@@ -165,7 +176,7 @@ impl<B: Backend + Drop> Merged<B> {
             × (self.new ≡ self.old ++ text)) }
 
         // A file is called damaged only if it holds no text, and not UTF-8 only if it is not.
-        ensures err { IfErr result (IsFileFault (Some bytes.items)) }
+        ensures err { IfErr result (IsFileFault (λ file. ⊤) (Some bytes.items)) }
     {
         let (lines, is_ended) = file::read_column(alloc, hasher, bytes)?;
         // The empty text takes ended lines as they are, so that none is hashed again.
@@ -186,7 +197,8 @@ impl<B: Backend + Drop> Merged<B> {
     ) -> Result<(), Fault>
         ensures written { OnOk result (Writes (IsCountsText is_sorted (lines_of self.old))
             (W.contents output.old) (W.contents output.new)) }
-        ensures fault { IfErr result IsLinesWriteFault }
+        ensures fault { IfErr result
+            (IsLinesWriteFault (HasRefused (LacksLine B.numbering) (lines_of self.old))) }
 
         // Unless all went well or a write failed, the output was not touched.
         ensures silent { WritesLast result output.old output.new }
@@ -207,7 +219,8 @@ impl<B: Backend + Drop> Merged<B> {
     pub fn write<W: Write>(&mut self, alloc: Global, output: &mut W) -> Result<(), Fault>
         ensures written { OnOk result
             (Writes (IsColumnFile self.old) (W.contents output.old) (W.contents output.new)) }
-        ensures fault { IfErr result IsLinesWriteFault }
+        ensures fault { IfErr result
+            (IsLinesWriteFault (HasRefused (LacksLine B.numbering) (lines_of self.old))) }
 
         // Unless all went well or a write failed, the output was not touched.
         ensures silent { WritesLast result output.old output.new }

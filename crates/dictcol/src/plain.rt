@@ -7,12 +7,13 @@ mod npy;
 mod pair;
 mod rows;
 
-ghost use Rattle.std.specs.Prelude.{◌≡◌, ◌≤◌, ◌++◌, ◌⊎◌, List, length, IfOk, IfErr, IfSome, OnOk};
+ghost use Rattle.std.specs.Prelude.{⊤, ◌≡◌, ◌≤◌, ◌++◌, ◌⊎◌, List, length, IfOk, IfErr, IfSome, OnOk};
 ghost use Rattle.string_interner.specs.Text.{Text};
 ghost use Rattle.dictcol.specs.Blocks.{IsLinesFault};
 ghost use Rattle.dictcol.specs.Fault.{IsLinesWriteFault, WritesLast};
 ghost use Rattle.dictcol.specs.Lines.{AreLines};
 ghost use Rattle.dictcol.specs.Plain.{HoldPlain, IsBegun, IsDictionaryFault, IsOnto, IsPlainFault, WritesPlain};
+ghost use Rattle.dictcol.specs.TooMany.{LacksBehind, LacksLine};
 ghost use Rattle.dictcol.specs.Writes.{Writes};
 
 use crate::blocks;
@@ -42,7 +43,8 @@ fn read_lines<B: Backend + Drop, R: Read>(
 ) -> Result<(Column<B, LineHasher>, bool), Fault>
     ensures ok { IfOk result (λ lines.
         IfSome (R.remaining input.old) (λ text. AreLines text lines.0 lines.1)) }
-    ensures fault { IfErr result (IsLinesFault (R.remaining input.old)) }
+    ensures fault { IfErr result
+        (IsLinesFault (LacksLine B.numbering) (R.remaining input.old)) }
 {
     let mut lines = Column::with_hasher(alloc, hasher);
     let rest = blocks::read_lines(alloc, input, &mut lines)?;
@@ -66,7 +68,8 @@ fn append_lines<B: Backend + Drop, R: Read>(
     ensures ok { IfOk result (λ is_ended. (more : List Text) × (lines.new ≡ lines.old ++ more)
         × IfSome (R.remaining input.old) (λ text. AreLines text more is_ended)) }
     ensures kept { length lines.old ≤ length lines.new }
-    ensures fault { IfErr result (IsLinesFault (R.remaining input.old)) }
+    ensures fault { IfErr result
+        (IsLinesFault (LacksBehind B.numbering lines.old) (R.remaining input.old)) }
 {
     let (more, is_ended) = read_lines::<B, R>(alloc, hasher, input)?;
     if lines.is_empty() {
@@ -86,7 +89,8 @@ impl<B: Backend + Drop> Plain<B> {
             IsBegun known plain.lines plain.known)) }
 
         // The file is called damaged only if it is, and not UTF-8 only if it is not.
-        ensures err { IfErr result (IsDictionaryFault (D.remaining before.old)) }
+        ensures err { IfErr result
+            (IsDictionaryFault (LacksLine B.numbering) (D.remaining before.old)) }
     {
         let lines = dictionary::read::<B, D>(alloc, hasher, before)?;
         let known = lines.len();
@@ -114,7 +118,8 @@ impl<B: Backend + Drop> Plain<B> {
         ensures ok { (before : Text) → IsBegun before self.old.lines self.old.known
             → OnOk result (IfSome (R.remaining input.old) (λ text.
             IsOnto before text self.new.lines self.new.known self.new.is_cut)) }
-        ensures fault { IfErr result (IsLinesFault (R.remaining input.old)) }
+        ensures fault { IfErr result
+            (IsLinesFault (LacksBehind B.numbering self.old.lines) (R.remaining input.old)) }
     {
         let is_ended = append_lines(alloc, hasher, &mut self.lines, input)?;
         let is_cut = !is_ended && self.known < self.lines.len();
@@ -149,7 +154,7 @@ impl<B: Backend + Drop> Plain<B> {
             (D.contents dictionary.old) (D.contents dictionary.new)
             (N.contents numbers.old) (N.contents numbers.new)) }
         ensures silent { WritesLast result dictionary.old dictionary.new }
-        ensures fault { IfErr result IsLinesWriteFault }
+        ensures fault { IfErr result (IsLinesWriteFault ⊤) }
     {
         let (narrow, wide) = self.lines.codes().as_slices();
         if !wide.is_empty() {

@@ -10,6 +10,8 @@ ghost use Rattle.dictcol.specs.Answer.{IsLinesTaskFault};
 ghost use Rattle.dictcol.specs.Blocks.{IsTextOf};
 ghost use Rattle.dictcol.specs.Fault.{IsTakeFault, IsWriteFault};
 ghost use Rattle.dictcol.specs.Lines.{lines_of};
+ghost use Rattle.dictcol.specs.TooMany.{IsPastCount};
+ghost use Rattle.dictcol.specs.declared.fault.Fault.TheVariants.{Memory};
 
 use crate::block::Block;
 use crate::blocks;
@@ -55,7 +57,7 @@ impl<W: Write> Shard<W> {
         ensures ok { OnOk result
             (self.new.waiting.items ≡ self.old.waiting.items ++ line.now ++ 10 ∷ []) }
         ensures same { self.new.output ≡ self.old.output }
-        ensures fault { IfErr result IsTakeFault }
+        ensures fault { IfErr result (λ fault. fault ≡ Memory) }
     {
         if self.waiting.extend_from_slice(line.as_bytes()).is_err() {
             return Err(Fault::Memory);
@@ -125,7 +127,8 @@ impl<H: TextHasher, W: Write> Shards<H, W> {
         ensures added { OnOk result ((lines : List Text)
             → HasSharded H.code W.contents self.old lines
             → HasSharded H.code W.contents self.new (lines ++ line.now ∷ [])) }
-        ensures fault { IfErr result IsTakeFault }
+        ensures fault { (lines : List Text) → HasSharded H.code W.contents self.old lines
+            → IfErr result (IsTakeFault (IsPastCount lines line.now)) }
     {
         let total = self.total.checked_add(1).ok_or(Fault::TooMany)?;
         let code = self.hasher.hash_text(line);
@@ -157,7 +160,7 @@ impl<H: TextHasher, W: Write> Shards<H, W> {
         ensures ok { IfOk result (λ rest. (seen : List Text)
             × HasSharded H.code W.contents self.new seen
             × IsTextOf (R.remaining input.old) seen (string_bytes rest)) }
-        ensures fault { IfErr result (IsLinesTaskFault (R.remaining input.old)) }
+        ensures fault { IfErr result (IsLinesTaskFault IsPastCount (R.remaining input.old)) }
     {
         let mut block = Block::new(alloc)?;
         for _ in 0..u64::MAX {
@@ -174,7 +177,7 @@ impl<H: TextHasher, W: Write> Shards<H, W> {
         requires { HasSharded H.code W.contents self.old [] }
         ensures written { OnOk result (IfSome (R.remaining input.old)
             (λ all. HoldShards H.code W.contents self.new (lines_of all))) }
-        ensures fault { IfErr result (IsLinesTaskFault (R.remaining input.old)) }
+        ensures fault { IfErr result (IsLinesTaskFault IsPastCount (R.remaining input.old)) }
     {
         let rest = self.write_whole_lines(alloc, input)?;
         if !rest.is_empty() {
@@ -186,8 +189,11 @@ impl<H: TextHasher, W: Write> Shards<H, W> {
 
 impl<H: TextHasher, W: Write> TakesLines for Shards<H, W> {
     ghost use Rattle.dictcol.specs.Shards.{HasSharded};
+    ghost use Rattle.dictcol.specs.TooMany.{IsPastCount};
 
     ghost has_taken = { HasSharded H.code W.contents };
+
+    ghost refuses = { IsPastCount };
 
     fn take_lines(&mut self, text: &str) -> Result<(), Fault> {
         for line in Lines::new(text) {

@@ -8,10 +8,13 @@ ghost use Rattle.serde_json.specs.Data.{unsigned};
 ghost use Rattle.serde_json.specs.Read.{number_of};
 ghost use Rattle.string_interner.specs.Text.{Text};
 ghost use Rattle.string_column.specs.Column.{rows_of};
+ghost use Rattle.string_column.specs.Entries.{LacksSymbol};
+ghost use Rattle.dictcol.specs.Crowded.{LacksEntry, LacksText};
 ghost use Rattle.dictcol.specs.Fault.{IsTakeFault};
 ghost use Rattle.dictcol.specs.File.{AreWithin, FileHolds};
 ghost use Rattle.dictcol.specs.Lines.{has_newline};
 ghost use Rattle.dictcol.specs.StreamTokens.{AreIndexes, StreamHolds, behind_front};
+ghost use Rattle.dictcol.specs.declared.fault.Fault.TheVariants.{Memory};
 
 use crate::fault::Fault;
 use crate::file::{Dictionary, Parts};
@@ -38,7 +41,8 @@ fn takes_array(reader: &mut Reader<'_>, name: &str) -> bool
 fn push_text<B: Backend>(dictionary: &mut Dictionary<B>, text: &str) -> Result<bool, Fault>
     ensures new { IfOk result (λ is_new. IsTrue is_new
         → dictionary.new.texts ≡ dictionary.old.texts ++ text.now ∷ []) }
-    ensures fault { IfErr result IsTakeFault }
+    ensures fault { IfErr result
+        (IsTakeFault (LacksSymbol B.numbering dictionary.old.texts text.now)) }
 {
     let count = dictionary.len();
     dictionary.get_or_intern(text).map_err(Fault::of_intern)?;
@@ -57,7 +61,8 @@ fn read_front_texts<'t, B: Backend>(
         ≡ map string dictionary.new.texts ++ tokens ahead.now)) }
     ensures plain { IfOk result (λ found. IfSome found (λ ahead.
         list_any has_newline dictionary.new.texts ≡ false)) }
-    ensures fault { IfErr result IsTakeFault }
+    ensures fault { IfErr result (IsTakeFault
+        (LacksText B.numbering (map string dictionary.old.texts ++ tokens list.now))) }
 {
     let mut ahead = list;
     'texts: while let Some((text, behind)) = split_text(ahead) {
@@ -81,7 +86,8 @@ fn read_texts<B: Backend>(
         ≡ map string dictionary.new.texts ++ end_array ∷ reader.new) }
     ensures plain { IfOk result (λ is_read. IsTrue is_read
         → list_any has_newline dictionary.new.texts ≡ false) }
-    ensures fault { IfErr result IsTakeFault }
+    ensures fault { IfErr result
+        (IsTakeFault (LacksText B.numbering (map string dictionary.old.texts ++ reader.old))) }
 {
     'texts: while !reader.take_end_array() {
         let Some(Token::String(text)) = reader.next() else {
@@ -128,7 +134,7 @@ fn read_indexes(
         × AreIndexes numbers indexes.items)) }
     ensures within { IfOk result (λ found. IfSome found (λ codes.
         All (λ index. index < count) codes.items)) }
-    ensures fault { IfErr result IsTakeFault }
+    ensures fault { IfErr result (λ fault. fault ≡ Memory) }
 {
     let mut codes = Codes::new(alloc);
     'indexes: while !reader.take_end_array() {
@@ -186,7 +192,8 @@ fn read_rest<B: Backend>(
     ensures holds { IfOk result (λ found. IfSome found (λ rest.
         StreamHolds (behind_front (map string dictionary.old.texts ++ reader.old))
         dictionary.new.texts rest.0.items rest.1)) }
-    ensures fault { IfErr result IsTakeFault }
+    ensures fault { IfErr result
+        (IsTakeFault (LacksText B.numbering (map string dictionary.old.texts ++ reader.old))) }
 {
     if !read_texts(dictionary, reader)? {
         return Ok(None);
@@ -215,7 +222,7 @@ fn read_list<B: Backend>(
     requires { dictionary.old.texts ≡ [] }
     ensures holds { IfOk result (λ found. IfSome found (λ rest.
         StreamHolds (behind_front (tokens list.now)) dictionary.new.texts rest.0.items rest.1)) }
-    ensures fault { IfErr result IsTakeFault }
+    ensures fault { IfErr result (IsTakeFault (LacksText B.numbering (tokens list.now))) }
 {
     let Some(ahead) = read_front_texts(dictionary, list)? else {
         return Ok(None);
@@ -236,7 +243,7 @@ fn read_spaced<B: Backend>(
     requires { dictionary.old.texts ≡ [] }
     ensures holds { IfOk result (λ found. IfSome found (λ rest.
         StreamHolds (tokens file.now) dictionary.new.texts rest.0.items rest.1)) }
-    ensures fault { IfErr result IsTakeFault }
+    ensures fault { IfErr result (IsTakeFault (LacksEntry B.numbering (tokens file.now))) }
 {
     let mut scratch = Scratch::new(alloc);
     let Ok(mut reader) = Reader::new(file, &mut scratch) else {
@@ -260,7 +267,7 @@ pub fn read_stream<B: Backend + Drop>(
     ensures lines { IfOk result (λ found. IfSome found (λ parts. FileHolds file.now
         (rows_of parts.dictionary.texts parts.codes.items) parts.is_ended)) }
     ensures within { IfOk result (λ found. IfSome found AreWithin) }
-    ensures fault { IfErr result IsTakeFault }
+    ensures fault { IfErr result (IsTakeFault (LacksEntry B.numbering (tokens file.now))) }
 {
     let mut dictionary = Dictionary::<B>::with_hasher(alloc, hasher);
     let rest = match file.strip_prefix("{\"dictionary\":[") {

@@ -1,9 +1,9 @@
 //! Iterators over the texts of the three backends. Each is a plain struct, so that its lifetime may shrink.
 
-use super::joined::Parts;
 use crate::proved::backend as proved;
 use crate::proved::backend::Backend as _;
 use crate::symbol::Symbol;
+use crate::unchecked::Parts;
 use core::fmt;
 use core::iter::FusedIterator;
 use core::marker::PhantomData;
@@ -109,65 +109,98 @@ impl<'a, S> StringIter<'a, S> {
 
 iterator!(StringIter);
 
-/// Defines an iterator that asks a backend for one entry after another.
-macro_rules! walk {
-    ($(#[$doc:meta])* $name:ident, $backend:ident) => {
-        $(#[$doc])*
-        pub struct $name<'a, S> {
-            texts: &'a proved::$backend<usize>,
-            /// Where the next entry begins.
-            place: usize,
-            left: usize,
-            symbol: PhantomData<fn() -> S>,
+/// Yields the texts of a `BucketBackend`.
+pub struct BucketIter<'a, S> {
+    texts: &'a proved::BucketBackend<usize>,
+    /// The number of the next text.
+    number: usize,
+    symbol: PhantomData<fn() -> S>,
+}
+
+impl<'a, S> BucketIter<'a, S> {
+    #[inline]
+    pub(super) fn over(texts: &'a proved::BucketBackend<usize>) -> Self {
+        BucketIter {
+            texts,
+            number: 0,
+            symbol: PhantomData,
         }
+    }
 
-        impl<'a, S> $name<'a, S> {
-            #[inline]
-            pub(super) fn over(texts: &'a proved::$backend<usize>) -> Self {
-                $name {
-                    texts,
-                    place: 0,
-                    left: texts.count(),
-                    symbol: PhantomData,
-                }
-            }
+    fn copy(&self) -> Self {
+        BucketIter { ..*self }
+    }
 
-            fn copy(&self) -> Self {
-                $name { ..*self }
-            }
+    #[inline(always)]
+    fn left(&self) -> usize {
+        self.texts.count() - self.number
+    }
 
-            #[inline(always)]
-            fn left(&self) -> usize {
-                self.left
-            }
+    #[inline(always)]
+    fn step(&mut self) -> Option<(usize, &'a str)> {
+        // That there is no such text also ends the walk, so there is nothing else to test.
+        let text = self.texts.resolve(self.number)?;
+        let number = self.number;
+        self.number += 1;
+        Some((number, text))
+    }
 
-            #[inline(always)]
-            fn step(&mut self) -> Option<(usize, &'a str)> {
-                self.left = self.left.checked_sub(1)?;
-                let (number, text, next) = self.texts.entry_at(self.place);
-                self.place = next;
-                Some((number, text))
-            }
+    #[inline(always)]
+    fn fold_steps<A>(self, first: A, mut call: impl FnMut(A, usize, &'a str) -> A) -> A {
+        let numbers = self.number..self.texts.count();
+        numbers.fold(first, |so_far, number| {
+            call(so_far, number, self.texts.resolve_unchecked(number))
+        })
+    }
+}
 
-            #[inline(always)]
-            fn fold_steps<A>(mut self, first: A, mut call: impl FnMut(A, usize, &'a str) -> A) -> A {
-                let mut so_far = first;
-                while let Some((number, text)) = self.step() {
-                    so_far = call(so_far, number, text);
-                }
-                so_far
-            }
+iterator!(BucketIter);
+
+/// Yields the texts of a `BufferBackend`.
+pub struct BufferIter<'a, S> {
+    texts: &'a proved::BufferBackend<usize>,
+    /// Where the next entry begins.
+    place: usize,
+    left: usize,
+    symbol: PhantomData<fn() -> S>,
+}
+
+impl<'a, S> BufferIter<'a, S> {
+    #[inline]
+    pub(super) fn over(texts: &'a proved::BufferBackend<usize>) -> Self {
+        BufferIter {
+            texts,
+            place: 0,
+            left: texts.count(),
+            symbol: PhantomData,
         }
+    }
 
-        iterator!($name);
-    };
+    fn copy(&self) -> Self {
+        BufferIter { ..*self }
+    }
+
+    #[inline(always)]
+    fn left(&self) -> usize {
+        self.left
+    }
+
+    #[inline(always)]
+    fn step(&mut self) -> Option<(usize, &'a str)> {
+        self.left = self.left.checked_sub(1)?;
+        let (number, text, next) = self.texts.entry_at(self.place);
+        self.place = next;
+        Some((number, text))
+    }
+
+    #[inline(always)]
+    fn fold_steps<A>(mut self, first: A, mut call: impl FnMut(A, usize, &'a str) -> A) -> A {
+        let mut so_far = first;
+        while let Some((number, text)) = self.step() {
+            so_far = call(so_far, number, text);
+        }
+        so_far
+    }
 }
 
-walk! {
-    /// Yields the texts of a `BucketBackend`.
-    BucketIter, BucketBackend
-}
-walk! {
-    /// Yields the texts of a `BufferBackend`.
-    BufferIter, BufferBackend
-}
+iterator!(BufferIter);

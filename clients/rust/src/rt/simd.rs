@@ -1,5 +1,7 @@
 //! Sixteen bytes that are compared at once: by a vector where the target has them, and else by two words.
 
+use core::ops::BitOr;
+
 pub mod prelude {
     pub use super::u8x16;
 }
@@ -9,7 +11,7 @@ pub mod prelude {
 #[derive(Clone, Copy)]
 pub struct u8x16(lanes::Lanes);
 
-/// Which of sixteen bytes are equal: bit `i` for byte `i`.
+/// Of which of sixteen bytes something holds: bit `i` for byte `i`.
 #[derive(Clone, Copy)]
 pub struct Mask(u16);
 
@@ -18,6 +20,15 @@ impl Mask {
     #[inline(always)]
     pub fn to_bitmask(self) -> u64 {
         u64::from(self.0)
+    }
+}
+
+impl BitOr for Mask {
+    type Output = Self;
+
+    #[inline(always)]
+    fn bitor(self, other: Self) -> Self {
+        Mask(self.0 | other.0)
     }
 }
 
@@ -39,68 +50,19 @@ impl u8x16 {
     pub fn simd_eq(self, other: Self) -> Mask {
         Mask(lanes::equal(self.0, other.0))
     }
-}
 
-// From some version on the compiler takes calls that only want the vectors for safe.
-#[cfg(all(target_feature = "sse2", not(any(miri, string_interner_words))))]
-#[allow(unused_unsafe)]
-mod lanes {
-    use core::arch::x86_64::{
-        __m128i, _mm_cmpeq_epi8, _mm_loadu_si128, _mm_movemask_epi8, _mm_set1_epi8,
-    };
-
-    pub type Lanes = __m128i;
-
+    /// Tells which bytes are less than those of the other: for them the larger one is not their own.
     #[inline(always)]
-    pub fn of(bytes: &[u8; 16]) -> Lanes {
-        // SAFETY: the target has SSE2, and the address, which need not be aligned, is that of sixteen bytes.
-        unsafe { _mm_loadu_si128(bytes.as_ptr().cast()) }
-    }
-
-    #[inline(always)]
-    pub fn repeated(byte: u8) -> Lanes {
-        // SAFETY: the target has SSE2.
-        unsafe { _mm_set1_epi8(byte as i8) }
-    }
-
-    #[inline(always)]
-    pub fn equal(one: Lanes, other: Lanes) -> u16 {
-        // SAFETY: the target has SSE2.
-        unsafe { _mm_movemask_epi8(_mm_cmpeq_epi8(one, other)) as u16 }
+    pub fn simd_lt(self, other: Self) -> Mask {
+        Mask(!lanes::equal(self.0, lanes::larger(self.0, other.0)))
     }
 }
 
-#[cfg(all(target_feature = "neon", not(any(miri, string_interner_words))))]
-#[allow(unused_unsafe)]
-mod lanes {
-    use core::arch::aarch64::{
-        uint8x16_t, vaddv_u8, vandq_u8, vceqq_u8, vdupq_n_u8, vget_high_u8, vget_low_u8, vld1q_u8,
-    };
-
-    pub type Lanes = uint8x16_t;
-
-    #[inline(always)]
-    pub fn of(bytes: &[u8; 16]) -> Lanes {
-        // SAFETY: the target has NEON, and the address is that of sixteen bytes.
-        unsafe { vld1q_u8(bytes.as_ptr()) }
-    }
-
-    #[inline(always)]
-    pub fn repeated(byte: u8) -> Lanes {
-        // SAFETY: the target has NEON.
-        unsafe { vdupq_n_u8(byte) }
-    }
-
-    #[inline(always)]
-    pub fn equal(one: Lanes, other: Lanes) -> u16 {
-        let bits = of(&[1, 2, 4, 8, 16, 32, 64, 128, 1, 2, 4, 8, 16, 32, 64, 128]);
-        // SAFETY: the target has NEON.
-        unsafe {
-            let equal = vandq_u8(vceqq_u8(one, other), bits);
-            u16::from(vaddv_u8(vget_low_u8(equal))) | u16::from(vaddv_u8(vget_high_u8(equal))) << 8
-        }
-    }
-}
+#[cfg(all(
+    any(target_feature = "sse2", target_feature = "neon"),
+    not(any(miri, string_interner_words))
+))]
+use crate::unchecked::lanes;
 
 #[cfg(any(
     miri,
@@ -123,6 +85,11 @@ mod lanes {
     #[inline(always)]
     pub fn equal(one: Lanes, other: Lanes) -> u16 {
         super::equal_by_words(&one, &other)
+    }
+
+    #[inline(always)]
+    pub fn larger(one: Lanes, other: Lanes) -> Lanes {
+        core::array::from_fn(|at| one[at].max(other[at]))
     }
 }
 

@@ -8,7 +8,7 @@ type Text = alloc::string::String;
 
 /// A growable text.
 #[derive(Debug, PartialEq, Eq)]
-pub struct String(Text);
+pub struct String(pub(crate) Text);
 
 impl String {
     /// Makes an empty text. Allocates nothing.

@@ -1,50 +1,17 @@
 //! Each contract of Rattle's std for which `rt` stands, and refused memory.
 
+#[path = "../../tests/allocator/mod.rs"]
+mod allocator;
+
 use super::alloc::{AllocError, Global};
 use super::hash::{keyed_hasher, FoldHasher, Hasher};
 use super::numbers::{Chunks, Product};
 use super::simd::{equal_by_words, u8x16};
 use super::string::String;
 use super::vec::Vec;
-use std::alloc::{GlobalAlloc, Layout, System};
-use std::cell::Cell;
+use allocator::refused;
 use std::hash::DefaultHasher;
 use std::panic::catch_unwind;
-use std::ptr;
-
-std::thread_local! {
-    static REFUSES: Cell<bool> = const { Cell::new(false) };
-}
-
-/// Refuses memory while a thread asks it to.
-struct Refusing;
-
-#[global_allocator]
-static ALLOCATOR: Refusing = Refusing;
-
-// SAFETY: it hands all on to the system's allocator, or refuses.
-unsafe impl GlobalAlloc for Refusing {
-    unsafe fn alloc(&self, layout: Layout) -> *mut u8 {
-        if REFUSES.get() {
-            return ptr::null_mut();
-        }
-        // SAFETY: owed by the caller.
-        unsafe { System.alloc(layout) }
-    }
-
-    unsafe fn dealloc(&self, block: *mut u8, layout: Layout) {
-        // SAFETY: owed by the caller.
-        unsafe { System.dealloc(block, layout) }
-    }
-}
-
-/// Makes a call to which all memory is refused.
-fn refused<T>(call: impl FnOnce() -> T) -> T {
-    REFUSES.set(true);
-    let returned = call();
-    REFUSES.set(false);
-    returned
-}
 
 /// A list of these numbers, and no room for more.
 fn list_of(numbers: &[u32]) -> Vec<u32> {
@@ -194,6 +161,11 @@ fn sixteen_bytes_are_compared_alike_on_each_path() {
         assert_eq!(equal_by_words(&one, &other), wanted);
         let by_target = u8x16::from_slice(&one).simd_eq(u8x16::from_slice(&other));
         assert_eq!(by_target.to_bitmask(), u64::from(wanted));
+        let less = (0..16).fold(0, |mask, at| mask | u64::from(one[at] < other[at]) << at);
+        let by_target = u8x16::from_slice(&one).simd_lt(u8x16::from_slice(&other));
+        assert_eq!(by_target.to_bitmask(), less);
+        let equal = u8x16::from_slice(&one).simd_eq(u8x16::from_slice(&other));
+        assert_eq!((by_target | equal).to_bitmask(), less | u64::from(wanted));
         let beside_one = u8x16::splat(one[3]).simd_eq(u8x16::from_slice(&other));
         assert_eq!(beside_one.to_bitmask() >> 5 & 1 == 1, one[3] == other[5]);
     }

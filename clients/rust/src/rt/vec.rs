@@ -7,7 +7,7 @@ type List<T> = alloc::vec::Vec<T>;
 
 /// A growable list.
 #[derive(Debug, PartialEq, Eq)]
-pub struct Vec<T>(List<T>);
+pub struct Vec<T>(pub(crate) List<T>);
 
 impl<T> Vec<T> {
     /// Makes an empty list. Allocates nothing.

@@ -30,7 +30,7 @@ impl<S: Symbol, H: BuildHasher> Interner<S, H> {
         let hasher = self.shared.hasher.0;
         let mut interner = StringInterner::with_capacity_and_hasher(count as usize, hasher);
         for number in 0..count {
-            interner.get_or_intern(self.shared.texts.wait_for(number));
+            interner.get_or_intern(self.memory.texts().wait_for(number));
         }
         interner
     }
@@ -56,7 +56,7 @@ impl<S: Symbol, H> Interner<S, H> {
     pub fn into_backend(self) -> StringBackend<S> {
         let mut backend = StringBackend::with_capacity(self.len());
         for number in 0..self.shared.count() {
-            backend.intern(self.shared.texts.wait_for(number));
+            backend.intern(self.memory.texts().wait_for(number));
         }
         backend.shrink_to_fit();
         backend

@@ -6,10 +6,9 @@
 //! is unknown because an index says so. It says so where it has an empty slot for the text: whoever adds a text takes the first
 //! empty slot that it may have.
 
-use super::arrays::{Table, Tables};
+use super::memory::{Table, Tables, Texts};
 use super::orders::{ACQUIRE, RELEASE};
 use super::shard::Shard;
-use super::texts::Texts;
 use crate::error::InternError;
 use crate::proved::equal_texts::texts_are_equal;
 use std::sync::atomic::Ordering::Relaxed;

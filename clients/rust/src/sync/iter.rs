@@ -1,6 +1,6 @@
 //! Iterating over the texts of a shared interner.
 
-use super::texts::Texts;
+use super::memory::Texts;
 use crate::symbol::{DefaultSymbol, Symbol};
 use core::fmt;
 use core::iter::FusedIterator;

@@ -1,8 +1,7 @@
 //! What threads read without a lock, and how a text comes into it.
 
 use super::index::{Index, Look};
-use super::shard::Shard;
-use super::texts::Texts;
+use super::memory::{Held, Texts};
 use crate::error::InternError;
 use crate::hasher::By;
 use crate::proved::hash::TextHasher as _;
@@ -26,8 +25,6 @@ pub(super) struct Apart<T>(pub(super) T);
 pub(super) struct Shared<S, H> {
     pub(super) hasher: By<H>,
     pub(super) indexes: Box<[Index; SHARDS]>,
-    /// Texts that are static or in buckets of the shards, which live as long.
-    pub(super) texts: Texts,
     /// How many numbers were taken.
     count: Apart<AtomicU32>,
     symbol: PhantomData<fn() -> S>,
@@ -45,7 +42,6 @@ impl<S, H> Shared<S, H> {
         Shared {
             hasher: By(hash_builder),
             indexes: Box::new([const { Index::new() }; SHARDS]),
-            texts: Texts::new(),
             count: Apart(AtomicU32::new(0)),
             symbol: PhantomData,
         }
@@ -65,22 +61,22 @@ impl<S, H> Shared<S, H> {
 impl<S: Symbol, H: BuildHasher> Shared<S, H> {
     /// Looks for a text with this code in the index of its shard.
     #[inline(always)]
-    pub(super) fn find(&self, code: u64, text: &str) -> Look {
-        self.indexes[shard_of(code)].find(code as u32, &self.texts, text)
+    pub(super) fn find(&self, texts: &Texts, code: u64, text: &str) -> Look {
+        self.indexes[shard_of(code)].find(code as u32, texts, text)
     }
 
     /// Returns the symbol of a text that the index did not show. Appends a text that is not known to its shard, which nobody else
     /// has.
     pub(super) fn intern(
         &self,
-        shard: &mut Shard,
+        mut shard: Held<'_>,
         code: u64,
         given: Given<'_>,
     ) -> Result<S, InternError> {
         let index = &self.indexes[shard_of(code)];
         // All that may be refused is asked for first, so that a text for which there is no room is not kept. But other threads may
         // take the last number in the meantime: then the text stays in its shard without one.
-        if let Err(error) = self.make_room(shard, index) {
+        if let Err(error) = self.make_room(&mut shard, index) {
             let number = shard.find(code, given.text()).ok_or(error)?;
             return self.symbol_of(number);
         }
@@ -88,41 +84,40 @@ impl<S: Symbol, H: BuildHasher> Shared<S, H> {
         if let Some(number) = shard.number_at(place) {
             return self.symbol_of(number);
         }
-        // SAFETY: the bytes stay as long as the shard, as `text_at` says, and the shard as long as `self`: an interner has both.
-        let entry = unsafe { self.texts.entry_of(shard.text_at(place))? };
-        let (number, symbol) = self.take_number()?;
+        let entry = shard.entry_at(place)?;
+        let (number, symbol) = self.take_number(shard.texts())?;
         index.insert(shard.set_number(place, code as u32, number));
-        self.texts.publish(number, entry);
+        entry.publish(number);
         Ok(symbol)
     }
 
     /// Makes room for one text more, if a symbol is left for it.
     #[inline]
-    fn make_room(&self, shard: &mut Shard, index: &Index) -> Result<(), InternError> {
-        self.make_room_for(self.count())?;
+    fn make_room(&self, shard: &mut Held<'_>, index: &Index) -> Result<(), InternError> {
+        self.make_room_for(self.count(), shard.texts())?;
         shard.make_room()?;
         index.make_room(shard)
     }
 
     /// Makes room for the text of a number, and returns its symbol.
     #[inline]
-    fn make_room_for(&self, number: u32) -> Result<S, InternError> {
+    fn make_room_for(&self, number: u32, texts: &Texts) -> Result<S, InternError> {
         if number == u32::MAX {
             return Err(InternError::NoSymbol);
         }
         let symbol = self.symbol_of(number)?;
-        self.texts.make_room(number)?;
+        texts.make_room(number)?;
         Ok(symbol)
     }
 
     /// Takes the next number, for whose text there is room then. Nothing that may fail or panic comes between taking a number and
     /// publishing its text.
     #[inline]
-    pub(super) fn take_number(&self) -> Result<(u32, S), InternError> {
+    pub(super) fn take_number(&self, texts: &Texts) -> Result<(u32, S), InternError> {
         let count = &self.count.0;
         let mut number = self.count();
         loop {
-            let symbol = self.make_room_for(number)?;
+            let symbol = self.make_room_for(number, texts)?;
             match count.compare_exchange_weak(number, number + 1, Relaxed, Relaxed) {
                 Ok(_) => return Ok((number, symbol)),
                 Err(now) => number = now,

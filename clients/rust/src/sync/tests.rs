@@ -32,17 +32,18 @@ impl Writer {
         match self.steps {
             0 => {
                 let index = &shared.indexes[shard];
-                index.make_room(&lock(&names.shards[shard])).unwrap();
-                self.number = Some(shared.take_number().unwrap().0);
+                let make_room = |held: memory::Held| index.make_room(&held);
+                names.memory.with_locked(shard, make_room).unwrap();
+                let taken = shared.take_number(names.memory.texts());
+                self.number = Some(taken.unwrap().0);
             }
             1 => {
                 let content = index::slot_of(self.code as u32, self.number.unwrap());
                 shared.indexes[shard].insert(content);
             }
             _ => {
-                // SAFETY: the text is static.
-                let entry = unsafe { shared.texts.entry_of(self.text).unwrap() };
-                shared.texts.publish(self.number.unwrap(), entry);
+                let entry = names.memory.texts().entry_of_static(self.text);
+                entry.unwrap().publish(self.number.unwrap());
             }
         }
         self.steps += 1;
@@ -57,7 +58,7 @@ impl Writer {
         assert_eq!(resolved, (self.steps > 2).then_some(self.text));
         assert_eq!(names.get(self.text), number.filter(|_| self.steps > 2));
         // Its shard is asked, and answers once the text is published.
-        let shown = names.shared.find(self.code, self.text);
+        let shown = names.find(self.code, self.text);
         assert_eq!(matches!(shown, Look::Unknown), self.steps == 2);
     }
 }
@@ -102,9 +103,9 @@ fn a_look_goes_on_while_the_index_grows() {
         looks.push((index.table().unwrap(), code, text));
     }
     for (number, (table, code, text)) in looks.iter().enumerate() {
-        let found = index::look(*table, *code as u32, &names.shared.texts, text);
+        let found = index::look(*table, *code as u32, names.memory.texts(), text);
         assert!(matches!(found, Look::Found(found) if found as usize == number));
-        let unknown = index::look(*table, *code as u32, &names.shared.texts, "unknown");
+        let unknown = index::look(*table, *code as u32, names.memory.texts(), "unknown");
         assert!(!matches!(unknown, Look::Found(_)));
     }
 }

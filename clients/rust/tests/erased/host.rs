@@ -1,5 +1,7 @@
-//! What the programs `suite` and `intern` use of Rattle's std beside the rest of `rt`, with the same requests for memory: what
+//! What the program `suite` uses of Rattle's std beside the rest of `rt`, with the same requests for memory: what
 //! Rust's own std asks for, as for the buffers of standard input and output, is not asked for.
+
+#![allow(unsafe_code)]
 
 pub use super::{alloc, fmt, iter, json, marker, mem, slice, str, string};
 pub use crate::{erased_eprintln as eprintln, erased_println as println, erased_vec as vec};
@@ -86,12 +88,6 @@ pub mod process {
     }
 }
 
-pub mod memchr {
-    pub fn memchr(byte: u8, bytes: &[u8]) -> Option<usize> {
-        bytes.iter().position(|other| *other == byte)
-    }
-}
-
 /// As in Rattle the builder may be copied, and a hasher has the keys 0 by default.
 pub mod hash {
     pub use crate::rt::hash::{BuildHasher, BuildHasherDefault, DefaultHasher, FoldHasher, Hasher};
@@ -130,7 +126,7 @@ pub mod env {
         }
 
         /// Fails if an argument is not UTF-8, too.
-        pub fn collect(self, alloc: Global) -> Result<Vec<String>, AllocError> {
+        pub fn try_collect(self, alloc: Global) -> Result<Vec<String>, AllocError> {
             let mut words = Vec::new(alloc);
             for word in self.0 {
                 // SAFETY: the system passed it to `main`.
@@ -256,38 +252,6 @@ pub mod io {
         };
         line.write_fmt(text)?;
         line.flush()
-    }
-
-    /// A buffer of 8 KiB before an output.
-    pub struct BufWriter<W> {
-        bytes: Vec<u8>,
-        output: W,
-    }
-
-    impl<W: Write> BufWriter<W> {
-        pub fn new(alloc: Global, output: W) -> core::result::Result<Self, AllocError> {
-            let bytes = Vec::with_capacity(alloc, 8192)?;
-            Ok(BufWriter { bytes, output })
-        }
-    }
-
-    impl<W: Write> Write for BufWriter<W> {
-        fn write(&mut self, bytes: &[u8]) -> Result<usize> {
-            if bytes.len() > self.bytes.capacity() - self.bytes.len() {
-                self.flush()?;
-            }
-            if bytes.len() >= self.bytes.capacity() {
-                return self.output.write(bytes);
-            }
-            self.bytes.extend_from_slice(bytes).expect("there is room");
-            Ok(bytes.len())
-        }
-
-        fn flush(&mut self) -> Result<()> {
-            self.output.write_all(&self.bytes)?;
-            self.bytes.truncate(0);
-            self.output.flush()
-        }
     }
 }
 

@@ -1,6 +1,8 @@
 //! A lock and a cell with the names of std's, made of atomics alone. A race detector sees these, and not what std's wait in, which is
 //! compiled without it. If NO_LOCK is set, the lock locks nothing.
 
+#![allow(unsafe_code)]
+
 use std::boxed::Box;
 use std::cell::UnsafeCell;
 use std::env;

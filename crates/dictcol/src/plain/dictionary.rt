@@ -4,8 +4,9 @@ ghost use Rattle.std.specs.Prelude.{◌≡◌, ◌+◌, ◌<◌, List, [], ◌�
 ghost use Rattle.std.specs.Io.KnownBytes.{Appends};
 ghost use Rattle.string_interner.specs.Text.{Text, IsDistinct};
 ghost use Rattle.string_column.specs.Parts.{IsRepeat};
-ghost use Rattle.dictcol.specs.Fault.{IsLinesWriteFault, WritesLast};
+ghost use Rattle.dictcol.specs.Fault.{IsOutputFault, WritesLast};
 ghost use Rattle.dictcol.specs.Lines.{text_of_ended};
+ghost use Rattle.dictcol.specs.TooMany.{LacksLine};
 ghost use Rattle.dictcol.specs.Plain.{line_bounds, IsBoundsFault, IsDictionary, IsDictionaryFault, IsLinesFile};
 
 use super::read_lines;
@@ -83,7 +84,7 @@ pub fn write_file<B: Backend, W: Write>(
     ensures written { OnOk result (Appends (W.contents output.old) (W.contents output.new)
         (text_of_ended texts.now.texts [])) }
     ensures silent { WritesLast result output.old output.new }
-    ensures fault { IfErr result IsLinesWriteFault }
+    ensures fault { IfErr result IsOutputFault }
 {
     let Ok(mut block) = Vec::with_capacity(alloc, BLOCK) else {
         return Err(Fault::Memory);
@@ -118,7 +119,8 @@ pub fn read<B: Backend + Drop, R: Read>(
 ) -> Result<Column<B, LineHasher>, Fault>
     ensures ok { IfOk result (λ lines. IfSome (R.remaining file.old) (IsDictionary lines)) }
     ensures distinct { IfOk result IsDistinct }
-    ensures err { IfErr result (IsDictionaryFault (R.remaining file.old)) }
+    ensures err { IfErr result
+        (IsDictionaryFault (LacksLine B.numbering) (R.remaining file.old)) }
 {
     let (lines, is_ended) = match read_lines::<B, R>(alloc, hasher, file) {
         Ok(read) => read,

@@ -25,6 +25,6 @@ returns-then-branch-clause-fault g c =
     let rest = held c.read_block.new.block in
     let block = c.in_ok-read_block.ensures in
     let read = block.read input c.loop.invariant.read in
-    IfErr-weaker c.end_block.result (IsNotUtf8 c.count_lines.result (Some rest)) (IsLinesFault input)
-    (λ fault bad. rest-fault g.L.TakesLines.has_taken input left lines rest fault (block.end c.if-branch.true) read
+    IfErr-weaker c.end_block.result (IsNotUtf8 c.count_lines.result (Some rest)) (IsLinesFault g.L.TakesLines.refuses input)
+    (λ fault bad. rest-fault g.L.TakesLines.has_taken g.L.TakesLines.refuses input left lines rest fault (block.end c.if-branch.true) read
     (at-most-before (length read.seen) c.count_lines.result rest fault (c.count_lines.ensures read.seen read.taken) bad)) c.end_block.ensures.fault

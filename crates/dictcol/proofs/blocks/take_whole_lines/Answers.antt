@@ -1,7 +1,6 @@
-use Rattle.std.proofs.Common.{subst, sym, IfErr, OnOk, Result, Ok, Err}
-use Rattle.std.specs.Prelude.{Option}
-use Rattle.string_interner.specs.Text.{Text}
-use Rattle.dictcol.specs.Blocks.{held, HasRead, IsLinesFault}
+use Rattle.std.proofs.Common.{subst, sym, OnOk, Result, Ok, Err}
+use Rattle.std.proofs.lemmas.Result.{IfErr-weaker}
+use Rattle.dictcol.specs.Blocks.{held, HasRead}
 use Rattle.dictcol.specs.declared.fault.Fault.{Fault}
 use Rattle.dictcol.proofs.Taken.{read-on, front-fault, joined-plain}
 use Rattle.dictcol.proofs.blocks.take_whole_lines.Goals as goal
@@ -17,13 +16,9 @@ returns-in-Some-clause-read g c input left has =
     (read-on g.L.TakesLines.has_taken input left c.args.lines.now c.take_front.new.lines (held c.args.block.now) c.in-Some.at taken utf8 c.in-Some.ensures has))
     c.take_front.ensures.taken c.take_front.ensures.rest c.take_front.ensures.utf8
 
-err-fault : (input : Option Text) (P : Fault → Type 0) (result : Result (Unit {0}) Fault) → ((fault : Fault) → P fault → IsLinesFault input fault) → IfErr result P → IfErr result (IsLinesFault input)
-err-fault input P (Ok done) on h = tt
-err-fault input P (Err fault) on h = on fault h
-
 pub returns-in-Some-clause-fault : goal.returns-in-Some-clause-fault
 returns-in-Some-clause-fault g c input left has =
-    err-fault input _ c.take_front.result (λ fault. front-fault g.L.TakesLines.has_taken input left c.args.lines.now (held c.args.block.now) c.in-Some.at fault c.in-Some.ensures has)
+    IfErr-weaker c.take_front.result _ _ (λ fault. front-fault g.L.TakesLines.has_taken g.L.TakesLines.refuses input left c.args.lines.now (held c.args.block.now) c.in-Some.at fault c.in-Some.ensures has)
     (c.take_front.ensures.fault has.seen has.taken)
 
 pub returns-in-None-clause-rest : goal.returns-in-None-clause-rest

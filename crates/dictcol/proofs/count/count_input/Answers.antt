@@ -4,6 +4,9 @@ use Rattle.dictcol.specs.Counts.{HasCounted}
 use Rattle.dictcol.specs.Lines.{lines_of}
 use Rattle.dictcol.proofs.Counted.{counted-input}
 use Rattle.dictcol.proofs.Merged.{one-line}
+use Rattle.std.proofs.lemmas.Result.{err_from_is_err_and}
+use Rattle.dictcol.specs.TooMany.{LacksCount}
+use Rattle.dictcol.proofs.TooMany.{rest-refused}
 use Rattle.dictcol.proofs.count.count_input.Goals as goal
 use Rattle.dictcol.proofs.count.count_input.Goals.{then-not-is_empty+in_ok-add, else-not-is_empty}
 
@@ -22,3 +25,11 @@ returns-clause-ok g c =
           let none = nil_from_length (string_bytes c.in_ok-rest.rest) (search rules) in
           rw (w.counts-is, none, append-nil read.0) read.1
     ])
+
+pub returns-in_err-add-clause-fault : goal.returns-in_err-add-clause-fault
+returns-in_err-add-clause-fault g c =
+    let read = c.in_ok-rest.ensures.ok in
+    let some : string_bytes c.in_ok-rest.rest ≢ [] = λ e. search rules in
+    let last : c.deref.result.now ≡ string_bytes c.in_ok-rest.rest = search rules in
+    let p = err_from_is_err_and c.from_residual-in_err-add.result c.from_residual-in_err-add.ensures.1 in
+    rw (p.1, p.2) (rest-refused (LacksCount g.B.Backend.numbering) (g.R.Read.remaining c.args.input.now) read.0 (string_bytes c.in_ok-rest.rest) _ read.2 some (rw last at (c.in_err-add.ensures.fault read.0 read.1)))

@@ -4,5 +4,5 @@ use Rattle.std.proofs.lemmas.Grind as steps
 use Rattle.dictcol.proofs.Places.{early_end}
 use Rattle.dictcol.proofs.file.locate_early_end.Goals as goal
 
-pub returns-clause-place : goal.returns-clause-place
-returns-clause-place c = early_end c.args.file.now c.find_last_line.result _ _ c.find_last_line.ensures.line (search rules) (grind (common.arith, steps.common_steps))
+pub returns : goal.returns
+returns c = early_end c.args.file.now c.find_last_line.result _ _ c.find_last_line.ensures.line (search rules) (grind (common.arith, steps.common_steps))

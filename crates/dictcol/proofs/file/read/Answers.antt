@@ -1,3 +1,4 @@
+use Rattle.std.proofs.Common.{inl, inr}
 use Rattle.std.proofs.lemmas.Result.{IfErr-weaker}
 use Rattle.serde_json.specs.View.{view}
 use Rattle.dictcol.proofs.HoldsLines.{reads-as}
@@ -5,4 +6,7 @@ use Rattle.dictcol.proofs.ParseFault.{parse-weaker}
 use Rattle.dictcol.proofs.file.read.Goals as goal
 
 pub returns-clause-err : goal.returns-clause-err
-returns-clause-err g c = IfErr-weaker c.read_value.result _ _ (λ fault. parse-weaker fault (λ none text. reads-as c.args.file.now text (view c.in_ok-value.value) c.in_ok-value.ensures.ok (none text))) c.read_value.ensures.err
+returns-clause-err g c =
+    let value = view c.in_ok-value.value in
+    IfErr-weaker c.read_value.result _ _ (λ fault. parse-weaker fault (λ lacks. inr (value, c.in_ok-value.ensures.ok, lacks))
+    (λ damage. inr (damage.0, λ text. reads-as c.args.file.now text value c.in_ok-value.ensures.ok (damage.1 text)))) c.read_value.ensures.err

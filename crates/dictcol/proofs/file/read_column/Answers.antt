@@ -1,7 +1,9 @@
-use Rattle.std.proofs.Common.{◌≡◌, IfErr, Ok, Err, inr, ap, subst, ◌∙◌, rules}
+use Rattle.std.proofs.Common.{◌≡◌, IfErr, Ok, Err, inl, inr, refl, ap, ◌∙◌, rules}
 use Rattle.std.proofs.lemmas.Result.{IfErr-weaker}
+use Rattle.dictcol.specs.Crowded.{CrowdsFile}
 use Rattle.dictcol.specs.Fault.{IsParseFault}
-use Rattle.dictcol.specs.File.{IsNoFile}
+use Rattle.dictcol.specs.File.{IsFileDamage}
+use Rattle.dictcol.proofs.ParseFault.{parse-weaker}
 use Rattle.dictcol.proofs.Parts.{made-rows, no-repeat, no-outside}
 use Rattle.dictcol.proofs.file.read_column.Goals as goal
 
@@ -17,8 +19,15 @@ returns-in-Ok-clause-lines g c =
 pub returns-in_err-dictionary-clause-err : goal.returns-in_err-dictionary-clause-err
 returns-in_err-dictionary-clause-err g c =
     let file : c.in_ok-check_utf8.field-0.now ≡ c.args.bytes.items = search rules in
-    let parse : IfErr c.from_residual-in_err-dictionary.result (IsParseFault (IsNoFile c.in_ok-check_utf8.field-0.now)) = search rules in
-    IfErr-weaker c.from_residual-in_err-dictionary.result _ _ (λ fault why. inr (subst (λ text. IsParseFault (IsNoFile text) fault) file why)) parse
+    let text = c.in_ok-check_utf8.field-0.now in
+    let parse : IfErr c.from_residual-in_err-dictionary.result (IsParseFault (CrowdsFile g.B.Backend.numbering c.in_ok-check_utf8.field-0.now) (IsFileDamage c.in_ok-check_utf8.field-0.now)) = search rules in
+    IfErr-weaker c.from_residual-in_err-dictionary.result _ _ (λ fault why. inr (text, file, parse-weaker fault (λ _. tt) (λ damage. damage) why)) parse
+
+pub returns-in-Err-NoSymbol-clause-err : goal.returns-in-Err-NoSymbol-clause-err
+returns-in-Err-NoSymbol-clause-err g c = inr (c.args.bytes.items, refl, inl (inr (refl, tt)))
+
+pub returns-in-Err-Memory-clause-err : goal.returns-in-Err-Memory-clause-err
+returns-in-Err-Memory-clause-err g c = inr (c.args.bytes.items, refl, inl (inl refl))
 
 pub unreachable-requires : goal.unreachable-requires
 unreachable-requires g c =

@@ -1,8 +1,9 @@
-use Rattle.std.proofs.Common.{◌≡◌, Some, Err, codes, inr, subst, ◌∙◌, rules}
+use Rattle.std.proofs.Common.{◌≡◌, Some, Err, codes, inl, inr, refl, subst, ◌∙◌, rules}
 use Rattle.std.proofs.lemmas.Option.{same_Some}
 use Rattle.serde_json.specs.Find.{get}
 use Rattle.serde_json.specs.View.{view}
-use Rattle.string_interner.specs.declared.json.JsonError.TheVariants.{NotAList, NotAText, Repeated, NotANumber}
+use Rattle.string_interner.specs.declared.json.JsonError.TheVariants.{NoSymbol, NotAList, NotAText, Repeated, NotANumber}
+use Rattle.dictcol.proofs.Crowded.{lacks-element}
 use Rattle.dictcol.proofs.HoldsLines.{IsRead, distinct-read}
 use Rattle.dictcol.proofs.file.read_dictionary.Goals as goal
 
@@ -41,3 +42,9 @@ returns-in-Err-NotAList-clause-err g c = inr (
       let told : c.from_json_exact_with_hasher.result ≡ Err NotAList = search rules in
       subst IsRead told (distinct-read g.B.Backend.numbering texts (view c.in_ok-value.value.now) c.from_json_exact_with_hasher.result distinct (same_Some _ _ (found ∙ e)) c.from_json_exact_with_hasher.ensures.reads),
 )
+
+pub returns-in-Err-NoSymbol-clause-err : goal.returns-in-Err-NoSymbol-clause-err
+returns-in-Err-NoSymbol-clause-err g c =
+    let found : Some (view c.in_ok-value.value.now) ≡ get (codes "dictionary") (view c.args.file.now) = search rules in
+    let told : c.from_json_exact_with_hasher.result ≡ Err NoSymbol = search rules in
+    inl (inr (refl, lacks-element g.B.Backend.numbering c.from_json_exact_with_hasher.result told (view c.args.file.now) (view c.in_ok-value.value.now) found c.from_json_exact_with_hasher.ensures.reads))

@@ -35,7 +35,7 @@ pub fn interned_text<'a>(
     match interned {
         InternedStr::InBucket { bucket, span } => {
             let bytes = bucket_text(full, head, bucket);
-            &bytes[span.from..span.to]
+            unsafe { crate::unchecked::cut_unchecked(bytes, span.from..span.to) }
         }
         // The text is UTF-8, which the contract asks, so it is not tested again.
         InternedStr::Static(text) => unsafe { str::from_utf8_unchecked(text) },

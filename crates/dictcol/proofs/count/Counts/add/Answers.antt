@@ -1,4 +1,4 @@
-use Rattle.std.proofs.Common.{rules, ◌≡◌, Some, None, Ok, length, length-set, ◌+◌, ◌^◌, ◌<◌, sym, ap, subst, ◌∙◌, arith}
+use Rattle.std.proofs.Common.{rules, ◌≡◌, Some, None, Ok, Err, length, length-set, ◌+◌, ◌^◌, ◌<◌, ◌≤◌, IfErr, inl, inr, sym, ap, subst, ◌∙◌, arith}
 use Rattle.std.specs.Prelude.{slice_get, OnErr}
 use Rattle.std.proofs.lemmas.Option.{slice_get_within}
 use Rattle.string_interner.specs.Text.{first}
@@ -7,6 +7,12 @@ use Rattle.string_interner.specs.StandsFor.{StandsFor}
 use Rattle.string_column.proofs.Lemmas.AreNumbered.{text-is, ascend, known-same, new-pushed, numbered-push}
 use Rattle.dictcol.specs.Counts.{HasCounted, contents_of}
 use Rattle.dictcol.proofs.Counted.{counted-again, counted-new, new-unknown, refused-same}
+use Rattle.std.proofs.lemmas.Result.{IfErr-weaker}
+use Rattle.string_interner.specs.declared.backend.InternError.{InternError}
+use Rattle.dictcol.specs.Fault.{IsTakeFault, intern_fault}
+use Rattle.dictcol.specs.TooMany.{LacksCount}
+use Rattle.dictcol.specs.declared.fault.Fault.TheVariants.{TooMany}
+use Rattle.dictcol.proofs.TooMany.{counted-refused}
 use Rattle.dictcol.proofs.count.Counts.add.Goals as goal
 
 pub invariant_of-self-in_err-symbol : goal.invariant_of-self-in_err-symbol
@@ -100,3 +106,20 @@ returns-clause-counted g c = λ lines has.
     let total : c.in_ok-total.total ≡ c.self.inside.total + 1 = search rules in
     let counted : HasCounted (contents_of old counts c.self.inside.total) lines = subst (λ contents. HasCounted contents lines) (sym c.self.view_is) has in
     rw (pushed.0, c.push_reserved-2.ensures.items, c.reserve-2.ensures.items, total) (counted-new old counts c.self.inside.total lines c.args.line.now unknown counted)
+
+pub returns-in_err-total-clause-fault : goal.returns-in_err-total-clause-fault
+returns-in_err-total-clause-fault g c = λ lines has.
+    let counted : HasCounted (contents_of c.self.inside.lines.texts c.self.inside.counts.items c.self.inside.total) lines = subst (λ contents. HasCounted contents lines) (sym c.self.view_is) has in
+    let many : IfErr c.from_residual.result (λ fault. fault ≡ TooMany) = search rules in
+    let full : 2 ^ 64 ≤ c.self.inside.total + 1 = search rules in
+    IfErr-weaker c.from_residual.result (λ fault. fault ≡ TooMany) (IsTakeFault (LacksCount g.B.Backend.numbering lines c.args.line.now))
+    (λ fault is. inr (is, inl (omega (arith, full, counted.total_is)))) many
+
+pub returns-in_err-symbol-clause-fault : goal.returns-in_err-symbol-clause-fault
+returns-in_err-symbol-clause-fault g c = λ lines has.
+    let numbering = g.B.Backend.numbering in
+    let counted : HasCounted (contents_of c.self.inside.lines.texts c.self.inside.counts.items c.self.inside.total) lines = subst (λ contents. HasCounted contents lines) (sym c.self.view_is) has in
+    let refused : (error : InternError) × (c.get_or_intern.result ≡ Err error) × IfErr c.from_residual-in_err-symbol.result (λ fault. fault ≡ intern_fault error) = search rules in
+    let interned = rw refused.1 at c.get_or_intern.ensures.interns in
+    let taking = counted-refused numbering c.self.inside.lines.texts c.get_or_intern.new.self.texts c.self.inside.counts.items c.self.inside.total lines c.args.line.now refused.0 counted interned in
+    IfErr-weaker c.from_residual-in_err-symbol.result (λ fault. fault ≡ intern_fault refused.0) (IsTakeFault (LacksCount numbering lines c.args.line.now)) (λ fault is. subst (IsTakeFault (LacksCount numbering lines c.args.line.now)) (sym is) taking) refused.2

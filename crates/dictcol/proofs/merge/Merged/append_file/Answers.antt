@@ -1,6 +1,9 @@
 use Rattle.std.proofs.Common.{◌≡◌, ◌≢◌, ◌++◌, [], length, true, string_bytes, refl, sym, ap, ◌∙◌, rules}
 use Rattle.dictcol.specs.Lines.{text_of_ended, text_of_lines}
 use Rattle.dictcol.proofs.Merged.{picked-plain, ended-lines, no-text}
+use Rattle.std.proofs.Common.{inl, inr}
+use Rattle.std.proofs.lemmas.Result.{IfErr-weaker}
+use Rattle.dictcol.proofs.TooMany.{take-weaker}
 use Rattle.dictcol.proofs.merge.Merged.append_file.Goals as goal
 
 pub invariant_of-self : goal.invariant_of-self
@@ -27,3 +30,6 @@ returns-then-is_empty-2-clause-ok g c =
 pub append-requires : goal.append-requires
 append-requires g c =
     let holds = c.in_ok-lines.ensures.lines.1 in picked-plain holds.dictionary holds.each_a_line holds.numbers c.in_ok-lines.lines holds.picked
+
+pub returns-clause-err : goal.returns-clause-err
+returns-clause-err g c = IfErr-weaker c.append.result _ _ (λ fault taking. inr (c.args.bytes.items, refl, inl (take-weaker fault (λ _. tt) taking))) c.append.ensures.fault

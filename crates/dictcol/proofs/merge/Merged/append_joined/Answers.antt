@@ -4,6 +4,11 @@ use Rattle.std.specs.List.{flat_map}
 use Rattle.std.proofs.lemmas.Result.{on_ok_weaker}
 use Rattle.dictcol.specs.Lines.{behind_newline}
 use Rattle.dictcol.proofs.Merged.{text-plain, no-rows, rows-joined}
+use Rattle.std.proofs.Common.{subst}
+use Rattle.std.proofs.lemmas.Result.{IfErr-weaker}
+use Rattle.dictcol.specs.Fault.{IsTakeFault}
+use Rattle.dictcol.specs.Lines.{lines_of}
+use Rattle.dictcol.specs.TooMany.{HasRefused, LacksLine}
 use Rattle.dictcol.proofs.merge.Merged.append_joined.Goals as goal
 
 pub returns-in_default-clause-ok : goal.returns-in_default-clause-ok
@@ -19,3 +24,10 @@ returns-clause-ok g c =
     let at : slice_get c.args.lines.now 0 ≡ Some c.in-Some.first.now = search rules in
     let first : c.push_text.new.self ≡ c.args.self.now ++ c.in-Some.first.now = search rules in
     on_ok_weaker c.append_further.result (λ e. e ∙ ap (λ text. text ++ flat_map behind_newline (drop 1 c.args.lines.now)) first ∙ rows-joined c.args.self.now c.args.lines.now c.in-Some.first.now at) c.append_further.ensures.ok
+
+pub returns-clause-fault : goal.returns-clause-fault
+returns-clause-fault g c =
+    let at : slice_get c.args.lines.now 0 ≡ Some c.in-Some.first.now = search rules in
+    let first : c.push_text.new.self ≡ c.args.self.now ++ c.in-Some.first.now = search rules in
+    let text = ap (λ text. text ++ flat_map behind_newline (drop 1 c.args.lines.now)) first ∙ rows-joined c.args.self.now c.args.lines.now c.in-Some.first.now at in
+    IfErr-weaker c.append_further.result _ _ (λ fault. subst (λ text. IsTakeFault (HasRefused (LacksLine g.B.Backend.numbering) (lines_of text)) fault) text) c.append_further.ensures.fault

@@ -4,6 +4,11 @@ use Rattle.std.specs.Io.KnownBytes.{append_known}
 use Rattle.std.proofs.lemmas.List.{length_push, length-map, map-set, get_or-map}
 use Rattle.dictcol.specs.Shards.{held_by}
 use Rattle.dictcol.proofs.Sharded.{shards-push, held-push}
+use Rattle.std.proofs.Common.{◌^◌, ◌≤◌, IfErr, inr}
+use Rattle.std.proofs.lemmas.Result.{IfErr-weaker}
+use Rattle.dictcol.specs.Fault.{IsTakeFault}
+use Rattle.dictcol.specs.TooMany.{IsPastCount}
+use Rattle.dictcol.specs.declared.fault.Fault.TheVariants.{TooMany}
 use Rattle.dictcol.proofs.shards.Shards.add.Goals as goal
 
 pub returns-clause-added : goal.returns-clause-added
@@ -26,3 +31,9 @@ returns-clause-added g c lines has =
       held_are = λ known. rw map-set (shards-push code (map hold items) (hold c.args.self.now.order) lines c.args.line.now at (hold c.push_line.new.self) (hold c.push_line-2.new.self)
           (omega (arith, within, long)) (ap₂ (λ (a b : ℕ). a % b) c.hash_text-code.ensures (count ∙ sym long)) (put ∙ ap (λ o. append_known o (c.args.line.now ++ 10 ∷ [])) (sym read)) told (has.held_are known));
     }
+
+pub returns-in_err-total-clause-fault : goal.returns-in_err-total-clause-fault
+returns-in_err-total-clause-fault g c lines has =
+    let many : IfErr c.from_residual.result (λ fault. fault ≡ TooMany) = search rules in
+    let full : 2 ^ 64 ≤ c.args.self.now.total + 1 = search rules in
+    IfErr-weaker c.from_residual.result (λ fault. fault ≡ TooMany) (IsTakeFault (IsPastCount lines c.args.line.now)) (λ fault is. inr (is, omega (arith, full, has.total_is))) many

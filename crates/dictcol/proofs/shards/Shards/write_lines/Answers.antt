@@ -4,6 +4,10 @@ use Rattle.dictcol.specs.Lines.{lines_of}
 use Rattle.dictcol.specs.Shards.{HasSharded}
 use Rattle.dictcol.proofs.Merged.{one-line}
 use Rattle.dictcol.proofs.Sharded.{written-input}
+use Rattle.std.proofs.Common.{inl}
+use Rattle.std.proofs.lemmas.Result.{err_from_is_err_and}
+use Rattle.dictcol.specs.TooMany.{IsPastCount}
+use Rattle.dictcol.proofs.TooMany.{rest-refused}
 use Rattle.dictcol.proofs.shards.Shards.write_lines.Goals as goal
 use Rattle.dictcol.proofs.shards.Shards.write_lines.Goals.{then-not-is_empty+in_ok-add, else-not-is_empty}
 
@@ -25,3 +29,10 @@ returns-clause-written g c =
           let none = nil_from_length rest (search rules) in
           rw (w.self-is, none, append-nil read.0) read.1
     ]) c.write.ensures.same c.write.ensures.none
+
+pub returns-in_err-add-clause-fault : goal.returns-in_err-add-clause-fault
+returns-in_err-add-clause-fault g c =
+    let read = c.in_ok-rest.ensures.ok in
+    let some : string_bytes c.in_ok-rest.rest ≢ [] = λ e. search rules in
+    let p = err_from_is_err_and c.from_residual-in_err-add.result c.from_residual-in_err-add.ensures.1 in
+    rw (p.1, p.2) (inl (rest-refused IsPastCount (g.R.Read.remaining c.args.input.now) read.0 (string_bytes c.in_ok-rest.rest) _ read.2 some (c.in_err-add.ensures.fault read.0 read.1)))

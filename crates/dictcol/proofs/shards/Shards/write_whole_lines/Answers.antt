@@ -5,6 +5,7 @@ use Rattle.dictcol.specs.Answer.{IsLinesTaskFault}
 use Rattle.dictcol.specs.Blocks.{held, IsTextOf}
 use Rattle.dictcol.specs.Fault.{IsNotUtf8}
 use Rattle.dictcol.specs.Shards.{HasSharded}
+use Rattle.dictcol.specs.TooMany.{IsPastCount}
 use Rattle.dictcol.proofs.Taken.{all-read, rest-fault, at-most-before, taken-kept}
 use Rattle.dictcol.proofs.shards.Shards.write_whole_lines.Goals as goal
 
@@ -34,8 +35,8 @@ returns-then-branch-clause-fault g c =
     let rest = held c.read_block.new.block in
     let block = c.in_ok-read_block.ensures in
     let read = block.read input c.loop.invariant.read in
-    IfErr-weaker c.end_block.result (IsNotUtf8 c.count_lines.result (Some rest)) (IsLinesTaskFault input)
-    (λ fault bad. inl (rest-fault has_taken input left lines rest fault (block.end c.if-branch.true) read
+    IfErr-weaker c.end_block.result (IsNotUtf8 c.count_lines.result (Some rest)) (IsLinesTaskFault IsPastCount input)
+    (λ fault bad. inl (rest-fault has_taken IsPastCount input left lines rest fault (block.end c.if-branch.true) read
     (at-most-before (length read.seen) c.count_lines.result rest fault (c.count_lines.ensures read.seen read.taken) bad))) c.end_block.ensures.fault
 
 pub loop-preserved : goal.loop-preserved

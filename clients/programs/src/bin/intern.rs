@@ -1,0 +1,5 @@
+//! The program `intern`.
+
+#![no_main]
+
+programs::start_at!(programs::intern::main);

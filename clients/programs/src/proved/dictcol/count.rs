@@ -1,0 +1,254 @@
+//! How often each line occurs.
+
+//~ ghost use Rattle.std.specs.Prelude.{◌≡◌, ℕ, List, [], ◌∷◌, ◌++◌, slice_get, Some, IfOk, IfErr, IfSome, OnOk, length, map};
+//~ ghost use Rattle.std.specs.Io.KnownBytes.{Appends};
+//~ ghost use Rattle.std.specs.List.{flat_map, zip};
+//~ ghost use Rattle.string_interner.specs.Text.{Text};
+//~ ghost use Rattle.string_column.specs.Ahead.{IsListed};
+//~ ghost use Rattle.string_column.specs.Entries.{NumbersAscend};
+//~ ghost use Rattle.dictcol.specs.Answer.{IsLinesTaskFault};
+//~ ghost use Rattle.dictcol.specs.Blocks.{IsLinesFault};
+//~ ghost use Rattle.dictcol.specs.Counts.{AreSorted, HasCounted, IsCountsText, counted, count_line, row_of};
+//~ ghost use Rattle.dictcol.specs.Fault.{IsOutputFault, IsTakeFault, IsWriteFault, WritesLast};
+//~ ghost use Rattle.dictcol.specs.Lines.{lines_of};
+//~ ghost use Rattle.dictcol.specs.TooMany.{LacksCount};
+//~ ghost use Rattle.dictcol.specs.Writes.{Writes};
+//~ ghost use Rattle.dictcol.specs.declared.fault.Fault.TheVariants.{Memory};
+
+use crate::rt::prelude::*; use crate::dictcol::blocks;
+use crate::dictcol::blocks::TakesLines;
+use crate::dictcol::fault::Fault;
+use crate::dictcol::file::write;
+use crate::dictcol::hasher::LineHasher;
+use crate::dictcol::split::Lines;
+use crate::itoa::Buffer;
+use crate::rt::alloc::Global;
+use crate::rt::io::{Read, Write};
+use crate::rt::marker::Model;
+use crate::string_column::Column;
+use crate::proved::backend::Backend;
+use crate::proved::dedup::TaggedIndex;
+use crate::proved::{StringInterner, Symbol};
+
+/// The distinct lines of those that were counted, with how often each occurred. A line that occurs again takes no memory.
+//~ #[derive(Drop)]
+struct Counts<B: Backend> {
+    lines: StringInterner<B, LineHasher, TaggedIndex<B::Symbol>>,
+    /// The symbol of each distinct line, in the order of first appearance.
+    symbols: Vec<B::Symbol>,
+    /// How often each occurred, in the same order.
+    counts: Vec<usize>,
+    /// How many lines were counted.
+    total: usize,
+}
+
+//~ /// Contracts see the distinct lines, the counts and the total.
+//~ impl<B: Backend> Model for Counts<B> {
+//~     ghost use Rattle.std.specs.Prelude.{◌≡◌, length};
+//~     ghost use Rattle.string_column.specs.Entries.{AreNumbered};
+//~     ghost use Rattle.dictcol.specs.Counts.{CountsContents, contents_of};
+//~
+//~     ghost Value = { CountsContents };
+//~
+//~     ghost view = { λ c. contents_of c.lines.texts c.counts.items c.total };
+//~
+//~     ghost invariant = { λ c. AreNumbered B.numbering c.lines.texts c.symbols.items
+//~         × (length c.counts.items ≡ length c.symbols.items) };
+//~ }
+
+/// Returns the index of a symbol of the list. Over most backends it is the number of the symbol.
+#[inline]
+fn index_of<S: Symbol>(symbols: &[S], symbol: S) -> usize
+    //~ requires ascend { NumbersAscend S.number symbols.now }
+    //~ requires listed { IsListed symbols.now symbol }
+    //~ ensures { slice_get symbols.now result ≡ Some symbol }
+{
+    let number = symbol.to_usize();
+    match symbols.get(number) {
+        Some(other) if *other == symbol => number,
+        _ => symbols.partition_point(|other| other.to_usize() < number),
+    }
+}
+
+impl<B: Backend> Counts<B> {
+    /// Makes counts of no lines.
+    fn new(alloc: Global, hasher: LineHasher) -> Self
+        //~ ensures { HasCounted result [] }
+    {
+        Counts {
+            lines: StringInterner::with_hasher(alloc, hasher),
+            symbols: Vec::new(alloc),
+            counts: Vec::new(alloc),
+            total: 0,
+        }
+    }
+
+    /// Counts a line.
+    #[inline]
+    fn add(&mut self, line: &str) -> Result<(), Fault>
+        //~ ensures counted { OnOk result ((lines : List Text) → HasCounted self.old lines
+        //~     → HasCounted self.new (lines ++ line.now ∷ [])) }
+        //~ ensures fault { (lines : List Text) → HasCounted self.old lines
+        //~     → IfErr result (IsTakeFault (LacksCount B.numbering lines line.now)) }
+    {
+        let total = self.total.checked_add(1).ok_or(Fault::TooMany)?;
+        // Before the line is interned, so that nothing has to be undone.
+        self.symbols.reserve(1).map_err(|_| Fault::Memory)?;
+        self.counts.reserve(1).map_err(|_| Fault::Memory)?;
+        let symbol = self.lines.get_or_intern(line).map_err(Fault::of_intern)?;
+        self.total = total;
+        if self.lines.len() == self.symbols.len() {
+            let index = index_of(&self.symbols, symbol);
+            // No count is above the total.
+            self.counts[index] = self.counts[index].saturating_add(1);
+            return Ok(());
+        }
+        self.symbols.push_reserved(symbol);
+        self.counts.push_reserved(1);
+        Ok(())
+    }
+}
+
+impl<B: Backend> TakesLines for Counts<B> {
+    //~ ghost use Rattle.dictcol.specs.Counts.{HasCounted};
+    //~ ghost use Rattle.dictcol.specs.TooMany.{LacksCount};
+
+    //~ ghost has_taken = { HasCounted };
+
+    //~ ghost refuses = { LacksCount B.numbering };
+
+    fn take_lines(&mut self, text: &str) -> Result<(), Fault> {
+        for line in Lines::new(text) {
+            self.add(line)?;
+        }
+        Ok(())
+    }
+
+    fn count_lines(&self) -> usize {
+        self.total
+    }
+}
+
+/// Counts the lines of all that an input yields.
+fn count_input<B: Backend + Drop, R: Read>(
+    alloc: Global,
+    hasher: LineHasher,
+    input: &mut R,
+) -> Result<Counts<B>, Fault>
+    //~ ensures ok { IfOk result (λ counts. IfSome (R.remaining input.old)
+    //~     (λ all. HasCounted counts (lines_of all))) }
+    //~ ensures fault { IfErr result
+    //~     (IsLinesFault (LacksCount B.numbering) (R.remaining input.old)) }
+{
+    let mut counts = Counts::new(alloc, hasher);
+    let rest = blocks::read_lines(alloc, input, &mut counts)?;
+    if !rest.is_empty() {
+        counts.add(&rest)?;
+    }
+    Ok(counts)
+}
+
+/// Sorts rows: the most frequent first, and equally frequent ones stay in their order.
+fn sort_rows(rows: &mut Vec<(usize, &str)>) -> Result<(), Fault>
+    //~ ensures sorted { OnOk result
+    //~     (AreSorted (map row_of rows.old.items) (map row_of rows.new.items)) }
+    //~ ensures fault { IfErr result (λ fault. fault ≡ Memory) }
+{
+    match rows.sort_by(|a, b| b.0.cmp(&a.0)) {
+        Ok(()) => Ok(()),
+        Err(_) => Err(Fault::Memory),
+    }
+}
+
+/// Returns each text behind its count.
+fn list_rows<'t, B: Backend>(
+    alloc: Global,
+    counts: &[usize],
+    texts: &'t StringInterner<B, LineHasher, TaggedIndex<B::Symbol>>,
+) -> Result<Vec<(usize, &'t str)>, Fault>
+    //~ requires { length counts.now ≡ length texts.now.texts }
+    //~ ensures rows { IfOk result (λ rows. map row_of rows.items ≡ zip counts.now texts.now.texts) }
+    //~ ensures fault { IfErr result (λ fault. fault ≡ Memory) }
+{
+    let mut rows = Vec::with_capacity(alloc, counts.len()).map_err(|_| Fault::Memory)?;
+    for (_, text) in texts {
+        let count = counts[rows.len()];
+        rows.push_reserved((count, text));
+    }
+    Ok(rows)
+}
+
+/// Writes a line for each row: the count, a space, and the text.
+fn write_rows<W: Write>(rows: &[(usize, &str)], output: &mut W) -> Result<(), Fault>
+    //~ ensures written { OnOk result (Appends (W.contents output.old) (W.contents output.new)
+    //~     (flat_map count_line (map row_of rows.now))) }
+    //~ ensures fault { IfErr result IsWriteFault }
+{
+    let mut digits = Buffer::new();
+    for (count, text) in rows {
+        write(output, digits.format(*count).as_bytes())?;
+        write(output, b" ")?;
+        write(output, text.as_bytes())?;
+        write(output, b"\n")?;
+    }
+    output.flush().map_err(Fault::of_write)
+}
+
+/// Writes the rows of counted lines, sorted if it says so. Nothing is written before they are sorted.
+fn write_sorted<W: Write>(
+    mut rows: Vec<(usize, &str)>,
+    is_sorted: bool,
+    output: &mut W,
+) -> Result<(), Fault>
+    //~ ensures written { (lines : List Text) → map row_of rows.entry.items ≡ counted lines
+    //~     → OnOk result (Writes (IsCountsText is_sorted lines)
+    //~     (W.contents output.old) (W.contents output.new)) }
+    //~ ensures silent { WritesLast result output.old output.new }
+    //~ ensures fault { IfErr result IsOutputFault }
+{
+    if is_sorted {
+        sort_rows(&mut rows)?;
+    }
+    write_rows(&rows, output)
+}
+
+/// Writes how often each line of an input occurs, and the line: in the order of first appearance, or the most frequent first.
+/// Nothing is written before the whole input was counted.
+pub fn write_counts<B: Backend + Drop, R: Read, W: Write>(
+    alloc: Global,
+    hasher: LineHasher,
+    is_sorted: bool,
+    input: &mut R,
+    output: &mut W,
+) -> Result<(), Fault>
+    //~ ensures written { OnOk result (IfSome (R.remaining input.old)
+    //~     (λ all. Writes (IsCountsText is_sorted (lines_of all))
+    //~     (W.contents output.old) (W.contents output.new))) }
+
+    // Unless all went well or a write failed, the output was not touched.
+    //~ ensures silent { WritesLast result output.old output.new }
+    //~ ensures fault { IfErr result
+    //~     (IsLinesTaskFault (LacksCount B.numbering) (R.remaining input.old)) }
+{
+    let counts = count_input::<B, R>(alloc, hasher, input)?;
+    let rows = list_rows(alloc, &counts.counts, &counts.lines)?;
+    write_sorted(rows, is_sorted, output)
+}
+
+/// Writes how often each row of a column occurs, and the row, in the order that `write_counts` has. Nothing is written before all
+/// are counted.
+pub fn write_column_counts<B: Backend, W: Write>(
+    alloc: Global,
+    lines: &Column<B, LineHasher>,
+    is_sorted: bool,
+    output: &mut W,
+) -> Result<(), Fault>
+    //~ ensures written { OnOk result (Writes (IsCountsText is_sorted lines.now)
+    //~     (W.contents output.old) (W.contents output.new)) }
+    //~ ensures silent { WritesLast result output.old output.new }
+    //~ ensures fault { IfErr result IsOutputFault }
+{
+    let counts = lines.counts(alloc).map_err(|_| Fault::Memory)?;
+    let rows = list_rows(alloc, &counts, lines.dictionary())?;
+    write_sorted(rows, is_sorted, output)
+}

@@ -1,0 +1,146 @@
+//! The file `codes.npy`: an array of numbers of four bytes in NumPy's format 1.0.
+
+//~ ghost use Rattle.std.specs.Prelude.{◌≡◌, ℕ, ◌*◌, ◌^◌, ◌<◌, ◌≤◌, ◌++◌, List, All, length, take, IfOk, IfErr, OnOk};
+//~ ghost use Rattle.std.specs.Io.KnownBytes.{Appends};
+//~ ghost use Rattle.std.specs.List.{flat_map};
+//~ ghost use Rattle.dictcol.specs.Fault.{IsArrayDamage, IsWriteFault};
+//~ ghost use Rattle.string_interner.specs.Text.{Text};
+//~ ghost use Rattle.dictcol.specs.Plain.{code_bytes, npy_header, AreNumbers, IsArrayFault, IsNotALine, IsNpy, IsNumbersFault};
+//~ ghost use Rattle.dictcol.specs.Writes.{Writes};
+
+use crate::rt::prelude::*; use crate::dictcol::fault::Fault;
+use crate::dictcol::file::write;
+use crate::itoa::Buffer;
+use crate::memchr::memmem;
+use crate::rt::alloc::{AllocError, Global};
+use crate::rt::io;
+use crate::rt::io::Write;
+
+/// How many bytes stand before the numbers.
+pub const HEADER: usize = 128;
+
+/// How many numbers are written at once.
+const BLOCK: usize = 1 << 12;
+
+/// Returns what stands before so many numbers.
+pub fn format_header(alloc: Global, count: usize) -> Result<Vec<u8>, AllocError>
+    //~ ensures { IfOk result (λ header. header.items ≡ npy_header count) }
+{
+    let mut digits = Buffer::new();
+    let mut header = Vec::with_capacity(alloc, HEADER)?;
+    header.extend_from_slice(b"\x93NUMPY\x01\x00v\x00")?;
+    header.extend_from_slice(b"{'descr': '<u4', 'fortran_order': False, 'shape': (")?;
+    header.extend_from_slice(digits.format(count).as_bytes())?;
+    header.extend_from_slice(b",), }")?;
+    header.resize(HEADER - 1, b' ')?;
+    header.push(b'\n')?;
+    Ok(header)
+}
+
+/// Puts the bytes of numbers to the front of a block.
+fn put_numbers(block: &mut [[u8; 4]], numbers: &[u32])
+    //~ requires { length numbers.now ≤ length block.old }
+    //~ ensures len { length block.new ≡ length block.old }
+    //~ ensures front { flat_map (λ bytes. bytes) (take (length numbers.now) block.new)
+    //~     ≡ flat_map code_bytes numbers.now }
+{
+    for index in 0..numbers.len() {
+        block[index] = numbers[index].to_le_bytes();
+    }
+}
+
+/// Writes numbers.
+fn write_numbers<W: Write>(output: &mut W, numbers: &[u32]) -> io::Result<()>
+    //~ ensures { OnOk result (Appends (W.contents output.old) (W.contents output.new)
+    //~     (flat_map code_bytes numbers.now)) }
+{
+    let mut block = [[0; 4]; BLOCK];
+    let mut rest = numbers;
+    'numbers: while !rest.is_empty() {
+        let count = rest.len().min(BLOCK);
+        let (front, behind) = rest.split_at(count);
+        put_numbers(&mut block, front);
+        output.write_all(block[..count].as_flattened())?;
+        rest = behind;
+    }
+    Ok(())
+}
+
+/// Writes a file of numbers: its header, and the numbers.
+pub fn write_file<W: Write>(output: &mut W, header: &[u8], numbers: &[u32]) -> Result<(), Fault>
+    //~ requires { header.now ≡ npy_header (length numbers.now) }
+    //~ ensures written { OnOk result
+    //~     (Writes (IsNpy numbers.now) (W.contents output.old) (W.contents output.new)) }
+    //~ ensures fault { IfErr result IsWriteFault }
+{
+    write(output, header)?;
+    write_numbers(output, numbers).map_err(Fault::of_write)?;
+    output.flush().map_err(Fault::of_write)
+}
+
+/// Returns what is wrong with a header.
+fn find_fault(header: &[u8]) -> Fault
+    //~ ensures { IsArrayDamage result }
+{
+    if !header.starts_with(b"\x93NUMPY\x01\x00") {
+        return Fault::NotNpy;
+    }
+    if memmem::find(header, b"'descr': '<u4',").is_none() {
+        return Fault::OtherType;
+    }
+    if memmem::find(header, b"'fortran_order': False,").is_none() {
+        return Fault::OtherOrder;
+    }
+    if memmem::find(header, b",), }").is_none() {
+        return Fault::OtherShape;
+    }
+    Fault::OtherLength
+}
+
+/// Returns what stands behind the header of a file, or finds what is wrong with the header.
+fn split_header(alloc: Global, file: &[u8]) -> Result<&[u8], Fault>
+    //~ ensures ok { IfOk result (λ numbers. (count : ℕ) × (file.now ≡ npy_header count ++ numbers.now)
+    //~     × (length numbers.now ≡ 4 * count) × (count < 2 ^ 64)) }
+    //~ ensures err { IfErr result (IsArrayFault file.now) }
+{
+    let Some((header, numbers)) = file.split_at_checked(HEADER) else {
+        return Err(Fault::NotNpy);
+    };
+    let count = numbers.len() / 4;
+    let Ok(right) = format_header(alloc, count) else {
+        return Err(Fault::Memory);
+    };
+    if numbers.len() % 4 != 0 || header != right.as_slice() {
+        return Err(find_fault(header));
+    }
+    Ok(numbers)
+}
+
+/// Checks that each of the numbers that bytes are is below `limit`.
+fn check_numbers(bytes: &[u8], limit: usize) -> Result<(), Fault>
+    //~ requires { (count : ℕ) × (length bytes.now ≡ 4 * count) }
+    //~ ensures ok { OnOk result ((numbers : List ℕ) × AreNumbers limit numbers bytes.now) }
+    //~ ensures err { IfErr result (λ fault. (numbers : List ℕ)
+    //~     × (bytes.now ≡ flat_map code_bytes numbers) × All (λ number. number < 2 ^ 32) numbers
+    //~     × IsNotALine limit numbers fault) }
+{
+    let mut rest = bytes;
+    'numbers: while let Some((first, behind)) = rest.split_first_chunk::<4>() {
+        if u32::from_le_bytes(*first) as usize >= limit {
+            return Err(Fault::NotALine((bytes.len() - rest.len()) / 4));
+        }
+        rest = behind;
+    }
+    Ok(())
+}
+
+/// Returns the bytes of the numbers that a file has, each of which must be below `limit`.
+pub fn read(alloc: Global, file: &[u8], limit: usize) -> Result<&[u8], Fault>
+    //~ ensures ok { IfOk result (λ bytes. (codes : List ℕ)
+    //~     × AreNumbers limit codes bytes.now × IsNpy codes file.now) }
+    //~ ensures err { IfErr result (IsNumbersFault limit file.now) }
+{
+    let bytes = split_header(alloc, file)?;
+    check_numbers(bytes, limit)?;
+    Ok(bytes)
+}

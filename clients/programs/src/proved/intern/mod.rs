@@ -1,0 +1,40 @@
+//! The program `intern`: runs a list of commands on an empty interner, and prints one line for each reply.
+//~ #![tactic(auto)]
+
+use crate::rt::prelude::*; pub(crate) mod fault;
+pub(crate) mod line;
+pub(crate) mod serve;
+pub(crate) mod split;
+//~ #[cfg(test)]
+//~ mod tests;
+
+use fault::Fault;
+use crate::rt::env;
+use crate::rt::io::BufWriter;
+use crate::rt::process::ExitCode;
+
+/// Runs `serve` on standard input and output. If the output buffer cannot be allocated, lines are written one by one: whether
+/// the run fails is for `serve` alone to find.
+fn run(rt: &HostRuntime) -> Result<(), Fault> {
+    let alloc = rt.alloc();
+    let arguments: Vec<String> = env::args(rt)
+        .map_err(|_| Fault::Usage)?
+        .skip(1)
+        .try_collect(alloc)
+        .map_err(|_| Fault::Usage)?;
+    match BufWriter::new(alloc, rt.stdout()) {
+        Ok(mut output) => serve::serve(alloc, &arguments, &mut rt.stdin(), &mut output),
+        Err(_) => serve::serve(alloc, &arguments, &mut rt.stdin(), &mut rt.stdout()),
+    }
+}
+
+pub fn main(rt: HostRuntime) -> ExitCode {
+    match run(&rt) {
+        Ok(()) => ExitCode::SUCCESS,
+        Err(fault) => {
+            // Nothing is left to do if standard error is closed.
+            let _ = crate::rt::eprintln!(rt; "{fault}");
+            ExitCode::from(fault.status())
+        }
+    }
+}

@@ -1,0 +1,286 @@
+//! JSON values, for what the prover's library of this name does in the proved code.
+
+use crate::rt::alloc::{AllocError, Global};
+use crate::rt::string::String;
+use crate::rt::vec::Vec;
+use crate::tokens::{Reader, Scratch, Token};
+use core::fmt;
+
+/// How many lists and objects lie within each other at most.
+const DEEPEST: usize = 127;
+
+/// A value.
+pub enum Value {
+    Null,
+    Bool(bool),
+    Number(Number),
+    Text(String),
+    Array(Vec<Value>),
+    /// The members as they are written.
+    Object(Vec<(String, Value)>),
+}
+
+/// A number.
+#[derive(Clone, Copy)]
+pub enum Number {
+    /// One from 0 to 2^64 - 1, written without a point and an exponent.
+    Integer(u64),
+    /// One too large for a float.
+    TooLarge,
+    Other,
+}
+
+/// Why a text was not read, and where: the line, and the column in it, from 1 on and in bytes.
+#[derive(Clone, Copy, Debug)]
+pub enum Error {
+    Memory,
+    /// The text ends too early.
+    Cut {
+        line: usize,
+        column: usize,
+    },
+    Invalid {
+        line: usize,
+        column: usize,
+    },
+    /// A number is too large for a float.
+    OutOfRange {
+        line: usize,
+        column: usize,
+    },
+}
+
+impl Error {
+    /// Reports whether memory was refused.
+    pub fn is_memory(&self) -> bool {
+        matches!(self, Error::Memory)
+    }
+
+    /// Reports whether the text ends too early.
+    pub fn is_eof(&self) -> bool {
+        matches!(self, Error::Cut { .. })
+    }
+}
+
+impl fmt::Display for Error {
+    fn fmt(&self, f: &mut fmt::Formatter<'_>) -> fmt::Result {
+        match self {
+            Error::Memory => f.write_str("out of memory"),
+            Error::Cut { line, column } => {
+                write!(f, "EOF while parsing at line {line} column {column}")
+            }
+            Error::Invalid { line, column } => {
+                write!(f, "invalid JSON at line {line} column {column}")
+            }
+            Error::OutOfRange { line, column } => {
+                write!(f, "number out of range at line {line} column {column}")
+            }
+        }
+    }
+}
+
+impl core::error::Error for Error {}
+
+impl From<AllocError> for Error {
+    fn from(_: AllocError) -> Self {
+        Error::Memory
+    }
+}
+
+impl From<Vec<Value>> for Value {
+    fn from(elements: Vec<Value>) -> Self {
+        Value::Array(elements)
+    }
+}
+
+impl From<usize> for Value {
+    fn from(number: usize) -> Self {
+        Value::Number(Number::Integer(number as u64))
+    }
+}
+
+impl Value {
+    /// Copies a text as a value. `Err` only if memory is refused.
+    pub fn try_from_str(alloc: Global, text: &str) -> Result<Self, AllocError> {
+        String::from_str(alloc, text).map(Value::Text)
+    }
+
+    /// Reads a JSON text.
+    pub fn from_str(alloc: Global, json: &str) -> Result<Self, Error> {
+        match read(alloc, json, true) {
+            // If the text ends too early, that is told, and not that a string before has half of a pair.
+            Err(invalid @ Error::Invalid { .. }) => match read(alloc, json, false) {
+                Err(error @ (Error::Cut { .. } | Error::Memory)) => Err(error),
+                _ => Err(invalid),
+            },
+            outcome => outcome,
+        }
+    }
+
+    /// Returns a member of an object. Of several with one key the last counts.
+    pub fn get(&self, key: &str) -> Option<&Value> {
+        let Value::Object(members) = self else {
+            return None;
+        };
+        let found = members.iter().rev().find(|(other, _)| **other == *key);
+        found.map(|(_, value)| value)
+    }
+
+    pub fn as_array(&self) -> Option<&Vec<Value>> {
+        match self {
+            Value::Array(elements) => Some(elements),
+            _ => None,
+        }
+    }
+
+    pub fn as_str(&self) -> Option<&str> {
+        match self {
+            Value::Text(text) => Some(text),
+            _ => None,
+        }
+    }
+
+    pub fn as_u64(&self) -> Option<u64> {
+        match self {
+            Value::Number(Number::Integer(number)) => Some(*number),
+            _ => None,
+        }
+    }
+
+    pub fn as_bool(&self) -> Option<bool> {
+        match self {
+            Value::Bool(is_true) => Some(*is_true),
+            _ => None,
+        }
+    }
+}
+
+/// Reads a JSON text. Unless it is strict, half of a pair is a letter, and a number may be too large.
+fn read(alloc: Global, json: &str, is_strict: bool) -> Result<Value, Error> {
+    let mut scratch = Scratch::new(alloc);
+    let mut reader = Reader::new(json, &mut scratch)?;
+    if !is_strict {
+        reader.take_halves();
+    }
+    let mut parser = Parser {
+        json,
+        reader,
+        alloc,
+        is_strict,
+    };
+    let value = parser.value(DEEPEST)?;
+    if parser.reader.is_at_end() {
+        Ok(value)
+    } else {
+        Err(parser.invalid())
+    }
+}
+
+/// Reads values by their tokens.
+struct Parser<'a> {
+    json: &'a str,
+    reader: Reader<'a>,
+    alloc: Global,
+    is_strict: bool,
+}
+
+impl Parser<'_> {
+    /// Returns the line and the column of the next token. Those of the end of the text are those of the byte before it.
+    fn place(&self) -> (usize, usize) {
+        let bytes = self.json.as_bytes();
+        let before = &bytes[..self.reader.offset()];
+        let line = before.rsplit(|byte| *byte == b'\n').next();
+        let column = line.map_or(0, <[u8]>::len);
+        let newlines = before.iter().filter(|byte| **byte == b'\n').count();
+        let is_end = before.len() == bytes.len();
+        (newlines + 1, if is_end { column } else { column + 1 })
+    }
+
+    /// Returns the error of a token that may not stand where it does.
+    fn invalid(&self) -> Error {
+        let (line, column) = self.place();
+        Error::Invalid { line, column }
+    }
+
+    /// Returns the error of a number that comes before the next token.
+    fn out_of_range(&self) -> Error {
+        let (line, column) = self.place();
+        Error::OutOfRange { line, column }
+    }
+
+    /// Returns the error of what is no token, or of the end of the text.
+    fn bad(&self, is_value: bool) -> Error {
+        let (line, column) = self.place();
+        if self.reader.is_cut(is_value) {
+            Error::Cut { line, column }
+        } else {
+            Error::Invalid { line, column }
+        }
+    }
+
+    /// Returns the error of a key without a colon, which may be missing because the text ends.
+    fn no_colon(&self) -> Error {
+        if self.reader.is_at_end() {
+            self.bad(false)
+        } else {
+            self.invalid()
+        }
+    }
+
+    /// Reads a value, in which so many lists and objects may lie within each other.
+    fn value(&mut self, nested: usize) -> Result<Value, Error> {
+        let value = match self.reader.next() {
+            Some(Token::Null) => Value::Null,
+            Some(Token::Bool(is_true)) => Value::Bool(is_true),
+            Some(Token::String(text)) => Value::try_from_str(self.alloc, text)?,
+            Some(Token::Number(text)) => {
+                let number = read_number(text);
+                if self.is_strict && matches!(number, Number::TooLarge) {
+                    return Err(self.out_of_range());
+                }
+                Value::Number(number)
+            }
+            Some(Token::BeginArray) if nested > 0 => Value::Array(self.elements(nested - 1)?),
+            Some(Token::BeginObject) if nested > 0 => Value::Object(self.members(nested - 1)?),
+            Some(Token::Bad) | None => return Err(self.bad(true)),
+            Some(_) => return Err(self.invalid()),
+        };
+        Ok(value)
+    }
+
+    /// Reads the elements of a list, and the bracket that closes it.
+    fn elements(&mut self, nested: usize) -> Result<Vec<Value>, Error> {
+        let mut elements = Vec::new(self.alloc);
+        while !self.reader.take_end_array() {
+            let element = self.value(nested)?;
+            elements.push(element)?;
+        }
+        Ok(elements)
+    }
+
+    /// Reads the members of an object, and the brace that closes it.
+    fn members(&mut self, nested: usize) -> Result<Vec<(String, Value)>, Error> {
+        let mut members = Vec::new(self.alloc);
+        loop {
+            let key = match self.reader.next() {
+                Some(Token::EndObject) => return Ok(members),
+                Some(Token::Key(key)) => String::from_str(self.alloc, key)?,
+                Some(Token::String(_)) => return Err(self.no_colon()),
+                Some(Token::Bad) | None => return Err(self.bad(false)),
+                Some(_) => return Err(self.invalid()),
+            };
+            let value = self.value(nested)?;
+            members.push((key, value))?;
+        }
+    }
+}
+
+fn read_number(text: &str) -> Number {
+    if let Ok(integer) = text.parse() {
+        return Number::Integer(integer);
+    }
+    match text.parse::<f64>() {
+        Ok(float) if float.is_finite() => Number::Other,
+        _ => Number::TooLarge,
+    }
+}
