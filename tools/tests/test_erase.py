@@ -10,6 +10,8 @@ TOP = Path(__file__).resolve().parent.parent.parent
 TOOL = runpy.run_path(str(TOP / "tools/erase"))
 ERASE, UNKNOWN, TOKENS = TOOL["erase"], TOOL["Unknown"], TOOL["tokens_of"]
 PRELUDE = TOOL["PRELUDE"]
+SELDOM = "|".join(name for names in TOOL["SELDOM"].values() for name in names)
+INLINE = re.compile(rf"#\[inline\(\w+\)\](?=\n *(?:pub(?:\(super\))? )?fn (?:{SELDOM})\b)")
 # What is written of one token of code for another, apart from what the rules of RULES write.
 NO_CODE = {"space", "comment", "doc", "inner_doc"}
 
@@ -258,6 +260,13 @@ class EraseTest(TestCase):
         for name, place in (("string_entries", "any.rs"), ("entries", "any/entries.rs")):
             self.assertNotIn("unchecked", ERASE(source.format(name), place, of))
 
+    def test_what_is_called_seldom(self):
+        """It is a call in the functions of SELDOM alone."""
+        source = "#[inline(always)]\npub(super) fn probe_on() {}\n\n#[inline]\nfn f() {}"
+        self.gives(source, "#[cold] #[inline(never)]", "pub(super) fn probe_on() {}", "", "#[inline]", "fn f() {}", place="dedup/probe.rs")
+        self.gives(source, *source.splitlines(), place="dedup/table.rs")
+        self.refuses("#[inline]\nfn f() {}\n\nfn probe_on() {}", 4, "no #.inline. before", place="dedup/probe.rs")
+
     def test_the_prelude_is_on_the_line_of_the_first_item(self):
         self.assertEqual(ERASE("//! Docs.\nghost use A;\n\n/// It.\n#[inline]\nfn f() {}\n").splitlines()[3], f"{PRELUDE}/// It.")
 
@@ -388,6 +397,7 @@ class SourcesTest(TestCase):
             erased = re.sub(r"unsafe \{ crate::unchecked::cut_unchecked\((\w+), (.*)\) \}", r"&\1[\2]", erased)
             erased = erased.replace("pub(crate) mod ", "mod ").replace(": Sized + ", ": ").replace(": Sized ", " ")
             erased = erased.replace("pub fn main(", "fn main(").replace(".try_collect(", ".collect(")
+            source, erased = INLINE.sub("#[inline]", source), erased.replace("#[cold] #[inline(never)]", "#[inline]")
             source, erased = self.of_handles(source, of), self.of_handles(erased, of)
             source = without_models(source, of).replace("final fn ", "fn ").replace("pub(crate) mod ", "mod ")
             source = source.replace("use core::", "use std::")
@@ -425,6 +435,12 @@ class SourcesTest(TestCase):
     def plain_derive(found):
         kept = [it for it in found[1].split(", ") if it not in ("Drop", "Error")]
         return f"#[derive({', '.join(kept)})]" if kept else ""
+
+    def test_each_function_that_is_called_seldom_is_there(self):
+        for place, names in TOOL["SELDOM"].items():
+            erased = (self.top / TOOL["LIBRARY"].into / place).read_text(encoding="utf-8")
+            found = re.findall(r"^ *#\[cold\] #\[inline\(never\)\]\n *(?:pub(?:\(super\))? )?fn (\w+)", erased, re.M)
+            self.assertEqual({*found}, names)
 
     def test_a_token_that_changes_is_seen(self):
         """Each number and each operator of a file, changed by itself, changes what is written, on its line alone."""

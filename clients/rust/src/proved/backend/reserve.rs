@@ -32,7 +32,7 @@ pub fn reserve_items<T>(list: &mut Vec<T>, additional: usize) -> Result<(), Allo
 /// Makes room for `additional` more items in a list that has not enough.
 ///
 /// Returns `Err` only if an allocation fails or a size does not fit a `usize`.
-#[inline(never)]
+#[cold] #[inline(never)]
 fn grow_items<T>(list: &mut Vec<T>, additional: usize) -> Result<(), AllocError>
     //~ ensures items { list.new.items ≡ list.old.items }
     //~ ensures room { MakesRoom (vec_len list.new) additional result
@@ -48,7 +48,7 @@ fn grow_items<T>(list: &mut Vec<T>, additional: usize) -> Result<(), AllocError>
 /// Makes room for `additional` more bytes in a string that has not enough.
 ///
 /// Returns `Err` only if an allocation fails or a size does not fit a `usize`.
-#[inline(never)]
+#[cold] #[inline(never)]
 pub fn grow_bytes(text: &mut String, additional: usize) -> Result<(), AllocError>
     //~ ensures bytes { string_bytes text.new ≡ string_bytes text.old }
     //~ ensures room { MakesRoom (string_len text.new) additional result

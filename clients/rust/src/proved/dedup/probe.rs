@@ -136,7 +136,7 @@ pub fn probe_for<S: Symbol, L: Probe<S>, B: Backend<Symbol = S>>(
 /// Goes on with a probe for a text with this code, whose first step led on to slot `from`.
 ///
 /// Takes at most as many looks as there are symbols in the probe cluster.
-#[inline(always)]
+#[cold] #[inline(never)]
 pub(super) fn probe_on<S: Symbol, L: Probe<S>, B: Backend<Symbol = S>>(
     slots: &L,
     from: usize,

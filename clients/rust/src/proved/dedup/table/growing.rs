@@ -75,7 +75,7 @@ pub fn occupy<S: Symbol, L: Layout<S>>(slots: &mut L, vacancy: Vacancy, symbol: 
 
 /// Returns `count` slots, more than before, into which all symbols are moved. Returns `Err` only if an allocation
 /// fails.
-#[inline(never)]
+#[cold] #[inline(never)]
 pub fn rehash<S: Symbol, L: Layout<S>, H: TextHasher, B: Backend<Symbol = S>>(
     slots: &mut L,
     count: usize,
