@@ -15,7 +15,7 @@ PICTURES = {"out": HERE / "out/pictures", "docs": DOCS / "pictures"}
 # The results that the documents show.
 MEASURED = HERE / "measured"
 # What is measured by itself, each with a file of results.
-PARTS = ("times", "memory", "cycles", "columns")
+PARTS = ("times", "memory", "cycles", "columns", "threads")
 TEXTS = ("identifiers", "words", "long")
 # The sources of what each part measures, and of what it is measured by.
 LIBRARY = ("crates/string_interner/src", "crates/handles/src", "crates/string_interner_c/src", "bench/ours", "bench/beside/src", "bench/driver.py")
@@ -23,6 +23,7 @@ SOURCES = {
     **dict.fromkeys(("times", "memory"), LIBRARY),
     "cycles": (*LIBRARY, "clients/rust/src", "bench/rust"),
     "columns": ("crates/string_interner/src", "crates/string_column/src", "crates/dictcol/src", "bench/columns.py"),
+    "threads": ("clients/rust/src", "bench/threads"),
 }
 COMMENT = re.compile(r"^ *(?://|# ).*\n|(?<=\S) +//.*$", re.M)
 
@@ -63,6 +64,8 @@ MAP = ("HashMap and Vec", "-", "-", "default")
 SET = ("IndexSet", "-", "-", "default")
 # In one program: the Rust crate under its default hasher and without keys, and the original under its own default.
 RUST = {kind: ("rust", kind, "-", "-") for kind in ("original", "default", "fixed")}
+# How the kinds of what threads share begin.
+THREADS = ("threads", "-", "-")
 
 
 def summary(name, times):

@@ -7,28 +7,28 @@ from cycles import count, cycles_in
 from results import HERE, RUST, TOP
 
 OUT = HERE / "out"
-FOLDER = OUT / "rust"
 PHASES = ("fill", "known", "unknown", "resolve", "shuffled", "iterate", "extend", "clone", "tokenizer")
 
 
-def build(done, words):
-    """Builds the program by these words for cargo."""
-    FOLDER.mkdir(exist_ok=True)
-    (FOLDER / "Cargo.toml").write_text(
-        f'[package]\nname = "rust"\nversion = "0.0.0"\nedition = "2021"\npublish = false\n\n[[bin]]\nname = "rust"\n'
-        f'path = "{HERE}/rust/main.rs"\n\n[dependencies]\noriginal = {{ package = "string-interner", path = "{OUT}/original" }}\n'
-        f'ours = {{ package = "string-interner", path = "{TOP}/clients/rust" }}\n\n'
+def build(done, words, name, crates=()):
+    """Builds the program of a folder beside this file by these words for cargo: it uses both crates, and the others named."""
+    folder = OUT / name
+    folder.mkdir(exist_ok=True)
+    (folder / "Cargo.toml").write_text(
+        f'[package]\nname = "{name}"\nversion = "0.0.0"\nedition = "2021"\npublish = false\n\n[[bin]]\nname = "{name}"\n'
+        f'path = "{HERE}/{name}/main.rs"\n\n[dependencies]\noriginal = {{ package = "string-interner", path = "{OUT}/original" }}\n'
+        f'ours = {{ package = "string-interner", path = "{TOP}/clients/rust" }}\n{"".join(f"{crate}{chr(10)}" for crate in crates)}\n'
         '[profile.release]\nlto = "fat"\ncodegen-units = 1\n\n[workspace]\n'
     )
     environment = {**os.environ, "RUSTFLAGS": "-C target-cpu=x86-64-v2"}
-    (FOLDER / "Cargo.lock").unlink(missing_ok=True)
-    done(words, "building the Rust crate", FOLDER, env=environment)
+    (folder / "Cargo.lock").unlink(missing_ok=True)
+    done(words, f"building bench/{name}", folder, env=environment)
 
 
 def count_rounds(is_quick):
     """Lines of the estimated cycles and instructions of each kind."""
     cases = [(kind, texts) for texts in (10_000, 100_000)[: 1 if is_quick else 2] for kind in RUST]
-    program = FOLDER / "target/release/rust"
+    program = OUT / "rust/target/release/rust"
     # A part ends before each reading of the clock, so those of the phases are the second, the fourth, and so on.
     run = lambda case: count([program, *map(str, case)], "--dump-before=clock_gettime*")[1::2]
     with concurrent.futures.ThreadPoolExecutor(os.cpu_count()) as pool:

@@ -11,6 +11,7 @@ import sys
 from results import BACKENDS, DEFAULT, DOCS, FAST, FNV, HERE, INPUTS, LINES, MAP, MEASURED, NOUNS, ORIGINAL, PARTS, PHASES, SET
 from results import Results, sum_of
 from rust_crate import PHASES as RUST_PHASES, table_rows
+import threads
 
 DOCUMENTS = tuple(DOCS.parent / it for it in ("README.md", "docs/PERFORMANCE.md", "docs/python.md", "clients/rust/README.md"))
 CALLS = ("fill", "known", "unknown")
@@ -81,6 +82,13 @@ def rust(results):
     said = "Estimated cycles divided by those of the original with its own default hasher, identifiers; lower is better"
     rows = list(table_rows(results))
     return table(said, ["", "texts", *RUST_PHASES], rows) if rows else "Not measured."
+
+
+def shared(results):
+    """What threads share."""
+    head = [it for call in threads.CALLS for it in (f"{call}, ns", "by 4")]
+    said = f"Nanoseconds of a call by one thread, how many times its work four threads do, both by processor time; bytes of a text; {threads.TEXTS}"
+    return table(said, ["", "texts", *head, "bytes"], list(threads.table_rows(results)))
 
 
 def columns(results):
@@ -175,6 +183,7 @@ def blocks(results):
         "backends": with_backends(results),
         "peers": peers(results),
         "rust": rust(results),
+        "threads": shared(results),
         "columns": columns(results),
         "picture": PICTURE,
         "speed": speed(results),

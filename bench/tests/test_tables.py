@@ -8,7 +8,7 @@ from unittest import mock
 
 sys.path.insert(0, str(Path(__file__).resolve().parents[1]))
 import tables
-from results import DEFAULT, FAST, FNV, MEASURED, ORIGINAL, PARTS, RUST, SOURCES, Results, code_of, sum_of
+from results import DEFAULT, FAST, FNV, MEASURED, ORIGINAL, PARTS, RUST, SOURCES, THREADS, Results, code_of, sum_of
 
 HEAD = {"commit": "c0ffee", "date": "2026-01-01", "machine": "a machine", "original": "the original", "load": "busy"}
 
@@ -164,6 +164,13 @@ class Tables(unittest.TestCase):
         rows.append((sort, "shuffled", 100, "memory", 25))
         last = tables.columns(results_of(*rows)).splitlines()[-1]
         self.assertEqual(last, r"| `sort \| uniq -c` | of a log, shuffled | 70.0 | 300 | 25.0 |")
+
+    def test_four_threads_are_told_by_how_many_times_the_work_of_one_they_do(self):
+        kind = (*THREADS, "one lock")
+        rows = [("known 1 used", 30), ("known 1 took", 25), ("known 4 used", 60), ("known 4 took", 90), ("new 1 used", 70), ("bytes", 8)]
+        shown = tables.shared(results_of(*((kind, "texts of 9 bytes", 10, *row) for row in rows))).splitlines()
+        self.assertEqual(shown[2], "|  | texts | known, ns | by 4 | new, ns | by 4 | resolve, ns | by 4 | bytes |")
+        self.assertEqual(shown[4:], ["| one lock | 10 | 30.0 | 2.00 | 70.0 |  |  |  | 8.00 |"])
 
     def test_parts_were_measured_apart(self):
         results = results_of()

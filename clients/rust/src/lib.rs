@@ -105,7 +105,7 @@
 //! | `unchecked.rs`: texts are cut unchecked out of a joined one, and out of buckets | ends and entries are those of whole texts; a text's number is checked before |
 //! | `unchecked.rs`: a short text is appended by words | there is room, which is tested before |
 //! | `unchecked.rs`: vectors | the target has them |
-//! | `sync/memory.rs`: texts are lent without a lock | buckets do not move, and no text is dropped |
+//! | `sync/memory.rs`: texts are lent without a lock | blocks of bytes do not move, and no text is dropped |
 //! | `sync/memory.rs`: what threads read while it grows | it is published by a release, and freed by `&mut` alone |
 //! | `proved`, of a buffer and of buckets: bytes are a text | they are those of a text that was interned: what a number of a program's own symbol type leads to is checked instead |
 //! | `proved`, of static texts: their bytes are read at their address | the address is made of a `&'static str`, in one place |

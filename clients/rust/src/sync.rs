@@ -22,32 +22,35 @@
 //! chooses one. It is taken for
 //!
 //! - a new text;
-//! - a text that its index may not show because all 64 slots for it are taken: up to 3 in 10,000, and more by a poor hasher;
+//! - a text that its index may not show, because all 64 slots for it are taken, or because there are 300 times as many texts as in its
+//!   shard: up to 3 in 10,000, and more by a poor hasher;
 //! - a text with the code of one that another thread is adding.
 //!
-//! Beside a plain interner, with one thread and texts of 10 bytes, as `tests/sync_times.rs` measured it on a busy machine:
+//! Beside a plain interner, with one thread and texts of 9 bytes on average, as the repository's `bench/run` measured it:
 //!
 //! | | 10,000 texts | 1,000,000 texts |
 //! |---|---:|---:|
-//! | processor time of a known text | 1.2 to 1.6 | 0.8 to 1.1 |
-//! | of a new text | 3 to 3.4 | not measured |
-//! | of resolving | 1.6 to 1.8 | not measured |
-//! | memory of a text | about 3 | about 3 |
+//! | time of a known text | 1.2 | 1.0 |
+//! | of a new text | 2.2 | 2.4 |
+//! | of resolving | 1.8 | 1.5 |
+//! | memory of a text | 2.0 | 1.7 |
 //!
 //! Once all texts are known, [`into_interner`](Interner::into_interner) makes a plain one.
 //!
 //! # How it works
 //!
-//! - Each shard is an interner of the proved library behind a lock. It alone says whether a text is new.
+//! - Each shard is an index of the proved library behind a lock, by which the library's own code interns. It alone says whether a
+//!   text is new.
 //! - Beside it is an index that threads read without a lock. What it shows is compared with the text, byte for byte. Whoever interns
-//!   asks the shard about a text that it does not show. So a wrong index would give no wrong symbol.
+//!   asks the shard about a text that it does not show. So a wrong index would give no wrong symbol. The module `hints` of the
+//!   repository's `crates/examples` proves that of a small model, whatever threads do at the same time.
 //! - `get` believes an index that has an empty slot where the text would be, and otherwise asks the shard, too.
 //! - One table has the address and the length of each text by its number.
 //! - Indexes and the table grow by memory that is added to them. What threads may still read is freed with the interner, or by a
 //!   call that takes `&mut self`.
 //!
-//! That these make one interner together is tested, and not proved. The library's contracts promise no address either: that the
-//! texts of a bucket stay where they are is tested.
+//! That these make one interner together is tested, and not proved. Nor is how texts are stored: in blocks of bytes that are never
+//! moved.
 
 mod freeze;
 mod index;
@@ -117,25 +120,23 @@ impl<S: Symbol, H: BuildHasher> Interner<S, H> {
     pub fn get<T: AsRef<str>>(&self, string: T) -> Option<S> {
         let text = string.as_ref();
         let code = self.shared.code_of(text);
-        let number = match self.find(code, text) {
-            Look::Found(number) => number,
-            Look::Absent => return None,
-            Look::Unknown => self.ask(code, text)?,
+        let number = match self.shared.glance(self.memory.texts(), code, text) {
+            Some(number) => number,
+            None => self.find(code, text)?,
         };
         S::try_from_usize(number as usize)
     }
 
-    /// Looks for a text with this code without a lock.
-    #[inline(always)]
-    fn find(&self, code: u64, text: &str) -> Look {
-        self.shared.find(self.memory.texts(), code, text)
-    }
-
-    /// Returns the number of a text by asking its shard.
-    #[cold]
-    fn ask(&self, code: u64, text: &str) -> Option<u32> {
-        self.memory
-            .with_locked(shard_of(code), |shard| shard.find(code, text))
+    /// Returns the number of a text with this code, if it is known. Asks its shard if the index does not tell.
+    #[inline(never)]
+    fn find(&self, code: u64, text: &str) -> Option<u32> {
+        match self.shared.find(self.memory.texts(), code, text) {
+            Look::Found(number) => Some(number),
+            Look::Absent => None,
+            Look::Unknown => self.memory.with_locked(shard_of(code), |shard, store| {
+                shard.find(&self.shared, store, code, text)
+            }),
+        }
     }
 
     /// Reports whether a text is known. Takes a lock when [`get`](Self::get) does.
@@ -175,9 +176,9 @@ impl<S: Symbol, H: BuildHasher> Interner<S, H> {
     pub fn try_get_or_intern<T: AsRef<str>>(&self, string: T) -> Result<S, InternError> {
         let text = string.as_ref();
         let code = self.shared.code_of(text);
-        match self.find(code, text) {
-            Look::Found(number) => self.shared.symbol_of(number),
-            _ => self.append(code, text),
+        match self.shared.glance(self.memory.texts(), code, text) {
+            Some(number) => self.shared.symbol_of(number),
+            None => self.intern(code, text),
         }
     }
 
@@ -189,28 +190,31 @@ impl<S: Symbol, H: BuildHasher> Interner<S, H> {
     #[inline]
     pub fn try_get_or_intern_static(&self, string: &'static str) -> Result<S, InternError> {
         let code = self.shared.code_of(string);
-        match self.find(code, string) {
-            Look::Found(number) => self.shared.symbol_of(number),
-            _ => self.append_static(code, string),
+        match self.shared.glance(self.memory.texts(), code, string) {
+            Some(number) => self.shared.symbol_of(number),
+            None => self.intern_static(code, string),
         }
     }
 
-    /// Appends a text with this code, if it is not known after all.
+    /// Interns a text with this code that the index does not show at once.
     #[inline(never)]
-    fn append(&self, code: u64, text: &str) -> Result<S, InternError> {
-        self.append_given(code, Given::Copied(text))
+    fn intern(&self, code: u64, text: &str) -> Result<S, InternError> {
+        self.intern_given(code, Given::Copied(text))
     }
 
     /// The same for a static text.
     #[inline(never)]
-    fn append_static(&self, code: u64, text: &'static str) -> Result<S, InternError> {
-        self.append_given(code, Given::Static(text))
+    fn intern_static(&self, code: u64, text: &'static str) -> Result<S, InternError> {
+        self.intern_given(code, Given::Static(text))
     }
 
     #[inline(always)]
-    fn append_given(&self, code: u64, given: Given<'_>) -> Result<S, InternError> {
-        self.memory.with_locked(shard_of(code), |shard| {
-            self.shared.intern(shard, code, given)
+    fn intern_given(&self, code: u64, given: Given<'_>) -> Result<S, InternError> {
+        if let Look::Found(number) = self.shared.find(self.memory.texts(), code, given.text()) {
+            return self.shared.symbol_of(number);
+        }
+        self.memory.with_locked(shard_of(code), |shard, store| {
+            shard.intern(&self.shared, store, code, given)
         })
     }
 
@@ -218,11 +222,11 @@ impl<S: Symbol, H: BuildHasher> Interner<S, H> {
     #[inline]
     fn intern_alone(&mut self, text: &str) -> Result<S, InternError> {
         let code = self.shared.code_of(text);
-        if let Look::Found(number) = self.find(code, text) {
+        if let Some(number) = self.shared.glance(self.memory.texts(), code, text) {
             return self.shared.symbol_of(number);
         }
-        let shard = self.memory.hold(shard_of(code));
-        self.shared.intern(shard, code, Given::Copied(text))
+        let (shard, store) = self.memory.hold(shard_of(code));
+        shard.intern(&self.shared, store, code, Given::Copied(text))
     }
 }
 

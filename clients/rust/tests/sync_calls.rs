@@ -75,6 +75,26 @@ impl Hasher for SameLowBits {
     }
 }
 
+/// A hasher that puts nearly all texts into one shard, so that the numbers of the others are too large for the slots of theirs.
+#[derive(Default)]
+struct OneShard(u64);
+
+impl Hasher for OneShard {
+    fn write(&mut self, bytes: &[u8]) {
+        for byte in bytes {
+            self.0 = (self.0 ^ u64::from(*byte)).wrapping_mul(0x100_0000_01B3);
+        }
+    }
+
+    fn finish(&self) -> u64 {
+        let code = self.0 ^ self.0 >> 29;
+        match code % 1_000 {
+            0 => code | 31 << 59,
+            _ => code & !(31 << 59),
+        }
+    }
+}
+
 /// Each text is found that was interned, also one for which its index had no place.
 fn all_are_found<H: BuildHasher + Default>(count: usize) {
     let names = Interner::<DefaultSymbol, H>::with_hasher(H::default());
@@ -99,6 +119,11 @@ fn many_texts_are_found() {
 #[test]
 fn texts_with_poor_codes_are_found() {
     all_are_found::<BuildHasherDefault<SameLowBits>>(769);
+}
+
+#[test]
+fn few_texts_beside_many_are_found() {
+    all_are_found::<BuildHasherDefault<OneShard>>(30_000);
 }
 
 #[test]

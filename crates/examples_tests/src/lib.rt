@@ -6,4 +6,6 @@
 #[cfg(test)]
 mod columns;
 #[cfg(test)]
+mod hints;
+#[cfg(test)]
 mod tests;

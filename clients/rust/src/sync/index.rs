@@ -8,13 +8,19 @@
 
 use super::memory::{Table, Tables, Texts};
 use super::orders::{ACQUIRE, RELEASE};
-use super::shard::Shard;
 use crate::error::InternError;
 use crate::proved::equal_texts::texts_are_equal;
 use std::sync::atomic::Ordering::Relaxed;
 
 /// So many slots from its home on may have a text's number. A text that comes when they are full is not in the index.
 const WINDOW: usize = 64;
+
+/// A text by its number, with its hash code.
+#[derive(Clone, Copy)]
+pub(super) struct Coded {
+    pub(super) code: u32,
+    pub(super) number: u32,
+}
 
 /// What an index shows of a text.
 pub(super) enum Look {
@@ -25,57 +31,71 @@ pub(super) enum Look {
     Unknown,
 }
 
-/// From hash codes to numbers. A slot is 0, or what [`slot_of`] returns.
+/// From hash codes to numbers. A slot is 0, or has the highest bits of a text's code, and below them, in `Table::number_bits`, the text's
+/// number plus one, or ones alone if that is too large.
 pub(super) struct Index {
     tables: Tables,
 }
 
-/// Returns what the slot of a text has, which is not 0: the text's code above its number plus one.
+/// Reports whether the slot of a text with this code may have this content.
 #[inline(always)]
-pub(super) fn slot_of(code: u32, number: u32) -> u64 {
-    u64::from(code) << 32 | u64::from(number + 1)
+fn is_alike(table: Table, content: u32, code: u32) -> bool {
+    (content ^ code) & !table.number_bits() == 0
 }
 
-/// Returns the number of a text of which this is the slot's content.
+/// Returns the number of a text whose slot has this content. If it is too large, this is the number of another text.
 #[inline(always)]
-pub(super) fn number_of(content: u64) -> Option<u32> {
-    (content as u32).checked_sub(1)
+fn number_of(table: Table, content: u32) -> u32 {
+    (content & table.number_bits()).wrapping_sub(1)
 }
 
-/// Puts a slot's content into the first empty slot of the window from its home on, if there is one.
-fn put(table: Table, content: u64) {
-    let home = (content >> 32) as usize;
+/// Reports whether the number of a text whose slot has this content is too large.
+#[inline]
+fn is_too_large(table: Table, content: u32) -> bool {
+    content & table.number_bits() == table.number_bits()
+}
+
+/// Puts a text into the first empty slot that it may have, if there is one.
+#[inline]
+fn put(table: Table, text: Coded) {
+    let home = text.code as usize;
     let mut window = (home..home + WINDOW).map(|place| table.slot(place));
     if let Some(slot) = window.find(|slot| slot.load(Relaxed) == 0) {
-        slot.store(content, RELEASE);
+        let bits = table.number_bits();
+        slot.store(text.code & !bits | bits.min(text.number + 1), RELEASE);
     }
 }
 
-/// Looks for a text with this code in a table.
+/// Looks for a text with this code in the first two slots that it may have, where most are. Both are read, so that nothing branches by
+/// which of them it is.
 #[inline(always)]
-pub(super) fn look(table: Table, code: u32, texts: &Texts, text: &str) -> Look {
+fn glance(table: Table, code: u32, texts: &Texts, text: &str) -> Option<u32> {
     let home = code as usize;
-    // Most texts are in the first two slots. Both are read, so that nothing branches by which of them it is.
     let first = table.slot(home).load(ACQUIRE);
     let second = table.slot(home + 1).load(ACQUIRE);
-    let is_first = (first >> 32) as u32 == code;
-    let content = if is_first { first } else { second };
-    match look_at(content, code, texts, text) {
-        Look::Found(number) => Look::Found(number),
-        _ => look_on(table, code, texts, text),
+    let content = if is_alike(table, first, code) {
+        first
+    } else {
+        second
+    };
+    match look_at(table, content, code, texts, text) {
+        Look::Found(number) => Some(number),
+        _ => None,
     }
 }
 
-/// Looks from the home of a code on.
-#[inline(never)]
-fn look_on(table: Table, code: u32, texts: &Texts, text: &str) -> Look {
+/// Looks for a text with this code in all slots that it may have.
+pub(super) fn look(table: Table, code: u32, texts: &Texts, text: &str) -> Look {
     let home = code as usize;
     for place in home..home + WINDOW {
         let content = table.slot(place).load(ACQUIRE);
         if content == 0 {
             return Look::Absent;
         }
-        match look_at(content, code, texts, text) {
+        if is_alike(table, content, code) && is_too_large(table, content) {
+            return Look::Unknown;
+        }
+        match look_at(table, content, code, texts, text) {
             Look::Absent => {}
             shown => return shown,
         }
@@ -85,13 +105,14 @@ fn look_on(table: Table, code: u32, texts: &Texts, text: &str) -> Look {
 
 /// Returns what a slot shows of a text with this code. Its text may be about to be published: its shard is locked until then.
 #[inline(always)]
-fn look_at(content: u64, code: u32, texts: &Texts, text: &str) -> Look {
-    if (content >> 32) as u32 != code {
+fn look_at(table: Table, content: u32, code: u32, texts: &Texts, text: &str) -> Look {
+    if !is_alike(table, content, code) {
         return Look::Absent;
     }
-    let number = (content as u32).wrapping_sub(1);
+    let number = number_of(table, content);
     match texts.get(number) {
-        Some(found) if texts_are_equal(found, text) => Look::Found(number),
+        // The length of the text that is looked for is known first.
+        Some(found) if texts_are_equal(text, found) => Look::Found(number),
         Some(_) => Look::Absent,
         None => Look::Unknown,
     }
@@ -110,8 +131,14 @@ impl Index {
         self.tables.present()
     }
 
-    /// Looks for a text with this code.
+    /// Returns the number of a text with this code, if the index shows it at once.
     #[inline(always)]
+    pub(super) fn glance(&self, code: u32, texts: &Texts, text: &str) -> Option<u32> {
+        glance(self.table()?, code, texts, text)
+    }
+
+    /// Looks for a text with this code.
+    #[inline]
     pub(super) fn find(&self, code: u32, texts: &Texts, text: &str) -> Look {
         match self.table() {
             Some(table) => look(table, code, texts, text),
@@ -119,23 +146,22 @@ impl Index {
         }
     }
 
-    /// Makes room for one text more beside those of the shard, which the caller has locked. A larger table gets all of them, also
-    /// those for which the table before had no place.
+    /// Makes room for one text more beside these, which are all of the shard. The caller has its lock.
     #[inline]
-    pub(super) fn make_room(&self, shard: &Shard) -> Result<(), InternError> {
-        let has_room = |table: Table| shard.len() < table.len() / 4 * 3;
+    pub(super) fn make_room(&self, texts: &[Coded]) -> Result<(), InternError> {
+        let has_room = |table: Table| texts.len() < table.len() / 4 * 3;
         if self.table().is_some_and(has_room) {
             return Ok(());
         }
         self.tables
-            .grow(|larger| shard.slots().for_each(|content| put(larger, content)))
+            .grow(|larger| texts.iter().for_each(|text| put(larger, *text)))
     }
 
-    /// Adds a text by what its slot has. Room was made for it. The caller has the shard's lock.
+    /// Adds a text. The caller has the shard's lock.
     #[inline]
-    pub(super) fn insert(&self, content: u64) {
+    pub(super) fn insert(&self, text: Coded) {
         if let Some(table) = self.table() {
-            put(table, content);
+            put(table, text);
         }
     }
 

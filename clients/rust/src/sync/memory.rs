@@ -5,9 +5,9 @@
 //!
 //! - **Boxes**: an array's pointer is to a box that was taken apart, and is put together again to be dropped. Its length follows from
 //!   its place among the others.
-//! - **Bytes**: an entry is made of a text that is static or in a bucket of one of the shards. These live as long as the table of
-//!   entries, because [`Memory`] has both, and lends a shard only as [`Held`], which cannot take it away. A bucket's bytes never move
-//!   or change, and no call drops a text.
+//! - **Bytes**: an entry is made of a text that is static or in a block of bytes of one of the shards. These live as long as the table
+//!   of entries, because [`Memory`] has both, and lends the bytes only as a [`Store`], which cannot take them away. The bytes of a block
+//!   never move or change, and no call drops a text.
 //!
 //! An entry of the table has eight bytes: the address of a text of less than 2¹⁶ − 1 bytes, shifted by 16 bits, and its length. A text
 //! that is longer, or whose address has more than 48 bits, stands in a list of its own, and the entry has its number there.
@@ -18,14 +18,12 @@ use super::orders::{ACQUIRE, RELEASE};
 use super::shard::Shard;
 use super::shared::{Apart, SHARDS};
 use crate::error::InternError;
-use crate::hasher::By;
-use crate::proved::interner::given::Given;
-use core::hash::BuildHasher;
+use crate::rt::alloc::Global;
+use crate::rt::string::String;
 use core::marker::PhantomData;
-use core::ops::Deref;
 use core::{mem, ptr, slice, str};
 use std::boxed::Box;
-use std::sync::atomic::{AtomicPtr, AtomicU32, AtomicU64, Ordering::Relaxed};
+use std::sync::atomic::{AtomicPtr, AtomicU32, Ordering::Relaxed};
 use std::sync::OnceLock;
 use std::sync::{Mutex, PoisonError};
 use std::thread;
@@ -39,37 +37,48 @@ const SEGMENTS: usize = 27;
 
 /// Items by number, made as `Default` makes them, which never move.
 pub(super) struct Segments<T> {
-    /// The first item of each segment, or null.
+    /// Each segment by [`name_of`], or null.
     segments: [AtomicPtr<T>; SEGMENTS],
     items: PhantomData<Box<[T]>>,
 }
 
-/// Makes items, if memory for them is granted, and takes their box apart.
-fn make_items<T: Default>(count: usize) -> Result<*mut T, InternError> {
+/// Makes items, if memory for them is granted.
+fn make_items<T: Default>(count: usize) -> Result<Box<[T]>, InternError> {
     let mut items = Vec::new();
     items
         .try_reserve_exact(count)
         .map_err(|_| InternError::Memory)?;
     items.resize_with(count, T::default);
-    Ok(Box::into_raw(items.into_boxed_slice()).cast())
+    Ok(items.into_boxed_slice())
 }
 
 /// Drops items.
 ///
 /// # Safety
 ///
-/// `make_items` made so many of them, and nobody has or gets them any more.
+/// They were a box of so many items, and nobody has or gets them any more.
 unsafe fn drop_items<T>(items: *mut T, count: usize) {
-    // SAFETY: this is the box that `make_items` took apart.
+    // SAFETY: this is the box that was taken apart.
     drop(unsafe { Box::from_raw(ptr::slice_from_raw_parts_mut(items, count)) });
 }
 
-/// Returns the segment of a number, and its place there.
+/// Returns the segment of a number, and its place: that in the segment behind `FIRST << segment` places that are not there.
 #[inline(always)]
 fn place_of(number: u32) -> (usize, usize) {
-    let from = number as usize + FIRST;
-    let segment = (from.ilog2() - FIRST.ilog2()) as usize;
-    (segment, from - (FIRST << segment))
+    let place = number as usize + FIRST;
+    ((place.ilog2() - FIRST.ilog2()) as usize, place)
+}
+
+/// Returns the pointer by which a segment's items are found: that of the place 0, so that who reads one computes nothing more, and
+/// one byte behind, so that it is not null.
+fn name_of<T>(items: *mut T, segment: usize) -> *mut T {
+    items.wrapping_sub(FIRST << segment).wrapping_byte_add(1)
+}
+
+/// Returns where the item of a place is, in a segment of this name.
+#[inline(always)]
+fn item_at<T>(name: *mut T, place: usize) -> *mut T {
+    name.wrapping_byte_sub(1).wrapping_add(place)
 }
 
 impl<T: Default> Segments<T> {
@@ -92,9 +101,10 @@ impl<T: Default> Segments<T> {
     #[cold]
     fn add(&self, segment: usize) -> Result<(), InternError> {
         let count = FIRST << segment;
-        let items = make_items(count)?;
+        let items = Box::into_raw(make_items::<T>(count)?).cast::<T>();
         let place = &self.segments[segment];
-        let added = place.compare_exchange(ptr::null_mut(), items, RELEASE, Relaxed);
+        let name = name_of(items, segment);
+        let added = place.compare_exchange(ptr::null_mut(), name, RELEASE, Relaxed);
         if added.is_err() {
             // Another thread was faster.
             // SAFETY: nobody else has seen these.
@@ -107,22 +117,23 @@ impl<T: Default> Segments<T> {
     #[inline(always)]
     pub(super) fn get(&self, number: u32) -> Option<&T> {
         let (segment, place) = place_of(number);
-        let items = self.segments[segment].load(ACQUIRE);
-        if items.is_null() {
+        let name = self.segments[segment].load(ACQUIRE);
+        if name.is_null() {
             return None;
         }
-        // SAFETY: the place is below `FIRST << segment`, so many items the segment has, and they stay until `self` is dropped.
-        Some(unsafe { &*items.add(place) })
+        // SAFETY: the place is from `FIRST << segment` on and below twice that, which are those of the segment's items. These stay
+        // until `self` is dropped.
+        Some(unsafe { &*item_at(name, place) })
     }
 }
 
 impl<T> Drop for Segments<T> {
     fn drop(&mut self) {
-        for (segment, items) in self.segments.iter_mut().enumerate() {
-            let items = *items.get_mut();
-            if !items.is_null() {
+        for (segment, name) in self.segments.iter_mut().enumerate() {
+            let (name, count) = (*name.get_mut(), FIRST << segment);
+            if !name.is_null() {
                 // SAFETY: `add` made them, and whoever drops `self` has it alone.
-                unsafe { drop_items(items, FIRST << segment) };
+                unsafe { drop_items(item_at(name, count), count) };
             }
         }
     }
@@ -137,10 +148,10 @@ const TABLES: usize = 15;
 struct Line {
     /// Read by the addresses of slots.
     #[allow(dead_code)]
-    slots: [AtomicU64; SLOTS_OF_LINE],
+    slots: [AtomicU32; SLOTS_OF_LINE],
 }
 
-const SLOTS_OF_LINE: usize = 8;
+const SLOTS_OF_LINE: usize = 16;
 
 /// Tables of slots, of which the last one counts. Those before are kept, since a thread may still read them.
 pub(super) struct Tables {
@@ -163,17 +174,24 @@ fn bits_of(table: usize) -> usize {
     4 + 2 * table
 }
 
-impl Table<'_> {
+impl<'a> Table<'a> {
     /// Returns a slot. Behind the last one comes the first.
     #[inline(always)]
-    pub(super) fn slot(&self, place: usize) -> &AtomicU64 {
-        let slots = self.lines.cast::<AtomicU64>();
+    pub(super) fn slot(self, place: usize) -> &'a AtomicU32 {
+        let slots = self.lines.cast::<AtomicU32>();
         // SAFETY: there are so many slots, which stay as long as the tables are borrowed.
         unsafe { &*slots.add(place & self.mask) }
     }
 
+    /// Returns which bits of a slot have a number: eight more than count the slots, so that no number is too large as long as there are
+    /// 300 times as many texts as in the shard, or fewer. There are 32 shards.
+    #[inline(always)]
+    pub(super) fn number_bits(self) -> u32 {
+        (self.mask as u32) << 8 | 0xFF
+    }
+
     /// Returns how many slots there are.
-    pub(super) fn len(&self) -> usize {
+    pub(super) fn len(self) -> usize {
         self.mask + 1
     }
 }
@@ -211,12 +229,13 @@ impl Tables {
             return Ok(());
         };
         let bits = bits_of(next);
-        let lines: *mut Line = make_items((1 << bits) / SLOTS_OF_LINE)?;
+        let lines: Box<[Line]> = make_items((1 << bits) / SLOTS_OF_LINE)?;
         fill(Table {
-            lines,
+            lines: lines.as_ptr(),
             mask: (1 << bits) - 1,
             tables: PhantomData,
         });
+        let lines = Box::into_raw(lines).cast::<Line>();
         place.store(lines, Relaxed);
         self.present.store(lines.wrapping_byte_add(bits), RELEASE);
         Ok(())
@@ -315,13 +334,6 @@ impl Texts {
         })
     }
 
-    /// The same for a static text.
-    #[cfg(test)]
-    pub(super) fn entry_of_static(&self, text: &'static str) -> Result<Entry<'_>, InternError> {
-        // SAFETY: the bytes are static.
-        unsafe { self.entry_of(text) }
-    }
-
     #[cold]
     fn put_elsewhere(&self, text: &'static str) -> Result<*mut u8, InternError> {
         let number = self
@@ -370,25 +382,70 @@ impl Texts {
     }
 }
 
-/// Texts by number, and the shards that have their bytes.
-pub(super) struct Memory {
-    texts: Texts,
-    shards: Box<[Apart<Mutex<Shard>>]>,
+/// The least size of a block, and the greatest of one for more than one text.
+const LEAST: usize = 128;
+const GREATEST: usize = 1 << 14;
+
+/// Bytes of texts in blocks. A block gets no more texts than it has room for, so its bytes stay where they are.
+struct Bytes {
+    full: Vec<String>,
+    head: String,
+    /// The sizes of all blocks.
+    size: usize,
 }
 
-/// A shard that nobody else has meanwhile, and the table of its interner.
-pub(super) struct Held<'a> {
+impl Bytes {
+    const fn new() -> Self {
+        Bytes {
+            full: Vec::new(),
+            head: String::new(Global),
+            size: 0,
+        }
+    }
+
+    /// Copies a text, and returns the copy. Its bytes stay where they are as long as `self`: no call here drops, moves or changes a
+    /// text.
+    #[inline]
+    fn store(&mut self, text: &str) -> Result<&str, InternError> {
+        let from = self.head.len();
+        if self.head.capacity() - from < text.len() {
+            return self.store_in_new(text);
+        }
+        self.head.push_str(text).map_err(|_| InternError::Memory)?;
+        Ok(&self.head.as_str()[from..])
+    }
+
+    /// Copies a text into a new block. Blocks are half as large as all before, so that at most a third of the memory is spare.
+    #[cold]
+    fn store_in_new(&mut self, text: &str) -> Result<&str, InternError> {
+        let size = (self.size / 2).clamp(LEAST, GREATEST).max(text.len());
+        self.full.try_reserve(1).map_err(|_| InternError::Memory)?;
+        let mut block = String::with_capacity(Global, size).map_err(|_| InternError::Memory)?;
+        block.push_str(text).map_err(|_| InternError::Memory)?;
+        self.size += size;
+        self.full.push(mem::replace(&mut self.head, block));
+        Ok(self.head.as_str())
+    }
+}
+
+/// Texts by number, and the shards with the bytes of their texts.
+pub(super) struct Memory {
+    texts: Texts,
+    shards: Box<[Apart<Mutex<(Shard, Bytes)>>]>,
+}
+
+/// Where a shard that nobody else has meanwhile stores its texts.
+pub(super) struct Store<'a> {
     texts: &'a Texts,
-    shard: &'a mut Shard,
+    bytes: &'a mut Bytes,
 }
 
 impl Memory {
     pub(super) fn new() -> Self {
+        let shard = || Apart(Mutex::new((Shard::new(), Bytes::new())));
         Memory {
             texts: Texts::new(),
-            shards: (0..SHARDS)
-                .map(|_| Apart(Mutex::new(Shard::new())))
-                .collect(),
+            shards: (0..SHARDS).map(|_| shard()).collect(),
         }
     }
 
@@ -400,69 +457,46 @@ impl Memory {
     /// Makes a call with a shard, whose lock is taken. No panic leaves a shard half changed, so a lock that somebody panicked under is
     /// as good.
     #[inline(always)]
-    pub(super) fn with_locked<T>(&self, shard: usize, call: impl FnOnce(Held<'_>) -> T) -> T {
+    pub(super) fn with_locked<'a, T>(
+        &'a self,
+        shard: usize,
+        call: impl FnOnce(&mut Shard, Store<'_>) -> T,
+    ) -> T {
         let locked = self.shards[shard].0.lock();
-        let mut shard = locked.unwrap_or_else(PoisonError::into_inner);
-        call(Held {
-            texts: &self.texts,
-            shard: &mut shard,
-        })
+        let (shard, bytes) = &mut *locked.unwrap_or_else(PoisonError::into_inner);
+        let texts = &self.texts;
+        call(shard, Store { texts, bytes })
     }
 
     /// The same for who has the interner alone: no lock is taken.
     #[inline(always)]
-    pub(super) fn hold(&mut self, shard: usize) -> Held<'_> {
-        let shard = self.shards[shard].0.get_mut();
-        Held {
-            texts: &self.texts,
-            shard: shard.unwrap_or_else(PoisonError::into_inner),
-        }
+    pub(super) fn hold(&mut self, shard: usize) -> (&mut Shard, Store<'_>) {
+        let held = self.shards[shard].0.get_mut();
+        let (shard, bytes) = held.unwrap_or_else(PoisonError::into_inner);
+        let texts = &self.texts;
+        (shard, Store { texts, bytes })
     }
 }
 
-impl<'a> Held<'a> {
+impl<'a> Store<'a> {
     #[inline(always)]
     pub(super) fn texts(&self) -> &'a Texts {
         self.texts
     }
 
-    /// See [`Shard::make_room`].
-    #[inline(always)]
-    pub(super) fn make_room(&mut self) -> Result<(), InternError> {
-        self.shard.make_room()
+    /// Copies a text, and returns an entry for the copy.
+    #[inline]
+    pub(super) fn copy(&mut self, text: &str) -> Result<Entry<'a>, InternError> {
+        let text = self.bytes.store(text)?;
+        // SAFETY: as `Bytes::store` says, the bytes stay as long as all those of the shard. `Memory` drops these with the table, and
+        // nobody can take them out of there.
+        unsafe { self.texts.entry_of(text) }
     }
 
-    /// See [`Shard::intern`].
-    #[inline(always)]
-    pub(super) fn intern<H: BuildHasher>(
-        &mut self,
-        hasher: &By<H>,
-        code: u64,
-        given: Given<'_>,
-    ) -> Result<usize, InternError> {
-        self.shard.intern(hasher, code, given)
-    }
-
-    /// See [`Shard::set_number`].
-    #[inline(always)]
-    pub(super) fn set_number(&mut self, place: usize, code: u32, number: u32) -> u64 {
-        self.shard.set_number(place, code, number)
-    }
-
-    /// Returns an entry for the text at a place.
-    #[inline(always)]
-    pub(super) fn entry_at(&self, place: usize) -> Result<Entry<'a>, InternError> {
-        // SAFETY: as `text_at` says, the bytes stay as long as the shard. `Memory` drops it with the table, and nobody can take it out
-        // of there.
-        unsafe { self.texts.entry_of(self.shard.text_at(place)) }
-    }
-}
-
-impl Deref for Held<'_> {
-    type Target = Shard;
-
-    #[inline(always)]
-    fn deref(&self) -> &Shard {
-        self.shard
+    /// Returns an entry for a static text.
+    #[inline]
+    pub(super) fn keep(&self, text: &'static str) -> Result<Entry<'a>, InternError> {
+        // SAFETY: the bytes are static.
+        unsafe { self.texts.entry_of(text) }
     }
 }

@@ -2,7 +2,7 @@
 //!
 //! A thread that interns a new text holds the lock of its shard, and writes in this order:
 //!
-//! 1. the bytes of the text, in a bucket of the shard;
+//! 1. the bytes of the text, in a block of the shard;
 //! 2. the text's number, into a slot of the shard's index, by [`RELEASE`], unless all slots for it are taken;
 //! 3. where the bytes are, into an entry of the table of texts, by [`RELEASE`]. From then on the text is known.
 //!

@@ -1,96 +1,192 @@
-//! What the lock of a shard guards: an interner of the proved library, and the number of each of its texts.
+//! What the lock of a shard guards beside the bytes of its texts: the proved index of them.
 
-use super::index::{number_of, slot_of};
+use super::index::Coded;
+use super::memory::{Entry, Store};
+use super::shared::Shared;
 use crate::error::InternError;
-use crate::hasher::By;
-use crate::proved::backend::{Backend, BucketBackend};
+use crate::proved::backend as proved;
 use crate::proved::dedup::{TaggedIndex, TextIndex};
 use crate::proved::interner::coded::intern_coded;
 use crate::proved::interner::given::Given;
-use crate::proved::symbol::{Symbol, SymbolU32};
-use crate::rt::alloc::Global;
+use crate::proved::symbol::{Symbol as _, SymbolU32};
+use crate::rt::alloc::{AllocError, Global};
+use crate::symbol::Symbol;
 use core::hash::BuildHasher;
 use std::vec::Vec;
 
-/// In the place of the slot of a text that has no number yet.
-const NO_SLOT: u64 = 0;
-
-/// Distinct texts whose hash codes choose this shard. It alone says whether a text is new.
+/// Distinct texts whose hash codes choose this shard. The proved index alone says whether a text is new.
 pub(super) struct Shard {
-    texts: BucketBackend<SymbolU32>,
     index: TaggedIndex<SymbolU32>,
-    /// What the index has of each text in a slot: its code and its number. A text has no number if memory or a symbol for it was
-    /// refused, and gets one when it is interned again.
-    slots: Vec<u64>,
+    /// All texts, of which the index that threads read is made anew when it grows.
+    all: Vec<Coded>,
+}
+
+/// The texts of a shard as the proved code takes them: under the numbers that they have among all texts.
+struct List<'a, S, H> {
+    shared: &'a Shared<S, H>,
+    store: Store<'a>,
+    all: &'a mut Vec<Coded>,
+    code: u64,
+    appended: Option<Appended<'a, S>>,
+}
+
+/// A text that was appended. Threads are shown it next.
+struct Appended<'a, S> {
+    number: u32,
+    symbol: S,
+    entry: Entry<'a>,
 }
 
 impl Shard {
     pub(super) fn new() -> Self {
         Shard {
-            texts: Backend::new(Global),
             index: TextIndex::new(Global),
-            slots: Vec::new(),
+            all: Vec::new(),
         }
     }
 
-    /// Returns how many texts there are.
-    #[inline]
-    pub(super) fn len(&self) -> usize {
-        self.slots.len()
+    /// Returns the index, and the list of its texts for calls that are about a text with this code.
+    #[inline(always)]
+    fn parts<'a, S, H>(
+        &'a mut self,
+        shared: &'a Shared<S, H>,
+        store: Store<'a>,
+        code: u64,
+    ) -> (&'a mut TaggedIndex<SymbolU32>, List<'a, S, H>) {
+        let list = List {
+            shared,
+            store,
+            all: &mut self.all,
+            code,
+            appended: None,
+        };
+        (&mut self.index, list)
     }
 
-    /// Returns what an index has of the texts with a number.
-    pub(super) fn slots(&self) -> impl Iterator<Item = u64> + '_ {
-        self.slots.iter().copied().filter(|slot| *slot != NO_SLOT)
-    }
-
-    /// Makes room for the number of one text more.
-    #[inline]
-    pub(super) fn make_room(&mut self) -> Result<(), InternError> {
-        self.slots.try_reserve(1).map_err(|_| InternError::Memory)
-    }
-
-    /// Returns the number of a text with this code, if it has one.
-    pub(super) fn find(&self, code: u64, text: &str) -> Option<u32> {
-        let symbol = TextIndex::find(&self.index, code, &self.texts, text)?;
-        self.number_at(symbol.to_usize())
-    }
-
-    /// Returns the place of a text with this code, and appends the text if it is new. There is room for its number.
-    #[inline]
-    pub(super) fn intern<H: BuildHasher>(
+    /// Returns the number of a text with this code, if it is known.
+    pub(super) fn find<S: Symbol, H: BuildHasher>(
         &mut self,
-        hasher: &By<H>,
+        shared: &Shared<S, H>,
+        store: Store<'_>,
+        code: u64,
+        text: &str,
+    ) -> Option<u32> {
+        let (index, list) = self.parts(shared, store, code);
+        let symbol = TextIndex::find(index, code, &list, text)?;
+        Some(symbol.to_usize() as u32)
+    }
+
+    /// Returns the symbol of a text with this code. Appends a text that is not known.
+    #[inline(always)]
+    pub(super) fn intern<S: Symbol, H: BuildHasher>(
+        &mut self,
+        shared: &Shared<S, H>,
+        store: Store<'_>,
         code: u64,
         given: Given<'_>,
-    ) -> Result<usize, InternError> {
-        let symbol = intern_coded(&mut self.texts, hasher, &mut self.index, given, code, None)?;
-        let place = symbol.to_usize();
-        if place == self.slots.len() {
-            self.slots.push(NO_SLOT);
+    ) -> Result<S, InternError> {
+        let (index, mut list) = self.parts(shared, store, code);
+        let known = intern_coded(&mut list, &shared.hasher, index, given, code, None)?;
+        match list.appended.take() {
+            Some(appended) => Ok(list.show(appended)),
+            None => shared.symbol_of(known.to_usize() as u32),
         }
-        Ok(place)
+    }
+}
+
+impl<'a, S: Symbol, H: BuildHasher> List<'a, S, H> {
+    /// Makes room for what threads read of one text more.
+    #[inline]
+    fn make_room(&mut self) -> Result<(), InternError> {
+        self.all.try_reserve(1).map_err(|_| InternError::Memory)?;
+        self.shared.index_of(self.code).make_room(self.all)?;
+        self.shared.make_room(self.store.texts())
     }
 
-    /// Returns the number of the text at a place, if it has one.
+    /// Takes the next number for the text of an entry. All that may be refused comes before that.
     #[inline]
-    pub(super) fn number_at(&self, place: usize) -> Option<u32> {
-        number_of(self.slots[place])
+    fn append(&mut self, entry: Entry<'a>) -> Result<SymbolU32, proved::InternError> {
+        let (number, symbol) = self.shared.take_number(self.store.texts())?;
+        self.appended = Some(Appended {
+            number,
+            symbol,
+            entry,
+        });
+        Ok(SymbolU32::try_from_usize(number as usize).expect("it is less than the greatest"))
     }
 
-    /// Gives the text at a place, which has this code, a number. Returns what its slot has.
+    /// Shows a text to all threads. It has a place in the proved index by now.
     #[inline]
-    pub(super) fn set_number(&mut self, place: usize, code: u32, number: u32) -> u64 {
-        let content = slot_of(code, number);
-        self.slots[place] = content;
-        content
+    fn show(&mut self, appended: Appended<'a, S>) -> S {
+        let text = Coded {
+            code: self.code as u32,
+            number: appended.number,
+        };
+        self.all.push(text);
+        self.shared.index_of(self.code).insert(text);
+        appended.entry.publish(appended.number);
+        appended.symbol
+    }
+}
+
+impl<S: Symbol, H: BuildHasher> proved::Backend for List<'_, S, H> {
+    type Symbol = SymbolU32;
+
+    #[inline(always)]
+    fn is_full(&self) -> bool {
+        self.shared.next_symbol().is_err()
     }
 
-    /// Returns the text at a place. Its bytes stay where they are as long as the shard: they are static or in a bucket, whose bytes
-    /// never move or change, and no call here drops a text.
-    #[inline]
-    pub(super) fn text_at(&self, place: usize) -> &str {
-        let symbol = SymbolU32::try_from_usize(place).expect("a text is there");
-        self.texts.resolve_unchecked(symbol)
+    #[inline(always)]
+    fn intern(&mut self, text: &str) -> Result<SymbolU32, proved::InternError> {
+        self.make_room()?;
+        let entry = self.store.copy(text)?;
+        self.append(entry)
+    }
+
+    #[inline(always)]
+    fn intern_static(&mut self, text: &'static str) -> Result<SymbolU32, proved::InternError> {
+        self.make_room()?;
+        let entry = self.store.keep(text)?;
+        self.append(entry)
+    }
+
+    #[inline(always)]
+    fn resolve(&self, symbol: SymbolU32) -> Option<&str> {
+        self.store.texts().get(symbol.to_usize() as u32)
+    }
+
+    #[inline(always)]
+    fn resolve_unchecked(&self, symbol: SymbolU32) -> &str {
+        self.resolve(symbol).expect("each text was shown")
+    }
+
+    // What this crate calls of the index and of `intern_coded` asks for none of these.
+    fn new(_alloc: Global) -> Self {
+        unreachable!()
+    }
+
+    fn with_capacity(_alloc: Global, _capacity: usize) -> Result<Self, AllocError> {
+        unreachable!()
+    }
+
+    fn count(&self) -> usize {
+        unreachable!()
+    }
+
+    fn next_symbol(&self) -> Option<SymbolU32> {
+        unreachable!()
+    }
+
+    fn entry_at(&self, _at: usize) -> (SymbolU32, &str, usize) {
+        unreachable!()
+    }
+
+    fn shrink_to_fit(&mut self) {
+        unreachable!()
+    }
+
+    fn truncate(&mut self, _len: usize) {
+        unreachable!()
     }
 }

@@ -1,11 +1,10 @@
 //! What threads read without a lock, and how a text comes into it.
 
 use super::index::{Index, Look};
-use super::memory::{Held, Texts};
+use super::memory::Texts;
 use crate::error::InternError;
 use crate::hasher::By;
 use crate::proved::hash::TextHasher as _;
-use crate::proved::interner::given::Given;
 use crate::symbol::Symbol;
 use core::hash::BuildHasher;
 use core::marker::PhantomData;
@@ -59,44 +58,37 @@ impl<S, H> Shared<S, H> {
 }
 
 impl<S: Symbol, H: BuildHasher> Shared<S, H> {
-    /// Looks for a text with this code in the index of its shard.
+    /// Returns the number of a text with this code, if the index of its shard shows it at once. Few known texts it does not.
     #[inline(always)]
-    pub(super) fn find(&self, texts: &Texts, code: u64, text: &str) -> Look {
-        self.indexes[shard_of(code)].find(code as u32, texts, text)
+    pub(super) fn glance(&self, texts: &Texts, code: u64, text: &str) -> Option<u32> {
+        self.index_of(code).glance(code as u32, texts, text)
     }
 
-    /// Returns the symbol of a text that the index did not show. Appends a text that is not known to its shard, which nobody else
-    /// has.
-    pub(super) fn intern(
-        &self,
-        mut shard: Held<'_>,
-        code: u64,
-        given: Given<'_>,
-    ) -> Result<S, InternError> {
-        let index = &self.indexes[shard_of(code)];
-        // All that may be refused is asked for first, so that a text for which there is no room is not kept. But other threads may
-        // take the last number in the meantime: then the text stays in its shard without one.
-        if let Err(error) = self.make_room(&mut shard, index) {
-            let number = shard.find(code, given.text()).ok_or(error)?;
-            return self.symbol_of(number);
-        }
-        let place = shard.intern(&self.hasher, code, given)?;
-        if let Some(number) = shard.number_at(place) {
-            return self.symbol_of(number);
-        }
-        let entry = shard.entry_at(place)?;
-        let (number, symbol) = self.take_number(shard.texts())?;
-        index.insert(shard.set_number(place, code as u32, number));
-        entry.publish(number);
-        Ok(symbol)
-    }
-
-    /// Makes room for one text more, if a symbol is left for it.
+    /// Looks for a text with this code in the index of its shard.
     #[inline]
-    fn make_room(&self, shard: &mut Held<'_>, index: &Index) -> Result<(), InternError> {
-        self.make_room_for(self.count(), shard.texts())?;
-        shard.make_room()?;
-        index.make_room(shard)
+    pub(super) fn find(&self, texts: &Texts, code: u64, text: &str) -> Look {
+        self.index_of(code).find(code as u32, texts, text)
+    }
+
+    /// Returns the index of the shard of a text with this code.
+    #[inline(always)]
+    pub(super) fn index_of(&self, code: u64) -> &Index {
+        &self.indexes[shard_of(code)]
+    }
+
+    /// Returns the symbol of the next number, unless another thread takes that first.
+    #[inline]
+    pub(super) fn next_symbol(&self) -> Result<S, InternError> {
+        match self.count() {
+            u32::MAX => Err(InternError::NoSymbol),
+            number => self.symbol_of(number),
+        }
+    }
+
+    /// Makes room for the text of the next number.
+    #[inline]
+    pub(super) fn make_room(&self, texts: &Texts) -> Result<(), InternError> {
+        texts.make_room(self.count())
     }
 
     /// Makes room for the text of a number, and returns its symbol.

@@ -6,6 +6,7 @@ use crate::hasher::By;
 use crate::proved::hash::TextHasher as _;
 use std::format;
 use std::string::{String, ToString as _};
+use std::sync::atomic::Ordering::Relaxed;
 use std::vec::Vec;
 
 /// A text that is interned step by step.
@@ -32,18 +33,19 @@ impl Writer {
         match self.steps {
             0 => {
                 let index = &shared.indexes[shard];
-                let make_room = |held: memory::Held| index.make_room(&held);
-                names.memory.with_locked(shard, make_room).unwrap();
+                index.make_room(&[]).unwrap();
                 let taken = shared.take_number(names.memory.texts());
                 self.number = Some(taken.unwrap().0);
             }
             1 => {
-                let content = index::slot_of(self.code as u32, self.number.unwrap());
-                shared.indexes[shard].insert(content);
+                let (code, number) = (self.code as u32, self.number.unwrap());
+                shared.indexes[shard].insert(index::Coded { code, number });
             }
             _ => {
-                let entry = names.memory.texts().entry_of_static(self.text);
-                entry.unwrap().publish(self.number.unwrap());
+                names.memory.with_locked(shard, |_, store| {
+                    let entry = store.keep(self.text);
+                    entry.unwrap().publish(self.number.unwrap());
+                });
             }
         }
         self.steps += 1;
@@ -58,7 +60,9 @@ impl Writer {
         assert_eq!(resolved, (self.steps > 2).then_some(self.text));
         assert_eq!(names.get(self.text), number.filter(|_| self.steps > 2));
         // Its shard is asked, and answers once the text is published.
-        let shown = names.find(self.code, self.text);
+        let shown = names
+            .shared
+            .find(names.memory.texts(), self.code, self.text);
         assert_eq!(matches!(shown, Look::Unknown), self.steps == 2);
     }
 }
@@ -108,6 +112,31 @@ fn a_look_goes_on_while_the_index_grows() {
         let unknown = index::look(*table, *code as u32, names.memory.texts(), "unknown");
         assert!(!matches!(unknown, Look::Found(_)));
     }
+}
+
+/// A table of 16 slots has numbers of 12 bits, and one of 64 slots those of 14.
+#[test]
+fn too_large_numbers_are_asked_for() {
+    let (names, index) = (Interner::new(), index::Index::new());
+    let text_of = |number| index::Coded {
+        code: number,
+        number,
+    };
+    let look = |code| index.find(code, names.memory.texts(), "unknown");
+    index.make_room(&[]).unwrap();
+    // Of no number is there a text in the table of texts.
+    (4_093..4_096).for_each(|number| index.insert(text_of(number)));
+    assert!((4_093..4_096).all(|code| matches!(look(code), Look::Unknown)));
+    assert!(matches!(look(4_096), Look::Absent));
+    let slots = |code: u32| (0..4).map(move |turn| (code + turn) as usize);
+    let has_number = |code| {
+        let table = index.table().unwrap();
+        slots(code).any(|place| table.slot(place).load(Relaxed) & table.number_bits() == code + 1)
+    };
+    assert!(has_number(4_093) && !has_number(4_095));
+    let all: Vec<_> = (4_084..4_096).map(text_of).collect();
+    index.make_room(&all).unwrap();
+    assert!((4_084..4_096).all(has_number));
 }
 
 #[test]
