@@ -6,6 +6,4 @@
 #[cfg(test)]
 mod columns;
 #[cfg(test)]
-mod hints;
-#[cfg(test)]
 mod tests;
