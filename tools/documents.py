@@ -34,6 +34,7 @@ TRUSTED = re.compile(r"^\| `(\w+)` \| ((?:`\w+`(?:, )?)+) \|$", re.M)
 VERSIONS = {
     "CHANGELOG.md": r"^## \[(.*)\] - \d{4}-\d\d-\d\d$",
     "clients/c/Cargo.toml": r'^version = "(.*)"$',
+    "clients/programs/Cargo.toml": r'^version = "(.*)"$',
     "clients/python/string_interner/__init__.py": r'^__version__ = "(.*)"$',
     "clients/rust/Cargo.toml": r'^version = "0\.19\.\d+\+(.*)"$',
     "crates/dictcol/src/main.rt": r'^const VERSION: &str = "dictcol (.*)\\n";$',

@@ -165,6 +165,7 @@ class DocumentsTest(SmallRepository):
         places = {
             "CHANGELOG.md": "# Changes\n\n## [Unreleased]\n\n## [0.2.0] - 2030-01-02\n\n## [0.1.0] - 2029-01-02\n",
             "clients/c/Cargo.toml": 'version = "0.2.0"\n',
+            "clients/programs/Cargo.toml": 'version = "0.2.0"\n',
             "clients/python/string_interner/__init__.py": '__version__ = "0.2.0"\n',
             "clients/rust/Cargo.toml": 'version = "0.19.1+0.2.0"\n',
             "crates/dictcol/src/main.rt": 'const VERSION: &str = "dictcol 0.2.0\\n";\n',

@@ -1,8 +1,8 @@
 //! The programs `intern` and `dictcol` by cargo alone.
 //!
-//! The modules `proved`, `run`, `json`, `string_column`, `intern` and `dictcol` are proved source, of which `tools/erase` made plain
-//! Rust. Each file stands where it is erased to, once: the library itself in the crate for Rust, and `json` in the library for C. So
-//! this package names their files.
+//! The modules `proved`, `run`, `json`, `string_column`, `intern` and `dictcol` are proved source, of which `tools/erase` made
+//! plain Rust. Each file stands where it is erased to, once: the library itself in the crate for Rust, and `json` in the library
+//! for C. So this package names their files.
 //!
 //! Written by hand are the stand-ins for the prover's libraries: its standard library (`rt`), JSON (`tokens`, `serde_json`), and
 //! short calls (`itoa`, `memchr`, `simdutf8`). They are tested, and not proved.

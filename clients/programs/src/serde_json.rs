@@ -168,7 +168,7 @@ fn read(alloc: Global, json: &str, is_strict: bool) -> Result<Value, Error> {
         alloc,
         is_strict,
     };
-    let value = parser.value(DEEPEST)?;
+    let value = parser.read_value(DEEPEST)?;
     if parser.reader.is_at_end() {
         Ok(value)
     } else {
@@ -186,7 +186,7 @@ struct Parser<'a> {
 
 impl Parser<'_> {
     /// Returns the line and the column of the next token. Those of the end of the text are those of the byte before it.
-    fn place(&self) -> (usize, usize) {
+    fn find_place(&self) -> (usize, usize) {
         let bytes = self.json.as_bytes();
         let before = &bytes[..self.reader.offset()];
         let line = before.rsplit(|byte| *byte == b'\n').next();
@@ -198,19 +198,19 @@ impl Parser<'_> {
 
     /// Returns the error of a token that may not stand where it does.
     fn invalid(&self) -> Error {
-        let (line, column) = self.place();
+        let (line, column) = self.find_place();
         Error::Invalid { line, column }
     }
 
     /// Returns the error of a number that comes before the next token.
     fn out_of_range(&self) -> Error {
-        let (line, column) = self.place();
+        let (line, column) = self.find_place();
         Error::OutOfRange { line, column }
     }
 
     /// Returns the error of what is no token, or of the end of the text.
     fn bad(&self, is_value: bool) -> Error {
-        let (line, column) = self.place();
+        let (line, column) = self.find_place();
         if self.reader.is_cut(is_value) {
             Error::Cut { line, column }
         } else {
@@ -228,7 +228,7 @@ impl Parser<'_> {
     }
 
     /// Reads a value, in which so many lists and objects may lie within each other.
-    fn value(&mut self, nested: usize) -> Result<Value, Error> {
+    fn read_value(&mut self, nested: usize) -> Result<Value, Error> {
         let value = match self.reader.next() {
             Some(Token::Null) => Value::Null,
             Some(Token::Bool(is_true)) => Value::Bool(is_true),
@@ -240,8 +240,8 @@ impl Parser<'_> {
                 }
                 Value::Number(number)
             }
-            Some(Token::BeginArray) if nested > 0 => Value::Array(self.elements(nested - 1)?),
-            Some(Token::BeginObject) if nested > 0 => Value::Object(self.members(nested - 1)?),
+            Some(Token::BeginArray) if nested > 0 => Value::Array(self.read_elements(nested - 1)?),
+            Some(Token::BeginObject) if nested > 0 => Value::Object(self.read_members(nested - 1)?),
             Some(Token::Bad) | None => return Err(self.bad(true)),
             Some(_) => return Err(self.invalid()),
         };
@@ -249,17 +249,17 @@ impl Parser<'_> {
     }
 
     /// Reads the elements of a list, and the bracket that closes it.
-    fn elements(&mut self, nested: usize) -> Result<Vec<Value>, Error> {
+    fn read_elements(&mut self, nested: usize) -> Result<Vec<Value>, Error> {
         let mut elements = Vec::new(self.alloc);
         while !self.reader.take_end_array() {
-            let element = self.value(nested)?;
+            let element = self.read_value(nested)?;
             elements.push(element)?;
         }
         Ok(elements)
     }
 
     /// Reads the members of an object, and the brace that closes it.
-    fn members(&mut self, nested: usize) -> Result<Vec<(String, Value)>, Error> {
+    fn read_members(&mut self, nested: usize) -> Result<Vec<(String, Value)>, Error> {
         let mut members = Vec::new(self.alloc);
         loop {
             let key = match self.reader.next() {
@@ -269,7 +269,7 @@ impl Parser<'_> {
                 Some(Token::Bad) | None => return Err(self.bad(false)),
                 Some(_) => return Err(self.invalid()),
             };
-            let value = self.value(nested)?;
+            let value = self.read_value(nested)?;
             members.push((key, value))?;
         }
     }

@@ -1,5 +1,5 @@
-//! Tests of UTF-8, for what the crate of this name does in the proved code. Rust's own is slow for texts in which letters of one byte
-//! and of two take turns, because the processor cannot foresee its branches. This one has none for such letters.
+//! Tests of UTF-8, for what the crate of this name does in the proved code. Rust's own is slow for texts in which letters of one
+//! byte and of two take turns, because the processor cannot foresee its branches. This one has none for such letters.
 
 use crate::rt::simd::prelude::u8x16;
 use core::str::Utf8Error;

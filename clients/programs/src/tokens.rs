@@ -1,7 +1,7 @@
 //! The tokens of a JSON text, one after another, for what the prover's library `json` does in the proved code.
 //!
-//! A reader checks where commas and colons are. Whether each bracket closes what was opened, and whether keys are where they have to be,
-//! is for its caller to check: so it may begin within a list.
+//! A reader checks where commas and colons are. Whether each bracket closes what was opened, and whether keys are where they have
+//! to be, is for its caller to check: so it may begin within a list.
 
 use crate::memchr::{memchr, memchr2};
 use crate::rt::alloc::{AllocError, Global};
@@ -151,8 +151,8 @@ impl<'a> Reader<'a> {
                 self.close();
                 Token::EndArray
             }
-            b'"' => self.string(),
-            _ => self.word(),
+            b'"' => self.read_string(),
+            _ => self.read_word(),
         })
     }
 
@@ -207,7 +207,7 @@ impl<'a> Reader<'a> {
 
     /// Returns a number, or another word.
     #[inline(always)]
-    fn word(&mut self) -> Token<'_> {
+    fn read_word(&mut self) -> Token<'_> {
         let start = self.at;
         let len = word_len(&self.text.as_bytes()[start..]);
         let word = &self.text[start..start + len];
@@ -223,7 +223,7 @@ impl<'a> Reader<'a> {
     }
 
     /// Returns a string, or a key.
-    fn string(&mut self) -> Token<'_> {
+    fn read_string(&mut self) -> Token<'_> {
         let start = self.at + 1;
         let Ok(string) = scan_string(&self.text.as_bytes()[start..]) else {
             return Token::Bad;
@@ -394,10 +394,10 @@ fn read_escape(escape: &[u8]) -> (Option<char>, usize) {
 
 /// The same for an escape by number. A letter may take two of them.
 fn read_unicode(digits: &[u8]) -> (Option<char>, usize) {
-    let (first, behind) = hexadecimal(digits);
+    let (first, behind) = read_hexadecimal(digits);
     let second = behind
         .strip_prefix(b"\\u")
-        .map_or(0, |digits| hexadecimal(digits).0);
+        .map_or(0, |digits| read_hexadecimal(digits).0);
     match char::decode_utf16([first, second]).next() {
         Some(Ok(letter)) if letter > '\u{ffff}' => (Some(letter), 11),
         Some(Ok(letter)) => (Some(letter), 5),
@@ -406,7 +406,7 @@ fn read_unicode(digits: &[u8]) -> (Option<char>, usize) {
 }
 
 /// Returns the number of four hexadecimal digits, and what is behind them.
-fn hexadecimal(bytes: &[u8]) -> (u16, &[u8]) {
+fn read_hexadecimal(bytes: &[u8]) -> (u16, &[u8]) {
     let (digits, behind) = bytes.split_at(bytes.len().min(4));
     let number = digits.iter().fold(0, |number, digit| {
         number << 4 | char::from(*digit).to_digit(16).unwrap_or_default() as u16

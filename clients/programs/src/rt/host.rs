@@ -1,5 +1,5 @@
-//! What a process has from its system. Rust's own start would open closed streams, and its arguments end the process where memory is
-//! refused. So a program begins at `main` of C.
+//! What a process has from its system. Rust's own start would open closed streams, and its arguments end the process where memory
+//! is refused. So a program begins at `main` of C.
 
 use super::alloc::Global;
 use super::env::{Env, FillError};

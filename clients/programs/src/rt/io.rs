@@ -140,7 +140,7 @@ impl fmt::Display for Error {
 impl core::error::Error for Error {}
 
 /// Makes a call until it is not interrupted.
-fn make(mut call: impl FnMut() -> Result<usize>) -> Result<usize> {
+fn retry(mut call: impl FnMut() -> Result<usize>) -> Result<usize> {
     loop {
         match call() {
             Err(error) if error.kind() == ErrorKind::Interrupted => {}
@@ -197,7 +197,7 @@ fn fill_to_end(reader: &mut impl Read, bytes: &mut Vec<u8>, filled: &mut usize) 
         if bytes.len() < end {
             bytes.resize(end, 0)?;
         }
-        let count = make(|| reader.read(&mut bytes[*filled..end]))?;
+        let count = retry(|| reader.read(&mut bytes[*filled..end]))?;
         if count == 0 {
             return Ok(());
         }
@@ -235,7 +235,7 @@ pub trait Write {
     fn write_all(&mut self, bytes: &[u8]) -> Result<()> {
         let mut rest = bytes;
         while !rest.is_empty() {
-            match make(|| self.write(rest))? {
+            match retry(|| self.write(rest))? {
                 0 => {
                     let text = "failed to write whole buffer";
                     return Err(Error::Told(ErrorKind::WriteZero, text));
@@ -428,7 +428,7 @@ impl<W: Write> BufWriter<W> {
         let mut written = 0;
         let mut outcome = Ok(());
         while written < self.held.len() && outcome.is_ok() {
-            match make(|| self.output.write(&self.held[written..])) {
+            match retry(|| self.output.write(&self.held[written..])) {
                 Ok(0) => {
                     let text = "failed to write the buffered data";
                     outcome = Err(Error::Told(ErrorKind::WriteZero, text));
@@ -443,8 +443,8 @@ impl<W: Write> BufWriter<W> {
         outcome
     }
 
-    /// Holds bytes, before which others are written if there is no room. Returns whether they have to be written at once, because they
-    /// are longer than the buffer.
+    /// Holds bytes, before which others are written if there is no room. Returns whether they have to be written at once, because
+    /// they are longer than the buffer.
     #[cold]
     #[inline(never)]
     fn hold_after_others(&mut self, bytes: &[u8]) -> Result<bool> {

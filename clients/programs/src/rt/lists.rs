@@ -22,8 +22,8 @@ impl<T> Vec<T> {
 }
 
 impl<T: Copy> Vec<T> {
-    /// Sorts the items, and keeps the order of equal ones. `Err` only if memory is refused, for more than a few items; then they stay as
-    /// they were. Rust's own call would end the process then.
+    /// Sorts the items, and keeps the order of equal ones. `Err` only if memory is refused, for more than a few items; then they
+    /// stay as they were. Rust's own call would end the process then.
     pub fn sort_by(&mut self, compare: impl Fn(&T, &T) -> Ordering) -> Result<(), AllocError> {
         let len = self.len();
         let mut other = Vec::new(Global);
