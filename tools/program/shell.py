@@ -11,6 +11,7 @@ import tty
 from itertools import product
 from pathlib import Path
 
+from built import SECONDS
 from edits import TOP
 from program.columns import OK, columns_of, files_in
 from program.reckon import ENCODED, MEMORY, answer, failed, is_utf8, misused, told, unreadable, unwritten, warned
@@ -190,6 +191,20 @@ def try_terminal(program):
             given.seek(0)
             wanted = (0, b"a\n\nb") if words == [b"decode"] else answer(words, data)[:2]
             yield f"{words} to a terminal", read_terminal(program, words, given, stdout=True, stderr=True), wanted
+
+
+def try_terminal_as_a_file(program):
+    """A terminal that is a file is read, and does not become that of the run: what stops a run of a terminal ends none of others."""
+    ours, theirs = pty.openpty()
+    words = [b"count", os.ttyname(theirs).encode()]
+    with subprocess.Popen([program.path, *words], stdin=subprocess.DEVNULL, stdout=subprocess.PIPE, stderr=subprocess.PIPE, env={},
+                          start_new_session=True) as started:
+        # Control C, and at the beginning of a line control D, which ends the input.
+        os.write(ours, b"\x03red\n\x04")
+        printed, told = started.communicate(timeout=SECONDS)
+    os.close(theirs)
+    os.close(ours)
+    yield f"{words[0]} of a terminal", (started.returncode, printed, told), (0, b"1 red\n", b"")
 
 
 def try_merges(program):
@@ -538,7 +553,8 @@ def try_telling_to_a_full_disk(program):
 def trials():
     return [(trial,) for trial in (
         try_telling_to_a_full_disk, try_operands, try_files, try_many_files, try_encoded, try_counts_of_encoded, try_merges,
-        try_invalid, try_blocks, try_drawing, try_help, try_lists, try_bad_lists, try_controls, try_folders)]
+        try_invalid, try_blocks, try_drawing, try_help, try_lists, try_bad_lists, try_controls, try_folders,
+        try_terminal_as_a_file)]
 
 
 def long_trials():

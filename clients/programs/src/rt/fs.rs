@@ -29,7 +29,11 @@ const WRITE: c_int = 1;
 const READ_AND_WRITE: c_int = 2;
 const CREATE: c_int = 0o100;
 const EXCLUSIVE: c_int = 0o200;
+/// A terminal that is opened does not become that of the process.
+const NO_TERMINAL: c_int = 0o400;
 const CLOSE_ON_EXEC: c_int = 0o2_000_000;
+/// Of each file that is opened.
+const ALWAYS: c_int = NO_TERMINAL | CLOSE_ON_EXEC;
 /// The path alone, of which only questions may be asked.
 const PATH: c_int = 0o10_000_000;
 #[cfg(not(target_arch = "aarch64"))]
@@ -131,7 +135,7 @@ impl File {
     fn of(path: &str, flags: c_int) -> Result<Self> {
         let path = Path::new(path)?;
         // SAFETY: the path ends with a zero byte.
-        open_by(|| unsafe { open(path.as_ptr(), flags | CLOSE_ON_EXEC, FILE_MODE) })
+        open_by(|| unsafe { open(path.as_ptr(), flags | ALWAYS, FILE_MODE) })
     }
 
     /// Opens a file or folder to be read.
@@ -342,7 +346,7 @@ fn empty_folder(folder: File) -> Result<()> {
             Err(error) if error.kind() != ErrorKind::NotFound => return Err(error),
             _ => continue,
         }
-        let flags = READ | NO_FOLLOW | CLOSE_ON_EXEC;
+        let flags = READ | NO_FOLLOW | ALWAYS;
         // SAFETY: as above.
         empty_folder(open_by(|| unsafe { openat(of, name, flags) })?)?;
         // SAFETY: as above.
@@ -431,7 +435,7 @@ impl RawEntry<'_> {
         if self.kind != UNKNOWN_KIND {
             return Ok(FileType(self.kind == FILE_KIND));
         }
-        let flags = PATH | NO_FOLLOW | CLOSE_ON_EXEC;
+        let flags = PATH | NO_FOLLOW | ALWAYS;
         // SAFETY: the folder is open, and the name ends with a zero byte.
         let file = open_by(|| unsafe { openat(folder, self.name.as_ptr(), flags) })?;
         Ok(FileType(file.metadata()?.0.is_file()))
