@@ -11,7 +11,7 @@ use super::string::String;
 use super::vec::Vec;
 use allocator::refused;
 use std::hash::DefaultHasher;
-use std::panic::catch_unwind;
+use std::panic::{catch_unwind, AssertUnwindSafe};
 
 /// A list of these numbers, and no room for more.
 fn list_of(numbers: &[u32]) -> Vec<u32> {
@@ -40,6 +40,27 @@ fn a_list_has_what_was_appended() {
         Vec::from_elem(Global, 7_u8, 3).unwrap().as_slice(),
         [7, 7, 7]
     );
+}
+
+/// What a call says as it panics.
+fn message(call: impl FnOnce()) -> std::string::String {
+    let said = catch_unwind(AssertUnwindSafe(call)).unwrap_err();
+    *said.downcast().unwrap()
+}
+
+#[test]
+fn a_place_that_is_not_there_panics_as_in_a_slice() {
+    let (mut list, mut slice) = (list_of(&[1, 2]), [1, 3]);
+    list[1] = 3;
+    list[..1][0] = 1;
+    assert_eq!((list[1], &list[1..], &list[..]), (3, &[3][..], &slice[..]));
+    let end = list.len();
+    assert_eq!(message(|| _ = list[end]), message(|| _ = slice[end]));
+    assert_eq!(message(|| list[end] = 0), message(|| slice[end] = 0));
+    let from = end + 1;
+    let ours = message(|| _ = &list[from..]);
+    assert_eq!(ours, message(|| _ = &slice[from..]));
+    assert_eq!(list.as_slice(), slice);
 }
 
 #[test]

@@ -1,7 +1,8 @@
 //! `Vec`. Items are copied and filled by their bits: no `Clone` of an item runs, since one may be a program's own.
 
 use super::alloc::{AllocError, Global};
-use core::ops::{Deref, DerefMut};
+use core::ops::{Deref, DerefMut, Index, IndexMut};
+use core::slice::SliceIndex;
 
 type List<T> = alloc::vec::Vec<T>;
 
@@ -114,6 +115,41 @@ impl<T: Copy> Vec<T> {
         self.reserve(count.saturating_sub(self.0.len()))?;
         self.0.resize_with(count, || item);
         Ok(())
+    }
+}
+
+impl<T> Vec<T> {
+    /// Panics as the index of a slice does. It reads the length anew, so that the test of a place needs no register for it.
+    #[cold]
+    #[inline(never)]
+    #[track_caller]
+    fn panic_at<I: SliceIndex<[T]>>(&self, place: I) -> ! {
+        let _ = &self.0[place];
+        unreachable!()
+    }
+}
+
+impl<T, I: SliceIndex<[T]> + Clone> Index<I> for Vec<T> {
+    type Output = I::Output;
+
+    #[inline(always)]
+    #[track_caller]
+    fn index(&self, place: I) -> &I::Output {
+        match self.0.get(place.clone()) {
+            Some(found) => found,
+            None => self.panic_at(place),
+        }
+    }
+}
+
+impl<T, I: SliceIndex<[T]> + Clone> IndexMut<I> for Vec<T> {
+    #[inline(always)]
+    #[track_caller]
+    fn index_mut(&mut self, place: I) -> &mut I::Output {
+        if self.0.get(place.clone()).is_none() {
+            self.panic_at(place);
+        }
+        &mut self.0[place]
     }
 }
 
