@@ -4,7 +4,7 @@ use Rattle.std.specs.Prelude.{MatchOption}
 use Rattle.std.proofs.lemmas.List.{append_assoc, append-nil}
 use Rattle.json.specs.Token.{Token, string as string_token}
 use Rattle.serde_json.specs.Data.{Data, null, boolean, number, string, array, object, Items, no_items, item}
-use Rattle.serde_json.specs.Find.{as_array, get}
+use Rattle.serde_json.specs.Find.{get}
 use Rattle.serde_json.specs.View.{items_of}
 use Rattle.string_interner.specs.Text.{Text, first}
 use Rattle.string_interner.specs.Backend.{Appends}
@@ -54,21 +54,22 @@ module _ {S : Type 0} (numbering : Numbering S) where
     among old i (item (number n) rest) reads = let other = sym told ∙ reads in absurd (cc)
     among old i (item (array ds) rest) reads = let other = sym told ∙ reads in absurd (cc)
     among old i (item (object ms) rest) reads = let other = sym told ∙ reads in absurd (cc)
-    among old i (item (string text) rest) reads = of (first old text) refl reads
+    among old i (item (string text) rest) reads = of (among (old ++ text ∷ []) (i + 1) rest) (first old text) refl reads
       where
-        interned : first old text ≡ None → (read : Result S InternError) (mid : List Text) → Appends numbering.symbol_of numbering.place old text read mid
+        interned : (ReadsElementsExactly numbering (old ++ text ∷ []) (i + 1) rest outcome → LacksAmong (old ++ text ∷ []) rest) → first old text ≡ None
+            → (read : Result S InternError) (mid : List Text) → Appends numbering.symbol_of numbering.place old text read mid
             → MatchResult read (λ _. ReadsElementsExactly numbering mid (i + 1) rest outcome) (λ error. outcome ≡ Err (refused error)) → LacksAmong old (item (string text) rest)
-        interned is_new (Ok symbol) mid put more = lacks-more old text rest (among (old ++ text ∷ []) (i + 1) rest (subst (λ texts. ReadsElementsExactly numbering texts (i + 1) rest outcome) put.1 more))
-        interned is_new (Err InternNoSymbol) mid put more =
+        interned later is_new (Ok symbol) mid put more = lacks-more old text rest (later (subst (λ texts. ReadsElementsExactly numbering texts (i + 1) rest outcome) put.1 more))
+        interned later is_new (Err InternNoSymbol) mid put more =
             ([], text, listed rest, ap (item (string text)) (sym (items-listed rest)), subst (λ texts. LacksSymbol numbering texts text) (sym (append-nil old)) (record { is_new = is_new; none_left = put.0 }))
-        interned is_new (Err (InternMemory error)) mid put more = let other = sym told ∙ more in absurd (cc)
+        interned later is_new (Err (InternMemory error)) mid put more = let other = sym told ∙ more in absurd (cc)
 
-        of : (o : Option ℕ) → first old text ≡ o
+        of : (ReadsElementsExactly numbering (old ++ text ∷ []) (i + 1) rest outcome → LacksAmong (old ++ text ∷ []) rest) → (o : Option ℕ) → first old text ≡ o
             → MatchOption o ((read : Result S InternError) × (mid : List Text) × Appends numbering.symbol_of numbering.place old text read mid
             × MatchResult read (λ _. ReadsElementsExactly numbering mid (i + 1) rest outcome) (λ error. outcome ≡ Err (refused error)))
             (λ _. outcome ≡ Err (Repeated i)) → LacksAmong old (item (string text) rest)
-        of None is_new (read, mid, put, more) = interned is_new read mid put more
-        of (Some k) known again = let other = sym told ∙ again in absurd (cc)
+        of later None is_new (read, mid, put, more) = interned later is_new read mid put more
+        of later (Some k) known again = let other = sym told ∙ again in absurd (cc)
 
     -- a value whose dictionary is read up to a text that has no symbol
     pub lacks-element : (file value : Data) → Some value ≡ get (codes "dictionary") file → ReadsArrayExactly numbering value outcome → LacksElement numbering file

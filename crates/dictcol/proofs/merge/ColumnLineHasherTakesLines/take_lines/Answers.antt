@@ -1,10 +1,9 @@
-use Rattle.std.proofs.Common.{◌++◌, ap, ◌∙◌}
+use Rattle.std.proofs.Common.{◌++◌, ap, ◌∙◌, ◌∷◌, refl, sym, subst}
 use Rattle.std.proofs.lemmas.Iterator.{items_from_drains}
 use Rattle.std.proofs.lemmas.Iterator.Consumers.{YieldsList-from_first}
 use Rattle.std.specs.List.{slice_split}
 use Rattle.string_interner.specs.Extend.{texts_of}
 use Rattle.dictcol.specs.Lines.{is_newline}
-use Rattle.std.proofs.Common.{◌∷◌, refl, sym, subst}
 use Rattle.dictcol.specs.Fault.{intern_fault}
 use Rattle.dictcol.specs.TooMany.{LacksLine}
 use Rattle.dictcol.proofs.TooMany.{next-refused, refusal-fault, take-weaker, yields-first}

@@ -1,7 +1,6 @@
-use Rattle.std.proofs.Common.{◌≡◌, ◌≢◌, ◌++◌, [], length, true, string_bytes, refl, sym, ap, ◌∙◌, rules}
+use Rattle.std.proofs.Common.{◌≡◌, ◌≢◌, ◌++◌, [], length, true, string_bytes, refl, sym, ap, ◌∙◌, rules, inl, inr}
 use Rattle.dictcol.specs.Lines.{text_of_ended, text_of_lines}
 use Rattle.dictcol.proofs.Merged.{picked-plain, ended-lines, no-text}
-use Rattle.std.proofs.Common.{inl, inr}
 use Rattle.std.proofs.lemmas.Result.{IfErr-weaker}
 use Rattle.dictcol.proofs.TooMany.{take-weaker}
 use Rattle.dictcol.proofs.merge.Merged.append_file.Goals as goal

@@ -1,15 +1,12 @@
-use Rattle.std.proofs.Common.{◌≡◌, ◌≤◌, ◌+◌, ◌++◌, ◌∷◌, [], length, drop, Some, string_bytes, ap, ◌∙◌, arith, rules}
+use Rattle.std.proofs.Common.{◌≡◌, ◌≤◌, ◌+◌, ◌++◌, ◌∷◌, [], length, drop, Some, string_bytes, ap, ◌∙◌, arith, rules, Err, IfErr, sym, subst}
 use Rattle.std.specs.Prelude.{slice_get, slice_range}
 use Rattle.std.specs.List.{list_any, flat_map}
 use Rattle.std.proofs.lemmas.Option.{slice_get_within}
-use Rattle.std.proofs.lemmas.Result.{on_ok_weaker}
-use Rattle.dictcol.specs.Lines.{has_newline, behind_newline, text_of_ended}
+use Rattle.std.proofs.lemmas.Result.{on_ok_weaker, IfErr-weaker}
+use Rattle.dictcol.specs.Lines.{has_newline, behind_newline, text_of_ended, lines_of}
 use Rattle.dictcol.proofs.Merged.{push-plain, range-plain, appends-plain, text-plain, more-rows}
-use Rattle.std.proofs.Common.{Err, IfErr, sym, subst}
-use Rattle.std.proofs.lemmas.Result.{IfErr-weaker}
 use Rattle.string_interner.specs.declared.backend.InternError.{InternError}
 use Rattle.dictcol.specs.Fault.{IsTakeFault, intern_fault}
-use Rattle.dictcol.specs.Lines.{lines_of}
 use Rattle.dictcol.specs.TooMany.{HasRefused, LacksLine}
 use Rattle.dictcol.proofs.TooMany.{further-rest-refused, further-row-refused}
 use Rattle.dictcol.proofs.merge.Merged.append_further.Goals as goal

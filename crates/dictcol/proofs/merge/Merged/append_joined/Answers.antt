@@ -1,13 +1,10 @@
-use Rattle.std.proofs.Common.{◌≡◌, ◌++◌, drop, None, Some, ap, ◌∙◌, rules}
+use Rattle.std.proofs.Common.{◌≡◌, ◌++◌, drop, None, Some, ap, ◌∙◌, rules, subst}
 use Rattle.std.specs.Prelude.{slice_get}
 use Rattle.std.specs.List.{flat_map}
-use Rattle.std.proofs.lemmas.Result.{on_ok_weaker}
-use Rattle.dictcol.specs.Lines.{behind_newline}
+use Rattle.std.proofs.lemmas.Result.{on_ok_weaker, IfErr-weaker}
+use Rattle.dictcol.specs.Lines.{behind_newline, lines_of}
 use Rattle.dictcol.proofs.Merged.{text-plain, no-rows, rows-joined}
-use Rattle.std.proofs.Common.{subst}
-use Rattle.std.proofs.lemmas.Result.{IfErr-weaker}
 use Rattle.dictcol.specs.Fault.{IsTakeFault}
-use Rattle.dictcol.specs.Lines.{lines_of}
 use Rattle.dictcol.specs.TooMany.{HasRefused, LacksLine}
 use Rattle.dictcol.proofs.merge.Merged.append_joined.Goals as goal
 

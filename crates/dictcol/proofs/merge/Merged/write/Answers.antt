@@ -1,9 +1,7 @@
-use Rattle.std.proofs.Common.{◌≡◌, ◌≢◌, ◌++◌, ◌∷◌, [], length, nat_lt, false, string_bytes, rules}
-use Rattle.dictcol.specs.Lines.{AreLines}
+use Rattle.std.proofs.Common.{◌≡◌, ◌≢◌, ◌++◌, ◌∷◌, [], length, nat_lt, false, string_bytes, rules, inl, subst}
+use Rattle.dictcol.specs.Lines.{AreLines, lines_of}
 use Rattle.dictcol.proofs.Merged.{are-ended, are-rest}
-use Rattle.std.proofs.Common.{inl, subst}
 use Rattle.dictcol.specs.Fault.{IsTakeFault, intern_fault}
-use Rattle.dictcol.specs.Lines.{lines_of}
 use Rattle.dictcol.specs.TooMany.{HasRefused, LacksLine}
 use Rattle.dictcol.proofs.TooMany.{whole-refused}
 use Rattle.dictcol.proofs.merge.Merged.write.Goals as goal

@@ -1,7 +1,6 @@
-use Rattle.std.proofs.Common.{◌≡◌, ◌≢◌, ◌++◌, ◌∷◌, [], length, string_bytes, ap, ◌∙◌, rules}
+use Rattle.std.proofs.Common.{◌≡◌, ◌≢◌, ◌++◌, ◌∷◌, [], length, string_bytes, ap, ◌∙◌, rules, inl, subst}
 use Rattle.dictcol.specs.Lines.{lines_of}
 use Rattle.dictcol.proofs.Merged.{are-ended, are-rest}
-use Rattle.std.proofs.Common.{inl, subst}
 use Rattle.dictcol.specs.Fault.{IsTakeFault, intern_fault}
 use Rattle.dictcol.specs.TooMany.{HasRefused, LacksLine}
 use Rattle.dictcol.proofs.TooMany.{whole-refused}

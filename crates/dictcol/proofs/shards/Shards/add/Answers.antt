@@ -1,10 +1,9 @@
-use Rattle.std.proofs.Common.{◌≡◌, ℕ, ◌+◌, ◌%◌, ◌<◌, [], ◌∷◌, ◌++◌, length, map, get_or, None, sym, ap, ap₂, ◌∙◌, arith, rules}
+use Rattle.std.proofs.Common.{◌≡◌, ℕ, ◌+◌, ◌%◌, ◌<◌, [], ◌∷◌, ◌++◌, length, map, get_or, None, sym, ap, ap₂, ◌∙◌, arith, rules, ◌^◌, ◌≤◌, IfErr, inr}
 use Rattle.std.specs.Prelude.{decimal}
 use Rattle.std.specs.Io.KnownBytes.{append_known}
 use Rattle.std.proofs.lemmas.List.{length_push, length-map, map-set, get_or-map}
 use Rattle.dictcol.specs.Shards.{held_by}
 use Rattle.dictcol.proofs.Sharded.{shards-push, held-push}
-use Rattle.std.proofs.Common.{◌^◌, ◌≤◌, IfErr, inr}
 use Rattle.std.proofs.lemmas.Result.{IfErr-weaker}
 use Rattle.dictcol.specs.Fault.{IsTakeFault}
 use Rattle.dictcol.specs.TooMany.{IsPastCount}

@@ -1,10 +1,9 @@
-use Rattle.std.proofs.Common.{◌≡◌, ◌≢◌, [], ◌∷◌, ◌++◌, string_bytes, append-nil, rules}
+use Rattle.std.proofs.Common.{◌≡◌, ◌≢◌, [], ◌∷◌, ◌++◌, string_bytes, append-nil, rules, inl}
 use Rattle.std.proofs.lemmas.List.{nil_from_length}
 use Rattle.dictcol.specs.Lines.{lines_of}
 use Rattle.dictcol.specs.Shards.{HasSharded}
 use Rattle.dictcol.proofs.Merged.{one-line}
 use Rattle.dictcol.proofs.Sharded.{written-input}
-use Rattle.std.proofs.Common.{inl}
 use Rattle.std.proofs.lemmas.Result.{err_from_is_err_and}
 use Rattle.dictcol.specs.TooMany.{IsPastCount}
 use Rattle.dictcol.proofs.TooMany.{rest-refused}
