@@ -6,8 +6,8 @@
 //!
 //! The proof of the table assumes that a program's own symbols, hashers and backends keep their contracts. Memory must not depend on
 //! that. So `item_with` and `lanes_with`, which read slots and tags in a look-up, and `interned_text`, which cuts a text out of a
-//! bucket, are the only functions of proved code that leave a check out, and what they rest on holds whatever such types do. Whatever
-//! writes a slot, or moves one, checks.
+//! bucket, are the only functions of proved code out of which the eraser takes a check, and what they rest on holds whatever such types
+//! do. Whatever writes a slot, or moves one, checks.
 //!
 //! Of `TaggedSlots`, whose fields only `proved/dedup/tagged.rs` writes:
 //!
