@@ -45,7 +45,7 @@ impl fmt::Display for JsonError {
 
 impl Error for JsonError {}
 
-/// So many arrays and objects may lie within each other, as in the library for C.
+/// So many arrays and objects may lie within each other, as serde_json allows by default.
 const MOST_NESTED: usize = 127;
 
 /// Returns the elements of a JSON array: `None` for each that is not a string.
