@@ -24,16 +24,16 @@
 //! - a new text;
 //! - a text that its index may not show, because all 64 slots for it are taken, or because there are 300 times as many texts as in its
 //!   shard: up to 3 in 10,000, and more by a poor hasher;
-//! - a text with the code of one that another thread is adding.
+//! - a text whose slots may show one that another thread is adding.
 //!
 //! Beside a plain interner, with one thread and texts of 9 bytes on average, as the repository's `bench/run` measured it:
 //!
 //! | | 10,000 texts | 1,000,000 texts |
 //! |---|---:|---:|
-//! | time of a known text | 1.2 | 1.0 |
-//! | of a new text | 2.2 | 2.4 |
-//! | of resolving | 1.8 | 1.5 |
-//! | memory of a text | 2.0 | 1.7 |
+//! | time of a known text | 1.25 | 1.1 |
+//! | of a new text | 2.3 | 2.3 |
+//! | of resolving | 1.5 | 1.6 |
+//! | memory of a text | 2.0 | 1.75 |
 //!
 //! Once all texts are known, [`into_interner`](Interner::into_interner) makes a plain one.
 //!

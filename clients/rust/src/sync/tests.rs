@@ -27,7 +27,7 @@ impl Writer {
         }
     }
 
-    /// Takes the next of three steps, as `Shared::intern` does.
+    /// Takes the next of three steps, as `Shard::intern` does.
     fn step(&mut self, names: &Interner) {
         let (shared, shard) = (&names.shared, shard_of(self.code));
         match self.steps {
