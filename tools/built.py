@@ -12,7 +12,8 @@ from edits import TOP
 from machine import toolchain_folder
 from needs import is_there
 
-SECONDS = 60
+# A run that takes longer hangs, also on a busy machine.
+SECONDS = 300
 # What the library says at the end of a run that gave back all memory, and what stands for that line where it is missing.
 HELD_NOTHING, HELD = b"holds 0\n", b"not all memory was given back\n"
 
