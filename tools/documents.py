@@ -41,9 +41,11 @@ VERSIONS = {
 }
 # Folders of what is built, as .gitignore has them.
 BUILT = {"out", "__pycache__"}
-# How long a page may be: the front page fits on two screens, and any other is read at one sitting.
+# How long a page may be: the front page fits on two screens, and a user's page is read at one sitting.
 MOST_LINES = 120
-MOST_WORDS = 3_000
+USERS_PAGE = re.compile(r"docs/[a-z]+\.md")
+MOST_WORDS = {"README.md": 900, "docs/promises.md": 1_800, "docs/tests.md": 1_800}
+MOST_WORDS_OF_USERS_PAGE, MOST_WORDS_OF_OTHERS = 1_250, 2_500
 LINK = re.compile(r"\]\(([^)\s]+)\)")
 SPAN = re.compile(r"(?<!`)`([^`\n]+)`(?!`)")
 BLOCK = re.compile(r"^```(\w*)\n(.*?)^```$", re.M | re.S)
@@ -164,8 +166,9 @@ def long_pages(texts):
     if (lines := len(texts.get("README.md", "").splitlines())) > MOST_LINES:
         yield f"README.md: {lines} lines, and {MOST_LINES} may be"
     for page, text in texts.items():
-        if (words := len(text.split())) > MOST_WORDS:
-            yield f"{page}: {words} words, and {MOST_WORDS} may be"
+        most = MOST_WORDS.get(page, MOST_WORDS_OF_USERS_PAGE if USERS_PAGE.fullmatch(page) else MOST_WORDS_OF_OTHERS)
+        if (words := len(text.split())) > most:
+            yield f"{page}: {words} words, and {most} may be"
 
 
 def other_versions():

@@ -134,11 +134,12 @@ class DocumentsTest(SmallRepository):
         self.assertEqual(list(documents.faults()), ["README.md: 121 lines, and 120 may be"])
 
     def test_many_words(self):
-        self.write("docs/MORE.md", "word " * 3_000)
-        self.write("low/MORE.md", "word " * 3_000)
-        self.assertEqual(list(documents.faults()), [])
-        self.write("low/MORE.md", "word " * 3_001)
-        self.assertEqual(list(documents.faults()), ["low/MORE.md: 3001 words, and 3000 may be"])
+        for page, most in (("docs/tests.md", 1_800), ("docs/shell.md", 1_250), ("docs/MORE.md", 2_500), ("low/MORE.md", 2_500)):
+            self.write(page, "word " * most)
+            self.assertEqual(list(documents.faults()), [])
+            self.write(page, "word " * (most + 1))
+            self.assertEqual(list(documents.faults()), [f"{page}: {most + 1} words, and {most} may be"])
+            self.write(page, "")
 
     def test_the_front_page(self):
         page = "crates/string_interner/src/lib.rt"
