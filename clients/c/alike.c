@@ -8,12 +8,12 @@
 
 /* All that a handle is passed to, and what makes one. */
 #define CALLS(CALL) \
-  CALL(bucket_find_utf8) CALL(bucket_get_utf8) CALL(bucket_intern_utf8) CALL(bucket_resolve) CALL(buffer_find_utf8) CALL(build) \
-  CALL(buffer_get_utf8) CALL(buffer_intern_utf8) CALL(buffer_resolve) CALL(clone) CALL(contains) CALL(copy_text) CALL(entries) \
-  CALL(equal) CALL(free) CALL(from_json) CALL(from_json_with) CALL(get) CALL(get_or_intern) CALL(get_or_intern_part) \
+  CALL(bucket_find_utf8) CALL(bucket_intern_utf8) CALL(bucket_resolve) CALL(buffer_find_utf8) CALL(build) \
+  CALL(buffer_intern_utf8) CALL(buffer_resolve) CALL(clone) CALL(contains) CALL(copy_text) CALL(entries) CALL(equal) \
+  CALL(free) CALL(from_json) CALL(from_json_with) CALL(get) CALL(get_or_intern) CALL(get_or_intern_part) \
   CALL(get_or_intern_static) CALL(get_or_intern_utf8) CALL(get_utf8) CALL(intern_joined) CALL(intern_list) CALL(len) CALL(new) \
-  CALL(new_with) CALL(resolve) CALL(shrink) CALL(string_find_utf8) CALL(string_get_utf8) CALL(string_intern_utf8) \
-  CALL(string_joined) CALL(string_resolve) CALL(to_json) CALL(truncate) CALL(version)
+  CALL(new_with) CALL(resolve) CALL(shrink) CALL(string_find_utf8) CALL(string_intern_utf8) CALL(string_joined) \
+  CALL(string_resolve) CALL(to_json) CALL(truncate) CALL(version)
 
 enum { HANDLES = 6, MANY = 40, MOST_BYTES = 4096, MOST_JSON = 1 << 20, MOST_LOGGED = 3 << 20 };
 
@@ -112,9 +112,6 @@ static void look_up(build *it, interner *h, const given *of) {
   log_number(it, it->contains(h, text->at, text->len));
   if (!text->is_utf8) return;
   log_written(it, it->get_utf8(h, text->at, text->len, &symbol), symbol);
-  log_written(it, it->string_get_utf8(h, text->at, text->len, &symbol), symbol);
-  log_written(it, it->bucket_get_utf8(h, text->at, text->len, &symbol), symbol);
-  log_written(it, it->buffer_get_utf8(h, text->at, text->len, &symbol), symbol);
   log_number(it, it->string_find_utf8(h, text->at, text->len));
   log_number(it, it->bucket_find_utf8(h, text->at, text->len));
   log_number(it, it->buffer_find_utf8(h, text->at, text->len));

@@ -13,12 +13,11 @@ static interner_symbol symbols[TEXTS];
 /* The calls for one kind. */
 static const struct {
   interner_status (*resolve)(const interner *, interner_symbol, interner_text *);
-  interner_status (*get_utf8)(const interner *, const char *, size_t, interner_symbol *);
   uint64_t (*find_utf8)(const interner *, const char *, size_t);
 } calls[] = {
-    {interner_string_resolve, interner_string_get_utf8, interner_string_find_utf8},
-    {interner_bucket_resolve, interner_bucket_get_utf8, interner_bucket_find_utf8},
-    {interner_buffer_resolve, interner_buffer_get_utf8, interner_buffer_find_utf8},
+    {interner_string_resolve, interner_string_find_utf8},
+    {interner_bucket_resolve, interner_bucket_find_utf8},
+    {interner_buffer_resolve, interner_buffer_find_utf8},
 };
 
 static interner_kind kind; /* The one that the handle has. */
@@ -27,12 +26,11 @@ static bool reads_by_kind(const interner *h, const char *text, size_t len, inter
   unsigned each;
   for (each = INTERNER_STRING; each < sizeof calls / sizeof *calls; each++) {
     interner_text lent = {"", 0};
-    interner_symbol found = 7777;
     interner_status told = each == kind ? INTERNER_OK : INTERNER_BAD_KIND;
-    if (calls[each].resolve(h, symbol, &lent) != told || calls[each].get_utf8(h, text, len, &found) != told) return false;
+    if (calls[each].resolve(h, symbol, &lent) != told) return false;
     if (calls[each].find_utf8(h, text, len) != (told ? ((uint64_t)1 << 32) + told : symbol)) return false;
-    if (each != kind && (found != 7777 || lent.len > 0)) return false;
-    if (each == kind && (found != symbol || lent.len != len || memcmp(lent.bytes, text, len))) return false;
+    if (each != kind && lent.len > 0) return false;
+    if (each == kind && (lent.len != len || memcmp(lent.bytes, text, len))) return false;
   }
   return true;
 }

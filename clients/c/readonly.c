@@ -74,15 +74,10 @@ static const uint64_t NO_SYMBOL = (uint64_t)1 << 32;
 /* The calls for each kind, of which those for another one than the handle's say so. */
 static void read_by_kind(const interner *h, const interner_text *wanted, interner_symbol symbol) {
   interner_text lent;
-  interner_symbol found;
   READS(interner_string_resolve(h, symbol, &lent), kind == INTERNER_STRING ? INTERNER_OK : INTERNER_BAD_KIND);
   READS(interner_bucket_resolve(h, symbol, &lent), kind == INTERNER_BUCKET ? INTERNER_OK : INTERNER_BAD_KIND);
   READS(interner_buffer_resolve(h, symbol, &lent), kind == INTERNER_BUFFER ? INTERNER_OK : INTERNER_BAD_KIND);
   MUST(lent.bytes == wanted->bytes && lent.len == wanted->len);
-  READS(interner_string_get_utf8(h, lent.bytes, lent.len, &found), kind == INTERNER_STRING ? INTERNER_OK : INTERNER_BAD_KIND);
-  READS(interner_bucket_get_utf8(h, lent.bytes, lent.len, &found), kind == INTERNER_BUCKET ? INTERNER_OK : INTERNER_BAD_KIND);
-  READS(interner_buffer_get_utf8(h, lent.bytes, lent.len, &found), kind == INTERNER_BUFFER ? INTERNER_OK : INTERNER_BAD_KIND);
-  MUST(found == symbol);
   READS(interner_string_find_utf8(h, lent.bytes, lent.len), kind == INTERNER_STRING ? symbol : NO_SYMBOL + INTERNER_BAD_KIND);
   READS(interner_bucket_find_utf8(h, lent.bytes, lent.len), kind == INTERNER_BUCKET ? symbol : NO_SYMBOL + INTERNER_BAD_KIND);
   READS(interner_buffer_find_utf8(h, lent.bytes, lent.len), kind == INTERNER_BUFFER ? symbol : NO_SYMBOL + INTERNER_BAD_KIND);

@@ -267,21 +267,8 @@ interner_status interner_get(const interner *h, const char *text, size_t text_le
 interner_status interner_get_utf8(const interner *h, const char *text, size_t text_len,
                                   interner_symbol *INTERNER_RESTRICT symbol);
 
-/** The same as interner_get_utf8 on an interner of the kind INTERNER_STRING.
- * Returns the same; or `symbol` is unchanged: INTERNER_BAD_KIND. */
-interner_status interner_string_get_utf8(const interner *h, const char *text, size_t text_len,
-                                         interner_symbol *INTERNER_RESTRICT symbol);
-
-/** The same on INTERNER_BUCKET. */
-interner_status interner_bucket_get_utf8(const interner *h, const char *text, size_t text_len,
-                                         interner_symbol *INTERNER_RESTRICT symbol);
-
-/** The same on INTERNER_BUFFER. */
-interner_status interner_buffer_get_utf8(const interner *h, const char *text, size_t text_len,
-                                         interner_symbol *INTERNER_RESTRICT symbol);
-
 /** Returns the symbol of the text, if it is known, on an interner of the kind INTERNER_STRING. The bytes must be UTF-8 (rule 7).
- * Because it writes nothing, it takes less time than interner_string_get_utf8. Allocates nothing.
+ * Because it writes nothing, it takes less time than interner_get_utf8. Allocates nothing.
  * Returns the symbol; or 2^32 plus a status: INTERNER_NOT_FOUND, INTERNER_BAD_KIND. */
 uint64_t interner_string_find_utf8(const interner *h, const char *text, size_t text_len);
 

@@ -1,5 +1,5 @@
 -- Listing the texts of an interner, some of them at a time.
--- Cited by `AnyInterner::entries`, by the call of this name, and by its export.
+-- Cited by `AnyInterner::entries`, and by its export.
 use Rattle.std.specs.Prelude.{◌≡◌, ℕ, ◌+◌, ◌-◌, ◌≤◌, List, ◌++◌, length, map, take, drop, min, Option, Some, None}
 use Rattle.string_interner.specs.Text.{Text}
 use Rattle.string_interner.specs.Iter.{entries}

@@ -1,5 +1,5 @@
 -- What a handle holds once what it lent comes back.
--- Cited by `Handle::interner`, and by the calls that lend texts and their exports.
+-- Cited by `Handle::interner` and `Handle::read`.
 use Rattle.std.specs.Prelude.{◌≡◌, ⊤}
 use mathlib.Core.Option.{none}
 use base.Fml.{Fml}

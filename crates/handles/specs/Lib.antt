@@ -7,7 +7,7 @@ pub mod Owns
 pub mod Address
 pub mod Follows
 pub mod Calls
-pub mod InternAll
+pub mod InternMany
 pub mod Entries
 pub mod Part
 pub mod OneKind

@@ -1,5 +1,5 @@
 -- Interning a part of a text that is there.
--- Cited by `AnyInterner::get_or_intern_part`, by the call of this name, and by its export.
+-- Cited by `AnyInterner::get_or_intern_part`, and by its export.
 use Rattle.std.specs.Prelude.{◌≡◌, ℕ, ◌≤◌, ◌⊎◌, List, length, slice_range, Some, None, Result, Err}
 use Rattle.string_interner.specs.Text.{Text}
 use Rattle.handles.specs.Any.{text_at}

@@ -25,8 +25,8 @@ macro_rules! each {
 
 mod entries;
 mod guessed;
-mod intern_all;
-mod intern_texts;
+mod intern_joined;
+mod intern_list;
 mod joined;
 mod one_kind;
 mod part;

@@ -14,7 +14,7 @@ use Rattle.string_interner.specs.LoadFactor.{seven_eighths}
 use Rattle.string_interner.proofs.Lemmas.Interner.Extends.{taken-more}
 use Rattle.handles.specs.Kind.{numbering_in}
 use Rattle.handles.specs.Any.{InternsAny, any_of, contents, numbering_of, texts_in}
-use Rattle.handles.specs.InternAll.{TakesEach, TakesParts, InternsParts, IsEnd, IsTextBetween, part, parts}
+use Rattle.handles.specs.InternMany.{TakesEach, TakesParts, InternsJoined, IsEnd, IsTextBetween, part, parts}
 use Rattle.handles.specs.Status.{status_of}
 use Rattle.handles.specs.declared.status.Status.{Status}
 use Rattle.handles.specs.declared.status.Status.TheVariants.{BadText, NoSymbol, NoMemory, Nothing, NoRoom, BadKind, BadEnds, NotAList, NotAText, Repeated, BadHasher}
@@ -101,7 +101,7 @@ module _ (bytes ends before : List ℕ) (old mid : AnyInterner) (done : ℕ) (so
   part_is text h = h.3 ∙ (λ i. slice_range bytes (from_is i) (end_is i))
 
   -- where the next part is no text, or these are no ends
-  pub part_refused : (started : ℕ) (status : Status) (outcome : Result (Unit {0}) Status) → outcome ≡ Err status → IsTextBetween bytes from end (Err status) → InternsParts bytes ends (old, before, started) outcome (mid, so_far, done)
+  pub part_refused : (started : ℕ) (status : Status) (outcome : Result (Unit {0}) Status) → outcome ≡ Err status → IsTextBetween bytes from end (Err status) → InternsJoined bytes ends (old, before, started) outcome (mid, so_far, done)
   part_refused started BadText outcome is h = rw is (mid, takes, more, is_end h.0 h.1, (rw (← from_is, ← end_is) h.2, refl))
   part_refused started BadEnds outcome is h = rw is (more, (λ e. h (rw (from_is, end_is) e.rises, rw end_is e.within)), takes)
   part_refused started NoMemory outcome is h = absurd h
@@ -116,13 +116,13 @@ module _ (bytes ends before : List ℕ) (old mid : AnyInterner) (done : ℕ) (so
 
   -- where the next part is a text that is refused
   pub text_refused : (started : ℕ) (text : Bor Text) → IsTextBetween bytes from end (Ok text) → (new : AnyInterner) (error : InternError) (status : Status) (outcome : Result (Unit {0}) Status) → outcome ≡ Err status → status ≡ status_of error
-      → InternsAny mid text.now (Err error) new → InternsParts bytes ends (old, before, started) outcome (new, so_far, done)
+      → InternsAny mid text.now (Err error) new → InternsJoined bytes ends (old, before, started) outcome (new, so_far, done)
   text_refused started text h new error status outcome is told call =
       let same : text.now ≡ part bytes ends done = part_is text h in
       let utf8 = subst IsUtf8 same h.2 in
       let part_call = subst (λ (t : Text). InternsAny mid t (Err error) new) same call in
       rw (is, told) (of error utf8 part_call)
     where
-      of : (error : InternError) → IsUtf8 (part bytes ends done) → InternsAny mid (part bytes ends done) (Err error) new → InternsParts bytes ends (old, before, started) (Err (status_of error)) (new, so_far, done)
+      of : (error : InternError) → IsUtf8 (part bytes ends done) → InternsAny mid (part bytes ends done) (Err error) new → InternsJoined bytes ends (old, before, started) (Err (status_of error)) (new, so_far, done)
       of InternNoSymbol utf8 part_call = (mid, takes, more, is_end h.0 h.1, (utf8, part_call))
       of (Memory e) utf8 part_call = (mid, takes, more, is_end h.0 h.1, (utf8, part_call))

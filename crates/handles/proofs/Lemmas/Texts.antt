@@ -9,7 +9,7 @@ use Rattle.string_interner.specs.declared.backend.InternError.{InternError}
 use Rattle.string_interner.specs.declared.backend.InternError.TheVariants.{NoSymbol as InternNoSymbol, Memory}
 use Rattle.handles.specs.Any.{InternsAny}
 use Rattle.handles.specs.Calls.{IsTextOf}
-use Rattle.handles.specs.InternAll.{InternsTexts, TakesEach, TakesTexts, first_texts}
+use Rattle.handles.specs.InternMany.{InternsList, TakesEach, TakesTexts, first_texts}
 use Rattle.handles.specs.Status.{status_of}
 use Rattle.handles.specs.declared.any.AnyInterner.{AnyInterner}
 use Rattle.handles.specs.declared.status.Status.{Status}
@@ -34,7 +34,7 @@ module _ (texts : List LentText) (before : List ℕ) (old mid : AnyInterner) (do
       subst (λ (ts : List Text). TakesEach (length texts) ts (old, before) (done + 1) (new, after)) (sym more_are) (more-texts (length texts) (first_texts texts done) before old mid new done symbol so_far after takes fits given.now call now)
 
   -- where the next one is not UTF-8
-  pub bytes_refused : (started : ℕ) (status : Status) (outcome : Result (Unit {0}) Status) → outcome ≡ Err status → IsTextOf text.bytes.now (Err status) → InternsTexts texts (old, before, started) outcome (mid, so_far, done)
+  pub bytes_refused : (started : ℕ) (status : Status) (outcome : Result (Unit {0}) Status) → outcome ≡ Err status → IsTextOf text.bytes.now (Err status) → InternsList texts (old, before, started) outcome (mid, so_far, done)
   bytes_refused started BadText outcome is h = rw is (mid, takes, text, at, (h, refl))
   bytes_refused started BadEnds outcome is h = absurd h
   bytes_refused started NoMemory outcome is h = absurd h
@@ -49,10 +49,10 @@ module _ (texts : List LentText) (before : List ℕ) (old mid : AnyInterner) (do
 
   -- where it is a text that is refused
   pub given_refused : (started : ℕ) (given : Bor Text) → IsTextOf text.bytes.now (Ok given) → (new : AnyInterner) (error : InternError) (status : Status) (outcome : Result (Unit {0}) Status) → outcome ≡ Err status → status ≡ status_of error
-      → InternsAny mid given.now (Err error) new → InternsTexts texts (old, before, started) outcome (new, so_far, done)
+      → InternsAny mid given.now (Err error) new → InternsList texts (old, before, started) outcome (new, so_far, done)
   given_refused started given h new error status outcome is told call =
       rw (is, told) (of error (subst (λ (t : Text). InternsAny mid t (Err error) new) h.1 call))
     where
-      of : (error : InternError) → InternsAny mid text.bytes.now (Err error) new → InternsTexts texts (old, before, started) (Err (status_of error)) (new, so_far, done)
+      of : (error : InternError) → InternsAny mid text.bytes.now (Err error) new → InternsList texts (old, before, started) (Err (status_of error)) (new, so_far, done)
       of InternNoSymbol call = (mid, takes, text, at, (h.0, call))
       of (Memory e) call = (mid, takes, text, at, (h.0, call))

@@ -1,4 +1,4 @@
-//! The string interner for C: each export is a call on a handle.
+//! The string interner for C: each export is a call on a handle or on its interner.
 //~ #![tactic(auto)]
 
 //~ ghost use Rattle.std.specs.Prelude.{◌≡◌, ◌↔◌, IsTrue, length};
@@ -6,7 +6,7 @@
 //~ ghost use Rattle.handles.specs.Any.{IsShrunk, KeepsFirst, ReadsAs, ReadsBy, any_eq, texts_in};
 //~ ghost use Rattle.handles.specs.Calls.{Changes, Copies, CopiesJson, CopiesText, FindsBytes, FindsText, InternsBytes, InternsText, KnowsBytes, MakesNew, MakesRoom, Opens, Packs, Queries, ReadsJson, ResolvesSymbol, Writes};
 //~ ghost use Rattle.handles.specs.Entries.{ListsFrom};
-//~ ghost use Rattle.handles.specs.InternAll.{InternsParts, InternsTexts};
+//~ ghost use Rattle.handles.specs.InternMany.{InternsJoined, InternsList};
 //~ ghost use Rattle.handles.specs.OneKind.{FindsIn, InternsIn, ResolvesIn};
 //~ ghost use Rattle.handles.specs.Joined.{LendsJoinedIn};
 //~ ghost use Rattle.handles.specs.Options.{MakesBy};
@@ -17,7 +17,7 @@ use crate::rt::prelude::*; use crate::address::{Returned, Slot};
 use crate::handles::calls;
 use crate::handle::Handle;
 use crate::handles::options::Options;
-use crate::handles::status::{finish, pack, tell};
+use crate::handles::status::{Status, finish, pack, tell};
 use crate::handles::text::{Cursor, Entry, Joined, Text};
 use crate::rt::alloc::Global;
 
@@ -37,7 +37,7 @@ pub extern "C" fn interner_version() -> u32
 pub extern "C" fn interner_new(/*~ alloc: Global, */ kind: u32, out: &mut Slot) -> u32
     //~ ensures { Opens (MakesNew kind) out.old result out.new }
 { let alloc = Global;
-    finish(calls::make(alloc, kind, out))
+    finish(calls::new(alloc, kind, out))
 }
 
 /// Makes a handle on an empty interner with these options, and writes its address.
@@ -46,7 +46,7 @@ pub extern "C" fn interner_new_with(/*~ alloc: Global, */ options: &Options, out
     //~ ensures { Opens (MakesBy options.now (MakesRoom options.now.kind options.now.capacity))
     //~     out.old result out.new }
 { let alloc = Global;
-    finish(calls::make_with(alloc, options, out))
+    finish(calls::new_with(alloc, options, out))
 }
 
 /// Frees a handle and its interner. Does nothing if the handle is null.
@@ -61,7 +61,7 @@ pub extern "C" fn interner_len(h: &Handle) -> usize
     //~ ensures len { result ≡ length (texts_in h.old.value) }
     //~ ensures same { h.new.value ≡ h.old.value }
 {
-    calls::len(h)
+    h.read().len()
 }
 
 /// Writes the symbol of a text, and appends the text if it is new.
@@ -69,7 +69,7 @@ pub extern "C" fn interner_len(h: &Handle) -> usize
 pub extern "C" fn interner_get_or_intern(h: &mut Handle, text: *const u8, text_len: usize, symbol: &mut u32) -> u32
     //~ ensures { Changes (InternsBytes text.now) (h.old, symbol.old) result (h.new, symbol.new) }
 { let text = unsafe { crate::border::slice(text, text_len) };
-    calls::get_or_intern_bytes(h, text, symbol)
+    calls::get_or_intern(h, text, symbol)
 }
 
 /// The same, but does not check that the bytes are UTF-8: they must be.
@@ -83,7 +83,7 @@ pub unsafe extern "C" fn interner_get_or_intern_utf8(
     //~ ensures { Changes (InternsText text.now) (h.old, symbol.old) result (h.new, symbol.new) }
 { let text = unsafe { crate::border::slice(text, text_len) };
     let text = unsafe { crate::rt::str::from_utf8_unchecked(text) };
-    calls::get_or_intern(h, text, symbol)
+    h.interner().write_symbol(text, symbol)
 }
 
 /// The same as `interner_get_or_intern`, for bytes that stay where they are, unchanged.
@@ -110,7 +110,10 @@ pub extern "C" fn interner_get_or_intern_part(
 ) -> u32
     //~ ensures { Changes (InternsPart symbol from to) (h.old, part.old) result (h.new, part.new) }
 { let alloc = Global;
-    tell(calls::get_or_intern_part(alloc, h, symbol, from, to), part)
+    tell(
+        h.interner().get_or_intern_part(alloc, symbol, from, to),
+        part,
+    )
 }
 
 /// Writes the symbol of a known text.
@@ -119,7 +122,7 @@ pub extern "C" fn interner_get(h: &Handle, text: *const u8, text_len: usize, sym
     //~ ensures found { Queries (FindsBytes text.now) h.old symbol.old result symbol.new }
     //~ ensures same { h.new.value ≡ h.old.value }
 { let text = unsafe { crate::border::slice(text, text_len) };
-    tell(calls::get_bytes(h, text), symbol)
+    tell(calls::get(h, text), symbol)
 }
 
 /// The same, but does not check that the bytes are UTF-8: they must be.
@@ -130,7 +133,7 @@ pub unsafe extern "C" fn interner_get_utf8(h: &Handle, text: *const u8, text_len
     //~ ensures same { h.new.value ≡ h.old.value }
 { let text = unsafe { crate::border::slice(text, text_len) };
     let text = unsafe { crate::rt::str::from_utf8_unchecked(text) };
-    tell(calls::get(h, text), symbol)
+    tell(h.read().get(text).ok_or(Status::Nothing), symbol)
 }
 
 /// Reports whether a text is known.
@@ -147,7 +150,7 @@ pub extern "C" fn interner_contains(h: &Handle, text: *const u8, text_len: usize
 pub extern "C" fn interner_resolve<'a>(h: &'a Handle, symbol: u32, text: &mut Text<'a>) -> u32
     //~ ensures { Queries (ResolvesSymbol symbol) h.old text.old result text.new }
 {
-    tell(calls::resolve(h, symbol), text)
+    tell(h.read().lend(symbol), text)
 }
 
 /// Lends the text at a symbol, if the interner is of the kind `INTERNER_STRING`.
@@ -168,21 +171,6 @@ pub extern "C" fn interner_string_joined<'a>(h: &'a Handle, joined: &mut Joined<
     //~ ensures { Queries LendsJoinedIn h.old joined.old result joined.new }
 {
     tell(h.read().joined(), joined)
-}
-
-/// Writes the symbol of a known text, if the interner is of the kind `INTERNER_STRING`. The bytes must be UTF-8.
-#[unsafe(no_mangle)]
-pub unsafe extern "C" fn interner_string_get_utf8(
-    h: &Handle,
-    text: *const u8, text_len: usize,
-    symbol: &mut u32,
-) -> u32
-    //~ requires { IsUtf8 text.now }
-    //~ ensures found { Queries (FindsIn kind.String text.now) h.old symbol.old result symbol.new }
-    //~ ensures same { h.new.value ≡ h.old.value }
-{ let text = unsafe { crate::border::slice(text, text_len) };
-    let text = unsafe { crate::rt::str::from_utf8_unchecked(text) };
-    tell(h.read().get_in_string(text), symbol)
 }
 
 /// Returns the symbol of a known text, or 2^32 and a status, if the interner is of the kind `INTERNER_STRING`. The bytes must
@@ -220,21 +208,6 @@ pub extern "C" fn interner_bucket_resolve<'a>(
     tell(h.read().resolve_in_bucket(symbol), text)
 }
 
-/// Writes the symbol of a known text, if the interner is of the kind `INTERNER_BUCKET`. The bytes must be UTF-8.
-#[unsafe(no_mangle)]
-pub unsafe extern "C" fn interner_bucket_get_utf8(
-    h: &Handle,
-    text: *const u8, text_len: usize,
-    symbol: &mut u32,
-) -> u32
-    //~ requires { IsUtf8 text.now }
-    //~ ensures found { Queries (FindsIn kind.Bucket text.now) h.old symbol.old result symbol.new }
-    //~ ensures same { h.new.value ≡ h.old.value }
-{ let text = unsafe { crate::border::slice(text, text_len) };
-    let text = unsafe { crate::rt::str::from_utf8_unchecked(text) };
-    tell(h.read().get_in_bucket(text), symbol)
-}
-
 /// Returns the symbol of a known text, or 2^32 and a status, if the interner is of the kind `INTERNER_BUCKET`. The bytes must
 /// be UTF-8.
 #[unsafe(no_mangle)]
@@ -268,21 +241,6 @@ pub extern "C" fn interner_buffer_resolve<'a>(
     //~ ensures { Queries (ResolvesIn kind.Buffer symbol) h.old text.old result text.new }
 {
     tell(h.read().resolve_in_buffer(symbol), text)
-}
-
-/// Writes the symbol of a known text, if the interner is of the kind `INTERNER_BUFFER`. The bytes must be UTF-8.
-#[unsafe(no_mangle)]
-pub unsafe extern "C" fn interner_buffer_get_utf8(
-    h: &Handle,
-    text: *const u8, text_len: usize,
-    symbol: &mut u32,
-) -> u32
-    //~ requires { IsUtf8 text.now }
-    //~ ensures found { Queries (FindsIn kind.Buffer text.now) h.old symbol.old result symbol.new }
-    //~ ensures same { h.new.value ≡ h.old.value }
-{ let text = unsafe { crate::border::slice(text, text_len) };
-    let text = unsafe { crate::rt::str::from_utf8_unchecked(text) };
-    tell(h.read().get_in_buffer(text), symbol)
 }
 
 /// Returns the symbol of a known text, or 2^32 and a status, if the interner is of the kind `INTERNER_BUFFER`. The bytes must
@@ -320,7 +278,7 @@ pub extern "C" fn interner_copy_text(
     //~     (room.old, len.old) result (room.new, len.new) }
     //~ ensures same { h.new.value ≡ h.old.value }
 { let room = unsafe { crate::border::slice_mut(room, room_len) };
-    finish(calls::copy(h, symbol, room, len))
+    finish(calls::copy_text(h, symbol, room, len))
 }
 
 /// Keeps the first `len` texts.
@@ -328,7 +286,7 @@ pub extern "C" fn interner_copy_text(
 pub extern "C" fn interner_truncate(h: &mut Handle, len: usize)
     //~ ensures { KeepsFirst len h.old.value h.new.value }
 {
-    calls::truncate(h, len);
+    h.interner().truncate(len);
 }
 
 /// Releases memory that no text needs, if it can.
@@ -336,7 +294,7 @@ pub extern "C" fn interner_truncate(h: &mut Handle, len: usize)
 pub extern "C" fn interner_shrink(h: &mut Handle)
     //~ ensures { IsShrunk h.old.value h.new.value }
 {
-    calls::shrink_to_fit(h);
+    h.interner().shrink_to_fit();
 }
 
 /// Makes a second handle, on a copy of the first one's interner, and writes its address.
@@ -355,7 +313,7 @@ pub extern "C" fn interner_equal(h: &Handle, other: &Handle) -> bool
     //~ ensures same { h.new.value ≡ h.old.value }
     //~ ensures other_same { other.new.value ≡ other.old.value }
 {
-    calls::equal(h, other)
+    h.read().equals(other.read())
 }
 
 /// Copies the JSON array of the texts to a buffer, if it fits, and writes its length.
@@ -405,10 +363,10 @@ pub extern "C" fn interner_intern_joined(
     symbols: *mut u32, symbols_len: usize,
     done: &mut usize,
 ) -> u32
-    //~ ensures { Writes (InternsParts bytes.now ends.now)
+    //~ ensures { Writes (InternsJoined bytes.now ends.now)
     //~     (h.old.value, symbols.old, done.old) result (h.new.value, symbols.new, done.new) }
 { let bytes = unsafe { crate::border::slice(bytes, bytes_len) }; let ends = unsafe { crate::border::slice(ends, ends_len) }; let symbols = unsafe { crate::border::slice_mut(symbols, symbols_len) };
-    finish(calls::intern_all(h, bytes, ends, symbols, done))
+    finish(h.interner().intern_joined(bytes, ends, symbols, done))
 }
 
 /// Interns many texts, and writes their symbols.
@@ -419,10 +377,10 @@ pub extern "C" fn interner_intern_list(
     symbols: *mut u32, symbols_len: usize,
     done: &mut usize,
 ) -> u32
-    //~ ensures { Writes (InternsTexts texts.now)
+    //~ ensures { Writes (InternsList texts.now)
     //~     (h.old.value, symbols.old, done.old) result (h.new.value, symbols.new, done.new) }
 { let texts = unsafe { crate::border::slice(texts, texts_len) }; let symbols = unsafe { crate::border::slice_mut(symbols, symbols_len) };
-    finish(calls::intern_texts(h, texts, symbols, done))
+    finish(h.interner().intern_list(texts, symbols, done))
 }
 
 /// Lends the texts from a cursor on, each with its symbol, as many as there are and fit, and returns how many.
@@ -435,5 +393,5 @@ pub extern "C" fn interner_entries<'a>(
     //~ ensures { ListsFrom h.old.value
     //~     (entries.old, cursor.old) result (entries.new, cursor.new) }
 { let entries = unsafe { crate::border::slice_mut(entries, entries_len) };
-    calls::entries(h, cursor, entries)
+    h.read().entries(cursor, entries)
 }

@@ -2,7 +2,7 @@ use Rattle.std.proofs.Common.{refl, rules, arith, ap, sym, set, ◌<◌, ℕ, le
 use Rattle.std.proofs.lemmas.List.{length-set}
 use Rattle.handles.specs.Status.{status_of}
 use Rattle.handles.proofs.Lemmas.Parts.{interns_as, no-parts, more-parts, start-more, is_end, part_is, part_refused, text_refused}
-use Rattle.handles.proofs.any.intern_all.intern_each.Goals as goal
+use Rattle.handles.proofs.any.intern_joined.intern_each.Goals as goal
 
 pub loop-end-init : goal.loop-end-init
 loop-end-init g c = record { fits = c.if-symbols-ends.false; takes = λ kind is. no-parts _ _ _ _ c.if-symbols-ends.false; index = refl; from = refl }

@@ -1,6 +1,6 @@
 use Rattle.std.proofs.Common.{refl}
 use Rattle.handles.specs.declared.kind.Kind.TheVariants.{String, Bucket, Buffer}
-use Rattle.handles.proofs.any.AnyInterner.intern_all.Goals as goal
+use Rattle.handles.proofs.any.AnyInterner.intern_joined.Goals as goal
 
 pub returns-in-String-self : goal.returns-in-String-self
 returns-in-String-self c = rw c.in-String-self.is (c.intern_each.ensures String refl)

@@ -3,7 +3,7 @@ use Rattle.std.proofs.lemmas.List.{length-set}
 use Rattle.handles.specs.Status.{status_of}
 use Rattle.handles.proofs.Lemmas.Parts.{interns_as, no-texts}
 use Rattle.handles.proofs.Lemmas.Texts.{text-at, more-given, bytes_refused, given_refused}
-use Rattle.handles.proofs.any.intern_texts.intern_each.Goals as goal
+use Rattle.handles.proofs.any.intern_list.intern_each.Goals as goal
 
 pub loop-given-init : goal.loop-given-init
 loop-given-init g c = record { fits = c.if-symbols-texts.false; takes = λ kind is. no-texts _ _ _ c.if-symbols-texts.false; index = refl }

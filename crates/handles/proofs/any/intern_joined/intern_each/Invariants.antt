@@ -3,8 +3,8 @@ use Rattle.string_interner.specs.StringBackend.{start_at}
 use Rattle.handles.specs.Any.{any_of}
 use Rattle.handles.specs.Kind.{numbering_in}
 use Rattle.handles.specs.declared.kind.Kind.{Kind}
-use Rattle.handles.specs.InternAll.{TakesParts}
-use Rattle.handles.proofs.any.intern_all.intern_each.Given as goal
+use Rattle.handles.specs.InternMany.{TakesParts}
+use Rattle.handles.proofs.any.intern_joined.intern_each.Given as goal
 
 -- the parts so far went in, and the next one begins where the last of them ends
 abbrev pub invariant-loop-end : goal.invariant-loop-end

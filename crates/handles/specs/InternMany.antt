@@ -1,5 +1,5 @@
 -- Interning many texts, end to end or in a list, with their symbols in a list.
--- Cited by `intern_all` and `intern_texts` of `AnyInterner`, by the calls of these names, and by exports.
+-- Cited by `intern_joined` and `intern_list` of `AnyInterner`, and by their exports.
 use Rattle.std.specs.Prelude.{◌≡◌, ℕ, zero, suc, ◌<◌, ◌≤◌, List, [], ◌∷◌, ◌++◌, length, map, take, drop, slice_get, slice_index, slice_range, Some, Result, Ok, Err}
 use Rattle.std.specs.Borrow.{Bor}
 use Rattle.std.specs.Str.{IsUtf8}
@@ -62,14 +62,14 @@ RefusesNext bytes ends old done status (new, after) =
 
 -- Parts are interned: all of them, or those before the first that is refused. What changes is the interner, the list of
 -- symbols, and how many parts are done, which is counted from 0.
-abbrev pub InternsParts : List ℕ → List ℕ → AnyInterner × List ℕ × ℕ → Result (Unit {0}) Status → AnyInterner × List ℕ × ℕ → Type 0
-InternsParts bytes ends (old, before, _) (Ok _) (new, after, done) = (done ≡ length ends) × TakesParts bytes ends (old, before) done (new, after)
-InternsParts bytes ends (old, before, _) (Err NoRoom) (new, after, done) = (length before < length ends) × (done ≡ 0) × (new ≡ old) × (after ≡ before)
-InternsParts bytes ends (old, before, _) (Err BadEnds) (new, after, done) = (done < length ends) × ¬ IsEnd bytes ends done × TakesParts bytes ends (old, before) done (new, after)
-InternsParts bytes ends (old, before, _) (Err BadText) (new, after, done) = RefusesNext bytes ends (old, before) done BadText (new, after)
-InternsParts bytes ends (old, before, _) (Err NoSymbol) (new, after, done) = RefusesNext bytes ends (old, before) done NoSymbol (new, after)
-InternsParts bytes ends (old, before, _) (Err NoMemory) (new, after, done) = RefusesNext bytes ends (old, before) done NoMemory (new, after)
-InternsParts bytes ends (old, before, _) (Err _) (new, after, done) = ⊥
+abbrev pub InternsJoined : List ℕ → List ℕ → AnyInterner × List ℕ × ℕ → Result (Unit {0}) Status → AnyInterner × List ℕ × ℕ → Type 0
+InternsJoined bytes ends (old, before, _) (Ok _) (new, after, done) = (done ≡ length ends) × TakesParts bytes ends (old, before) done (new, after)
+InternsJoined bytes ends (old, before, _) (Err NoRoom) (new, after, done) = (length before < length ends) × (done ≡ 0) × (new ≡ old) × (after ≡ before)
+InternsJoined bytes ends (old, before, _) (Err BadEnds) (new, after, done) = (done < length ends) × ¬ IsEnd bytes ends done × TakesParts bytes ends (old, before) done (new, after)
+InternsJoined bytes ends (old, before, _) (Err BadText) (new, after, done) = RefusesNext bytes ends (old, before) done BadText (new, after)
+InternsJoined bytes ends (old, before, _) (Err NoSymbol) (new, after, done) = RefusesNext bytes ends (old, before) done NoSymbol (new, after)
+InternsJoined bytes ends (old, before, _) (Err NoMemory) (new, after, done) = RefusesNext bytes ends (old, before) done NoMemory (new, after)
+InternsJoined bytes ends (old, before, _) (Err _) (new, after, done) = ⊥
 
 -- the first texts of a list, so many of them
 abbrev pub first_texts : List LentText → ℕ → List Text
@@ -85,14 +85,14 @@ RefusesText texts old done status (new, after) =
     (mid : AnyInterner) × TakesTexts texts old done (mid, after)
     × (text : LentText) × (slice_get texts done ≡ Some text) × InternsBytes text.bytes.now mid (Err status) new
 
--- Texts are interned: all of them, or those before the first that is refused. What changes is as in `InternsParts`.
-abbrev pub InternsTexts : List LentText → AnyInterner × List ℕ × ℕ → Result (Unit {0}) Status → AnyInterner × List ℕ × ℕ → Type 0
-InternsTexts texts (old, before, _) (Ok _) (new, after, done) = (done ≡ length texts) × TakesTexts texts (old, before) done (new, after)
-InternsTexts texts (old, before, _) (Err NoRoom) (new, after, done) = (length before < length texts) × (done ≡ 0) × (new ≡ old) × (after ≡ before)
-InternsTexts texts (old, before, _) (Err BadText) (new, after, done) = RefusesText texts (old, before) done BadText (new, after)
-InternsTexts texts (old, before, _) (Err NoSymbol) (new, after, done) = RefusesText texts (old, before) done NoSymbol (new, after)
-InternsTexts texts (old, before, _) (Err NoMemory) (new, after, done) = RefusesText texts (old, before) done NoMemory (new, after)
-InternsTexts texts (old, before, _) (Err _) (new, after, done) = ⊥
+-- Texts are interned: all of them, or those before the first that is refused. What changes is as in `InternsJoined`.
+abbrev pub InternsList : List LentText → AnyInterner × List ℕ × ℕ → Result (Unit {0}) Status → AnyInterner × List ℕ × ℕ → Type 0
+InternsList texts (old, before, _) (Ok _) (new, after, done) = (done ≡ length texts) × TakesTexts texts (old, before) done (new, after)
+InternsList texts (old, before, _) (Err NoRoom) (new, after, done) = (length before < length texts) × (done ≡ 0) × (new ≡ old) × (after ≡ before)
+InternsList texts (old, before, _) (Err BadText) (new, after, done) = RefusesText texts (old, before) done BadText (new, after)
+InternsList texts (old, before, _) (Err NoSymbol) (new, after, done) = RefusesText texts (old, before) done NoSymbol (new, after)
+InternsList texts (old, before, _) (Err NoMemory) (new, after, done) = RefusesText texts (old, before) done NoMemory (new, after)
+InternsList texts (old, before, _) (Err _) (new, after, done) = ⊥
 
 -- What changes as many texts are interned, with the outcome.
 abbrev pub ManyChange : Type 0 → Type 1

@@ -1,6 +1,6 @@
 //! Many texts in one call, end to end.
 
-//~ ghost use Rattle.handles.specs.InternAll.{InKindsOf, InternsParts, IsTextBetween};
+//~ ghost use Rattle.handles.specs.InternMany.{InKindsOf, InternsJoined, IsTextBetween};
 
 use crate::rt::prelude::*; use super::guessed::{FEWEST_FOR_GUESSES, intern_one, is_found};
 use super::{AnyInterner, HashedInterner, to_u32};
@@ -20,7 +20,7 @@ fn text_between(bytes: &[u8], from: usize, end: usize) -> Result<&str, Status>
     }
 }
 
-/// Interns texts, as `intern_all` does. With `guesses` it is fastest if most texts are known, and without if most are new.
+/// Interns texts, as `intern_joined` does. With `guesses` it is fastest if most texts are known, and without if most are new.
 ///
 /// Inlined, so that there is a loop for each kind, with guesses and without.
 #[inline(always)]
@@ -32,7 +32,7 @@ fn intern_each<B: Backend<Symbol = SymbolU32>>(
     done: &mut usize,
     guesses: bool,
 ) -> Result<(), Status>
-    //~ ensures { InKindsOf B.numbering (InternsParts bytes.now ends.now)
+    //~ ensures { InKindsOf B.numbering (InternsJoined bytes.now ends.now)
     //~     (interner.old, symbols.old, done.old) result
     //~     (interner.new, symbols.new, done.new) }
 {
@@ -74,14 +74,14 @@ fn are_likely_known<B: Backend<Symbol = SymbolU32>>(
 impl AnyInterner {
     /// Interns the texts that are end to end in the bytes, each up to its end, and writes their symbols. Stops at the first
     /// that fails, and returns how many were interned before it.
-    pub fn intern_all(
+    pub fn intern_joined(
         &mut self,
         bytes: &[u8],
         ends: &[usize],
         symbols: &mut [u32],
         done: &mut usize,
     ) -> Result<(), Status>
-        //~ ensures { InternsParts bytes.now ends.now
+        //~ ensures { InternsJoined bytes.now ends.now
         //~     (self.old, symbols.old, done.old) result (self.new, symbols.new, done.new) }
     {
         if each!(&*self, interner => are_likely_known(interner, bytes, ends)) {

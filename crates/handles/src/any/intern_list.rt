@@ -1,6 +1,6 @@
 //! Many texts in one call, in a list.
 
-ghost use Rattle.handles.specs.InternAll.{InKindsOf, InternsTexts};
+ghost use Rattle.handles.specs.InternMany.{InKindsOf, InternsList};
 
 use super::guessed::{FEWEST_FOR_GUESSES, first_block, intern_one, is_found, touch_block};
 use super::{AnyInterner, HashedInterner, to_u32};
@@ -9,7 +9,7 @@ use crate::text::{Text, text_of};
 use string_interner::backend::Backend;
 use string_interner::symbol::SymbolU32;
 
-/// Interns texts, as `intern_texts` does. With `guesses` it is fastest if most texts are known, and without if most are new.
+/// Interns texts, as `intern_list` does. With `guesses` it is fastest if most texts are known, and without if most are new.
 ///
 /// Inlined, so that there is a loop for each kind, with guesses and without.
 #[inline(always)]
@@ -20,7 +20,7 @@ fn intern_each<B: Backend<Symbol = SymbolU32>>(
     done: &mut usize,
     guesses: bool,
 ) -> Result<(), Status>
-    ensures { InKindsOf B.numbering (InternsTexts texts.now)
+    ensures { InKindsOf B.numbering (InternsList texts.now)
         (interner.old, symbols.old, done.old) result
         (interner.new, symbols.new, done.new) }
 {
@@ -60,13 +60,13 @@ fn are_likely_known<B: Backend<Symbol = SymbolU32>>(
 
 impl AnyInterner {
     /// Interns texts, and writes their symbols. Stops at the first that fails, and returns how many were interned before it.
-    pub fn intern_texts(
+    pub fn intern_list(
         &mut self,
         texts: &[Text],
         symbols: &mut [u32],
         done: &mut usize,
     ) -> Result<(), Status>
-        ensures { InternsTexts texts.now
+        ensures { InternsList texts.now
             (self.old, symbols.old, done.old) result (self.new, symbols.new, done.new) }
     {
         if each!(&*self, interner => are_likely_known(interner, texts)) {

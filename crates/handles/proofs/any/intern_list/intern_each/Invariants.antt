@@ -2,8 +2,8 @@ use Rattle.std.proofs.Common.{◌≡◌, ◌≤◌, length}
 use Rattle.handles.specs.Any.{any_of}
 use Rattle.handles.specs.Kind.{numbering_in}
 use Rattle.handles.specs.declared.kind.Kind.{Kind}
-use Rattle.handles.specs.InternAll.{TakesTexts}
-use Rattle.handles.proofs.any.intern_texts.intern_each.Given as goal
+use Rattle.handles.specs.InternMany.{TakesTexts}
+use Rattle.handles.proofs.any.intern_list.intern_each.Given as goal
 
 -- the texts so far went in
 abbrev pub invariant-loop-given : goal.invariant-loop-given
