@@ -48,6 +48,7 @@ from __future__ import annotations
 
 from . import _native, _types
 from ._column import Column
+from ._pickled import Pickled
 
 TYPE_CHECKING = False
 if TYPE_CHECKING:
@@ -96,7 +97,7 @@ def __dir__() -> list[str]:
     return sorted({*globals(), *__all__})
 
 
-class Interner(_native.Interner):
+class Interner(Pickled, _native.Interner):
     """A list of distinct texts, each with a number.
 
     Like a set of texts, it has a length, supports `text in interner`, and iterates over its texts, in insertion order. Like a
@@ -124,12 +125,6 @@ class Interner(_native.Interner):
 
         return copy.copy(self)
 
-    def __getstate__(self) -> object:
-        # What a subclass has, and a copy of the texts, which whoever takes this state has for itself.
-        state = super().__getstate__()  # type: ignore[misc]
-        attributes, slots = state if isinstance(state, tuple) else (state, {})
-        return attributes, slots | {"_parts": self._parts}
-
     def __sizeof__(self) -> int:
         """About how many bytes it takes, with a guess of 64 for each text. dask decides by it what to move."""
         return object.__sizeof__(self) + 64 * self._count
@@ -139,8 +134,4 @@ class Interner(_native.Interner):
         from hashlib import sha256
 
         digest = sha256(self.to_json().encode()).hexdigest()
-        return type(self), super().__getstate__(), self.backend, digest  # type: ignore[misc]
-
-    def __reduce_ex__(self, protocol: _types.Any) -> _types.Any:
-        # Older protocols have no way to make an object of a class that is written in C.
-        return super().__reduce_ex__(max(protocol, 2))
+        return type(self), super(Pickled, self).__getstate__(), self.backend, digest  # type: ignore[misc]

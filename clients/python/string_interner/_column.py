@@ -5,6 +5,7 @@ from __future__ import annotations
 from collections.abc import Sequence
 
 from . import _native, _types
+from ._pickled import Pickled
 
 TYPE_CHECKING = False
 if TYPE_CHECKING:
@@ -16,7 +17,7 @@ else:
         return call
 
 
-class Column(_native.Column):
+class Column(Pickled, _native.Column):
     """A list of rows, each a text or None, that stores each distinct text once.
 
     It has a dictionary, which is a list of distinct texts, and a code for each row: the index of its text in the dictionary, or
@@ -189,16 +190,6 @@ class Column(_native.Column):
         joined, ends, codes = self._buffers()
         return joined, memoryview(ends).cast("Q"), codes
 
-    def __getstate__(self) -> object:
-        # What a subclass has, and what a column has, which whoever takes this state has for itself.
-        state = super().__getstate__()  # type: ignore[misc]
-        attributes, slots = state if isinstance(state, tuple) else (state, {})
-        return attributes, slots | {"_parts": self._parts}
-
-    def __reduce_ex__(self, protocol: _types.Any) -> _types.Any:
-        # Older protocols have no way to make an object of a class that is written in C.
-        return super().__reduce_ex__(max(protocol, 2))
-
     def __sizeof__(self) -> int:
         """About how many bytes it takes, with a guess of 64 for each distinct text, and the strings that iteration made of them.
 
@@ -216,7 +207,7 @@ class Column(_native.Column):
         for part in self.compact()._in_order()._buffers():
             digest.update(memoryview(part).nbytes.to_bytes(8, "little"))
             digest.update(part)
-        return type(self), super().__getstate__(), digest.hexdigest()  # type: ignore[misc]
+        return type(self), super(Pickled, self).__getstate__(), digest.hexdigest()  # type: ignore[misc]
 
 
 Sequence.register(Column)
