@@ -31,7 +31,16 @@ def tell_count(passed, failed):
 @cache
 def ask_rt(verb):
     """The first line that the toolchain answers: to `doc` the path of its guide, and to `version` what it is."""
-    return subprocess.run(["rt", verb], stdout=subprocess.PIPE, encoding="utf-8", check=True).stdout.partition("\n")[0]
+    ran = subprocess.run(["rt", verb], stdin=subprocess.DEVNULL, stdout=subprocess.PIPE, encoding="utf-8", check=True)
+    return ran.stdout.partition("\n")[0]
+
+
+def has_rt():
+    """Whether the machine has the toolchain. Other programs have the name of its command, too."""
+    try:
+        return " logic " in ask_rt("version")
+    except (OSError, UnicodeDecodeError, subprocess.CalledProcessError):
+        return False
 
 
 def toolchain_folder() -> Path:

@@ -14,6 +14,8 @@ import sys
 from functools import cache
 from pathlib import Path
 
+from machine import has_rt
+
 CRATES = Path("/usr/share/cargo/registry")
 PACKAGES = Path(__file__).resolve().parent.parent / ".ci/packages"
 # What bench/run uses besides.
@@ -45,8 +47,11 @@ def python_with(*modules):
 
 
 def is_there(need):
-    """Reports whether a command is there, or some Python with modules, or the sources of crates."""
+    """Reports whether a command is there, or some Python with modules, or the sources of crates; and of `rt`, that it is the
+    toolchain's."""
     command, *names = need.split()
+    if need == "rt":
+        return has_rt()
     if command == "crates":
         return all(any(CRATES.glob(f"{name}-[0-9]*")) for name in names)
     return bool(python_with(*names) if names else shutil.which(command))

@@ -9,8 +9,9 @@ from pathlib import Path
 
 TOP = Path(__file__).resolve().parents[2]
 
-# Stands for `rt lib` and `rt doc`: makes an archive of a crate in C, and says where the toolchain is.
+# Stands for `rt lib`, `rt doc` and `rt version`: makes an archive of a crate in C, and says where and what the toolchain is.
 RT = """#!/bin/sh
+[ "$1" = version ] && {{ echo 'kit-1 logic 1f'; exit; }}
 echo "$1" >> '{top}/calls'
 [ "$1" = doc ] && {{ echo '{top}/rt/START'; exit; }}
 echo 'proved: something'
@@ -174,6 +175,12 @@ class ClientsBuild(unittest.TestCase):
         self.edit(self.top / "clients/rust/src/json.rs", stamp="cargo.stamp")
         self.build(has_rt=False, has_cargo=True)
         self.assertEqual((self.top / "calls").read_text().split().count("cargo"), 2)
+
+    def test_builds_by_cargo_where_another_program_is_called_rt(self):
+        (self.top / "rt/rt").write_text("#!/bin/sh\necho 'rt: no such command' >&2\nexit 1\n")
+        self.assertEqual(self.build(has_cargo=True).stdout, f"build: {self.out}: proved source, compiled by rustc\n")
+        shutil.rmtree(self.out)
+        self.assertRegex(self.build(fails=True).stderr, "^build: no cargo on this machine: .*\n$")
 
     def test_builds_by_cargo_for_this_machine(self):
         self.build(has_rt=False, has_cargo=True, CARGO_BUILD_TARGET="another-machine")

@@ -9,6 +9,7 @@ from pathlib import Path
 from unittest import mock
 
 sys.path.insert(0, str(Path(__file__).resolve().parent.parent))
+import machine
 import needs
 
 LISTED = "# a comment\nsh: dash\nno-such-command: one two\npython json: python3\npython json no_such_module: three\n"
@@ -38,6 +39,17 @@ class NeedsTest(unittest.TestCase):
         status, printed = self.run_main("sh", "no-such-command")
         self.assertEqual(printed, "no no-such-command on this machine: what needs it is left out. Debian's packages: one two\n")
         self.assertEqual((status, needs.MISSING.findall(f"a\n{printed}b\n")), (1, [printed.strip()]))
+
+    def test_a_toolchain(self):
+        with tempfile.TemporaryDirectory() as folder, mock.patch.dict("os.environ", PATH=f"{folder}:/usr/bin:/bin"):
+            rt = Path(folder, "rt")
+            self.assertFalse(needs.is_there("rt"))
+            for said, is_one in (("echo kit-1 logic 1f", True), ("echo rt 4.4.6", False), ("cat", False), ("exit 1", False)):
+                rt.write_text(f"#!/bin/sh\n{said}\n")
+                rt.chmod(0o755)
+                machine.ask_rt.cache_clear()
+                self.assertEqual(needs.is_there("rt"), is_one, said)
+        machine.ask_rt.cache_clear()
 
     def test_a_python(self):
         status, printed = self.run_main("--python", "json")

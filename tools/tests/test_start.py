@@ -12,6 +12,7 @@ TOP = Path(__file__).resolve().parents[2]
 
 # Stands for `rt`: "builds" a program that prints what it was built of, and tells how far it is if a file says how long it takes.
 RT = """#!/bin/sh
+[ "$1" = version ] && { echo 'kit-1 logic 1f'; exit; }
 [ -d src ] || exit
 mkdir -p out/incremental/of_this_prover
 touch out/incremental/of_this_prover/first.Proof.oantt out/incremental/of_this_prover/type.TheImpl.Proof.oantt
@@ -23,6 +24,13 @@ fi
 echo "echo \\"$(cat src/main.rt) \\$*\\"" > out/intern
 chmod +x out/intern
 echo built
+"""
+
+# Another program with this name, which would wait for input.
+OTHER_RT = """#!/bin/sh
+echo 'rt: no such command' >&2
+echo "$*"
+exec cat
 """
 
 # Stands for cargo, in the same way. A setting of it may name another target than this machine.
@@ -175,6 +183,15 @@ class Start(unittest.TestCase):
         ran = self.run_bin("string", has_rt=False, has_cargo=True)
         self.assertEqual(ran.stdout, "by cargo: old string\n")
         self.assertEqual(self.run_bin("string", has_cargo=True).stdout, "new string\n")
+
+    def test_another_program_that_is_called_rt(self):
+        (self.top / "rt/rt").write_text(OTHER_RT)
+        ran = self.run_bin("string")
+        self.assertEqual((ran.returncode, ran.stdout), (1, ""))
+        self.assertRegex(ran.stderr, "^intern: the program is not built, .*\n$")
+        ran = self.run_bin("buffer", "a b", has_cargo=True)
+        self.assertEqual((ran.returncode, ran.stdout), (0, "by cargo: old buffer a b\n"))
+        self.assertEqual(ran.stderr, "intern: compiling the program by cargo, in a minute, because there is no rt\n")
 
     def test_says_why_cargo_failed(self):
         (self.top / "cargo/cargo").write_text("#!/bin/sh\necho 'no such edition' >&2\nexit 101\n")
