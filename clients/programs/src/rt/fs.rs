@@ -62,13 +62,9 @@ const LIST: c_long = 217;
 #[cfg(target_arch = "aarch64")]
 const LIST: c_long = 61;
 
-/// Where an entry of a folder has its length, of two bytes, its kind, and its name.
+/// Where an entry of a folder has its length, of two bytes, and its name. Between them is its kind, which not every file system says.
 const ENTRY_LEN: usize = 16;
-const ENTRY_KIND: usize = 18;
 const ENTRY_NAME: usize = 19;
-/// The kinds of an entry that are asked for: the file system did not say, and a file.
-const UNKNOWN_KIND: u8 = 0;
-const FILE_KIND: u8 = 8;
 /// For so many bytes of entries there is room.
 const ENTRIES: usize = 4096;
 
@@ -338,8 +334,8 @@ pub fn remove_dir_all(rt: &HostRuntime, path: &str) -> Result<()> {
 fn empty_folder(folder: File) -> Result<()> {
     let of = folder.as_raw_fd();
     let mut entries = ReadDir::of(folder);
-    while let Some(entry) = entries.next_entry()? {
-        let name = entry.name.as_ptr();
+    while let Some(name) = entries.next_name()? {
+        let name = name.as_ptr();
         // SAFETY: the folder is open, and the name ends with a zero byte.
         match check(unsafe { unlinkat(of, name, 0) }) {
             Err(Error::System(IS_A_FOLDER)) => {}
@@ -393,8 +389,8 @@ impl ReadDir {
         Ok(self.end > 0)
     }
 
-    /// Returns the next entry but for the folder itself and its parent.
-    fn next_entry(&mut self) -> Result<Option<RawEntry<'_>>> {
+    /// Returns the name of the next entry but for the folder itself and its parent.
+    fn next_name(&mut self) -> Result<Option<&CStr>> {
         loop {
             if self.at == self.end && !self.ask()? {
                 return Ok(None);
@@ -405,9 +401,7 @@ impl ReadDir {
                 name_of(&self.entries.0[start..self.at])?.to_bytes(),
                 b"." | b".."
             ) {
-                let entry = &self.entries.0[start..self.at];
-                let (kind, name) = (entry[ENTRY_KIND], name_of(entry)?);
-                return Ok(Some(RawEntry { kind, name }));
+                return name_of(&self.entries.0[start..self.at]).map(Some);
             }
         }
     }
@@ -423,23 +417,12 @@ fn name_of(entry: &[u8]) -> Result<&CStr> {
     CStr::from_bytes_until_nul(&entry[ENTRY_NAME..]).map_err(|_| ErrorKind::InvalidData.into())
 }
 
-/// An entry as the system has it.
-struct RawEntry<'a> {
-    kind: u8,
-    name: &'a CStr,
-}
-
-impl RawEntry<'_> {
-    /// Returns the kind of an entry of a folder. If the file system did not say it, it is asked.
-    fn kind_in(&self, folder: RawFd) -> Result<FileType> {
-        if self.kind != UNKNOWN_KIND {
-            return Ok(FileType(self.kind == FILE_KIND));
-        }
-        let flags = PATH | NO_FOLLOW | ALWAYS;
-        // SAFETY: the folder is open, and the name ends with a zero byte.
-        let file = open_by(|| unsafe { openat(folder, self.name.as_ptr(), flags) })?;
-        Ok(FileType(file.metadata()?.0.is_file()))
-    }
+/// Returns the kind of what has a name in a folder.
+fn kind_in(folder: RawFd, name: &CStr) -> Result<FileType> {
+    let flags = PATH | NO_FOLLOW | ALWAYS;
+    // SAFETY: the folder is open, and the name ends with a zero byte.
+    let file = open_by(|| unsafe { openat(folder, name.as_ptr(), flags) })?;
+    Ok(FileType(file.metadata()?.0.is_file()))
 }
 
 /// The kind of an entry of a folder: whether it is a file.
@@ -478,11 +461,11 @@ impl Iterator for ReadDir {
 
     fn next(&mut self) -> Option<Self::Item> {
         let folder = self.folder.as_raw_fd();
-        let entry = match self.next_entry() {
+        let entry = match self.next_name() {
             Ok(entry) => entry?,
             Err(error) => return Some(Err(error)),
         };
-        let Ok(text) = entry.name.to_str() else {
+        let Ok(text) = entry.to_str() else {
             return Some(Err(ErrorKind::InvalidFilename.into()));
         };
         let mut name = [0; LONGEST_NAME];
@@ -493,7 +476,7 @@ impl Iterator for ReadDir {
         Some(Ok(DirEntry {
             name,
             len: text.len(),
-            kind: entry.kind_in(folder),
+            kind: kind_in(folder, entry),
         }))
     }
 }
