@@ -1,7 +1,8 @@
 #!/usr/bin/env python3
 """Takes the steps of the pages for users as they are printed, each page in a clean copy of the repository.
 
-    tools/try_guide.py [CLONE [PAGE..]]    takes what is built from another tree of the same sources, as from one where all is proved
+    tools/try_guide.py [CLONE [PAGE..]]        takes what is built from another tree of the same sources, as from one where all is proved
+    tools/try_guide.py --by-cargo [PAGE..]     takes no step with `rt`, as on a machine without it: cargo builds all
 
 The pages are README.md and those of docs/ that have commands, or those that are named. A step is a block of code:
 
@@ -48,6 +49,15 @@ if [ -e "$archive" ]; then
   sources_of string_interner_c clients/build clients/c/build.c clients/c/string_interner.h VERSION >clients/out/build.stamp
 fi
 """
+# What users run, each built as by its first command.
+BUILD = """set -eu
+bin/intern string </dev/null
+bin/dictcol count </dev/null
+clients/build
+"""
+BY_CARGO = "--by-cargo"
+# The page whose steps prove.
+PROVING_PAGE = "docs/rattle.md"
 MARK = "\f"
 UNSET = ("PYTHONPATH", "PKG_CONFIG_PATH", "LD_LIBRARY_PATH", "STRING_INTERNER_LIB")
 
@@ -67,11 +77,22 @@ def script_of(text):
     return "\n".join(script), printed
 
 
-def lay_out(clone, folder):
-    """Copies the sources into a new folder, with what is built in a clone."""
+def copy_sources(folder):
     for name in Repository().files:
         (folder / name).parent.mkdir(parents=True, exist_ok=True)
         shutil.copy2(TOP / name, folder / name)
+
+
+def hide_rt(folder):
+    """Makes a folder for the front of the path, with another program in the place of the toolchain's."""
+    folder.mkdir()
+    (folder / "rt").write_text("#!/bin/sh\nexit 1\n")
+    (folder / "rt").chmod(0o755)
+    return folder
+
+
+def take_built(clone, folder):
+    """Copies what is built in a clone."""
     for kept in clone.glob("crates/*/out"):
         (folder / kept.relative_to(clone)).mkdir()
         if (kept / "rlib").is_dir():
@@ -79,14 +100,19 @@ def lay_out(clone, folder):
     subprocess.run(["bash", "-c", TAKE, "take", clone], cwd=folder, check=True, stdout=sys.stderr)
 
 
-def take_steps(page, text, folder):
-    """Takes the steps of a page in this folder, and yields what goes otherwise than it says."""
-    script, printed = script_of(text)
+def environment_of(page, first=()):
+    """The environment in which a page's steps are taken, whose path has these folders first."""
     environment = {name: value for name, value in os.environ.items() if name not in UNSET}
     modules = [name for need in NEEDS.get(page, ()) if need.startswith("python ") for name in need.split()[1:]]
-    if modules and (python := python_with(*modules)):
-        environment["PATH"] = f"{Path(python).parent}:{environment['PATH']}"
-    ran = subprocess.run(["bash", "-c", script], cwd=folder, env=environment, capture_output=True, text=True, check=False)
+    python = python_with(*modules) if modules else None
+    environment["PATH"] = ":".join(map(str, [*first, *([Path(python).parent] if python else []), environment["PATH"]]))
+    return environment
+
+
+def take_steps(page, text, folder, first=()):
+    """Takes the steps of a page in this folder, with these folders first in the path, and yields what goes otherwise than it says."""
+    script, printed = script_of(text)
+    ran = subprocess.run(["bash", "-c", script], cwd=folder, env=environment_of(page, first), capture_output=True, text=True, check=False)
     shown = ran.stdout.split(MARK)[1:]
     if ran.returncode:
         yield f"{page}: block {len(shown)} of the commands ends with status {ran.returncode}\n{''.join(shown[-1:])}{ran.stderr}"
@@ -101,19 +127,25 @@ def pages():
 
 
 def main(clone="", *names):
-    clone = Path(clone or TOP).resolve()
+    is_by_cargo = clone == BY_CARGO
     passed = failed = 0
     with tempfile.TemporaryDirectory() as folder:
-        lay_out(clone, Path(folder, "clean"))
-        for page in names or pages():
+        clean, first = Path(folder, "clean"), []
+        copy_sources(clean)
+        if is_by_cargo:
+            first = [hide_rt(Path(folder, "hiding"))]
+            subprocess.run(["bash", "-c", BUILD], cwd=clean, env=environment_of("", first), check=True, stdout=sys.stderr)
+        else:
+            take_built(Path(clone or TOP).resolve(), clean)
+        for page in names or [it for it in pages() if not is_by_cargo or it != PROVING_PAGE]:
             text = read(TOP / page)
             if lacking := missing(NEEDS.get(page, ())):
                 print(*lacking, sep="\n")
                 continue
             # No step writes into a file of the repository, so links serve as copies.
             own = Path(folder, page.replace("/", "."), "clone")
-            shutil.copytree(Path(folder, "clean"), own, symlinks=True, copy_function=os.link)
-            found = list(take_steps(page, text, own))
+            shutil.copytree(clean, own, symlinks=True, copy_function=os.link)
+            found = list(take_steps(page, text, own, first))
             print(*found, sep="\n", end="\n" if found else "")
             passed, failed = passed + (not found), failed + bool(found)
     return tell_count(passed, failed)

@@ -182,8 +182,8 @@ class CheckTest(unittest.TestCase):
     def test_the_parts(self):
         names, words, kept, left_out = self.parts_of_check(True)
         self.assertEqual(names, ["texts chosen without keys", "proofs", "the library for C and its clients", "scenarios", "the program",
-                                 "the program dictcol", "the steps of the pages for users", "records of proofs",
-                                 "what was measured"])
+                                 "the program dictcol", "the steps of the pages for users", "the steps of the pages by cargo",
+                                 "records of proofs", "what was measured"])
         self.assertEqual((words, kept), (["bash", "-c"], 2))
         self.assertIn("no pip on this machine: it", left_out)
 
@@ -223,7 +223,7 @@ class TestsTest(unittest.TestCase):
         clients, pages = dict(begun)[names[1]], dict(begun)[names[-1]]
         self.assertEqual((clients[-1], pages[2:]), ("libstring_interner_c.a", ["README.md"]))
         self.assertIn("--once", clients)
-        self.assertEqual((left_out[0], left_out[-1]), ("the steps of docs/rattle.md, which prove (./check)", "proofs (./check)"))
+        self.assertEqual((left_out[0], left_out[-1]), ("the steps of docs/rattle.md, which prove, and of all pages by cargo (./check)", "proofs (./check)"))
         self.assertRegex(left_out[1], r"^clients under checkers .* \(\./check\)$")
 
     def test_a_program_without_a_record(self):

@@ -2,6 +2,7 @@
 
 import contextlib
 import io
+import os
 from unittest import mock
 
 from small import SmallRepository
@@ -88,6 +89,23 @@ class TryGuideTest(SmallRepository):
             self.write("README.md", "```sh\ntrue\n```\n")
             lines = self.outcome(PAGE)[1]
         self.assertEqual(lines, ["no cc on this machine: it", "no pkg-config on this machine: it", "1 passed, 0 failed"])
+
+    def test_the_toolchain_is_hidden(self):
+        self.write("bin/intern", "rt version || echo no rt >made\n")
+        for name, script in ("bin/dictcol", "echo dictcol >>made\n"), ("clients/build", "echo library >>made\n"):
+            self.write(name, script)
+        for name in ("bin/intern", "bin/dictcol", "clients/build"):
+            (self.top / name).chmod(0o755)
+        self.write("docs/rattle.md", "```sh\nfalse\n```\n")
+        page = "```sh\ncat made\nrt version || echo none\n```\n\n```text\nno rt\ndictcol\nlibrary\nnone\n```\n"
+        with mock.patch.dict("os.environ", PATH=f"{self.top}/toolchain:{os.environ['PATH']}"):
+            self.write("toolchain/rt", "#!/bin/sh\necho kit-1 logic 1f\n")
+            (self.top / "toolchain/rt").chmod(0o755)
+            elsewhere = mock.patch.object(try_guide, "python_with", lambda *modules: f"{self.top}/toolchain/python3")
+            with elsewhere, mock.patch.object(try_guide, "missing", lambda needs: []):
+                self.write("docs/python.md", page)
+                self.assertEqual(self.outcome(page, "docs/c.md", "--by-cargo"), (0, ["2 passed, 0 failed"]))
+            self.assertEqual(self.outcome(page, "docs/c.md", "", "docs/c.md")[0], 1)
 
     def test_what_is_built_elsewhere(self):
         for name in ("high", "intern"):
