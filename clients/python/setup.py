@@ -24,7 +24,7 @@ HERE = Path(__file__).resolve().parent
 # The sources of the library: in the archive of this package's sources, and in the repository. No other package is used.
 PACKED = HERE / "library"
 SOURCES = PACKED if PACKED.exists() else HERE.parent
-PARTS = ["c/Cargo.toml", "c/src", "c/string_interner.h", *(f"rust/src/{it}" for it in ("error.rs", "json.rs", "unchecked.rs", "proved", "rt"))]
+PARTS = ["c/Cargo.toml", "c/src", "c/string_interner.h", *(f"rust/src/{it}" for it in ("unchecked.rs", "proved", "rt"))]
 FLAGS = ["-O2", "-std=c11", "-Wall", "-Wextra", "-Wno-cast-function-type", "-Wno-missing-field-initializers", "-fvisibility=hidden", "-g0"]
 
 

@@ -4,9 +4,8 @@
 //! where each is erased to, once: the library itself in the crate for Rust, which keeps it to itself, because some of its functions
 //! ask what only a proof can promise. So this package names its files, and does not depend on that crate.
 //!
-//! Written by hand are the stand-ins for the prover's standard library (`rt`, and `serde_json` over what the crate for Rust reads JSON
-//! by), a handle and its address (`handle`, `address`), what C passes (`border`), memory (`memory`), and which checks are left out
-//! (`unchecked`). They are tested, and not proved.
+//! Written by hand are the stand-ins for the prover's standard library and its JSON (`rt`), a handle and its address (`handle`,
+//! `address`), what C passes (`border`), memory (`memory`), and which checks are left out (`unchecked`). They are tested, and not proved.
 
 #![no_std]
 #![warn(unsafe_op_in_unsafe_fn, clippy::undocumented_unsafe_blocks)]
@@ -21,15 +20,9 @@ mod border;
 mod handle;
 mod memory;
 mod rt;
-mod serde_json;
 mod unchecked;
 
-#[allow(clippy::all, dead_code)]
-#[path = "../../rust/src/error.rs"]
-mod error;
-#[allow(dead_code)]
-#[path = "../../rust/src/json.rs"]
-mod json_text;
+use rt::serde_json;
 
 // The linter and the compiler warn of what the source's language asks for.
 macro_rules! proved {

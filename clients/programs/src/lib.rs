@@ -4,8 +4,8 @@
 //! plain Rust. Each file stands where it is erased to, once: the library itself in the crate for Rust, and `json` in the library
 //! for C. So this package names their files.
 //!
-//! Written by hand are the stand-ins for the prover's libraries: its standard library (`rt`), JSON (`tokens`, `serde_json`), and
-//! short calls (`itoa`, `memchr`, `simdutf8`). They are tested, and not proved.
+//! Written by hand are the stand-ins for the prover's libraries: its standard library, JSON and `memchr` (`rt`), and short calls
+//! (`itoa`, `simdutf8`). They are tested, and not proved.
 
 #![warn(unsafe_op_in_unsafe_fn, clippy::undocumented_unsafe_blocks)]
 // The stand-ins have the names of what they stand for.
@@ -17,14 +17,13 @@ compile_error!("the programs need Linux on a machine whose `usize` has 64 bits")
 extern crate alloc;
 
 pub mod itoa;
-pub mod memchr;
 pub mod rt;
-pub mod serde_json;
 pub mod simdutf8;
-pub mod tokens;
 #[allow(dead_code)]
 #[path = "../../c/src/unchecked.rs"]
 mod unchecked;
+
+pub use rt::{memchr, serde_json, tokens};
 
 // The linter and the compiler warn of what the source's language asks for.
 macro_rules! proved {

@@ -1,5 +1,5 @@
-//! Rattle's std as the programs use it: what the crate for Rust has of it, a test of UTF-8 of the library for C, and what a process
-//! has. Requests for memory are the same as there, because tests know them.
+//! Rattle's std as the programs use it: what the crate for Rust has of it, and of JSON, a test of UTF-8 of the library for C, and
+//! what a process has. Requests for memory are the same as there, because tests know them.
 
 #[allow(dead_code, unused_imports)]
 #[path = "../../rust/src/rt/mod.rs"]

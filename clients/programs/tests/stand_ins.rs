@@ -200,6 +200,65 @@ fn tokens_follow_each_other() {
     }
 }
 
+/// A text as the grammar of JSON has it, and as `serde_json` writes it.
+fn quote(text: &str) -> std::string::String {
+    let signs = |letter| match letter {
+        '"' => "\\\"".into(),
+        '\\' => "\\\\".into(),
+        '\u{8}' => "\\b".into(),
+        '\t' => "\\t".into(),
+        '\n' => "\\n".into(),
+        '\u{c}' => "\\f".into(),
+        '\r' => "\\r".into(),
+        '\0'..' ' => format!("\\u{:04x}", u32::from(letter)),
+        _ => std::string::String::from(letter),
+    };
+    let signs: std::string::String = text.chars().map(signs).collect();
+    format!("\"{signs}\"")
+}
+
+/// Texts of each length, with a letter at each place that may have to be escaped.
+#[test]
+fn texts_are_written_and_read_back() {
+    let letters = (0..=0x80).chain([0xe9, 0x65e5, 0x1f418]);
+    for letter in letters.filter_map(char::from_u32) {
+        for (len, at) in (0..40).flat_map(|len| (0..=len).map(move |at| (len, at))) {
+            let text = format!("{}{letter}{}", "a".repeat(at), "é".repeat(len - at));
+            let value = Value::try_from_str(Global, &text).unwrap();
+            let json = value.try_to_vec(Global).unwrap();
+            assert_eq!(json.as_slice(), quote(&text).as_bytes());
+            assert_eq!(value.to_string(), quote(&text));
+            let read = Value::from_slice(Global, &json).unwrap();
+            assert_eq!(read.as_str(), Some(&*text));
+        }
+    }
+}
+
+#[test]
+fn lists_and_numbers_are_written() {
+    for json in [
+        "[]",
+        r#"["a"]"#,
+        r#"["a","b",[],["c"]]"#,
+        "[0,18446744073709551615]",
+    ] {
+        let value = Value::from_str(Global, json).unwrap();
+        assert_eq!(value.to_string(), json);
+        assert_eq!(
+            value.try_to_vec(Global).unwrap().as_slice(),
+            json.as_bytes()
+        );
+    }
+}
+
+/// A byte that begins no letter is named by its line and its column.
+#[test]
+fn bytes_that_are_not_utf8_are_no_json() {
+    let error = Value::from_slice(Global, b"[\n \"a\xff\"]").map(drop);
+    let told = error.unwrap_err().to_string();
+    assert_eq!(told, "invalid JSON at line 2 column 4");
+}
+
 #[test]
 fn values_are_read() {
     let json = r#"{"a":[0,18446744073709551615,18446744073709551616,-1,1.0],"b":false,"a":["é"],"c":{"d":null}}"#;

@@ -7,6 +7,7 @@ use crate::proved::hash::TextHasher as _;
 use crate::proved::interner::coded::intern_coded;
 use crate::proved::interner::given::Given;
 use crate::rt::alloc::{AllocError, Global};
+use crate::rt::serde_json::Value;
 use crate::rt::string::String as Copied;
 use crate::sealed::Ours;
 use crate::symbol::{Sym, Symbol as _};
@@ -63,9 +64,12 @@ impl<B: Backend, H: BuildHasher + Default> StringInterner<B, H> {
     ///
     /// Returns an error if the text is not such an array, no symbol is left for a text, or an allocation fails.
     pub fn from_json(json: &str) -> Result<Self, JsonError> {
+        let value = Value::from_str(Global, json)?;
+        let elements = value.as_array().ok_or(JsonError::NotAList)?;
         let mut interner = Self::new();
-        for text in json::read(json)? {
-            interner.try_get_or_intern(text.ok_or(JsonError::NotAText)?)?;
+        for element in elements.iter() {
+            let text = element.as_str().ok_or(JsonError::NotAText)?;
+            interner.try_get_or_intern(text)?;
         }
         Ok(interner)
     }

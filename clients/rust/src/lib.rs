@@ -89,7 +89,7 @@
 //!
 //! The module `proved` is the library of the repository, whose every function is proved to keep its contract. A tool, `tools/erase`,
 //! made it of the proved source: it made comments of the contracts, and left the code as it was, token by token but for a few that
-//! its page names. You trust that tool, the stand-ins for the prover's standard library in the module `rt`, the rest of this crate,
+//! its page names. You trust that tool, the stand-ins for the prover's standard library and JSON in the module `rt`, the rest of this crate,
 //! which gives the library its interface, and rustc. All of these are tested, and not proved. The contracts speak of symbols,
 //! hashers and backends that keep theirs; what is not unsafe holds whatever these do.
 //!

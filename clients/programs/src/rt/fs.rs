@@ -9,7 +9,7 @@ use std::io::{Read as _, Write as _};
 use std::os::fd::{AsRawFd, FromRawFd, IntoRawFd, RawFd};
 use std::os::unix::fs::MetadataExt as _;
 
-extern "C" {
+unsafe extern "C" {
     fn open(path: *const c_char, flags: c_int, ...) -> c_int;
     fn openat(folder: c_int, name: *const c_char, flags: c_int, ...) -> c_int;
     fn flock(file: c_int, how: c_int) -> c_int;

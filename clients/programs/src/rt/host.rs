@@ -44,7 +44,7 @@ const SIGPIPE: c_int = 13;
 /// Leaves a signal out.
 const SIG_IGN: usize = 1;
 
-extern "C" {
+unsafe extern "C" {
     fn signal(number: c_int, handler: usize) -> usize;
     fn getentropy(bytes: *mut u8, count: usize) -> c_int;
 }
@@ -75,7 +75,7 @@ macro_rules! start_at {
     ($program:path) => {
         /// Called by the system.
         #[allow(clippy::not_unsafe_ptr_arg_deref)]
-        #[no_mangle]
+        #[unsafe(no_mangle)]
         pub extern "C" fn main(
             count: core::ffi::c_int,
             words: *const *const core::ffi::c_char,

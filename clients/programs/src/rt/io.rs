@@ -111,7 +111,7 @@ impl From<std::io::Error> for Error {
     }
 }
 
-extern "C" {
+unsafe extern "C" {
     // As POSIX has it, under the name that it has in the C libraries of Linux.
     #[link_name = "__xpg_strerror_r"]
     fn strerror_r(number: c_int, text: *mut c_char, room: usize) -> c_int;
@@ -292,7 +292,7 @@ impl<W: Write> Write for &mut W {
     }
 }
 
-extern "C" {
+unsafe extern "C" {
     fn read(file: c_int, bytes: *mut u8, count: usize) -> isize;
     fn write(file: c_int, bytes: *const u8, count: usize) -> isize;
     fn isatty(file: c_int) -> c_int;

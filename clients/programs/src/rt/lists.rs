@@ -4,7 +4,7 @@ use super::alloc::{AllocError, Global};
 use super::string::String;
 use super::vec::Vec;
 use core::cmp::Ordering;
-use core::fmt::{self, Write};
+use core::fmt;
 
 /// Up to so many items are sorted in their place.
 const SORTED_IN_PLACE: usize = 20;
@@ -116,13 +116,6 @@ impl fmt::Display for String {
     }
 }
 
-/// Fails only if memory is refused.
-impl Write for String {
-    fn write_str(&mut self, text: &str) -> fmt::Result {
-        self.push_str(text).map_err(|_| fmt::Error)
-    }
-}
-
 impl String {
     /// Writes what is formatted to a new text. `Err` only if memory is refused.
     pub(crate) fn of(alloc: Global, text: fmt::Arguments<'_>) -> Result<Self, AllocError> {
@@ -162,10 +155,5 @@ impl String {
             }
         }
         Ok(text)
-    }
-
-    /// Returns the bytes.
-    pub fn into_bytes(self) -> Vec<u8> {
-        Vec(self.0.into_bytes())
     }
 }

@@ -1,4 +1,5 @@
-//! Rattle's std as the proved code uses it, over Rust's own. It is written by hand, and not proved.
+//! Rattle's std as the proved code uses it, over Rust's own, and its JSON (`serde_json`, `tokens`, `memchr`). It is written by hand,
+//! and not proved.
 //!
 //! Each item has the name that it has there, and its comment says which contract of Rattle's it stands for. There a collection is
 //! passed the allocator and says if memory was refused. Here the allocator is Rust's global one, and what would end the process
@@ -6,11 +7,14 @@
 
 pub mod alloc;
 pub mod hash;
+pub mod memchr;
 pub mod numbers;
+pub mod serde_json;
 pub mod simd;
 pub mod string;
 #[cfg(test)]
 mod tests;
+pub mod tokens;
 pub mod vec;
 
 // What these have means the same in both.

@@ -1,7 +1,9 @@
 //! `String`.
 
 use super::alloc::{AllocError, Global};
+use super::vec::Vec;
 use crate::unchecked::append;
+use core::fmt;
 use core::ops::{Deref, Index, Range};
 
 type Text = alloc::string::String;
@@ -28,7 +30,7 @@ impl String {
     /// Makes a copy of a text, with no room for more. `Err` only if the memory is refused.
     pub fn from_str(alloc: Global, text: &str) -> Result<Self, AllocError> {
         let mut copy = String::with_capacity(alloc, text.len())?;
-        copy.0.push_str(text);
+        append(&mut copy.0, text);
         Ok(copy)
     }
 
@@ -75,6 +77,11 @@ impl String {
         self.0.truncate(len);
     }
 
+    /// Returns the bytes.
+    pub fn into_bytes(self) -> Vec<u8> {
+        Vec(self.0.into_bytes())
+    }
+
     /// Releases spare capacity, unless memory is refused for the block that replaces this one.
     pub fn shrink_to_fit(&mut self) {
         if self.0.capacity() > self.0.len() {
@@ -82,6 +89,14 @@ impl String {
                 *self = tight;
             }
         }
+    }
+}
+
+/// Fails only if memory is refused.
+impl fmt::Write for String {
+    #[inline(always)]
+    fn write_str(&mut self, text: &str) -> fmt::Result {
+        self.push_str(text).map_err(|_| fmt::Error)
     }
 }
 

@@ -3,9 +3,10 @@
 //! A reader checks where commas and colons are. Whether each bracket closes what was opened, and whether keys are where they have
 //! to be, is for its caller to check: so it may begin within a list.
 
-use crate::memchr::{memchr, memchr2};
-use crate::rt::alloc::{AllocError, Global};
-use crate::rt::string::String;
+use super::alloc::{AllocError, Global};
+use super::memchr::{find, memchr};
+use super::simd::prelude::u8x16;
+use super::string::String;
 
 /// A token.
 #[derive(Clone, Copy)]
@@ -51,6 +52,11 @@ impl Scratch {
     pub fn new(alloc: Global) -> Self {
         Scratch(String::new(alloc))
     }
+
+    /// Makes room for so many bytes. `Err` only if memory is refused.
+    pub fn with_capacity(alloc: Global, capacity: usize) -> Result<Self, AllocError> {
+        String::with_capacity(alloc, capacity).map(Scratch)
+    }
 }
 
 /// Reads the tokens of a text.
@@ -71,6 +77,11 @@ impl<'a> Reader<'a> {
         if memchr(b'\\', text.as_bytes()).is_some() {
             scratch.0.reserve_exact(text.len())?;
         }
+        Ok(Reader::with_room(text, scratch))
+    }
+
+    /// The same, if there is room for the text.
+    pub fn with_room(text: &'a str, scratch: &'a mut Scratch) -> Self {
         let mut reader = Reader {
             text,
             at: 0,
@@ -79,7 +90,7 @@ impl<'a> Reader<'a> {
             takes_halves: false,
         };
         reader.pass_spaces();
-        Ok(reader)
+        reader
     }
 
     /// Takes half of a pair of escapes, which stands for no letter, as U+FFFD from here on.
@@ -326,24 +337,35 @@ struct Quoted {
     has_escape: bool,
 }
 
+/// Returns where the first byte is that does not stand for itself in a string: a quote, a backslash or a control character.
+#[inline(always)]
+pub fn plain_len(bytes: &[u8]) -> Option<usize> {
+    let [quote, backslash, space] = [b'"', b'\\', b' '].map(u8x16::splat);
+    find(
+        bytes,
+        |lanes| {
+            let is_sign = lanes.simd_eq(quote) | lanes.simd_eq(backslash);
+            (is_sign | lanes.simd_lt(space)).to_bitmask()
+        },
+        |byte| matches!(byte, b'"' | b'\\' | 0..=31),
+    )
+}
+
 /// Finds the end of a string, whose first quote is before these bytes.
 fn scan_string(bytes: &[u8]) -> Result<Quoted, Fault> {
     let mut len = 0;
     let mut has_escape = false;
     loop {
         let rest = &bytes[len..];
-        let end = memchr2(b'"', b'\\', rest).unwrap_or(rest.len());
-        if rest[..end].iter().any(|byte| *byte < b' ') {
-            return Err(Fault::Invalid);
-        }
+        let end = plain_len(rest).ok_or(Fault::Cut)?;
         len += end;
-        match rest.get(end) {
-            None => return Err(Fault::Cut),
-            Some(b'"') => return Ok(Quoted { len, has_escape }),
-            Some(_) => {
+        match rest[end] {
+            b'"' => return Ok(Quoted { len, has_escape }),
+            b'\\' => {
                 has_escape = true;
                 len += scan_escape(&rest[end + 1..])? + 1;
             }
+            _ => return Err(Fault::Invalid),
         }
     }
 }
@@ -365,7 +387,7 @@ fn scan_escape(bytes: &[u8]) -> Result<usize, Fault> {
 /// Writes what a string with escapes stands for into a text, which has room for it. Returns `None` if one is half of a pair, unless
 /// a letter is put there.
 fn unescape(quoted: &str, half: Option<char>, into: &mut String) -> Option<()> {
-    into.clear();
+    into.truncate(0);
     let mut rest = quoted;
     while let Some(at) = memchr(b'\\', rest.as_bytes()) {
         into.push_str(&rest[..at]).ok()?;

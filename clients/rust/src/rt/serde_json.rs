@@ -1,15 +1,18 @@
-//! JSON values, for what the prover's library of this name does in the proved code.
+//! JSON values, for what the prover's library of this name does in the proved code, with the same requests for memory: for what
+//! strings with escapes are read into, for each string, and for each list as it grows.
 
-use crate::rt::alloc::{AllocError, Global};
-use crate::rt::string::String;
-use crate::rt::vec::Vec;
-use crate::tokens::{Reader, Scratch, Token};
-use core::fmt;
+use super::alloc::{AllocError, Global};
+use super::string::String;
+use super::tokens::{plain_len, Reader, Scratch, Token};
+use super::vec::Vec;
+use core::fmt::{self, Display, Write};
 
 /// How many lists and objects lie within each other at most.
 const DEEPEST: usize = 127;
+/// The least room for a string with escapes.
+const LEAST_SCRATCH: usize = 8;
 
-/// A value.
+/// A value. It takes 32 bytes.
 pub enum Value {
     Null,
     Bool(bool),
@@ -105,6 +108,14 @@ impl Value {
         String::from_str(alloc, text).map(Value::Text)
     }
 
+    /// Reads a JSON text of bytes, which must be UTF-8.
+    pub fn from_slice(alloc: Global, bytes: &[u8]) -> Result<Self, Error> {
+        match core::str::from_utf8(bytes) {
+            Ok(json) => Value::from_str(alloc, json),
+            Err(error) => Err(invalid_at(bytes, error.valid_up_to())),
+        }
+    }
+
     /// Reads a JSON text.
     pub fn from_str(alloc: Global, json: &str) -> Result<Self, Error> {
         match read(alloc, json, true) {
@@ -114,6 +125,25 @@ impl Value {
                 _ => Err(invalid),
             },
             outcome => outcome,
+        }
+    }
+
+    /// Writes the value, which has numbers of `u64`, texts and lists alone. `Err` only if memory is refused.
+    pub fn try_to_vec(&self, alloc: Global) -> Result<Vec<u8>, AllocError> {
+        let mut json = String::with_capacity(alloc, self.written_len())?;
+        write_value(self, &mut json).map_err(|_| AllocError)?;
+        Ok(json.into_bytes())
+    }
+
+    /// Returns how many bytes it is written in if no byte of a text is escaped. A number may take more.
+    fn written_len(&self) -> usize {
+        match self {
+            Value::Text(text) => text.len() + 2,
+            Value::Array(elements) => {
+                let lens = elements.iter().map(|element| element.written_len() + 1);
+                lens.sum::<usize>() + 2
+            }
+            _ => 1,
         }
     }
 
@@ -157,8 +187,8 @@ impl Value {
 
 /// Reads a JSON text. Unless it is strict, half of a pair is a letter, and a number may be too large.
 fn read(alloc: Global, json: &str, is_strict: bool) -> Result<Value, Error> {
-    let mut scratch = Scratch::new(alloc);
-    let mut reader = Reader::new(json, &mut scratch)?;
+    let mut scratch = Scratch::with_capacity(alloc, json.len().max(LEAST_SCRATCH))?;
+    let mut reader = Reader::with_room(json, &mut scratch);
     if !is_strict {
         reader.take_halves();
     }
@@ -176,6 +206,22 @@ fn read(alloc: Global, json: &str, is_strict: bool) -> Result<Value, Error> {
     }
 }
 
+/// Returns the line and the column of a byte. Those of the end are those of the byte before it.
+fn place_of(bytes: &[u8], at: usize) -> (usize, usize) {
+    let before = &bytes[..at];
+    let line = before.rsplit(|byte| *byte == b'\n').next();
+    let column = line.map_or(0, <[u8]>::len);
+    let newlines = before.iter().filter(|byte| **byte == b'\n').count();
+    let is_end = before.len() == bytes.len();
+    (newlines + 1, if is_end { column } else { column + 1 })
+}
+
+/// Returns the error of a byte that may not be where it is.
+fn invalid_at(bytes: &[u8], at: usize) -> Error {
+    let (line, column) = place_of(bytes, at);
+    Error::Invalid { line, column }
+}
+
 /// Reads values by their tokens.
 struct Parser<'a> {
     json: &'a str,
@@ -185,21 +231,14 @@ struct Parser<'a> {
 }
 
 impl Parser<'_> {
-    /// Returns the line and the column of the next token. Those of the end of the text are those of the byte before it.
+    /// Returns the line and the column of the next token.
     fn find_place(&self) -> (usize, usize) {
-        let bytes = self.json.as_bytes();
-        let before = &bytes[..self.reader.offset()];
-        let line = before.rsplit(|byte| *byte == b'\n').next();
-        let column = line.map_or(0, <[u8]>::len);
-        let newlines = before.iter().filter(|byte| **byte == b'\n').count();
-        let is_end = before.len() == bytes.len();
-        (newlines + 1, if is_end { column } else { column + 1 })
+        place_of(self.json.as_bytes(), self.reader.offset())
     }
 
     /// Returns the error of a token that may not stand where it does.
     fn invalid(&self) -> Error {
-        let (line, column) = self.find_place();
-        Error::Invalid { line, column }
+        invalid_at(self.json.as_bytes(), self.reader.offset())
     }
 
     /// Returns the error of a number that comes before the next token.
@@ -283,4 +322,64 @@ fn read_number(text: &str) -> Number {
         Ok(float) if float.is_finite() => Number::Other,
         _ => Number::TooLarge,
     }
+}
+
+/// Fails for what no call of the proved code writes: null, true, false, objects and other numbers than those of `u64`.
+impl Display for Value {
+    fn fmt(&self, f: &mut fmt::Formatter<'_>) -> fmt::Result {
+        write_value(self, f)
+    }
+}
+
+fn write_value(value: &Value, into: &mut impl Write) -> fmt::Result {
+    match value {
+        Value::Text(text) => write_text(text, into),
+        Value::Array(elements) => write_elements(elements, into),
+        Value::Number(Number::Integer(number)) => write!(into, "{number}"),
+        _ => Err(fmt::Error),
+    }
+}
+
+fn write_elements(elements: &[Value], into: &mut impl Write) -> fmt::Result {
+    into.write_str("[")?;
+    for (number, element) in elements.iter().enumerate() {
+        if number > 0 {
+            into.write_str(",")?;
+        }
+        write_value(element, into)?;
+    }
+    into.write_str("]")
+}
+
+/// Writes a text. Fails only if writing does.
+pub fn write_text(text: &str, into: &mut impl Write) -> fmt::Result {
+    into.write_str("\"")?;
+    let mut rest = text;
+    while let Some(plain) = plain_len(rest.as_bytes()) {
+        into.write_str(&rest[..plain])?;
+        write_escape(rest.as_bytes()[plain], into)?;
+        rest = &rest[plain + 1..];
+    }
+    into.write_str(rest)?;
+    into.write_str("\"")
+}
+
+/// Writes a byte that does not stand for itself.
+fn write_escape(byte: u8, into: &mut impl Write) -> fmt::Result {
+    let digit = |number: u8| &"0123456789abcdef"[usize::from(number)..][..1];
+    let sign = match byte {
+        b'"' => "\\\"",
+        b'\\' => "\\\\",
+        8 => "\\b",
+        9 => "\\t",
+        10 => "\\n",
+        12 => "\\f",
+        13 => "\\r",
+        _ => {
+            into.write_str("\\u00")?;
+            into.write_str(digit(byte / 16))?;
+            digit(byte % 16)
+        }
+    };
+    into.write_str(sign)
 }

@@ -1,29 +1,53 @@
 //! Searches for bytes, for what the crate of this name does in the proved code.
 
-use crate::rt::simd::prelude::u8x16;
+use super::simd::prelude::u8x16;
 
 /// How many bytes are compared at once.
 const LANES: usize = 16;
+const HALF: usize = LANES / 2;
 
-/// Returns where the first byte is that is found: among sixteen bytes by their bits, and else byte by byte.
+/// Returns where the first byte is that is found: among sixteen bytes by their bits, and byte by byte in fewer than eight.
 #[inline(always)]
-fn find(
+pub fn find(
     bytes: &[u8],
     among: impl Fn(u8x16) -> u64,
     is_found: impl Fn(u8) -> bool,
 ) -> Option<usize> {
-    let mut pieces = bytes.chunks_exact(LANES);
     let mut at = 0;
-    for piece in &mut pieces {
+    for piece in bytes.chunks_exact(LANES) {
         let found = among(u8x16::from_slice(piece));
         if found != 0 {
             return Some(at + found.trailing_zeros() as usize);
         }
         at += LANES;
     }
-    let rest = pieces.remainder().iter();
-    let found = rest.copied().position(is_found);
-    found.map(|place| at + place)
+    if at == bytes.len() {
+        return None;
+    }
+    // The last sixteen bytes, of which those before the rest are not found again, or the first eight and the last eight.
+    let (lanes, in_place) = match bytes.last_chunk::<LANES>() {
+        Some(last) => (u8x16::from_slice(last), 0),
+        None => match (bytes.first_chunk(), bytes.last_chunk()) {
+            (Some(first), Some(last)) => (join(first, last), HALF),
+            _ => return bytes.iter().copied().position(is_found),
+        },
+    };
+    let found = among(lanes);
+    let lane = (found != 0).then(|| found.trailing_zeros() as usize)?;
+    Some(if lane < in_place {
+        lane
+    } else {
+        lane + bytes.len() - LANES
+    })
+}
+
+/// Returns eight bytes and eight others behind them.
+#[inline(always)]
+fn join(first: &[u8; HALF], last: &[u8; HALF]) -> u8x16 {
+    let mut bytes = [0; LANES];
+    bytes[..HALF].copy_from_slice(first);
+    bytes[HALF..].copy_from_slice(last);
+    u8x16::from_slice(&bytes)
 }
 
 /// Returns where a byte is first.
