@@ -12,8 +12,8 @@ from edits import TOP
 from machine import toolchain_folder
 from needs import is_there
 
-# A run that takes longer hangs, also on a busy machine.
-SECONDS = 300
+# A run hangs that takes so much processor time, or none for so long: on a busy machine, others take longer by the clock.
+SECONDS = 60
 # What the library says at the end of a run that gave back all memory, and what stands for that line where it is missing.
 HELD_NOTHING, HELD = b"holds 0\n", b"not all memory was given back\n"
 
@@ -21,6 +21,27 @@ HELD_NOTHING, HELD = b"holds 0\n", b"not all memory was given back\n"
 REFUSED = b"request refused\n"
 
 End = namedtuple("End", "status output error")
+
+
+def processor_seconds(process):
+    """The processor time that a process has taken."""
+    # The name in parentheses may have spaces. User and system time are the 14th and 15th words, in ticks.
+    words = Path(f"/proc/{process}/stat").read_bytes().rpartition(b")")[2].split()
+    return (int(words[11]) + int(words[12])) / os.sysconf("SC_CLK_TCK")
+
+
+def end_of(started, seconds=SECONDS):
+    """How a process ends. One that hangs is killed, and has no status."""
+    used = -1
+    while True:
+        try:
+            printed, told = started.communicate(timeout=seconds)
+            return End(started.returncode, printed or b"", told or b"")
+        except subprocess.TimeoutExpired:
+            before, used = used, processor_seconds(started.pid)
+        if used >= seconds or used == before:
+            started.kill()
+            return End(None, b"", b"hangs after %g seconds of processor time\n" % used)
 
 
 def holding(data):
@@ -46,19 +67,19 @@ class Program:
         """How a run over these bytes, or over this file, ends, where standard error may be joined to standard output."""
         environment = {"LD_PRELOAD": self.library, **{name: str(value) for name, value in settings.items()}} if settings else {}
         with holding(given) if isinstance(given, bytes) else nullcontext(given) as stdin:
-            try:
-                # Without closing files first, the process starts several times as fast.
-                ended = subprocess.run([self.path, *words], stdin=stdin, stdout=output, env=environment, cwd=folder,
-                                       stderr=subprocess.STDOUT if is_joined else subprocess.PIPE, timeout=seconds,
-                                       preexec_fn=before, close_fds=False, check=False)
-            except subprocess.TimeoutExpired:
-                return End(None, b"", b"not done after %d seconds\n" % seconds)
-        printed, told = ended.stdout or b"", ended.stderr or b""
+            # Without closing files first, the process starts several times as fast.
+            with subprocess.Popen([self.path, *words], stdin=stdin, stdout=output, env=environment, cwd=folder,
+                                  stderr=subprocess.STDOUT if is_joined else subprocess.PIPE,
+                                  preexec_fn=before, close_fds=False) as started:
+                ended = end_of(started, seconds)
+        if ended.status is None:
+            return ended
+        printed, told = ended.output, ended.error
         if "REFUSE" in settings:
             told = b"".join(line for line in told.splitlines(keepends=True) if line != REFUSED)
         if "TELL_HELD" in settings:
             printed, told = (without_held(printed), told) if is_joined else (printed, without_held(told))
-        return End(ended.returncode, printed, told)
+        return ended._replace(output=printed, error=told)
 
     def run_with_asks(self, words, data, refused=0, **settings):
         """How a run ends with the request of this number refused, counted from 1, and the sizes of its requests for memory."""
@@ -106,8 +127,7 @@ class Stopped:
         """How it ends after this signal."""
         if self.is_stopped:
             os.kill(self.started.pid, by)
-        printed, told = self.started.communicate(timeout=SECONDS)
-        return End(self.started.returncode, printed, told)
+        return end_of(self.started)
 
 
 def without_held(told):

@@ -12,7 +12,7 @@ import tempfile
 import time
 from pathlib import Path
 
-from built import SECONDS, holding
+from built import SECONDS, end_of, holding
 from needs import python_with
 from program.cases import MANY
 from program.reckon import answer, failed, skip_invalid, told, unwritten, warned
@@ -607,8 +607,8 @@ def try_writer_that_reads(program, words, before):
             time.sleep(0.1)
             busy = failed(1, b"it: cannot write files: resource busy")
             yield f"{words}, the second", program.run(words, b"white\n", folder=folder), busy
-            told = first.communicate(timeout=SECONDS)
-        yield f"{words}, the first", (first.returncode, *told), OK
+            ended = end_of(first)
+        yield f"{words}, the first", ended, OK
         yield f"{words}, files", files_in(f"{folder}/it"), columns_of(b"blue\n", before)
 
 

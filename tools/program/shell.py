@@ -11,7 +11,7 @@ import tty
 from itertools import product
 from pathlib import Path
 
-from built import SECONDS
+from built import end_of
 from edits import TOP
 from program.columns import OK, columns_of, files_in
 from program.reckon import ENCODED, MEMORY, answer, failed, is_utf8, misused, told, unreadable, unwritten, warned
@@ -201,10 +201,10 @@ def try_terminal_as_a_file(program):
                           start_new_session=True) as started:
         # Control C, and at the beginning of a line control D, which ends the input.
         os.write(ours, b"\x03red\n\x04")
-        printed, told = started.communicate(timeout=SECONDS)
+        ended = end_of(started)
     os.close(theirs)
     os.close(ours)
-    yield f"{words[0]} of a terminal", (started.returncode, printed, told), (0, b"1 red\n", b"")
+    yield f"{words[0]} of a terminal", ended, (0, b"1 red\n", b"")
 
 
 def try_merges(program):

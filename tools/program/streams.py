@@ -11,7 +11,7 @@ from dataclasses import dataclass
 from itertools import product
 from typing import Callable
 
-from built import SECONDS, holding
+from built import end_of, holding
 
 # A writer that takes nothing is an error too.
 ERRORS = (errno.EPIPE, errno.ENOMEM, 0)
@@ -118,7 +118,7 @@ def reader_that_leaves(program, streams):
     with holding(data) as given, subprocess.Popen([program.path, *words], stdin=given, stdout=pipe, stderr=pipe) as started:
         line = started.stdout.readline()
         started.stdout.close()
-        found = started.wait(SECONDS), line, started.stderr.read()
+        found = end_of(started)._replace(output=line)
     yield "a reader that leaves", found, streams.unwritten(errno.EPIPE, whole[:whole.index(b"\n") + 1])
 
 

@@ -3,12 +3,14 @@
 import os
 import shutil
 import tempfile
+import time
 import unittest
 import unittest.mock
+from itertools import count
 from pathlib import Path
 
 import small  # brings the tools into reach
-from built import HELD, End, Program, holding, without_held
+from built import HELD, End, Program, holding, processor_seconds, without_held
 from trials import Tally, outcome
 
 
@@ -43,7 +45,20 @@ class ScriptTest(unittest.TestCase):
         self.assertEqual(program.run([]).output, b" \n")
 
     def test_a_run_without_end(self):
-        self.assertIsNone(self.program("exec sleep 9").run([], seconds=0.1).status)
+        for script, least in ("exec sleep 9", 0), ("while :; do :; done", 0.1):
+            ended = self.program(script).run([], seconds=0.1, TELL_HELD=1)
+            self.assertIsNone(ended.status)
+            self.assertRegex(ended.error, rb"\Ahangs after [\d.]+ seconds of processor time\n\Z")
+            self.assertGreaterEqual(float(ended.error.split()[2]), least)
+
+    def test_a_run_that_takes_long_by_the_clock(self):
+        with unittest.mock.patch("built.processor_seconds", side_effect=count(0.001, 0.001)):
+            self.assertEqual(self.program("sleep 0.3; echo done").run([], seconds=0.1), (0, b"done\n", b""))
+
+    def test_processor_time(self):
+        while time.process_time() < 0.2:
+            pass
+        self.assertAlmostEqual(processor_seconds(os.getpid()), time.process_time(), delta=0.1)
 
     def test_asks(self):
         program = self.program("printf 'asks 8\\nword\\nasks 16\\nrequest refused\\nholds 0\\n' >&2")
