@@ -72,10 +72,10 @@ def time_runs(command, given):
 
 
 def count_cycles(command, given):
-    """The estimated cycles and the instructions of all processes of a run."""
+    """The estimated cycles of all processes of a run."""
     with open(given) as lines:
         parts = count(["sh", "-c", command], "--trace-children=yes", stdin=lines, env=ENVIRONMENT)
-    return {"run cycles": sum(map(cycles_in, parts)), "run instructions": sum(totals["Ir"] for totals in parts)}
+    return {"run cycles": sum(map(cycles_in, parts))}
 
 
 def measure_columns(program, number, measure):

@@ -10,7 +10,7 @@ import sys
 import tempfile
 from typing import NamedTuple
 
-from results import HERE, IN_PLACE_OF, PHASES, summary
+from results import HERE, IN_PLACE_OF, KINDS, PHASES, summary
 
 from asks import make_texts
 from built import Program
@@ -40,7 +40,7 @@ class Input(NamedTuple):
 
     def kinds(self):
         """The kinds that are measured on it. Chosen texts take long where they find their victim, so one backend is enough."""
-        return [kind for kind in told(["kinds"]) if self.name != "chosen" or kind.split("/")[1] == "string"]
+        return ["/".join(kind) for kind in KINDS if self.name != "chosen" or kind[1] == "string"]
 
 
 def word_list():

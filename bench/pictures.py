@@ -12,8 +12,7 @@ import matplotlib.pyplot as plot
 from cycler import cycler
 from matplotlib.ticker import FuncFormatter, LogLocator
 
-from results import BACKENDS, DEFAULT, FAST, FNV, INPUTS, KEYED, MAP, NOUNS, ORIGINAL, PHASES, PICTURES, SEEDED, SET, TAGGED
-from results import TEXTS, Results
+from results import BACKENDS, CHOICES, DEFAULT, FAST, FNV, INPUTS, MAP, NOUNS, ORIGINAL, PHASES, PICTURES, SET, TEXTS, Results
 
 plot.rcParams.update({"font.size": 7.5, "font.family": "sans-serif", "savefig.facecolor": "white"})
 plot.rcParams.update({"svg.fonttype": "none", "svg.hashsalt": "string_interner"})
@@ -38,16 +37,7 @@ OF_BACKENDS = {}
 for name in BACKENDS:
     OF_BACKENDS[f"ours, {name}"] = FAST[name]
     OF_BACKENDS[f"original, {name}"] = ORIGINAL[name]
-OF_CHOICES = {
-    "Tagged, Fold": FAST["string"],
-    "Index, Fnv1a": DEFAULT["string"],
-    "Tagged, Fnv1a": TAGGED,
-    "Index, Fold": ("ours", "string", "Index", "FoldState"),
-    "Tagged, Random": KEYED,
-    "Index, Random": ("ours", "string", "Index", "RandomState"),
-    "Tagged, Seeded": SEEDED,
-}
-OF_CHOSEN = {**OF_CHOICES, "original, FNV": FNV["string"], "original": ORIGINAL["string"]}
+OF_CHOSEN = {**CHOICES, "original, FNV": FNV["string"], "original": ORIGINAL["string"]}
 
 
 def plain(number, _=None):
@@ -156,7 +146,7 @@ def main():
     draw_times(results, folder, "interning", interning, PEERS, most)
     draw_times(results, folder, "calls-identifiers", calls, PEERS, every)
     draw_times(results, folder, "backends", backends, OF_BACKENDS, every)
-    draw_times(results, folder, "index-and-hasher", choices, OF_CHOICES, both)
+    draw_times(results, folder, "index-and-hasher", choices, CHOICES, both)
     if results.counts["chosen"]:
         draw_times(results, folder, "chosen", chosen, OF_CHOSEN, [("chosen", "fill")], "milliseconds in all (log scale)")
     draw_memory(results, folder)

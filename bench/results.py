@@ -41,7 +41,7 @@ PHASES = {
 }
 # What a kind without a phase does in its place.
 IN_PLACE_OF = {"copy": "clone", "together": "known"}
-# The inputs that tables have.
+# The inputs of which times and cycles are shown; of words memory is.
 INPUTS = {"identifiers": "identifiers of 10 bytes on average", "long": "texts of 200 bytes"}
 NOUNS = {"identifiers": "identifiers", "words": "words", "long": "texts of 200 bytes"}
 # What the programs read.
@@ -57,11 +57,20 @@ FNV = {backend: ("original", backend, "-", "FNV") for backend in BACKENDS}
 ORIGINAL = {backend: ("original", backend, "-", "default") for backend in BACKENDS}
 DEFAULT = {backend: ("ours", backend, "Index", "Fnv1a") for backend in BACKENDS}
 FAST = {backend: ("ours", backend, "TaggedIndex", "FoldState") for backend in BACKENDS}
-TAGGED = ("ours", "string", "TaggedIndex", "Fnv1a")
-KEYED = ("ours", "string", "TaggedIndex", "RandomState")
-SEEDED = ("ours", "string", "TaggedIndex", "SeededHasher")
+CHOICES = {
+    "Tagged, Fold": FAST["string"],
+    "Index, Fnv1a": DEFAULT["string"],
+    "Tagged, Fnv1a": ("ours", "string", "TaggedIndex", "Fnv1a"),
+    "Index, Fold": ("ours", "string", "Index", "FoldState"),
+    "Tagged, Random": ("ours", "string", "TaggedIndex", "RandomState"),
+    "Index, Random": ("ours", "string", "Index", "RandomState"),
+    "Tagged, Seeded": ("ours", "string", "TaggedIndex", "SeededHasher"),
+}
 MAP = ("HashMap and Vec", "-", "-", "default")
 SET = ("IndexSet", "-", "-", "default")
+THROUGH_C = [("ours through C", "string", "-", of) for of in ("UTF-8", "bytes")]
+# The kinds that are measured. The driver has more, which bench/cycles.py counts one by one.
+KINDS = [*FNV.values(), *ORIGINAL.values(), MAP, SET, *THROUGH_C, *DEFAULT.values(), *FAST.values(), *list(CHOICES.values())[2:]]
 # In one program: the Rust crate under its default hasher and without keys, and the original under its own default.
 RUST = {kind: ("rust", kind, "-", "-") for kind in ("original", "default", "fixed")}
 # How the kinds of what threads share begin.
@@ -69,10 +78,9 @@ THREADS = ("threads", "-", "-")
 
 
 def summary(name, times):
-    """The least and the median of some times, and how far the middle half of them spreads. Fewer than four have no quarters."""
-    times, last = sorted(times), len(times) - 1
-    spread = {f"{name} spread": times[last * 3 // 4] - times[last // 4]} if last >= 3 else {}
-    return {name: times[0], f"{name} median": times[last // 2], **spread}
+    """The least and the median of some times."""
+    times = sorted(times)
+    return {name: times[0], f"{name} median": times[(len(times) - 1) // 2]}
 
 
 def code_of(text):
@@ -92,7 +100,7 @@ def sum_of(part, top=TOP):
 
 
 class Results:
-    """Values by kind, input, count and measure: nanoseconds, bytes, estimated cycles or instructions, a text each."""
+    """Values by kind, input, count and measure: nanoseconds, bytes or estimated cycles, a text each."""
 
     def __init__(self, folder=HERE / "out"):
         self.heads = {}

@@ -26,7 +26,7 @@ def build(done, words, name, crates=()):
 
 
 def count_rounds(is_quick):
-    """Lines of the estimated cycles and instructions of each kind."""
+    """Lines of the estimated cycles of each kind."""
     cases = [(kind, texts) for texts in (10_000, 100_000)[: 1 if is_quick else 2] for kind in RUST]
     program = OUT / "rust/target/release/rust"
     # A part ends before each reading of the clock, so those of the phases are the second, the fourth, and so on.
@@ -34,8 +34,7 @@ def count_rounds(is_quick):
     with concurrent.futures.ThreadPoolExecutor(os.cpu_count()) as pool:
         for (kind, texts), parts in zip(cases, pool.map(run, cases)) if shutil.which("valgrind") else ():
             for phase, totals in zip(PHASES, parts):
-                for what, total in (("cycles", cycles_in(totals)), ("instructions", totals["Ir"])):
-                    yield "\t".join((*RUST[kind], "identifiers", str(texts), "", f"{phase} {what}", f"{total / texts:.1f}"))
+                yield "\t".join((*RUST[kind], "identifiers", str(texts), "", f"{phase} cycles", f"{cycles_in(totals) / texts:.1f}"))
 
 
 def table_rows(results, phases=PHASES):

@@ -48,8 +48,8 @@ class Sums(unittest.TestCase):
             with self.assertRaises(SystemExit):
                 driver.compare({"a/string/-": SUMS, "b/bucket/-": other})
 
-    def test_the_least_and_the_median_and_no_spread_of_few(self):
-        self.assertEqual(summary("fill", [5000, 1, 3, 2, 4]), {"fill": 1, "fill median": 3, "fill spread": 2})
+    def test_the_least_and_the_median(self):
+        self.assertEqual(summary("fill", [5000, 1, 3, 2, 4]), {"fill": 1, "fill median": 3})
         self.assertEqual(summary("fill", [4, 2]), {"fill": 2, "fill median": 2})
 
     def test_times_of_all_rounds(self):
@@ -58,7 +58,7 @@ class Sums(unittest.TestCase):
             driver, "told", lambda words: RUN.splitlines()
         ):
             rows = list(driver.time_kinds(given, 1, 2))
-        self.assertEqual(rows[:3], [f"a\tstring\t-\tb\twords\t2\t3.5\t{row}" for row in ("fill\t3.00", "fill median\t3.00", "fill spread\t1.00")])
+        self.assertEqual(rows[:2], [f"a\tstring\t-\tb\twords\t2\t3.5\t{row}" for row in ("fill\t3.00", "fill median\t3.00")])
         self.assertFalse([row for row in rows if "copy" in row])
 
 

@@ -2,9 +2,8 @@
 //!
 //!     threads COUNT ROUNDS     on so many texts of 9 bytes on average, by medians of so many rounds of 10,000 calls
 //!
-//! It prints lines of a contestant, a measure and a value: of each call the nanoseconds by one thread and by four, and the bytes of
-//! a text. `used` is processor time. `took` is the time of a clock, which also has what threads wait for each other, in the rounds in
-//! which no thread lost its processor to something else, if there are three.
+//! It prints lines of a contestant, a measure and a value: of each call the nanoseconds of processor time by one thread and by four,
+//! and the bytes of a text.
 
 use std::cell::UnsafeCell;
 use std::collections::BTreeSet;
@@ -12,7 +11,6 @@ use std::hash::{BuildHasher, Hash, Hasher};
 use std::hint::{black_box, spin_loop};
 use std::sync::atomic::{AtomicU32, AtomicUsize, Ordering::SeqCst};
 use std::sync::RwLock;
-use std::time::Instant;
 use std::{mem, slice, str, thread};
 
 use dashmap::{DashMap, SharedValue};
@@ -260,19 +258,15 @@ fn pin(processor: usize) {
     }
 }
 
-/// The nanoseconds that this thread had a processor, and how often it was taken from the thread.
-fn spent() -> (f64, i64) {
-    // SAFETY: zeros are a time and a use, which the calls write.
+/// The nanoseconds that this thread had a processor.
+fn spent() -> f64 {
+    // SAFETY: zeros are a time, which the call writes.
     unsafe {
-        let (mut time, mut usage): (libc::timespec, libc::rusage) = (mem::zeroed(), mem::zeroed());
+        let mut time: libc::timespec = mem::zeroed();
         libc::clock_gettime(libc::CLOCK_THREAD_CPUTIME_ID, &mut time);
-        libc::getrusage(libc::RUSAGE_THREAD, &mut usage);
-        (time.tv_sec as f64 * 1e9 + time.tv_nsec as f64, usage.ru_nivcsw)
+        time.tv_sec as f64 * 1e9 + time.tv_nsec as f64
     }
 }
-
-/// The nanoseconds of a call in a round: of processor time, and of a clock, if no thread lost its processor.
-type Times = (f64, Option<f64>);
 
 /// Returns the part of a list for a round.
 fn part_of<T>(list: &[T], turn: usize) -> &[T] {
@@ -280,8 +274,8 @@ fn part_of<T>(list: &[T], turn: usize) -> &[T] {
 }
 
 /// Runs a body for each thread and the number of this round in threads that begin at the same time. Each first runs `before` for the
-/// next round. They make so many calls. What a body returns is dropped after that.
-fn run<T: Send>(threads: usize, calls: usize, before: impl Fn(usize, usize) + Sync, body: impl Fn(usize, usize) -> T + Sync) -> Times {
+/// next round. They make so many calls. What a body returns is dropped after that. Returns the nanoseconds of a call.
+fn run<T: Send>(threads: usize, calls: usize, before: impl Fn(usize, usize) + Sync, body: impl Fn(usize, usize) -> T + Sync) -> f64 {
     let (ready, before, body, turn) = (&AtomicUsize::new(0), &before, &body, TURN.fetch_add(1, SeqCst));
     let time = move |thread: usize| {
         pin((thread + turn) % THREADS);
@@ -290,24 +284,22 @@ fn run<T: Send>(threads: usize, calls: usize, before: impl Fn(usize, usize) + Sy
             spin_loop();
         }
         before(thread, turn + 1);
-        let ((used, lost), begun) = (spent(), Instant::now());
+        let begun = spent();
         let kept = body(thread, turn);
-        let (took, (used_then, lost_then)) = (begun.elapsed().as_nanos() as f64, spent());
-        (used_then - used, took, lost_then == lost, kept)
+        (spent() - begun, kept)
     };
     let times: Vec<_> = thread::scope(|scope| {
         let all: Vec<_> = (0..threads).map(|thread| scope.spawn(move || time(thread))).collect();
         all.into_iter().map(|it| it.join().unwrap()).collect()
     });
-    let mean = |of: fn(&(f64, f64, bool, T)) -> f64| times.iter().map(of).sum::<f64>() / calls as f64;
-    (mean(|it| it.0), times.iter().all(|it| it.2).then(|| mean(|it| it.1)))
+    times.iter().map(|it| it.0).sum::<f64>() / calls as f64
 }
 
 /// A measure, and what its rounds gave.
 struct Row {
     name: String,
-    round: Box<dyn Fn() -> Times>,
-    times: Vec<Times>,
+    round: Box<dyn Fn() -> f64>,
+    times: Vec<f64>,
 }
 
 /// Returns the rows of a contestant.
@@ -321,7 +313,7 @@ fn rows_of<C: Contestant + 'static>(name: &str, texts: &'static Texts) -> Vec<Ro
     let symbols: &[_; THREADS] = Box::leak(Box::new(symbols));
     let mut rows = Vec::new();
     for threads in [1, THREADS].into_iter().filter(|threads| *threads == 1 || C::IS_SHARED) {
-        let mut add = |call: &str, round: Box<dyn Fn() -> Times>| {
+        let mut add = |call: &str, round: Box<dyn Fn() -> f64>| {
             rows.push(Row { name: format!("{name}\t{call} {threads}"), round, times: Vec::new() });
         };
         let find = |thread: usize, turn| {
@@ -364,15 +356,11 @@ fn print_memory<C: Contestant>(name: &str, texts: &Texts) {
     println!("{name}\tbytes\t{:.1}", (live() - before) as f64 / texts.new.len() as f64);
 }
 
-/// Prints the medians of a row.
-fn print_times(row: &Row) {
-    let used = row.times.iter().map(|it| it.0).collect();
-    let took = row.times.iter().filter_map(|it| it.1).collect();
-    for (what, mut times) in [("used", used), ("took", took)] as [(_, Vec<f64>); 2] {
-        times.sort_by(f64::total_cmp);
-        if times.len() > 2 {
-            println!("{} {what}\t{:.1}", row.name, times[times.len() / 2]);
-        }
+/// Prints the median of a row.
+fn print_times(mut row: Row) {
+    row.times.sort_by(f64::total_cmp);
+    if let Some(median) = row.times.get(row.times.len() / 2) {
+        println!("{} used\t{median:.1}", row.name);
     }
 }
 
@@ -405,5 +393,5 @@ fn main() {
         }
     }
     rows.sort_by(|one, other| one.name.cmp(&other.name));
-    rows.iter().for_each(print_times);
+    rows.into_iter().for_each(print_times);
 }

@@ -1,22 +1,64 @@
 //! The library through its calls for C, which are linked in as a shared library, over joined strings.
 
 use crate::interner::Interner;
-use crate::sys::*;
 use std::mem::MaybeUninit;
+
+const INTERNER_OK: u32 = 0;
+const INTERNER_STRING: u32 = 0;
 
 /// How many entries a call lists.
 const PIECE: usize = 64;
 
-// The calls that the Rust crate of `clients/` does not make.
+/// What a handle points to, of which this crate knows nothing.
+#[repr(C)]
+#[allow(non_camel_case_types)]
+pub struct interner {
+    _nothing: [u8; 0],
+}
+
+#[repr(C)]
+#[allow(non_camel_case_types)]
+struct interner_text {
+    bytes: *const u8,
+    len: usize,
+}
+
+#[repr(C)]
+#[allow(non_camel_case_types)]
+struct interner_entry {
+    symbol: u32,
+    text: interner_text,
+}
+
+#[repr(C)]
+#[allow(non_camel_case_types)]
+struct interner_cursor {
+    index: usize,
+    place: usize,
+}
+
+// As `string_interner.h` declares them.
 extern "C" {
     fn interner_new(kind: u32, out: *mut *mut interner) -> u32;
+    fn interner_free(h: *mut interner);
+    fn interner_clone(h: *const interner, copy: *mut *mut interner) -> u32;
+    fn interner_len(h: *const interner) -> usize;
+    fn interner_get(h: *const interner, text: *const u8, len: usize, symbol: *mut u32) -> u32;
     fn interner_get_or_intern(
         h: *mut interner,
         text: *const u8,
         len: usize,
         symbol: *mut u32,
     ) -> u32;
-    fn interner_get(h: *const interner, text: *const u8, len: usize, symbol: *mut u32) -> u32;
+    fn interner_string_find_utf8(h: *const interner, text: *const u8, len: usize) -> u64;
+    fn interner_string_intern_utf8(h: *mut interner, text: *const u8, len: usize) -> u64;
+    fn interner_string_resolve(h: *const interner, symbol: u32, text: *mut interner_text) -> u32;
+    fn interner_entries(
+        h: *const interner,
+        cursor: *mut interner_cursor,
+        entries: *mut interner_entry,
+        entries_len: usize,
+    ) -> usize;
 }
 
 /// A handle, on which each text is handed over as UTF-8, or as bytes that the library looks at.

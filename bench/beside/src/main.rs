@@ -13,8 +13,6 @@ mod interner;
 mod kind;
 mod ours;
 mod phases;
-#[allow(dead_code)]
-mod sys;
 
 use phases::{Budget, Inputs, Results};
 
