@@ -45,8 +45,9 @@ class ScriptTest(unittest.TestCase):
         self.assertEqual(program.run([]).output, b" \n")
 
     def test_a_run_without_end(self):
-        for script, least in ("exec sleep 9", 0), ("while :; do :; done", 0.1):
-            ended = self.program(script).run([], seconds=0.1, TELL_HELD=1)
+        # On a busy machine a process may get no time for a tenth of a second.
+        for script, seconds, least in ("exec sleep 9", 0.1, 0), ("while :; do :; done", 1, 1):
+            ended = self.program(script).run([], seconds=seconds, TELL_HELD=1)
             self.assertIsNone(ended.status)
             self.assertRegex(ended.error, rb"\Ahangs after [\d.]+ seconds of processor time\n\Z")
             self.assertGreaterEqual(float(ended.error.split()[2]), least)
