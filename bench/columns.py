@@ -28,10 +28,14 @@ COMMANDS = [
     ("Python", "repeated"),
 ]
 # The commands that have another name above: each counts lines by a hash table.
+IN_PYTHON = """from collections import Counter
+import sys
+sys.stdout.buffer.writelines(b"%d %b" % (count, line) for line, count in Counter(sys.stdin.buffer).items())
+"""
 PEERS = {
     "mawk": "mawk '{ counts[$0]++ } END { for (line in counts) print counts[line], line }'",
     "Rust": shlex.quote(str(HERE / "out/peer/target/release/peer")),
-    "Python": f"{sys.executable} {shlex.quote(str(HERE / 'peer/count.py'))}",
+    "Python": f"{sys.executable} -c {shlex.quote(IN_PYTHON)}",
 }
 # Runs a command, and prints its peak in KiB. Linux counts what the parent of a process holds when it starts, too, so the parent
 # is a small one.
