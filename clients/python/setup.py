@@ -43,8 +43,9 @@ class BuildWithLibrary(build_ext):
 class ManyLinuxWheel(bdist_wheel):
     def get_tag(self):
         python, abi, platform = super().get_tag()
-        # It needs nothing but the C library, of 2.17 or older; clients/check looks.
-        return python, abi, platform.replace("linux_x86_64", "manylinux_2_17_x86_64")
+        # It needs nothing but the C library, of 2.17 or older; clients/check looks, on both processors.
+        is_known = platform in ("linux_x86_64", "linux_aarch64")
+        return python, abi, platform.replace("linux", "manylinux_2_17") if is_known else platform
 
 
 class SourcesOfAll(sdist):
