@@ -19,8 +19,9 @@ TAKEN = re.compile(r"^(.+): (\d+) passed, \d+ seconds, \d+ processor seconds$", 
 # Without these parts it is not whole.
 PARTS = {
     "proofs", "scenarios", "the program", "the program dictcol", "the program dictcol on large inputs", "records of proofs",
-    "the library for C and its clients", "texts chosen without keys", "what was measured", "tests of the gate's tools",
-    "tests of the benchmark's tools", "planted bugs that the prover refuses", "planted bugs that a run catches",
+    "the library for C and its clients", "the steps of the pages for users", "the steps of the pages by cargo", "texts chosen without keys",
+    "what was measured", "tests of the gate's tools", "tests of the benchmark's tools", "planted bugs that the prover refuses",
+    "planted bugs that a run catches",
 }
 
 
