@@ -43,6 +43,7 @@ class NeedsTest(unittest.TestCase):
     def test_a_toolchain(self):
         with tempfile.TemporaryDirectory() as folder, mock.patch.dict("os.environ", PATH=f"{folder}:/usr/bin:/bin"):
             rt = Path(folder, "rt")
+            machine.ask_rt.cache_clear()
             self.assertFalse(needs.is_there("rt"))
             for said, is_one in (("echo kit-1 logic 1f", True), ("echo rt 4.4.6", False), ("cat", False), ("exit 1", False)):
                 rt.write_text(f"#!/bin/sh\n{said}\n")
