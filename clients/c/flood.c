@@ -168,8 +168,12 @@ static double least_time(int call, interner_kind kind, interner_hasher hasher, c
     size_t done;
     double begun = (double)clock(), took;
     interner *names = make_by(call, kind, hasher);
-    /* To make a large table takes longer than to intern texts. */
-    if (call == NEW_LARGE) begun = (double)clock();
+    if (call == NEW_LARGE) {
+      /* To make a large table, and to write to its memory for the first time, takes longer than to intern texts. */
+      if (interner_intern_joined(names, texts, count * LENGTH, ends, count, symbols, count, &done) != INTERNER_OK) abort();
+      interner_truncate(names, 0);
+      begun = (double)clock();
+    }
     if (interner_intern_joined(names, texts, count * LENGTH, ends, count, symbols, count, &done) != INTERNER_OK) abort();
     took = (double)clock() - begun;
     if (took < least) least = took;
