@@ -1,7 +1,7 @@
 #!/usr/bin/env python3
 """Prints what a kind of interner costs a text, by phase, as callgrind counts it:
 
-    bench/cycles.py KIND INPUT:COUNT..    as   bench/cycles.py ours/string/Index/Fnv1a identifiers:10000
+    bench/cycles.py KIND INPUT:COUNT..    as   bench/cycles.py ours/string/Index/FixedState identifiers:10000
 
 once bench/run has built its driver, which lists the kinds (bench/out/beside/target/release/beside kinds).
 

@@ -55,12 +55,12 @@ LINES = {
 BACKENDS = ("string", "bucket", "buffer")
 FNV = {backend: ("original", backend, "-", "FNV") for backend in BACKENDS}
 ORIGINAL = {backend: ("original", backend, "-", "default") for backend in BACKENDS}
-DEFAULT = {backend: ("ours", backend, "Index", "Fnv1a") for backend in BACKENDS}
+DEFAULT = {backend: ("ours", backend, "Index", "FixedState") for backend in BACKENDS}
 FAST = {backend: ("ours", backend, "TaggedIndex", "FoldState") for backend in BACKENDS}
 CHOICES = {
     "Tagged, Fold": FAST["string"],
-    "Index, Fnv1a": DEFAULT["string"],
-    "Tagged, Fnv1a": ("ours", "string", "TaggedIndex", "Fnv1a"),
+    "Index, FixedState": DEFAULT["string"],
+    "Tagged, FixedState": ("ours", "string", "TaggedIndex", "FixedState"),
     "Index, Fold": ("ours", "string", "Index", "FoldState"),
     "Tagged, Random": ("ours", "string", "TaggedIndex", "RandomState"),
     "Index, Random": ("ours", "string", "Index", "RandomState"),

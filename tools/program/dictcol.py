@@ -48,6 +48,11 @@ def lists_files(words):
     return len(found) > (3 if found[:1] == [b"shard"] else 1)
 
 
+def lists_inputs(words, asks):
+    """Whether a run asked for a list of inputs: one that merges files did before it read the first."""
+    return (operands(words)[:1] == [b"merge"] or b"--encoded" in words) and OUTPUT_BUFFER in asks
+
+
 def count_asks_of_words(asks):
     """How many requests come before those for the buffer of standard output, or by `merge`, which has none, for the block that a
     file is read to, which is as long."""
@@ -59,8 +64,8 @@ def try_refused(program, name, words, data, wanted):
     yield name, program.run(words, data), wanted
     ended, asks = program.run_with_asks(words, data)
     yield f"{name}, its requests told", ended, wanted
-    # The room of the list of words is asked for ahead, and again as it fills. The list of files comes behind it.
-    ahead = count_asks_of_words(asks) - lists_files(words) if words else None
+    # The room of the list of words is asked for ahead, and again as it fills. The lists of files and inputs come behind it.
+    ahead = count_asks_of_words(asks) - lists_files(words) - lists_inputs(words, asks) if words else None
     for number, size in enumerate(asks, 1):
         ended, after = program.run_with_asks(words, data, number)
         refused = f"{name}, request {number} of {size} bytes refused"

@@ -20,11 +20,19 @@ class Lines:
         for text in self.texts:
             if has_codes:
                 codes.add()
-            # There is room for what a new line has before it is known whether the line is new.
-            for room in [symbols] if has_codes else [symbols, counts]:
-                room.add()
-                room.length -= text in self.interner.known
-            self.interner.intern(text)
+            else:
+                # There is room for the count of a new line before it is known whether the line is new.
+                counts.add()
+                counts.length -= text in self.interner.known
+            self.intern_indexed(text, symbols)
+
+    def intern_indexed(self, text, symbols):
+        """Interns a text, and lists the symbol of a new one, from the first on whose number is not its index."""
+        index, number = len(self.interner.texts), self.interner.room.next_number()
+        is_new = text not in self.interner.known
+        self.interner.intern(text)
+        if is_new and (symbols.length or number != index):
+            symbols.add()
 
     def grow_block(self):
         """Doubles the block until it is longer than the longest line, since only whole lines leave it."""

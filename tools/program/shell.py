@@ -8,13 +8,15 @@ import re
 import subprocess
 import tempfile
 import tty
+from collections import Counter
 from itertools import product
 from pathlib import Path
 
-from built import end_of
+from built import end_of, holding
 from edits import TOP
 from program.columns import OK, columns_of, files_in
 from program.reckon import ENCODED, MEMORY, answer, failed, is_utf8, misused, told, unreadable, unwritten, warned
+from program.requests import asks_of_lines
 
 VERSION = (TOP / "VERSION").read_bytes().strip()
 
@@ -163,8 +165,9 @@ def read_terminal(program, words, given, **streams):
     return started.returncode, shown
 
 
-# From this length on progress is told.
+# From this length on progress is told: that the input was read, and by these, except those that merge files, that all is done.
 TOLD_FROM = 1 << 24
+PROGRESS = {"decode": True, "encode --plain DIR": True, "shard 2 DIR": True, "merge -": False, "count --encoded": False}
 
 
 def try_terminal(program):
@@ -185,6 +188,21 @@ def try_terminal(program):
                 paths = [os.path.join(os.fsencode(folder), name) for name in write_files(folder, halves)]
                 shown = read_terminal(program, [*words, *paths], given, stdout=False, stderr=True)
             yield f"{words}, progress of {length} bytes in two files", shown, (0, progress)
+    broken = b"a\n" * (TOLD_FROM // 2 - 1) + b"\xff\n"
+    for files, wanted in (
+            ([], (0, b"dictcol: 16 MiB read\ndictcol: lines left out that are not UTF-8: 1\ndictcol: 16 MiB done\n")),
+            ([b"-", b"/missing/it"], (1, unreadable(errno.ENOENT, b"/missing/it: ")))):
+        with holding(broken) as given:
+            shown = read_terminal(program, [b"count", b"--invalid=skip", *files], given, stdout=False, stderr=True)
+        yield f"progress of a long input and {files}", shown, wanted
+    for length, (words, is_done) in product((TOLD_FROM, TOLD_FROM - 1), PROGRESS.items()):
+        # With blanks before it, a file does not look like one to what reads lines.
+        data = answer([b"encode"], b"a\n")[1].rjust(length, b" ")
+        with tempfile.TemporaryDirectory() as folder, holding(data) as given:
+            given_words = words.replace("DIR", f"{folder}/new").split()
+            shown = read_terminal(program, given_words, given, stdout=False, stderr=True)
+        progress = b"dictcol: 16 MiB read\n" + b"dictcol: 16 MiB done\n" * is_done if length == TOLD_FROM else b""
+        yield f"{words}, progress of {length} bytes", shown, (0, progress)
     for words, data in ([b"encode"], b"a\nb\n"), ([b"count"], b"a\na"), ([b"decode"], answer([b"encode"], b"a\n\nb")[1]):
         with tempfile.TemporaryFile() as given:
             given.write(data)
@@ -256,6 +274,14 @@ def try_encoded(program):
             yield f"{words}", program.run(words, encoded), answer(words, encoded)
         wanted = failed(2, b"line 2 is not UTF-8 (see --invalid)")
         yield "no warning behind a fault", program.run([b"count"], encoded + b"\xff"), wanted
+        both = encoded + b"\xff\n"
+        Path(folder, "both").write_bytes(both)
+        wanted = 1, b"", unreadable(errno.ENOENT, b"missing: ")
+        for words in [b"encode"], [b"count"], [b"encode", b"--plain", b"it"], [b"shard", b"2", b"it"]:
+            words = [*words, b"--invalid=skip"]
+            yield f"{words}, a fault alone", program.run([*words, b"both", b"missing"], folder=folder), wanted
+            if b"it" not in words:
+                yield f"{words}, a line left out before the warning", program.run(words, both), answer(words, both)
 
 
 # Lines that newlines end become lines that zero bytes end.
@@ -334,6 +360,24 @@ def try_counts_of_encoded(program):
 
 def ended_names(names):
     return b"".join(name + b"\0" for name in names)
+
+
+# Of so many lines of six letters each backend asks for other sizes.
+STORED = b"".join(b"%06d\n" % number for number in range(40))
+
+
+def try_backends(program):
+    """The lines are stored in the backend that is named: without what it asks for them, a run asks for the same over each."""
+    with tempfile.TemporaryDirectory() as folder:
+        write_files(folder, [answer([b"encode"], STORED)[1]])
+        for words in b"encode", b"encode --plain new", b"merge 0.json", b"count --encoded 0.json":
+            others = []
+            for backend in b"string", b"bucket", b"buffer":
+                asks = program.run_with_asks([*words.split(), b"--backend", backend], STORED, folder=folder)[1]
+                lines = Counter(asks_of_lines([b"encode"], STORED, backend)[1])
+                yield f"{words} over {backend}, what it does not ask for", lines - Counter(asks), Counter()
+                others.append(Counter(asks) - lines)
+            yield f"{words}, what else it asks for over each backend", others, others[:1] * 3
 
 
 # Lists of names: the list and what is told of it.
@@ -553,7 +597,7 @@ def try_telling_to_a_full_disk(program):
 def trials():
     return [(trial,) for trial in (
         try_telling_to_a_full_disk, try_operands, try_files, try_many_files, try_encoded, try_counts_of_encoded, try_merges,
-        try_invalid, try_blocks, try_drawing, try_help, try_lists, try_bad_lists, try_controls, try_folders,
+        try_backends, try_invalid, try_blocks, try_drawing, try_help, try_lists, try_bad_lists, try_controls, try_folders,
         try_terminal_as_a_file)]
 
 

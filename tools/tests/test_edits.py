@@ -13,13 +13,14 @@ from source import block_around, block_name, end_of_generics, find_functions, fu
 
 ITEM = re.compile(r'^pub (?:unsafe )?(?:extern "C" )?(?:struct|enum|trait|fn) (\w+)', re.M)
 USE = re.compile(r"^pub use ([^;]*);", re.M)
+ALIAS = re.compile(r"^pub type (\w+)(?:<.*?>)? =\s*(\w+)", re.M)
 # The functions of which no contract refuses another body of the same type: they lend a field, give back an allocator or a builder,
 # free memory, write a message, or only say what saves time or memory; and examples, of which nothing is promised. Tests see what
 # they do.
 UNPLANTED = set("""
-    StringInterner::backend Scopes::interner Handle::interner Column::dictionary Column::codes TableTextIndex::allocator
-    NumberList::allocator StdHasher::new ReturnedDrop::drop HandleDrop::drop interner_free
-    SymbolU16Symbol::has_narrow_numbers SymbolU32Symbol::has_narrow_numbers StringInterner::is_large KeyedStateDebug::fmt
+    StringInterner::backend Scopes::interner Handle::interner Column::dictionary Column::codes Dictionary::interner
+    TableTextIndex::allocator NumberList::allocator StdHasher::new ReturnedDrop::drop HandleDrop::drop interner_free
+    SymbolU16Symbol::has_narrow_numbers SymbolU32Symbol::has_narrow_numbers
     SeededStateDebug::fmt PartsErrorDisplay::fmt count_bytes collect encode""".split())
 
 
@@ -44,6 +45,7 @@ def public_functions(src):
     texts = {it: read(it) for it in src.rglob("*.rt")}
     shown = {None, *(name for it in texts if is_open(it, src) for name in ITEM.findall(texts[it]))}
     shown.update(name for text in texts.values() for used in USE.findall(text) for name in re.findall(r"\w+", used))
+    shown.update(named for text in texts.values() for name, named in ALIAS.findall(text) if name in shown)
     return [(path, "::".join(filter(None, (block_name(text, it), it.name))), it) for path, text in texts.items()
             for it in functions(text) if is_public(text, it, shown) and not it.text.endswith((";", "{}"))]
 

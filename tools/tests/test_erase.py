@@ -188,6 +188,8 @@ class EraseTest(TestCase):
         arms += 'Self::At { line, why, .. } => ::core::write!(f, "{line}: {why}"), }'
         self.assertIn(f"match self {arms}", erased[8])
         self.assertIn("} impl From<Why> for E { fn from(it: Why) -> Self { Self::Of(it) } } impl ", erased[8])
+        erased = ERASE('#[derive(Error)]\n#[error("{why}")]\nstruct S {\n    line: u8,\n    why: Why,\n}\n').splitlines()
+        self.assertIn('match self {Self { why, .. } => ::core::write!(f, "{why}") } } }', erased[5])
 
     def test_errors_that_borrow(self):
         """Fields of further types, several of them, and constants in the text."""
@@ -288,7 +290,7 @@ class EraseTest(TestCase):
             ("\nmod a {}\n", 2, "within its file"),
             ("impl Model for A {\n    fn f() {}\n}\n", 1, "not ghost"),
             ("impl A {\n    fn fmt(&self) {}\n}\n", 2, "another form"),
-            ("#[derive(Error)]\nstruct A;\n", 2, "no plain enum"),
+            ("#[derive(Error)]\nstruct A;\n", 2, "has no braces"),
             ('#[derive(Error)]\nenum A {\n    #[error("{0}")]\n    B(u8, u8),\n}\n', 2, "fields"),
             ('#[derive(Error)]\nenum A {\n    #[error("{0}")]\n    B,\n}\n', 2, "fields"),
             ('#[derive(Error)]\nenum A {\n    #[error(transparent)]\n    B(u8),\n}\n', 2, "of another form"),
@@ -407,10 +409,11 @@ class SourcesTest(TestCase):
 
     @staticmethod
     def with_paths_of_the_source(erased, of):
-        erased = erased.replace(of.name, "crate")
+        # First those of other crates, because a crate may have a module of such a name.
         for crate, modules in TOOL["AT_THE_ROOT"].items():
             for it in modules if crate != of.crate else ():
                 erased = erased.replace(f"crate::{it}::", f"{crate}::{it}::")
+        erased = erased.replace(of.name, "crate")
         # Macros first, because they are in a module that has another name.
         for crate, name in sorted(of.names.items(), key=lambda it: not it[0].endswith("!")):
             mark = "!" if crate.endswith("!") else "::"

@@ -15,6 +15,13 @@ def help_text() -> str:
     return text.partition('pub const HELP: &str = "\\\n')[2].partition('";')[0]
 
 
+def table() -> dict[str, bool]:
+    """The options of the table in arguments.rt, and whether each has a value."""
+    source = (CRATE / "src/arguments.rt").read_text()
+    rows = re.findall(r'^    \("(--?[a-z][a-z0-9-]*)", Setting::\w+, (true|false), \w+\),$', source, re.M)
+    return {name: has_value == "true" for name, has_value in rows}
+
+
 def options_of(text: str) -> set[str]:
     return set(re.findall(r"(?<![\w-])--?[a-z][a-z0-9-]*\b", text))
 
@@ -34,12 +41,15 @@ class ManualTest(unittest.TestCase):
 
     def test_options(self) -> None:
         """Each option that is taken is told twice, and no other."""
-        taken = set(re.findall(r'"(--?[a-z][a-z0-9-]*)"', (CRATE / "src/arguments.rt").read_text()))
+        taken = table()
         self.assertIn("--sorted", taken)
-        self.assertEqual(options_of(help_text()), taken)
-        defined = re.findall(r"^\.It Fl (.*?)(?: Ar .*)?$", MANUAL.read_text(), re.M)
-        names = [name.replace("\\-", "-") for line in defined for name in line.split(" , ")]
-        self.assertEqual({f"-{name}" for name in names} - {"--"}, taken)
+        self.assertEqual(options_of(help_text()), {*taken})
+        defined = re.findall(r"^\.It Fl (.*?)( Ar .*)?$", MANUAL.read_text(), re.M)
+        names = {f"-{name}".replace("\\-", "-"): bool(value) for line, value in defined for name in line.split(" , ")}
+        names.pop("--")
+        self.assertEqual(names, taken)
+        valued = set(re.findall(r"(--[a-z0-9-]+) [A-Z]+\b", help_text().partition("\n\n")[2]))
+        self.assertEqual(valued, {name for name, has_value in taken.items() if has_value})
 
     def test_usage(self) -> None:
         """The synopsis has the usage lines, and the description each command."""

@@ -20,7 +20,7 @@ pub trait Interner: Clone {
     fn entries(&self) -> impl Iterator<Item = (usize, &str)>;
 }
 
-/// 64-bit FNV-1a over the bytes of a text alone, as the library's `Fnv1a`. The byte that ends a `str` is left out.
+/// 64-bit FNV-1a over the bytes of a text alone, as the library's `FixedState`. The byte that ends a `str` is left out.
 #[derive(Clone, Copy, Default)]
 pub struct Fnv;
 

@@ -8,7 +8,7 @@ use string_interner::backend::{BucketBackend, BufferBackend, StringBackend};
 
 const BACKENDS: [&str; 3] = ["string", "bucket", "buffer"];
 const INDEXES: [&str; 2] = ["Index", "TaggedIndex"];
-const HASHERS: [&str; 4] = ["Fnv1a", "FoldState", "RandomState", "SeededHasher"];
+const HASHERS: [&str; 4] = ["FixedState", "FoldState", "RandomState", "SeededHasher"];
 
 /// A kind of interner.
 pub struct Kind {

@@ -18,8 +18,8 @@
 //! Look-ups work under every builder, even one whose hashes are all equal. What an interner returns does not depend on its hasher,
 //! as long as that gives equal texts equal hashes.
 
-use crate::proved::hash::{KeyedState, SeededHash, SeededState, TextHasher};
-use crate::rt::hash::{DefaultHasher, FoldHasher};
+use crate::proved::hash::{SeededHash, SeededState, TextHasher};
+use crate::rt::hash::{keyed_hasher, DefaultHasher, FoldHasher};
 use core::fmt;
 use core::hash::{BuildHasher, Hash, Hasher};
 
@@ -166,13 +166,16 @@ impl BuildHasher for FixedHashBuilder {
 ///
 /// If the keys are random and secret, no way is known to predict its hash codes. `Debug` does not show the keys.
 #[derive(Clone, Copy)]
-pub struct KeyedHashBuilder(KeyedState);
+pub struct KeyedHashBuilder {
+    key0: u64,
+    key1: u64,
+}
 
 impl KeyedHashBuilder {
     /// Returns the builder of hashers under these keys.
     #[must_use]
     pub fn new(key0: u64, key1: u64) -> Self {
-        KeyedHashBuilder(KeyedState::new(key0, key1))
+        KeyedHashBuilder { key0, key1 }
     }
 }
 
@@ -181,7 +184,7 @@ impl BuildHasher for KeyedHashBuilder {
 
     #[inline]
     fn build_hasher(&self) -> KeyedTextHasher {
-        KeyedTextHasher::of(self.0.build_hasher())
+        KeyedTextHasher::of(keyed_hasher(self.key0, self.key1))
     }
 }
 

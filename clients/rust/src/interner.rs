@@ -4,7 +4,7 @@ use crate::hasher::{By, DefaultHashBuilder};
 use crate::json::{self, JsonError};
 use crate::proved::dedup::{CopyIndex as _, Entry, TaggedIndex, TextIndex};
 use crate::proved::hash::TextHasher as _;
-use crate::proved::interner::coded::intern_coded;
+use crate::proved::interner::new_text::intern_coded;
 use crate::proved::interner::given::Given;
 use crate::rt::alloc::{AllocError, Global};
 use crate::rt::serde_json::Value;

@@ -65,7 +65,7 @@
 
 #![allow(unsafe_code)]
 
-use crate::proved::backend::string::ends::{find_span, span};
+use crate::proved::backend::string::ends::span;
 use crate::proved::backend::StringBackend;
 use alloc::string::String;
 use core::ops::Range;
@@ -185,7 +185,8 @@ pub fn find_joined(texts: &StringBackend<usize>, number: usize) -> Option<&str> 
     let (joined, ends) = texts.as_parts();
     let (start, end) = match narrow_span(ends.as_slices().0, number) {
         Some(narrow) => narrow,
-        None => find_span(ends, number)?,
+        None if number < ends.len() => span(ends, number),
+        None => return None,
     };
     // SAFETY: these are the end of the text before, or 0, and the end of this one (G).
     Some(unsafe { cut_unchecked(joined, start..end) })

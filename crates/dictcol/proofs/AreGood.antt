@@ -11,10 +11,10 @@ use Rattle.string_interner.specs.Extend.{texts_of}
 use Rattle.dictcol.specs.Names.{dash, is_dash, AreGood, IsNamesFault, IsWrong, Names}
 use Rattle.dictcol.specs.declared.names.NameFault.{NameFault}
 use Rattle.dictcol.specs.declared.names.NameFault.TheVariants.{Empty, NotUtf8, ListIsInput, InputTwice, Memory}
-use Rattle.dictcol.specs.declared.arguments.Source.{Source}
-use Rattle.dictcol.specs.declared.arguments.Source.TheVariants.{StandardInput, File}
+use Rattle.dictcol.specs.declared.request.Source.{Source}
+use Rattle.dictcol.specs.declared.request.Source.TheVariants.{StandardInput, File}
 use Rattle.dictcol.proofs.Counted.{differs}
-use Rattle.dictcol.proofs.Lines.{texts_of-append}
+use Rattle.dictcol.proofs.LinesOf.{texts_of-append}
 
 abbrev pub is_standard : Source → Bool
 is_standard StandardInput = true

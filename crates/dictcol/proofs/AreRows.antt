@@ -14,7 +14,7 @@ use Rattle.string_column.proofs.Lemmas.Recodes.{range-split}
 use Rattle.dictcol.specs.Lines.{text_of_ended}
 use Rattle.dictcol.specs.Plain.{plain_text, code_bytes, AreRows}
 use Rattle.dictcol.proofs.LineBounds.{IsBetween, line-between, bounds-long}
-use Rattle.dictcol.proofs.Merged.{ended, ended-joined}
+use Rattle.dictcol.proofs.TextLines.{ended, ended-joined}
 use Rattle.dictcol.proofs.PlainColumns.{ended-more}
 use Rattle.dictcol.proofs.Rows.{rows-push}
 

@@ -1,18 +1,13 @@
 -- Counts with one line more.
-use Rattle.std.proofs.Common.{◌≡◌, ◌≢◌, ℕ, ◌+◌, ◌-◌, ◌^◌, ◌<◌, ◌≤◌, min, Bool, true, false, List, [], ◌∷◌, ◌++◌, length, take, get_or, map, Option, Some, None, Result, Ok, Err, refl, sym, ap, subst, ◌∙◌, arith}
-use Rattle.std.specs.Prelude.{slice_get, slice_set, MatchOption, IfSome, OnErr}
+use Rattle.std.proofs.Common.{◌≡◌, ◌≢◌, ℕ, ◌+◌, ◌-◌, ◌^◌, ◌<◌, ◌≤◌, min, Bool, true, false, List, [], ◌∷◌, ◌++◌, length, take, get_or, map, Option, Some, None, refl, sym, ap, subst, ◌∙◌, arith}
+use Rattle.std.specs.Prelude.{slice_get, slice_set, IfSome}
 use Rattle.std.specs.Option.{option_map_or}
 use Rattle.std.specs.Str.{bytes_eq}
 use Rattle.std.proofs.lemmas.List.{append-nil, append_assoc, length_push, length-map, take_at, take_all}
 use Rattle.std.proofs.lemmas.Slice.Eq.{bytes_eq-Decides}
 use Rattle.std.proofs.lemmas.Option.{slice_get-get_or, slice_get_within, get_or_from_slice_get}
 use Rattle.string_interner.specs.Text.{Text, first}
-use Rattle.string_interner.specs.Backend.{Appends}
 use Rattle.string_interner.specs.Extend.{fresh}
-use Rattle.string_interner.specs.Interner.{Interns, entry_symbol}
-use Rattle.string_interner.specs.Numbering.{Numbering}
-use Rattle.string_interner.specs.declared.backend.InternError.{InternError}
-use Rattle.string_interner.proofs.Laws.{refused-keeps}
 use Rattle.string_interner.proofs.Lemmas.Texts.First.{first_within, first_is, first_none}
 use Rattle.string_column.specs.Column.{counts_of, dictionary_of}
 use Rattle.string_column.proofs.Lemmas.AreNumbered.{slice_get-append, slice_get-push}
@@ -21,7 +16,7 @@ use Rattle.string_column.proofs.Lemmas.Rows.{dictionary-push, known-fresh}
 use Rattle.dictcol.specs.Blocks.{IsTextOf}
 use Rattle.dictcol.specs.Counts.{CountsContents, HasCounted, contents_of}
 use Rattle.dictcol.specs.Lines.{lines_of}
-use Rattle.dictcol.proofs.Merged.{ended-first}
+use Rattle.dictcol.proofs.TextLines.{ended-first}
 
 -- no entry is the text
 abbrev IsNoEntry : List Text → Text → Type 0
@@ -125,18 +120,24 @@ counted-again entries counts total lines line index count more at within read su
     let one : more ≡ get_or counts index 0 + 1 = omega (arith, sum, is, most) in
     counted-known entries counts (slice_set counts index more) total lines line index at (ap (slice_set counts index) one) has
 
--- a text that is refused leaves the list
-pub refused-same : {S : Type 0} (numbering : Numbering S) (old : List Text) (text : Text) (outcome : Result S InternError) (new : List Text) → Interns numbering old text outcome new → OnErr outcome (new ≡ old)
-refused-same numbering old text (Ok symbol) new interns = tt
-refused-same numbering old text (Err error) new interns = refused-keeps numbering old new text error interns
+-- ---- the index of a text in a dictionary
 
--- a text that was put last is new
-pub new-unknown : {S : Type 0} (numbering : Numbering S) (old : List Text) (text : Text) (symbol : S) (new : List Text) → Interns numbering old text (Ok symbol) new → new ≡ old ++ text ∷ [] → first old text ≡ None
-new-unknown {S} numbering old text symbol new interns pushed = of (first old text) refl interns
-  where
-    of : (o : Option ℕ) → first old text ≡ o → MatchOption o (Appends numbering.symbol_of numbering.place old text (Ok symbol) new) (λ i. (entry_symbol numbering old i ≡ Some symbol) × (new ≡ old)) → first old text ≡ None
-    of None is put = is
-    of (Some i) is known = let longer = ap length (sym pushed ∙ known.1) in absurd (omega (arith, longer, length_push old text))
+module _ (old new : List Text) (text : Text) (index : ℕ) (at : slice_get new index ≡ Some text) (grown : new ≡ old ++ fresh old (text ∷ [])) where
+  -- of one that was there
+  pub index-known : index < length old → (slice_get old index ≡ Some text) × (new ≡ old)
+  index-known within =
+      let before = slice_get-get_or old index [] within in
+      let behind = slice_get-append old (fresh old (text ∷ [])) index (get_or old index []) before in
+      let known = before ∙ sym behind ∙ ap (λ texts. slice_get texts index) (sym grown) ∙ at in
+      (known, grown ∙ ap (λ more. old ++ more) (known-fresh old index text known) ∙ append-nil old)
+
+  -- and of one that was not
+  pub index-new : length old ≤ index → (first old text ≡ None) × (new ≡ old ++ text ∷ [])
+  index-new behind = of (first old text) refl grown
+    where
+      of : (o : Option ℕ) → first old text ≡ o → new ≡ old ++ option_map_or (λ _. fresh old []) o (text ∷ fresh (old ++ text ∷ []) []) → (first old text ≡ None) × (new ≡ old ++ text ∷ [])
+      of None is longer = (is, longer)
+      of (Some i) is same = let within = slice_get_within new index text at in absurd (omega (arith, within, behind, ap length same, ap length (append-nil old)))
 
 -- one line more of those that are walked over
 pub taken-on : {S : Type 0} (has_taken : S → List Text → Type 0) (old mid new : S) (all ahead rest : List Text) (line : Text) → ahead ≡ line ∷ rest

@@ -26,7 +26,7 @@ use Rattle.string_column.specs.Column.{AreCodes}
 use Rattle.string_column.proofs.Lemmas.Counts.{dictionary-distinct}
 use Rattle.dictcol.specs.File.{IsFileOf, indexed_texts, HoldsLines, HoldsText, IsColumnFile, FileHolds, DecodesFile}
 use Rattle.dictcol.specs.Lines.{has_newline, text_of_lines, AreLines}
-use Rattle.dictcol.proofs.Lines.{text-of-lines, lines-plain, fresh-plain}
+use Rattle.dictcol.proofs.LinesOf.{text-of-lines, lines-plain, fresh-plain}
 
 abbrev strings_in : Items → List Text
 strings_in no_items = []

@@ -4,7 +4,7 @@ use Rattle.std.specs.Prelude.{All}
 use Rattle.std.proofs.lemmas.List.{drop_more, get_or-drop, length-drop, take-append-drop}
 use Rattle.std.proofs.lemmas.Option.{same_Some, slice_get-get_or}
 use Rattle.dictcol.specs.Inputs.{IsLineOf}
-use Rattle.dictcol.specs.declared.inputs.Begin.{Begin}
+use Rattle.dictcol.specs.declared.input.inputs.Begin.{Begin}
 
 module _ (begins : List Begin) (line : ℕ) where
   abbrev pub BeginLater : List Begin → Type 0

@@ -7,7 +7,6 @@ use Rattle.std.proofs.lemmas.Option.{same_Some, slice_get-get_or, slice_get_with
 use Rattle.string_interner.specs.Text.{Text}
 use Rattle.string_interner.specs.Extend.{fresh}
 use Rattle.string_column.specs.Column.{AreCodes, rows_of}
-use Rattle.string_column.specs.Shards.{shard_of}
 use Rattle.string_column.proofs.Lemmas.AreNumbered.{slice_get-append}
 use Rattle.string_column.proofs.Lemmas.Rows.{codes-within, rows-are}
 use Rattle.dictcol.specs.Counts.{counted}
@@ -17,7 +16,7 @@ use Rattle.dictcol.specs.Plain.{plain_text, IsDictionary, IsPlain, IsPlainFault,
 use Rattle.dictcol.specs.File.{HoldsText, IsColumnFile, DecodesFile}
 use Rattle.dictcol.specs.declared.fault.Fault.{Fault}
 use Rattle.dictcol.specs.declared.fault.Fault.TheVariants.{Memory}
-use Rattle.dictcol.specs.Shards.{shard_lines}
+use Rattle.dictcol.specs.Shards.{shard_of, shard_lines}
 use Rattle.dictcol.proofs.HoldsLines.{holds-once, comes-back}
 use Rattle.dictcol.proofs.ShardCounts.{counted-passed}
 use Rattle.dictcol.proofs.PlainColumns.{file-lines, plain-lines, same-numbers}

@@ -1,12 +1,13 @@
 pub mod Laws
-pub mod Lines
+pub mod LinesOf
 pub mod Cut
 pub mod Rows
-pub mod Merged
+pub mod TextLines
 pub mod ParseFault
 pub mod Crowded
 pub mod Parts
 pub mod HoldsLines
+pub mod HoldTogether
 pub mod Newline
 pub mod Puts
 pub mod StringTokens

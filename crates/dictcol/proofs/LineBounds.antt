@@ -10,8 +10,8 @@ use Rattle.string_interner.specs.Text.{Text}
 use Rattle.dictcol.specs.Lines.{is_newline, has_newline, text_of_ended, AreLines}
 use Rattle.dictcol.specs.Plain.{line_bounds, IsLinesFile}
 use Rattle.dictcol.proofs.Cut.{cut-first, cut-none}
-use Rattle.dictcol.proofs.Lines.{parts-none}
-use Rattle.dictcol.proofs.Merged.{ended, ended-push, push-plain, are-rest}
+use Rattle.dictcol.proofs.LinesOf.{parts-none}
+use Rattle.dictcol.proofs.TextLines.{ended, ended-push, push-plain, are-rest}
 use Rattle.dictcol.proofs.PlainColumns.{file-ended}
 
 pub bounds-long : (start : ℕ) (lines : List Text) → length (line_bounds start lines) ≡ length lines + 1

@@ -23,13 +23,12 @@ use Rattle.string_column.specs.Parts.{IsOutside}
 use Rattle.string_column.proofs.Lemmas.AreNumbered.{slice_get-push, slice_get-append}
 use Rattle.string_column.proofs.Lemmas.Counts.{fresh-distinct, dictionary-distinct}
 use Rattle.string_column.proofs.Lemmas.Rows.{rows-are}
-use Rattle.dictcol.specs.Blocks.{IsTextOf}
 use Rattle.dictcol.specs.File.{HaveEntries}
 use Rattle.dictcol.specs.Lines.{has_newline, text_of_ended, text_of_lines, lines_of, AreLines}
 use Rattle.dictcol.specs.Plain.{plain_text, IsLinesFile, IsDictionary, code_bytes, npy_start, npy_header, AreNumbers, IsNotALine, IsNpy, IsOnto, IsPlain, line_bounds, AreRows, HoldPlain}
 use Rattle.dictcol.specs.declared.fault.Fault.TheVariants.{NotALine}
-use Rattle.dictcol.proofs.Lines.{text-of-lines, lines-plain, fresh-plain}
-use Rattle.dictcol.proofs.Merged.{are-ended, are-rest, ended-first, ended-lines, both-plain, one-ended, more-rest}
+use Rattle.dictcol.proofs.LinesOf.{text-of-lines, lines-plain, fresh-plain}
+use Rattle.dictcol.proofs.TextLines.{ended-first, ended-lines, both-plain, one-ended, more-rest}
 
 -- ---- distinct lines
 
@@ -390,12 +389,6 @@ onto-plain before text numbers rows count is_cut codes onto are npy =
 pub ended-more : (lines : List Text) (line : Text) → text_of_ended (lines ++ line ∷ []) [] ≡ (text_of_ended lines [] ++ line) ++ 10 ∷ []
 ended-more lines line = one-ended lines line ∙ ap (λ text. text ++ 10 ∷ []) (more-rest lines [] line)
 
--- a block that has one line more
-pub block-more : (done : List Text) (line front block new : Text) → front ++ block ≡ text_of_ended done [] → new ≡ block ++ (line ++ 10 ∷ []) → front ++ new ≡ text_of_ended (done ++ line ∷ []) []
-block-more done line front block new so_far put =
-    ap (λ text. front ++ text) put ∙ sym (append_assoc front block (line ++ 10 ∷ [])) ∙ ap (λ text. text ++ (line ++ 10 ∷ [])) so_far
-    ∙ sym (append_assoc (text_of_ended done []) line (10 ∷ [])) ∙ sym (ended-more done line)
-
 -- where no code is wide, the codes are the narrow ones, which are as many as the rows
 pub narrow-codes : (codes narrow wide : List ℕ) → codes ≡ narrow ++ wide → length wide ≡ 0 → codes ≡ narrow
 narrow-codes codes narrow wide parts none = parts ∙ ap (λ xs. narrow ++ xs) (no-items wide none) ∙ append-nil narrow
@@ -423,19 +416,6 @@ module _ {A : Type 0} (P Q : A → Type 0) where
   pub some-weaker : (o : Option A) → ((a : A) → P a → Q a) → IfSome o P → IfSome o Q
   some-weaker None weaker p = tt
   some-weaker (Some a) weaker p = weaker a p
-
--- the lines of an input that ends in a newline or yields nothing, and of another one
-pub ended-input : (input : Option Text) (lines seen : List Text) (rest : Text) → lines ≡ seen → IsTextOf input seen rest → length rest ≡ 0
-    → IfSome input (λ text. AreLines text lines (nat_lt 0 (length lines)))
-ended-input None lines seen rest same is none = tt
-ended-input (Some text) lines seen rest same is none =
-    subst (λ t. AreLines t lines (nat_lt 0 (length lines))) (sym is.whole) (rw same (are-ended seen rest is.plain none))
-
-pub cut-input : (input : Option Text) (lines seen new : List Text) (rest : Text) → lines ≡ seen → IsTextOf input seen rest → rest ≢ [] → new ≡ lines ++ rest ∷ []
-    → IfSome input (λ text. AreLines text new false)
-cut-input None lines seen new rest same is some put = tt
-cut-input (Some text) lines seen new rest same is some put =
-    subst (λ t. AreLines t new false) (sym is.whole) (are-rest seen new rest is.plain is.rest_plain some (put ∙ ap (λ ls. ls ++ rest ∷ []) same))
 
 some-more : (known more rows : List Text) → rows ≡ known ++ more → nat_lt (length known) (length rows) ≡ nat_lt 0 (length more)
 some-more known more rows are =

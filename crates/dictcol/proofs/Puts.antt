@@ -1,5 +1,5 @@
 -- What is held for an output, and what was written to it.
-use Rattle.std.proofs.Common.{◌≡◌, ℕ, ◌≤◌, List, [], ◌∷◌, ◌++◌, length, Option, None, Some, Bool, true, false, map, refl, sym, ap, subst, ◌∙◌, arith, append_assoc, append-nil}
+use Rattle.std.proofs.Common.{◌≡◌, ℕ, List, [], ◌∷◌, ◌++◌, Option, None, Some, Bool, true, map, refl, sym, ap, subst, ◌∙◌, append_assoc, append-nil}
 use Rattle.std.proofs.KnownBytes.{Appends-trans}
 use Rattle.std.proofs.lemmas.Grind.{flat_map-append}
 use Rattle.std.specs.Io.KnownBytes.{Appends}
@@ -69,7 +69,3 @@ pub puts-piece : (start before after : Option (List ℕ)) (first held put left f
 puts-piece start before after first held put left front piece so_far more written =
     subst (λ bytes. Puts start first after left bytes) (append-nil (escape front ++ escape piece) ∙ sym (flat_map-append escape_byte front piece))
     (Appends-trans _ _ _ _ [] (Appends-trans _ _ _ (escape front) (escape piece) so_far (puts-held before held put (escape piece) more)) written)
-
-pub comma-short : (is_further : Bool) → length (comma_if is_further) ≤ 1
-comma-short true = omega arith
-comma-short false = omega arith

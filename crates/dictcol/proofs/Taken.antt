@@ -20,8 +20,8 @@ use Rattle.dictcol.specs.Fault.{IsBadLine, IsNotUtf8}
 use Rattle.dictcol.specs.declared.fault.Fault.{Fault}
 use Rattle.dictcol.specs.Lines.{is_newline, has_newline, lines_of, text_of_ended}
 use Rattle.dictcol.specs.TooMany.{HasRefused}
-use Rattle.dictcol.proofs.Lines.{parts-none}
-use Rattle.dictcol.proofs.Merged.{both-plain, ended-first, ended-joined, ended}
+use Rattle.dictcol.proofs.LinesOf.{parts-none}
+use Rattle.dictcol.proofs.TextLines.{both-plain, ended-first, ended-joined, ended}
 use Rattle.dictcol.proofs.TooMany.{more-refused, take-weaker}
 
 -- ---- the lines of a text, each with a newline

@@ -18,7 +18,7 @@ use Rattle.dictcol.specs.Fault.{IsTakeFault, intern_fault}
 use Rattle.dictcol.specs.Lines.{behind_newline, has_newline, lines_of, newline_if, text_of_ended, AreLines}
 use Rattle.dictcol.specs.TooMany.{HasRefused, LacksBehind, LacksCount, LacksLine}
 use Rattle.dictcol.specs.declared.fault.Fault.{Fault}
-use Rattle.dictcol.proofs.Merged.{both-plain, ended, ended-first, more-rows, one-ended, one-line, push-plain, range-plain}
+use Rattle.dictcol.proofs.TextLines.{both-plain, ended, ended-first, more-rows, one-ended, one-line, push-plain, range-plain}
 
 -- one reason has another one behind it
 pub take-weaker : {A B : Type 0} (fault : Fault) → (A → B) → IsTakeFault A fault → IsTakeFault B fault
@@ -71,10 +71,10 @@ module _ (Refuses : List Text → Text → Type 0) where
 -- ---- what a count refuses
 
 -- a line that is not interned
-pub counted-refused : {S : Type 0} (numbering : Numbering S) (entries new : List Text) (counts : List ℕ) (total : ℕ) (lines : List Text) (line : Text) (error : InternError)
-    → HasCounted (contents_of entries counts total) lines → Interns numbering entries line (Err error) new → IsTakeFault (LacksCount numbering lines line) (intern_fault error)
-counted-refused numbering entries new counts total lines line error has interns =
-    take-weaker (intern_fault error) (λ lacks. inr (subst (λ texts. LacksSymbol numbering texts line) has.entries_are lacks)) (interns-fault numbering entries new line error interns)
+pub counted-refused : {S : Type 0} (numbering : Numbering S) (entries : List Text) (counts : List ℕ) (total : ℕ) (lines : List Text) (line : Text) (error : InternError)
+    → HasCounted (contents_of entries counts total) lines → IsRefusal numbering entries line error → IsTakeFault (LacksCount numbering lines line) (intern_fault error)
+counted-refused numbering entries counts total lines line error has refused =
+    take-weaker (intern_fault error) (λ lacks. inr (subst (λ texts. LacksSymbol numbering texts line) has.entries_are lacks)) (refusal-fault numbering entries line error refused)
 
 -- ---- what a column refuses
 

@@ -4,7 +4,7 @@ use Rattle.std.specs.List.{slice_split}
 use Rattle.string_interner.specs.Text.{Text}
 use Rattle.string_interner.specs.Extend.{texts_of}
 use Rattle.dictcol.specs.Names.{is_zero, trim_end, names_of}
-use Rattle.dictcol.proofs.Lines.{texts_of-append}
+use Rattle.dictcol.proofs.LinesOf.{texts_of-append}
 
 trim-ended : (xs : List Text) → trim_end (xs ++ [] ∷ []) ≡ xs
 trim-ended [] = refl

@@ -1,13 +1,13 @@
 -- Reading lines a block at a time: what is held, what was yielded, and the faults.
--- Cited by `blocks`, and by `merge`, `count`, `plain` and `answer`.
+-- Cited by `blocks`, and by `lines`, `encode`, `count`, `plain` and `shards`.
 use Rattle.std.specs.Prelude.{◌≡◌, ℕ, ◌+◌, List, [], ◌∷◌, ◌++◌, length, take, drop, ◌⊎◌, false, Option, Some, IfSome, IsUtf8}
 use Rattle.std.specs.Io.KnownBytes.{Consumes}
 use Rattle.std.specs.List.{list_any, slice_split}
 use Rattle.string_interner.specs.Text.{Text}
 use Rattle.dictcol.specs.Lines.{has_newline, is_newline, lines_of, text_of_ended}
-use Rattle.dictcol.specs.declared.block.Block.{Block}
+use Rattle.dictcol.specs.declared.input.block.Block.{Block}
 use Rattle.dictcol.specs.declared.fault.Fault.{Fault}
-use Rattle.dictcol.specs.Fault.{IsNotUtf8, IsReadFault, IsTakeFault}
+use Rattle.dictcol.specs.Fault.{IsNotUtf8, IsReadFault, IsTakeFault, IsWriteFault}
 use Rattle.dictcol.specs.TooMany.{HasRefused}
 
 abbrev pub held : Block → Text
@@ -44,3 +44,7 @@ pub record IsTextOf (input : Option Text) (lines : List Text) (rest : Text) : Ty
 abbrev pub IsLinesFault : (List Text → Text → Type 0) → Option Text → Fault → Type 0
 IsLinesFault Refuses input fault =
     IsReadFault fault ⊎ (IsTakeFault (IfSome input (λ text. HasRefused Refuses (lines_of text))) fault ⊎ IsNotUtf8 0 input fault)
+
+-- the faults of reading lines and writing what is asked for of them
+abbrev pub IsLinesTaskFault : (List Text → Text → Type 0) → Option Text → Fault → Type 0
+IsLinesTaskFault Refuses input fault = IsLinesFault Refuses input fault ⊎ IsWriteFault fault

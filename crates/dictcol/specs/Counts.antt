@@ -1,5 +1,5 @@
 -- How often each line occurs, and what is written of it.
--- Cited by `count`, `merge` and `answer`.
+-- Cited by `count` and `merge`.
 use Rattle.std.specs.Prelude.{◌≡◌, ℕ, List, [], ◌∷◌, ◌++◌, Bool, true, false, length, map, decimal, nat_lt}
 use Rattle.std.specs.Borrow.{Bor}
 use Rattle.std.specs.List.{count_by, flat_map}

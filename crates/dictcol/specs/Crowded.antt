@@ -1,6 +1,6 @@
--- When the dictionary of a file has too many texts.
--- Cited by `stream`, `file` and `answer`.
-use Rattle.std.specs.Prelude.{◌≡◌, List, [], ◌∷◌, ◌++◌, map, codes, ◌⊎◌, Some}
+-- When the dictionary of a file has too many texts, and how decoding may fail.
+-- Cited by `stream`, `file` and `decode`.
+use Rattle.std.specs.Prelude.{◌≡◌, ℕ, ◌-◌, ◌^◌, Option, List, [], ◌∷◌, ◌++◌, map, codes, ◌⊎◌, Some}
 use Rattle.json.specs.Lex.{tokens}
 use Rattle.json.specs.Token.{Token, begin_object, begin_array, key, string as string_token}
 use Rattle.serde_json.specs.Data.{Data, array, string}
@@ -9,7 +9,12 @@ use Rattle.serde_json.specs.Read.{read}
 use Rattle.serde_json.specs.View.{items_of}
 use Rattle.string_interner.specs.Text.{Text}
 use Rattle.string_interner.specs.Numbering.{Numbering}
+use Rattle.string_interner.specs.StringBackend.{string_numbering}
+use Rattle.string_interner.specs.Symbol.{number_below}
 use Rattle.string_column.specs.Entries.{LacksSymbol}
+use Rattle.dictcol.specs.Fault.{IsReadFault, IsWriteFault}
+use Rattle.dictcol.specs.File.{IsFileFault}
+use Rattle.dictcol.specs.declared.fault.Fault.{Fault}
 
 module _ {S : Type 0} (numbering : Numbering S) where
   -- the tokens begin with texts, and no symbol is left for the last of them behind the others
@@ -28,3 +33,12 @@ module _ {S : Type 0} (numbering : Numbering S) where
   -- the same of bytes, by their tokens, or by the value that they read as
   abbrev pub CrowdsFile : Text → Type 0
   CrowdsFile bytes = LacksEntry (tokens bytes) ⊎ ((value : Data) × (read bytes ≡ Some value) × LacksElement value)
+
+-- how the default backend numbers texts: numbers below 2 ^ 32 - 1 have a symbol, which is that number
+abbrev pub default_numbering : Numbering ℕ
+default_numbering = string_numbering (number_below (2 ^ 32 - 1)) (λ symbol. symbol)
+
+-- The faults of reading a file and writing the text that it holds. It is called damaged only if it holds no text, and not UTF-8 only
+-- if it is not.
+abbrev pub IsDecodeFault : Option Text → Fault → Type 0
+IsDecodeFault input fault = IsReadFault fault ⊎ (IsFileFault (CrowdsFile default_numbering) input fault ⊎ IsWriteFault fault)

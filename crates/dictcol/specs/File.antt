@@ -1,5 +1,5 @@
 -- The file that `encode` writes and `decode` reads: which value it is, and which lines it holds.
--- Cited by `file`, `format`, `stream`, `merge` and `answer`.
+-- Cited by `file`, `format`, `stream`, `encode`, `decode` and `merge`.
 use Rattle.std.specs.Prelude.{◌≡◌, ℕ, ◌<◌, List, [], ◌∷◌, ◌++◌, All, length, map, Bool, false, codes, ◌⊎◌, Option, Some, None, IfSome, option_map, option_and_then, slice_get}
 use Rattle.std.specs.List.{list_any}
 use Rattle.serde_json.specs.Data.{Data, boolean, array, object, Items, no_items, item, member, no_members}
@@ -14,7 +14,7 @@ use Rattle.dictcol.specs.Fault.{IsNotUtf8, IsParseFault, IsSyntaxDamage, IsValue
 use Rattle.dictcol.specs.Lines.{has_newline, text_of_lines, AreLines}
 use Rattle.dictcol.specs.Places.{IsEarlyEnd}
 use Rattle.dictcol.specs.declared.fault.Fault.{Fault}
-use Rattle.dictcol.specs.declared.file.Parts.{Parts}
+use Rattle.dictcol.specs.declared.json.file.Parts.{Parts}
 
 -- the object with these texts, numbers and boolean
 abbrev pub column_file : List Text → List ℕ → Bool → Data
@@ -75,6 +75,11 @@ FileHolds bytes lines is_ended = (value : Data) × HoldsLines value lines is_end
 -- the bytes are a file, and the text is what it holds
 abbrev pub DecodesFile : Text → Text → Type 0
 DecodesFile bytes text = (value : Data) × HoldsText value text × (read bytes ≡ Some value)
+
+-- each of the inputs is a file, and the text is what they hold, one behind the other
+abbrev pub HoldTogether : List (Option Text) → Text → Type 0
+HoldTogether [] text = text ≡ []
+HoldTogether (input ∷ inputs) text = (front : Text) × (rest : Text) × IfSome input (λ file. DecodesFile file front) × HoldTogether inputs rest × (text ≡ front ++ rest)
 
 -- the bytes are no file
 abbrev pub IsNoFile : Text → Type 0

@@ -4,11 +4,11 @@ use Rattle.std.specs.Prelude.{◌≡◌, ℕ, ◌+◌, ◌-◌, ◌^◌, ◌<◌
 use Rattle.std.specs.Option.{option_map_or}
 use Rattle.string_interner.specs.Text.{Text}
 use Rattle.dictcol.specs.Lines.{is_newline}
-use Rattle.dictcol.specs.declared.arguments.Source.{Source}
-use Rattle.dictcol.specs.declared.arguments.Source.TheVariants.{StandardInput}
+use Rattle.dictcol.specs.declared.request.Source.{Source}
+use Rattle.dictcol.specs.declared.request.Source.TheVariants.{StandardInput}
 use Rattle.dictcol.specs.declared.fault.Fault.{Fault}
 use Rattle.dictcol.specs.declared.fault.Fault.TheVariants.{NotUtf8}
-use Rattle.dictcol.specs.declared.inputs.Begin.{Begin}
+use Rattle.dictcol.specs.declared.input.inputs.Begin.{Begin}
 
 -- the file that is read, or the only one
 abbrev pub source_at : List Source → ℕ → Source

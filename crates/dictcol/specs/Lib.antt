@@ -7,6 +7,7 @@ pub mod File
 pub mod Hasher
 pub mod Inputs
 pub mod Lines
+pub mod Merge
 pub mod Names
 pub mod Places
 pub mod Plain

@@ -1,5 +1,5 @@
 -- The lines of a text, and the text of lines.
--- Cited by `answer`, `file`, `stream`, `merge`, `count` and `blocks`.
+-- Cited by `lines`, `file`, `stream`, `merge`, `count` and `blocks`.
 use Rattle.std.specs.Prelude.{◌≡◌, ℕ, ◌==◌, List, [], ◌∷◌, ◌++◌, Bool, true, if◌then◌else◌}
 use Rattle.std.specs.List.{list_any, onto_first, join_with_byte, flat_map}
 use Rattle.string_interner.specs.Text.{Text}

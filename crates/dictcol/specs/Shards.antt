@@ -1,16 +1,19 @@
 -- Lines in shards: what the output of each shard gets, and what says how they were mixed.
 -- Cited by `shards`.
-use Rattle.std.specs.Prelude.{◌≡◌, ℕ, ◌==◌, ◌<◌, List, [], ◌∷◌, ◌++◌, length, map, decimal, slice_index_or, Option, Some, None, IsSome}
+use Rattle.std.specs.Prelude.{◌≡◌, ◌%◌, ℕ, ◌==◌, ◌<◌, List, [], ◌∷◌, ◌++◌, length, map, decimal, slice_index_or, Option, Some, None, IsSome}
 use Rattle.std.specs.Io.KnownBytes.{append_known}
 use Rattle.std.specs.List.{filter, flat_map}
 use Rattle.string_interner.specs.Text.{Text}
-use Rattle.string_column.specs.Shards.{shard_of}
 use Rattle.dictcol.specs.declared.shards.Shard.{Shard}
 use Rattle.dictcol.specs.declared.shards.Shards.{Shards}
 
 -- lines, and a newline behind each
 abbrev pub ended_text : List Text → Text
 ended_text lines = flat_map (λ line. line ++ 10 ∷ []) lines
+
+-- the shard of a text with this hash code, out of so many
+abbrev pub shard_of : (Text → ℕ) → ℕ → Text → ℕ
+shard_of code count text = code text % count
 
 -- the lines of a shard, out of so many, in their order
 abbrev pub shard_lines : (Text → ℕ) → ℕ → ℕ → List Text → List Text

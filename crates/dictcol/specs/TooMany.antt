@@ -1,5 +1,5 @@
 -- When lines are too many.
--- Cited by `blocks`, `count`, `merge`, `plain`, `shards` and `answer`.
+-- Cited by `blocks`, `lines`, `encode`, `count`, `merge`, `plain` and `shards`.
 use Rattle.std.specs.Prelude.{◌≡◌, ◌-◌, ◌^◌, ◌≤◌, List, ◌∷◌, ◌++◌, length, ◌⊎◌}
 use Rattle.string_interner.specs.Text.{Text}
 use Rattle.string_interner.specs.Numbering.{Numbering}

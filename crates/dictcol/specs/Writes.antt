@@ -1,5 +1,5 @@
 -- What a step writes.
--- Cited by `file`, `format`, `merge`, `count` and `answer`.
+-- Cited by `file`, `format`, `encode`, `decode`, `count`, `merge`, `plain` and `block_writer`.
 use Rattle.std.specs.Prelude.{ℕ, List, Option}
 use Rattle.std.specs.Io.KnownBytes.{Appends, append_known}
 use Rattle.string_interner.specs.Text.{Text}

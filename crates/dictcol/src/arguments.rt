@@ -1,134 +1,14 @@
 //! The arguments.
 
-ghost use Rattle.std.specs.Prelude.{◌≡◌};
-ghost use Rattle.dictcol.specs.Names.{Names};
-
-use crate::mend::Mending;
+use crate::input::mend::Mending;
+use crate::request::{
+    Action, Answer, Choice, Columns, Files, INPUT_TWICE, Onto, Reading, Request, ShardFolder,
+    Source, Task,
+};
 use crate::shown::ShownWord;
 use std::alloc::Global;
 use std::num::NonZeroUsize;
 use thiserror::Error;
-
-/// What may be done about the name of a file that is not UTF-8.
-pub const NAME_ADVICE: &str = " (a file with such a name can be standard input)";
-
-/// What is said of a second `-`.
-pub const INPUT_TWICE: &str = "standard input is named twice";
-
-/// Which backend the texts are stored in.
-#[derive(Clone, Copy)]
-pub enum Choice {
-    String,
-    Bucket,
-    Buffer,
-}
-
-/// What is written for the lines of the input.
-#[derive(Clone, Copy)]
-pub enum Form {
-    /// The file that `decode` reads.
-    File,
-    /// Each distinct line with how often it occurs, in the order of first appearance.
-    Counts,
-    /// The same, the most frequent first.
-    SortedCounts,
-}
-
-/// What is done with the input.
-#[derive(Clone, Copy)]
-pub enum Task {
-    /// The lines of a file are written.
-    Decode,
-    /// The lines are written in this form.
-    Write(Form, Choice),
-}
-
-/// How lines are read.
-#[derive(Clone, Copy)]
-pub struct Reading {
-    /// What is done with lines that are not UTF-8. If nothing is, they are faults.
-    pub mending: Option<Mending>,
-    /// Whether a zero byte ends each line, and not a newline.
-    pub is_zero_ended: bool,
-}
-
-/// Where the dictionary comes from that plain columns begin with.
-#[derive(Clone, Copy)]
-pub struct Onto<'a> {
-    /// The folder.
-    pub folder: &'a str,
-    /// Whether the dictionary is taken alone, and needs no numbers.
-    pub is_dictionary: bool,
-}
-
-/// Where plain columns are written.
-#[derive(Clone, Copy)]
-pub struct Columns<'a> {
-    /// The folder.
-    pub folder: &'a str,
-    /// What they begin with.
-    pub onto: Option<Onto<'a>>,
-}
-
-/// Where shards are written.
-#[derive(Clone, Copy)]
-pub struct Parts<'a> {
-    /// How many there are.
-    pub count: NonZeroUsize,
-    /// The folder.
-    pub folder: &'a str,
-}
-
-/// Where the input comes from.
-#[derive(Clone, Copy)]
-pub enum Source<'a> {
-    StandardInput,
-    /// The file with this path.
-    File(&'a str),
-}
-
-impl<'a> Source<'a> {
-    /// Returns the file that a word names.
-    pub fn of_word(word: &'a str) -> Source<'a>
-        ensures { Names word.now result }
-    {
-        if word == "-" {
-            Source::StandardInput
-        } else {
-            Source::File(word)
-        }
-    }
-}
-
-/// What is done with files.
-#[derive(Clone, Copy)]
-pub enum Action<'a> {
-    /// They are read one after another.
-    Do(Task, Reading),
-    /// Their lines are written as plain columns.
-    WriteColumns(Choice, Columns<'a>, Reading),
-    /// Their lines are written in shards.
-    WriteShards(Parts<'a>, Reading),
-    /// The files, which `encode` wrote, are merged in this order, and this is written of the lines.
-    Merge(Form, Choice),
-}
-
-/// Where the files are named.
-#[derive(Drop)]
-pub enum Files<'a> {
-    /// By the arguments. If there are none, standard input is read.
-    Named(Vec<Source<'a>>),
-    /// In this list. If there are none, nothing is read.
-    Listed(Source<'a>),
-}
-
-/// What the arguments ask for.
-#[derive(Drop)]
-pub enum Request<'a> {
-    Help,
-    Version,
-    Act(Action<'a>, Files<'a>),
-}
 
 /// What is wrong with the arguments. It is displayed as the message for standard error.
 #[derive(Clone, Copy, Debug, Error)]
@@ -160,7 +40,7 @@ pub enum Misuse<'a> {
     #[error("merge needs a FILE")]
     NoFile,
     #[error("shard needs a number and a DIR")]
-    NoParts,
+    NoShards,
     #[error("shard takes a number of files, and not {0}")]
     NoCount(ShownWord<'a>),
     #[error("the DIR of shard is empty")]
@@ -172,7 +52,7 @@ pub enum Misuse<'a> {
     Memory,
 }
 
-#[derive(Clone, Copy)]
+#[derive(Clone, Copy, PartialEq)]
 enum Command {
     Encode,
     Decode,
@@ -191,29 +71,84 @@ impl Command {
             Command::Shard => "shard",
         }
     }
+}
 
-    /// Returns whether it takes this option.
-    fn takes(self, option: &str) -> bool {
-        match self {
-            Command::Encode => {
-                option == "--plain"
-                    || option == "--onto"
-                    || option == "--onto-dictionary"
-                    || option == "--files0-from"
-                    || option == "--backend"
-                    || option == "--invalid"
-            }
-            Command::Decode => false,
-            Command::Count => {
-                option == "--sorted"
-                    || option == "--encoded"
-                    || option == "--files0-from"
-                    || option == "--backend"
-                    || is_of_lines(option)
-            }
-            Command::Merge => option == "--backend",
-            Command::Shard => option == "--files0-from" || is_of_lines(option),
+/// What an option sets.
+#[derive(Clone, Copy)]
+enum Setting {
+    Plain,
+    Onto,
+    OntoDictionary,
+    List,
+    Sorted,
+    Backend,
+    Mending,
+    ZeroEnded,
+    Encoded,
+    Help,
+    Version,
+}
+
+impl Setting {
+    /// Returns whether it says how lines are read.
+    fn is_of_lines(self) -> bool {
+        matches!(self, Setting::Mending | Setting::ZeroEnded)
+    }
+
+    /// Returns whether it says what columns begin with.
+    fn is_onto(self) -> bool {
+        matches!(self, Setting::Onto | Setting::OntoDictionary)
+    }
+}
+
+/// The commands that take an option.
+const NONE: &[Command] = &[];
+
+const ENCODE: &[Command] = &[Command::Encode];
+
+const COUNT: &[Command] = &[Command::Count];
+
+const ENDED: &[Command] = &[Command::Count, Command::Shard];
+
+const OF_LINES: &[Command] = &[Command::Encode, Command::Count, Command::Shard];
+
+const STORING: &[Command] = &[Command::Encode, Command::Count, Command::Merge];
+
+/// The name of an option, what it sets, whether it has a value, and the commands that take it.
+type Row = (&'static str, Setting, bool, &'static [Command]);
+
+/// The options, in the order in which the first is told that the command does not take.
+const OPTIONS: [Row; 13] = [
+    ("--plain", Setting::Plain, true, ENCODE),
+    ("--onto", Setting::Onto, true, ENCODE),
+    ("--onto-dictionary", Setting::OntoDictionary, true, ENCODE),
+    ("--files0-from", Setting::List, true, OF_LINES),
+    ("--sorted", Setting::Sorted, false, COUNT),
+    ("--backend", Setting::Backend, true, STORING),
+    ("--invalid", Setting::Mending, true, OF_LINES),
+    ("--zero-terminated", Setting::ZeroEnded, false, ENDED),
+    ("-z", Setting::ZeroEnded, false, ENDED),
+    ("--encoded", Setting::Encoded, false, COUNT),
+    ("--help", Setting::Help, false, NONE),
+    ("-h", Setting::Help, false, NONE),
+    ("--version", Setting::Version, false, NONE),
+];
+
+/// Returns the option of this name.
+fn find_option(name: &str) -> Option<Row> {
+    for row in OPTIONS {
+        if row.0 == name {
+            return Some(row);
         }
+    }
+    None
+}
+
+/// Returns the option that a word begins with, and the value behind `=`, if there is one.
+fn split_value(word: &str) -> (&str, Option<&str>) {
+    match word.split_once('=') {
+        Some((name, value)) if name.starts_with("--") => (name, Some(value)),
+        _ => (word, None),
     }
 }
 
@@ -221,18 +156,8 @@ impl Command {
 #[derive(Clone, Copy)]
 enum Next {
     OptionOrOperand,
-    /// The value of `--backend`.
-    Backend,
-    /// The value of `--invalid`.
-    Mending,
-    /// The value of `--plain`.
-    Folder,
-    /// The value of `--onto`.
-    Onto,
-    /// The value of `--onto-dictionary`.
-    OntoDictionary,
-    /// The value of `--files0-from`.
-    List,
+    /// The value of the option of this name.
+    Value(&'static str, Setting),
     /// Behind `--`.
     Operand,
 }
@@ -259,11 +184,32 @@ struct Given<'a> {
     /// How many shards `shard` writes.
     count: Option<NonZeroUsize>,
     /// Where it writes them.
-    parts: Option<Parts<'a>>,
+    shards: Option<ShardFolder<'a>>,
+    asks_help: bool,
+    asks_version: bool,
 }
 
 impl<'a> Given<'a> {
-    /// Takes the name of a backend. Of several names the last decides.
+    fn new(alloc: Global) -> Given<'a> {
+        Given {
+            command: None,
+            files: Vec::new(alloc),
+            has_input: false,
+            choice: None,
+            is_sorted: false,
+            mending: None,
+            is_zero_ended: false,
+            is_encoded: false,
+            folder: None,
+            onto: None,
+            list: None,
+            count: None,
+            shards: None,
+            asks_help: false,
+            asks_version: false,
+        }
+    }
+
     fn take_backend(&mut self, name: &'a str) -> Result<(), Misuse<'a>> {
         self.choice = Some(match name {
             "string" => Choice::String,
@@ -274,7 +220,6 @@ impl<'a> Given<'a> {
         Ok(())
     }
 
-    /// Takes what is done with lines that are not UTF-8. Of several words the last decides.
     fn take_mending(&mut self, word: &'a str) -> Result<(), Misuse<'a>> {
         self.mending = Some(match word {
             "error" => None,
@@ -285,29 +230,50 @@ impl<'a> Given<'a> {
         Ok(())
     }
 
-    /// Takes the folder that plain columns are written into. Of several the last decides.
-    fn take_folder(&mut self, path: &'a str) -> Result<(), Misuse<'a>> {
-        self.folder = Some(check_value("--plain", path)?);
+    /// Takes an option of this name, with its value if it has one. Of several the last decides.
+    fn take_option(
+        &mut self,
+        name: &'static str,
+        option: Setting,
+        value: &'a str,
+    ) -> Result<(), Misuse<'a>> {
+        match option {
+            Setting::Plain => self.folder = Some(check_value(name, value)?),
+            Setting::Onto | Setting::OntoDictionary => {
+                self.onto = Some(Onto {
+                    folder: check_value(name, value)?,
+                    is_dictionary: matches!(option, Setting::OntoDictionary),
+                });
+            }
+            Setting::List => self.list = Some(check_value(name, value)?),
+            Setting::Sorted => self.is_sorted = true,
+            Setting::Backend => self.take_backend(value)?,
+            Setting::Mending => self.take_mending(value)?,
+            Setting::ZeroEnded => self.is_zero_ended = true,
+            Setting::Encoded => self.is_encoded = true,
+            Setting::Help => self.asks_help = true,
+            Setting::Version => self.asks_version = true,
+        }
         Ok(())
     }
 
-    /// Takes the folder whose dictionary they begin with. Of several the last decides.
-    fn take_onto(&mut self, path: &'a str, is_dictionary: bool) -> Result<(), Misuse<'a>> {
-        let folder = check_value(onto_option(is_dictionary), path)?;
-        self.onto = Some(Onto {
-            folder,
-            is_dictionary,
-        });
-        Ok(())
+    /// Returns whether an option was given.
+    fn has(&self, option: Setting) -> bool {
+        match option {
+            Setting::Plain => self.folder.is_some(),
+            Setting::Onto => matches!(self.onto, Some(onto) if !onto.is_dictionary),
+            Setting::OntoDictionary => matches!(self.onto, Some(onto) if onto.is_dictionary),
+            Setting::List => self.list.is_some(),
+            Setting::Sorted => self.is_sorted,
+            Setting::Backend => self.choice.is_some(),
+            Setting::Mending => self.mending.is_some(),
+            Setting::ZeroEnded => self.is_zero_ended,
+            Setting::Encoded => self.is_encoded,
+            Setting::Help => self.asks_help,
+            Setting::Version => self.asks_version,
+        }
     }
 
-    /// Takes the file that names the files. Of several the last decides.
-    fn take_list(&mut self, path: &'a str) -> Result<(), Misuse<'a>> {
-        self.list = Some(check_value("--files0-from", path)?);
-        Ok(())
-    }
-
-    /// Takes the command.
     fn take_command(&mut self, word: &'a str) -> Result<(), Misuse<'a>> {
         self.command = Some(match word {
             "encode" => Command::Encode,
@@ -321,19 +287,18 @@ impl<'a> Given<'a> {
     }
 
     /// Takes how many shards are written, or where.
-    fn take_parts(&mut self, word: &'a str) -> Result<(), Misuse<'a>> {
+    fn take_shards(&mut self, word: &'a str) -> Result<(), Misuse<'a>> {
         match self.count {
             Some(_) if word.is_empty() => return Err(Misuse::EmptyFolder),
             Some(count) => {
                 let folder = word;
-                self.parts = Some(Parts { count, folder });
+                self.shards = Some(ShardFolder { count, folder });
             }
             None => self.count = Some(word.parse().map_err(|_| Misuse::NoCount(ShownWord(word)))?),
         }
         Ok(())
     }
 
-    /// Takes a file.
     fn take_file(&mut self, word: &'a str) -> Result<(), Misuse<'a>> {
         let is_input = word == "-";
         if is_input && self.has_input {
@@ -351,129 +316,82 @@ impl<'a> Given<'a> {
             Some(Command::Decode) if !self.files.is_empty() => Err(Misuse::ExtraOperand(ShownWord(
                 word,
             ))),
-            Some(Command::Shard) if self.parts.is_none() => self.take_parts(word),
+            Some(Command::Shard) if self.shards.is_none() => self.take_shards(word),
             Some(_) => self.take_file(word),
         }
     }
 
-    /// Takes an option, with a value behind `=` or none, or an operand.
-    fn take_word(&mut self, word: &'a str) -> Result<(), Misuse<'a>> {
-        match word {
-            "--sorted" => {
-                self.is_sorted = true;
-                return Ok(());
+    /// Takes an option or an operand, and returns what the next word is.
+    fn take_word(&mut self, word: &'a str) -> Result<Next, Misuse<'a>> {
+        let (name, value) = split_value(word);
+        match (find_option(name), value) {
+            (Some((name, option, true, _)), None) => return Ok(Next::Value(name, option)),
+            (Some((name, option, true, _)), Some(value)) => self.take_option(name, option, value)?,
+            (Some((name, option, false, _)), None) => self.take_option(name, option, "")?,
+            (Some((name, _, false, _)), Some(_)) => return Err(Misuse::HasValue(ShownWord(name))),
+            (None, _) if word == "--" => return Ok(Next::Operand),
+            (None, _) if word.starts_with('-') && word != "-" => {
+                return Err(Misuse::UnknownOption(ShownWord(word)));
             }
-            "--encoded" => {
-                self.is_encoded = true;
-                return Ok(());
-            }
-            "-z" | "--zero-terminated" => {
-                self.is_zero_ended = true;
-                return Ok(());
-            }
-            _ => {}
+            (None, _) => self.take_operand(word)?,
         }
-        match word.split_once('=') {
-            Some(("--backend", name)) => self.take_backend(name),
-            Some(("--invalid", how)) => self.take_mending(how),
-            Some(("--plain", path)) => self.take_folder(path),
-            Some(("--onto", path)) => self.take_onto(path, false),
-            Some(("--onto-dictionary", path)) => self.take_onto(path, true),
-            Some(("--files0-from", path)) => self.take_list(path),
-            Some((option, _)) if is_flag(option) => Err(Misuse::HasValue(ShownWord(option))),
-            _ if word.starts_with('-') && word != "-" => Err(Misuse::UnknownOption(ShownWord(
-                word,
-            ))),
-            _ => self.take_operand(word),
+        Ok(Next::OptionOrOperand)
+    }
+
+    /// Takes the next word, and returns what the one behind it is.
+    fn take(&mut self, next: Next, word: &'a str) -> Result<Next, Misuse<'a>> {
+        match next {
+            Next::OptionOrOperand => self.take_word(word),
+            Next::Value(name, option) => {
+                self.take_option(name, option, word)?;
+                Ok(Next::OptionOrOperand)
+            }
+            Next::Operand => {
+                self.take_operand(word)?;
+                Ok(Next::Operand)
+            }
         }
     }
 
     /// Checks that the command takes the options.
     fn check_options(&self, command: Command) -> Result<(), Misuse<'a>> {
-        let onto = self
-            .onto
-            .map_or("--onto", |onto| onto_option(onto.is_dictionary));
-        let given = [
-            ("--plain", self.folder.is_some()),
-            (onto, self.onto.is_some()),
-            ("--files0-from", self.list.is_some()),
-            ("--sorted", self.is_sorted),
-            ("--backend", self.choice.is_some()),
-            ("--invalid", self.mending.is_some()),
-            ("--zero-terminated", self.is_zero_ended),
-            ("--encoded", self.is_encoded),
-        ];
-        for (option, is_given) in given {
-            if is_given && !command.takes(option) {
-                return Err(Misuse::OptionOfAnother(command.name(), option));
+        for (name, option, _, commands) in OPTIONS {
+            if self.has(option) && !commands.contains(&command) {
+                return Err(Misuse::OptionOfAnother(command.name(), name));
             }
-            if is_given && self.is_encoded && is_of_lines(option) {
-                return Err(Misuse::Excluded("--encoded", option));
+            if self.has(option) && self.is_encoded && option.is_of_lines() {
+                return Err(Misuse::Excluded("--encoded", name));
             }
         }
-        if self.onto.is_some() && self.folder.is_none() {
-            return Err(Misuse::NeedsOption(onto, "--plain"));
+        for (name, option, _, _) in OPTIONS {
+            if self.has(option) && option.is_onto() && self.folder.is_none() {
+                return Err(Misuse::NeedsOption(name, "--plain"));
+            }
         }
         Ok(())
     }
 
-    /// Takes the next word, and returns what the one behind it is.
-    fn take(&mut self, next: Next, word: &'a str) -> Result<Next, Misuse<'a>> {
-        match (next, word) {
-            (Next::Backend, name) => self.take_backend(name)?,
-            (Next::Mending, how) => self.take_mending(how)?,
-            (Next::Folder, path) => self.take_folder(path)?,
-            (Next::Onto, path) => self.take_onto(path, false)?,
-            (Next::OntoDictionary, path) => self.take_onto(path, true)?,
-            (Next::List, path) => self.take_list(path)?,
-            (Next::Operand, word) => {
-                self.take_operand(word)?;
-                return Ok(Next::Operand);
-            }
-            (Next::OptionOrOperand, "--backend") => return Ok(Next::Backend),
-            (Next::OptionOrOperand, "--invalid") => return Ok(Next::Mending),
-            (Next::OptionOrOperand, "--plain") => return Ok(Next::Folder),
-            (Next::OptionOrOperand, "--onto") => return Ok(Next::Onto),
-            (Next::OptionOrOperand, "--onto-dictionary") => return Ok(Next::OntoDictionary),
-            (Next::OptionOrOperand, "--files0-from") => return Ok(Next::List),
-            (Next::OptionOrOperand, "--") => return Ok(Next::Operand),
-            (Next::OptionOrOperand, word) => self.take_word(word)?,
-        }
-        Ok(Next::OptionOrOperand)
-    }
-
-    /// Returns how lines are read.
-    fn reading(&self) -> Reading {
-        Reading {
-            mending: self.mending.flatten(),
-            is_zero_ended: self.is_zero_ended,
-        }
-    }
-
     /// Returns what the command does with the files.
     fn action(&self, command: Command) -> Result<Action<'a>, Misuse<'a>> {
-        let choice = self.choice.unwrap_or(Choice::String);
-        let reading = self.reading();
-        let counts = if self.is_sorted {
-            Form::SortedCounts
-        } else {
-            Form::Counts
+        let (onto, is_sorted) = (self.onto, self.is_sorted);
+        let reading = Reading {
+            mending: self.mending.flatten(),
+            is_zero_ended: self.is_zero_ended,
         };
-        Ok(match (command, self.folder) {
-            (Command::Encode, Some(folder)) => {
-                let onto = self.onto;
-                Action::WriteColumns(choice, Columns { folder, onto }, reading)
-            }
-            (Command::Encode, None) => Action::Do(Task::Write(Form::File, choice), reading),
-            (Command::Decode, _) => Action::Do(Task::Decode, reading),
-            (Command::Count, _) if self.is_encoded => Action::Merge(counts, choice),
-            (Command::Count, _) => Action::Do(Task::Write(counts, choice), reading),
+        let task = match (command, self.folder) {
+            (Command::Encode, Some(folder)) => Task::WriteColumns(Columns { folder, onto }),
+            (Command::Encode, None) => Task::Answer(Answer::Encoded),
+            (Command::Decode, _) => Task::Answer(Answer::Decoded),
+            (Command::Count, _) if self.is_encoded => Task::CountEncoded { is_sorted },
+            (Command::Count, _) => Task::Answer(Answer::Counted { is_sorted }),
             (Command::Merge, _) if self.files.is_empty() => return Err(Misuse::NoFile),
-            (Command::Merge, _) => Action::Merge(Form::File, choice),
+            (Command::Merge, _) => Task::Merge,
             (Command::Shard, _) => {
-                Action::WriteShards(self.parts.ok_or(Misuse::NoParts)?, reading)
+                let shards = self.shards.ok_or(Misuse::NoShards)?;
+                return Ok(Action::WriteShards(shards, reading));
             }
-        })
+        };
+        Ok(Action::Do(task, self.choice.unwrap_or(Choice::String), reading))
     }
 
     /// Returns where the files are named.
@@ -495,15 +413,6 @@ impl<'a> Given<'a> {
     }
 }
 
-/// Returns the option that says which dictionary columns begin with.
-fn onto_option(is_dictionary: bool) -> &'static str {
-    if is_dictionary {
-        "--onto-dictionary"
-    } else {
-        "--onto"
-    }
-}
-
 /// Returns the value of an option, which may not be empty.
 fn check_value<'a>(option: &'static str, value: &'a str) -> Result<&'a str, Misuse<'a>> {
     if value.is_empty() {
@@ -512,52 +421,21 @@ fn check_value<'a>(option: &'static str, value: &'a str) -> Result<&'a str, Misu
     Ok(value)
 }
 
-/// Returns whether a word is an option that takes no value.
-fn is_flag(word: &str) -> bool {
-    word == "--sorted"
-        || word == "--encoded"
-        || word == "--zero-terminated"
-        || word == "--help"
-        || word == "--version"
-}
-
-/// Returns whether an option says how lines are read.
-fn is_of_lines(option: &str) -> bool {
-    option == "--invalid" || option == "--zero-terminated"
-}
-
 /// Returns what the arguments ask for, or the first thing that is wrong with them. Options may be anywhere before `--`.
 pub fn parse_arguments(alloc: Global, arguments: &[String]) -> Result<Request<'_>, Misuse<'_>> {
-    let mut given = Given {
-        command: None,
-        files: Vec::new(alloc),
-        has_input: false,
-        choice: None,
-        is_sorted: false,
-        mending: None,
-        is_zero_ended: false,
-        is_encoded: false,
-        folder: None,
-        onto: None,
-        list: None,
-        count: None,
-        parts: None,
-    };
+    let mut given = Given::new(alloc);
     let mut next = Next::OptionOrOperand;
     for argument in arguments {
-        next = match (next, argument.as_str()) {
-            (Next::OptionOrOperand, "-h" | "--help") => return Ok(Request::Help),
-            (Next::OptionOrOperand, "--version") => return Ok(Request::Version),
-            (_, word) => given.take(next, word)?,
-        };
+        next = given.take(next, argument.as_str())?;
+        if given.asks_help {
+            return Ok(Request::Help);
+        }
+        if given.asks_version {
+            return Ok(Request::Version);
+        }
     }
     match next {
-        Next::Backend => Err(Misuse::NoValue("--backend")),
-        Next::Mending => Err(Misuse::NoValue("--invalid")),
-        Next::Folder => Err(Misuse::NoValue("--plain")),
-        Next::Onto => Err(Misuse::NoValue("--onto")),
-        Next::OntoDictionary => Err(Misuse::NoValue("--onto-dictionary")),
-        Next::List => Err(Misuse::NoValue("--files0-from")),
+        Next::Value(name, _) => Err(Misuse::NoValue(name)),
         Next::OptionOrOperand | Next::Operand => given.decide(),
     }
 }

@@ -6,8 +6,8 @@ ghost use Rattle.string_interner.specs.Text.{Text};
 ghost use Rattle.std.specs.List.{AllZip, slice_split};
 ghost use Rattle.dictcol.specs.Names.{dash, is_dash, is_zero, names_of, AreGood, IsListFault, IsNamesFault, IsWrong, Names};
 
-use crate::arguments::{INPUT_TWICE, NAME_ADVICE, Source};
-use crate::blocks::count_byte;
+use crate::input::blocks::count_byte;
+use crate::request::{INPUT_TWICE, NAME_ADVICE, Source};
 use std::alloc::{AllocError, Global};
 use thiserror::Error;
 

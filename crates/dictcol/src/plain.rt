@@ -16,9 +16,10 @@ ghost use Rattle.dictcol.specs.Plain.{HoldPlain, IsBegun, IsDictionaryFault, IsO
 ghost use Rattle.dictcol.specs.TooMany.{LacksBehind, LacksLine};
 ghost use Rattle.dictcol.specs.Writes.{Writes};
 
-use crate::blocks;
+use crate::block_writer::BlockWriter;
 use crate::fault::Fault;
 use crate::hasher::LineHasher;
+use crate::lines::read_lines;
 use std::alloc::Global;
 use std::io::{Read, Write};
 use string_column::Column;
@@ -33,29 +34,6 @@ pub struct Plain<B: Backend> {
     /// Whether the last line of the text has no newline.
     is_cut: bool,
     ghost within: { known ≤ length lines },
-}
-
-/// Reads the lines that are all that an input yields, and whether the last one ends in a newline.
-fn read_lines<B: Backend + Drop, R: Read>(
-    alloc: Global,
-    hasher: LineHasher,
-    input: &mut R,
-) -> Result<(Column<B, LineHasher>, bool), Fault>
-    ensures ok { IfOk result (λ lines.
-        IfSome (R.remaining input.old) (λ text. AreLines text lines.0 lines.1)) }
-    ensures fault { IfErr result
-        (IsLinesFault (LacksLine B.numbering) (R.remaining input.old)) }
-{
-    let mut lines = Column::with_hasher(alloc, hasher);
-    let rest = blocks::read_lines(alloc, input, &mut lines)?;
-    if rest.is_empty() {
-        let is_ended = lines.len() > 0;
-        return Ok((lines, is_ended));
-    }
-    match lines.push(&rest) {
-        Ok(_) => Ok((lines, false)),
-        Err(error) => Err(Fault::of_intern(error)),
-    }
 }
 
 /// Appends the lines that an input yields, and returns whether the last one ends in a newline.
@@ -164,8 +142,13 @@ impl<B: Backend + Drop> Plain<B> {
         let Ok(header) = npy::format_header(alloc, codes.len()) else {
             return Err(Fault::Memory);
         };
-        dictionary::write_file(alloc, dictionary, self.lines.dictionary())?;
-        npy::write_file(numbers, &header, codes)
+        let Ok(mut block) = BlockWriter::new(alloc) else {
+            return Err(Fault::Memory);
+        };
+        let texts = self.lines.dictionary();
+        dictionary::write_file(&mut block, dictionary, texts).map_err(Fault::of_write)?;
+        npy::write_file(&mut block, numbers, &header, codes).map_err(Fault::of_write)?;
+        Ok(())
     }
 }
 

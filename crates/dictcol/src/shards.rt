@@ -6,18 +6,17 @@ pub mod folder;
 ghost use Rattle.std.specs.Prelude.{◌≡◌, ◌<◌, All, List, [], ◌∷◌, ◌++◌, length, IfErr, IfOk, IfSome, OnOk, string_bytes};
 ghost use Rattle.std.specs.Io.KnownBytes.{Keeps};
 ghost use Rattle.string_interner.specs.Text.{Text};
-ghost use Rattle.dictcol.specs.Answer.{IsLinesTaskFault};
-ghost use Rattle.dictcol.specs.Blocks.{IsTextOf};
+ghost use Rattle.dictcol.specs.Blocks.{IsLinesTaskFault, IsTextOf};
 ghost use Rattle.dictcol.specs.Fault.{IsTakeFault, IsWriteFault};
 ghost use Rattle.dictcol.specs.Lines.{lines_of};
 ghost use Rattle.dictcol.specs.TooMany.{IsPastCount};
 ghost use Rattle.dictcol.specs.declared.fault.Fault.TheVariants.{Memory};
 
-use crate::block::Block;
-use crate::blocks;
-use crate::blocks::TakesLines;
 use crate::fault::Fault;
-use crate::split::Lines;
+use crate::input::block::Block;
+use crate::input::blocks;
+use crate::input::blocks::TakesLines;
+use crate::input::split::Lines;
 use itoa::Buffer;
 use std::alloc::Global;
 use std::io;
@@ -68,7 +67,6 @@ impl<W: Write> Shard<W> {
         }
     }
 
-    /// Writes what waits.
     fn write(&mut self) -> Result<(), Fault>
         ensures same { OnOk result
             (Keeps (held_by W.contents self.old) (held_by W.contents self.new)) }
@@ -139,7 +137,6 @@ impl<H: TextHasher, W: Write> Shards<H, W> {
         Ok(())
     }
 
-    /// Writes what waits.
     fn write(&mut self) -> Result<(), Fault>
         ensures same { OnOk result ((lines : List Text)
             → HasSharded H.code W.contents self.old lines

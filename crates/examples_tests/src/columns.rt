@@ -1,7 +1,7 @@
 use examples::column::{count_visits, is_same_page};
 use std::alloc::Global;
 use std::test::Fail;
-use string_column::{Codes, Column, PartsError};
+use string_column::{Codes, Column, Dictionary, PartsError};
 use string_interner::backend::{Backend, BucketBackend, BufferBackend, InternError};
 use string_interner::dedup::FoldState;
 
@@ -47,6 +47,21 @@ fn encodes<B: Backend + Drop>(alloc: Global) -> Result<bool, InternError> {
 fn rows_are_encoded(rt: HostRuntime) -> Result<(), Fail> {
     check_answer(encodes::<BucketBackend>(rt.alloc()))?;
     check_answer(encodes::<BufferBackend>(rt.alloc()))
+}
+
+fn indexes<B: Backend + Drop>(alloc: Global) -> Result<bool, InternError> {
+    let mut colors = Dictionary::<B>::with_hasher(alloc, FoldState::default());
+    let found = (
+        colors.intern("red")?,
+        colors.intern("green")?,
+        colors.intern("red")?,
+    );
+    Ok((found == (0, 1, 0)) & (colors.interner().len() == 2))
+}
+
+#[test]
+fn texts_have_indexes(rt: HostRuntime) -> Result<(), Fail> {
+    check_answer(indexes::<BufferBackend>(rt.alloc()))
 }
 
 fn appends(alloc: Global) -> Result<bool, InternError> {

@@ -44,5 +44,5 @@ code_by Seeded key0 key1 = seeded_code key0 key1
 -- under the hasher that was chosen
 abbrev pub chosen_code : ChosenHasher → Text → ℕ
 chosen_code (chosen.Fixed hasher) text = one_write folding.write folding.finish (initial_hasher hasher.builder) text
-chosen_code (chosen.Keyed hasher) text = sip_code hasher.builder.key0 hasher.builder.key1 text
+chosen_code (chosen.Keyed key0 key1) text = sip_code key0 key1 text
 chosen_code (chosen.Seeded hasher) text = seeded_code hasher.builder.key0 hasher.builder.key1 text

@@ -25,8 +25,7 @@ macro_rules! each {
 
 mod entries;
 mod guessed;
-mod intern_joined;
-mod intern_list;
+mod intern_many;
 mod joined;
 mod one_kind;
 mod part;

@@ -3,11 +3,9 @@ use Rattle.std.proofs.Common.{◌≡◌, ℕ, List, [], ◌∷◌, ◌++◌, Ok,
 use Rattle.std.proofs.lemmas.List.{append_assoc}
 use Rattle.string_interner.specs.Text.{Text, IsDistinct}
 use Rattle.string_interner.specs.Numbering.{Numbering}
-use Rattle.string_interner.specs.Extend.{fresh}
 use Rattle.string_interner.proofs.Lemmas.Interner.StandsFor.{one_entry}
 use Rattle.string_column.specs.Column.{AppendsRows, AreCodes, dictionary_of}
 use Rattle.string_column.proofs.Lemmas.Counts.{dictionary-distinct}
-use Rattle.string_column.proofs.Lemmas.Shards.{dictionary-append, codes-append}
 
 -- the codes of distinct entries follow from the rows
 codes-follow : (entries : List Text) → IsDistinct entries → (rows : List Text) (codes others : List ℕ) → AreCodes entries codes rows → AreCodes entries others rows → codes ≡ others
@@ -29,13 +27,3 @@ pub merges-alike : {S : Type 0} (numbering : Numbering S) (a b c ab bc left righ
     → AppendsRows numbering b c (Ok tt) bc → AppendsRows numbering a bc (Ok tt) right → left ≡ right
 merges-alike numbering a b c ab bc left right ab_is left_is bc_is right_is =
     left_is ∙ ap (λ rows. rows ++ c) ab_is ∙ append_assoc a b c ∙ ap (λ rows. a ++ rows) (sym bc_is) ∙ sym right_is
-
--- The dictionary of parts: that of the first, and behind it what is new of the dictionary of the second.
-pub dictionary-of-parts : (front rows : List Text) → dictionary_of (front ++ rows) ≡ dictionary_of front ++ fresh (dictionary_of front) (dictionary_of rows)
-dictionary-of-parts = dictionary-append
-
--- Parts that were renumbered to the dictionary of the whole have, one after another, the codes of the whole.
-pub parts-make-the-whole : (front rows : List Text) (codes more all : List ℕ) → AreCodes (dictionary_of (front ++ rows)) codes front → AreCodes (dictionary_of (front ++ rows)) more rows
-    → AreCodes (dictionary_of (front ++ rows)) all (front ++ rows) → codes ++ more ≡ all
-parts-make-the-whole front rows codes more all are too whole =
-    one-coding (front ++ rows) (codes ++ more) all (codes-append (dictionary_of (front ++ rows)) codes more front rows are too) whole

@@ -5,4 +5,4 @@ pub mod Counts
 pub mod Parts
 pub mod Recodes
 pub mod Rows
-pub mod Shards
+pub mod Symbols

@@ -1,6 +1,6 @@
 -- Texts that were interned together, before the index of each is known.
--- Cited by `Entries::intern_block`.
-use Rattle.std.specs.Prelude.{◌≡◌, ◌≢◌, ℕ, List, [], ◌++◌, map, slice_get, Some, None, Result, MatchResult}
+-- Cited by `Dictionary::intern_block`.
+use Rattle.std.specs.Prelude.{◌≡◌, ◌≢◌, ℕ, ◌<◌, ◌^◌, List, [], ◌++◌, map, slice_get, Some, None, Result, MatchResult}
 use Rattle.std.specs.Borrow.{Bor}
 use Rattle.std.specs.declared.alloc.AllocError.{AllocError}
 use Rattle.string_interner.specs.Text.{Text, IsDistinct}
@@ -23,6 +23,7 @@ module _ {S : Type 0} (numbering : Numbering S) where
     pub distinct : IsDistinct entries
     pub numbered : AreNumbered numbering front symbols
     pub new : entries ≡ front ++ fresh front texts
+    pub fits : numbering.place entries < 2 ^ 64
     pub pending : List S
     pub stand : StandInOrder numbering entries pending texts
     pub numbers_are : numbers ≡ map numbering.number pending

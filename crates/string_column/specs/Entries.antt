@@ -1,5 +1,5 @@
 -- The dictionary of a column: distinct texts with their symbols and indexes, and interning a text.
--- Cited by the model and the contracts of `Entries`.
+-- Cited by the model and the contracts of `Dictionary`.
 use Rattle.std.specs.Prelude.{◌≡◌, ℕ, ◌<◌, List, [], ◌∷◌, ◌++◌, length, slice_get, slice_index_or, Some, None, Result, Ok, Err, ⊤}
 use Rattle.string_interner.specs.Text.{Text, first}
 use Rattle.string_interner.specs.Numbering.{Numbering}

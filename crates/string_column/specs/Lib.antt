@@ -2,4 +2,4 @@ pub mod Ahead
 pub mod Entries
 pub mod Column
 pub mod Parts
-pub mod Shards
+pub mod Symbols

@@ -3,7 +3,6 @@
 mod append;
 mod iter;
 mod parts;
-mod shards;
 
 ghost use Rattle.std.specs.Prelude.{◌≡◌, ◌↔◌, ◌≤◌, [], length, slice_get, IfOk, IsTrue};
 ghost use Rattle.std.specs.Option.{option_copied};
@@ -12,7 +11,7 @@ ghost use Rattle.string_interner.specs.InternAll.{Lists};
 ghost use Rattle.string_column.specs.Column.{dictionary_of, counts_of, AreCodes, AppendsRow, AppendsYielded};
 
 use crate::code_list::Codes;
-use crate::entries::{BLOCK_LEN, Entries, TextList};
+use crate::dictionary::{BLOCK_LEN, Dictionary, TextList};
 pub use iter::Iter;
 pub use parts::PartsError;
 use std::alloc::{AllocError, Global};
@@ -21,8 +20,8 @@ use string_interner::StringInterner;
 use string_interner::backend::{Backend, DefaultBackend, InternError};
 use string_interner::dedup::{FoldState, TaggedIndex, TextHasher, TextIndex};
 
-/// A dictionary of fewer texts is taken to fit the processor's cache. There a block takes longer than its texts one by one. It has
-/// more texts than an interner that `is_large`, because the codes of a block take a pass of their own.
+/// A dictionary of fewer texts is taken to fit the processor's cache. There a block takes longer than its texts one by one. These are
+/// more texts than those from which on `intern_slice` looks ahead, because the codes of a block take a pass of their own.
 const FEWEST_FOR_BLOCKS: usize = 1 << 16;
 
 /// A list of texts, the rows. It stores equal rows once.
@@ -43,7 +42,7 @@ pub struct Column<
     H: TextHasher = FoldState,
     I: TextIndex<B::Symbol> = TaggedIndex<<B as Backend>::Symbol>,
 > {
-    dictionary: Entries<B, H, I>,
+    dictionary: Dictionary<B, H, I>,
     codes: Codes,
 }
 
@@ -86,7 +85,7 @@ impl<B: Backend, H: TextHasher, I: TextIndex<B::Symbol>> Column<B, H, I> {
         ensures { result ≡ [] }
     {
         Column {
-            dictionary: Entries::with_hasher(alloc, hasher),
+            dictionary: Dictionary::with_hasher(alloc, hasher),
             codes: Codes::new(alloc),
         }
     }

@@ -8,7 +8,7 @@ use Rattle.string_interner.specs.Text.{Text}
 use Rattle.string_interner.specs.Numbering.{Numbering, by_index}
 use Rattle.string_interner.specs.Backend.{AppendsInto, Bucket, IsValidList}
 use Rattle.string_interner.specs.declared.backend.InternError.{InternError}
-use Rattle.string_interner.specs.declared.backend.bucket.copies.Run.{Run}
+use Rattle.string_interner.specs.declared.backend.bucket.copies.Piece.{Piece}
 use Rattle.string_interner.specs.declared.backend.bucket.interned_str.InternedStr.{InternedStr}
 use Rattle.string_interner.specs.declared.backend.bucket.interned_str.InternedStr.TheVariants.{InBucket, Static}
 
@@ -166,13 +166,13 @@ pub record IsInBuckets {S : Type 0} (symbol_of : ℕ → Option S) (full : List 
   pub tight : IsTight full head
   pub valid : IsValidList symbol_of length (map (interned_text (buckets_of full head)) entries)
 
--- a run is a part of a bucket
-abbrev pub IsRun : List Bucket → Run → Type 0
-IsRun buckets run = IsEntry buckets (InBucket run.bucket run.span)
+-- a piece is a part of a bucket
+abbrev pub IsPiece : List Bucket → Piece → Type 0
+IsPiece buckets piece = IsEntry buckets (InBucket piece.bucket piece.span)
 
--- the bucket with the texts of a run after its bytes
-abbrev pub after_run : List Bucket → Run → Bucket → Bucket
-after_run buckets run bucket = record bucket { bytes = bucket.bytes ++ interned_text buckets (InBucket run.bucket run.span) }
+-- the bucket with the texts of a piece after its bytes
+abbrev pub after_piece : List Bucket → Piece → Bucket → Bucket
+after_piece buckets piece bucket = record bucket { bytes = bucket.bytes ++ interned_text buckets (InBucket piece.bucket piece.span) }
 
 -- An entry is copied: a text stored in a bucket is appended to this one, and a static text stays a reference.
 abbrev pub IsBucketCopy : List Bucket → InternedStr → Bucket → Bucket → InternedStr → Type 0

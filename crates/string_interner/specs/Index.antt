@@ -1,15 +1,11 @@
 -- The map from text to symbol that slots hold, and when it fits a backend's entries and a hasher.
 -- Cited by `Table` and by all that stands on it. Below, `entry` gives the text of the entry that has a symbol, if one
 -- has, and `code` the code of a text under a hasher.
-use Rattle.std.specs.Prelude.{◌≡◌, ℕ, ◌%◌, List, [], length, slice_index_or, Contains, Bool, false, if◌then◌else◌, Option, Some, None, IsSome, unwrap_or, option_and_then}
+use Rattle.std.specs.Prelude.{◌≡◌, ℕ, List, [], slice_index_or, Contains, Bool, false, if◌then◌else◌, Option, Some, None, IsSome, unwrap_or, option_and_then}
 use Rattle.std.specs.Option.{option_map_or}
 use Rattle.std.specs.Str.{bytes_eq}
 use Rattle.string_interner.specs.Text.{Text}
-use Rattle.string_interner.specs.Slots.{symbols, filled_run, probed, first_passing}
-
--- the probe cluster of a text: the symbols from its home on, up to the first empty slot
-abbrev pub filled_run_of : {S : Type 0} → (Text → ℕ) → List (Option S) → Text → List S
-filled_run_of code slots text = filled_run (probed slots (code text % length slots))
+use Rattle.string_interner.specs.Slots.{symbols, probe_cluster, first_passing}
 
 module _ {S : Type 0} (entry : S → Option Text) where
   -- whether the symbol's entry has this text
@@ -50,4 +46,4 @@ module _ {S : Type 0} (entry : S → Option Text) where
       -- no two slots have one text
       pub distinct : (j k : ℕ) (text : Text) → text_in slots j ≡ Some text → text_in slots k ≡ Some text → j ≡ k
       -- each symbol is in the probe cluster of its text
-      pub placed : (symbol : S) (text : Text) → Contains slots (Some symbol) → entry symbol ≡ Some text → Contains (filled_run_of code slots text) symbol
+      pub placed : (symbol : S) (text : Text) → Contains slots (Some symbol) → entry symbol ≡ Some text → Contains (probe_cluster slots (code text)) symbol

@@ -10,7 +10,8 @@ use Rattle.string_interner.specs.Interner.{InternerContents}
 use Rattle.string_interner.specs.StandsFor.{StandsFor, StandInOrder}
 use Rattle.string_interner.specs.Extend.{texts_of, IsMemory, TakesIn, StopsAt}
 use Rattle.string_interner.specs.declared.backend.InternError.{InternError}
-use Rattle.string_interner.specs.declared.interner.intern_slice.Ahead.{Ahead}
+use Rattle.string_interner.specs.declared.interner.look_ahead.Ahead.{Ahead}
+use Rattle.string_interner.specs.declared.interner.intern_slice.Stopped.{Stopped}
 
 -- the list begins with these items, and then has this one or ends
 abbrev pub Lists : {A : Type 0} → List A → List A → Option A → Type 0
@@ -47,17 +48,20 @@ abbrev pub AreKnown : {S : Type 0} → (ℕ → Option S) → Numbering S → Li
 AreKnown symbol_of numbering entries texts known = (k : ℕ) → k < length texts → (text : Bor Text)
     → IsKnown symbol_of numbering entries (slice_index_or texts k text).now (slice_index_or known k None)
 
--- Of the texts from one index to another, which were looked for together, lists have the codes and what is known. The first of
--- these indexes is not past `at`.
-pub record LooksAhead {S : Type 0} (code : Text → ℕ) (symbol_of : ℕ → Option S) (numbering : Numbering S) (entries : List Text) (texts : List (Bor Text)) (at : ℕ) (ahead : Ahead) (codes : List ℕ) (known : List (Option ℕ)) : Type 0 where
+-- Of the texts from one index to another, which were looked up together, it has the codes and what is known. The first of these
+-- indexes is not past `at`.
+pub record LooksAhead {S : Type 0} (code : Text → ℕ) (symbol_of : ℕ → Option S) (numbering : Numbering S) (entries : List Text) (texts : List (Bor Text)) (at : ℕ) (ahead : Ahead) : Type 0 where
   pub begun : ahead.start ≤ at
   pub within : ahead.end ≤ length texts
   pub few : ahead.end ≤ ahead.start + 32
-  pub codes_count : length codes ≡ 32
-  pub known_count : length known ≡ 32
-  pub codes_are : (k : ℕ) → ahead.start ≤ k → k < ahead.end → (text : Bor Text) → slice_index_or codes (k - ahead.start) 0 ≡ code (slice_index_or texts k text).now
+  pub codes_are : (k : ℕ) → ahead.start ≤ k → k < ahead.end → (text : Bor Text) → slice_index_or ahead.codes (k - ahead.start) 0 ≡ code (slice_index_or texts k text).now
   pub known_are : (k : ℕ) → ahead.start ≤ k → k < ahead.end → (text : Bor Text)
-      → IsKnown symbol_of numbering entries (slice_index_or texts k text).now (slice_index_or known (k - ahead.start) None)
+      → IsKnown symbol_of numbering entries (slice_index_or texts k text).now (slice_index_or ahead.known (k - ahead.start) None)
+
+-- it has no text of a slice
+pub record LooksAtNone (ahead : Ahead) : Type 0 where
+  pub start : ahead.start ≡ 0
+  pub end : ahead.end ≡ 0
 
 -- A list of symbols, which had this capacity, is full, and allocating memory for one more symbol failed. The interner is
 -- unchanged.
@@ -86,20 +90,19 @@ module _ {S : Type 0} (numbering : Numbering S) (rule : SlotRule) where
       (λ error. (refused : Bor Text) × yields items (Some refused)
       × (StopsAt numbering rule old.0 (texts_of items) mid refused.now error new.0 ⊎ IsFull (vec_capacity old.1) new.1.items mid error new.0))
 
-  -- The first texts, so many of them, are interned, and a list begins with the numbers of their symbols.
-  pub record InternsFront (old : InternerContents) (texts : List (Bor Text)) (count : ℕ) (new : InternerContents) (numbers : List ℕ) : Type 0 where
-    pub within : count ≤ length texts
+  -- The first texts, so many of them, are interned, and a list begins with the numbers of their symbols. The rest of it stays.
+  pub record InternsFront (old : InternerContents) (before : List ℕ) (texts : List (Bor Text)) (done : ℕ) (new : InternerContents) (numbers : List ℕ) : Type 0 where
+    pub within : done ≤ length texts
     pub symbols : List S
-    pub appends : AppendsSymbols old [] (texts_of (take count texts)) new symbols
-    pub numbers_are : take count numbers ≡ map numbering.number symbols
+    pub appends : AppendsSymbols old [] (texts_of (take done texts)) new symbols
+    pub numbers_are : take done numbers ≡ map numbering.number symbols
+    pub count : length numbers ≡ length before
+    pub rest : (k : ℕ) → done ≤ k → slice_index_or numbers k 0 ≡ slice_index_or before k 0
 
-  -- The texts are interned, and the numbers of their symbols written to the front of a list: all of them, or those before the
-  -- first that fails, which fails as interning it does. The rest of the list stays.
-  abbrev pub InternsSlice : List (Bor Text) → InternerContents × List ℕ → Result (Unit {0}) InternError → InternerContents × List ℕ × ℕ → Type 0
-  InternsSlice texts (old, before) outcome (new, numbers, done) =
-      (mid : InternerContents) × InternsFront old texts done mid numbers
-      × (length numbers ≡ length before) × ((k : ℕ) → done ≤ k → slice_index_or numbers k 0 ≡ slice_index_or before k 0)
-      × MatchResult outcome
-      (λ _. (done ≡ length texts) × (new ≡ mid))
-      (λ error. (refused : Bor Text) × (rest : List (Bor Text)) × (texts ≡ take done texts ++ refused ∷ rest)
-      × StopsAt numbering rule old (texts_of (take done texts)) mid refused.now error new)
+  -- All texts are interned, or those before the first that fails, which fails as interning it does.
+  abbrev pub InternsSlice : List (Bor Text) → InternerContents × List ℕ → Result (Unit {0}) Stopped → InternerContents × List ℕ → Type 0
+  InternsSlice texts (old, before) outcome (new, numbers) = MatchResult outcome
+      (λ _. InternsFront old before texts (length texts) new numbers)
+      (λ stopped. (mid : InternerContents) × InternsFront old before texts stopped.done mid numbers
+      × (refused : Bor Text) × (rest : List (Bor Text)) × (texts ≡ take stopped.done texts ++ refused ∷ rest)
+      × StopsAt numbering rule old (texts_of (take stopped.done texts)) mid refused.now stopped.error new)

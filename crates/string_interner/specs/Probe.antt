@@ -3,7 +3,7 @@
 -- `Table::reserve_one`.
 use Rattle.std.specs.Prelude.{◌≡◌, ℕ, ◌<◌, ◌≤◌, ◌%◌, ◌+◌, ◌⊎◌, Bool, true, false, List, length, slice_index_or, slice_set, Contains, Option, Some, None}
 use Rattle.string_interner.specs.Text.{Text}
-use Rattle.string_interner.specs.Slots.{symbols, filled_run, first_passing, probe_cluster, probed}
+use Rattle.string_interner.specs.Slots.{symbols, front_cluster, first_passing, probe_cluster, probed}
 use Rattle.string_interner.specs.LoadFactor.{IsSlotCount}
 use Rattle.string_interner.specs.Index.{Fits}
 use Rattle.string_interner.specs.TextIndex.{IfVacant}
@@ -23,7 +23,7 @@ pub record FillsSlot {S : Type 0} (old new : List (Option S)) (home : ℕ) (symb
   pub in_range : at < length old
   pub was_empty : slice_index_or old at None ≡ None
   pub written : new ≡ slice_set old at (Some symbol)
-  pub placed : Contains (filled_run (probed new home)) symbol
+  pub placed : Contains (front_cluster (probed new home)) symbol
 
 -- the next slot, round the end to the first
 pub record Follows (count at next : ℕ) : Type 0 where

@@ -1,12 +1,12 @@
 -- The possible replies to a list of commands: a step for each command, and a run of steps.
 -- Cited by `run`.
-use Rattle.std.specs.Prelude.{◌≡◌, ℕ, List, [], ◌∷◌, ◌++◌, length, take, slice_get, Option, Some, None, MatchOption, option_and_then, IsSome, Result, Ok, Err, ⊤, IfOk, Vec}
+use Rattle.std.specs.Prelude.{◌≡◌, ℕ, All, List, [], ◌∷◌, ◌++◌, length, take, slice_get, Option, Some, None, MatchOption, option_and_then, IsSome, Result, Ok, Err, ⊤, IfOk, Vec}
 use Rattle.std.specs.declared.alloc.Global.{Global}
 use Rattle.std.specs.Option.{option_map_or}
 use Rattle.std.specs.String.{string_bytes}
 use Rattle.string_interner.specs.Text.{Text, first}
 use Rattle.string_interner.specs.Numbering.{Numbering}
-use Rattle.string_interner.specs.Interner.{Interns}
+use Rattle.string_interner.specs.Interner.{Interns, InternerContents, KeepsBucketsAndSlots}
 use Rattle.string_interner.specs.Extend.{texts_of, fresh, InternsInOrder}
 use Rattle.string_interner.specs.declared.backend.InternError.{InternError}
 use Rattle.string_interner.specs.declared.backend.InternError.TheVariants.{NoSymbol as InternNoSymbol, Memory}
@@ -55,6 +55,12 @@ InternsKnown texts (InternStatic text) = IsSome (first texts text.now)
 InternsKnown texts (Extend items) = fresh texts (texts_of items.now) ≡ []
 InternsKnown texts (Truncate _) = ⊥
 InternsKnown _ _ = ⊤
+
+-- buckets and slots are unchanged if no command interns a text; texts, too, if every text that a command interns is known
+-- and no command is a `Truncate`
+pub record KeepsUnlessNew (old : InternerContents) (commands : List Command) (new : InternerContents) : Type 0 where
+  pub none : All InternsNone commands → KeepsBucketsAndSlots old new
+  pub known : All (InternsKnown old.texts) commands → (new.texts ≡ old.texts) × KeepsBucketsAndSlots old new
 
 module _ {S : Type 0} (numbering : Numbering S) where
   -- the text at a number, if the number has a symbol and a text is read there

@@ -11,7 +11,7 @@ pub record LooksContents (B : Type 0) : Type 0 where
 
 -- The probe cluster from a home on has `f` slots: the greatest count, at most all, such that the slots home, home + 1,
 -- .., wrapping around at the end, are filled.
-pub record IsFilledRun {S : Type 0} (slots : List (Option S)) (home f : ℕ) : Type 0 where
+pub record IsProbeCluster {S : Type 0} (slots : List (Option S)) (home f : ℕ) : Type 0 where
   pub within : f ≤ length slots
   pub filled : (i : ℕ) → i < f → IsSome (slice_index_or slots ((home + i) % length slots) None)
   pub greatest : f < length slots → IsNone (slice_index_or slots ((home + f) % length slots) None)
@@ -23,10 +23,10 @@ symbols (None ∷ rest) = symbols rest
 symbols (Some symbol ∷ rest) = symbol ∷ symbols rest
 
 -- the same, up to the first empty slot: the probe cluster at the front
-abbrev pub filled_run : {S : Type 0} → List (Option S) → List S
-filled_run [] = []
-filled_run (None ∷ rest) = []
-filled_run (Some symbol ∷ rest) = symbol ∷ filled_run rest
+abbrev pub front_cluster : {S : Type 0} → List (Option S) → List S
+front_cluster [] = []
+front_cluster (None ∷ rest) = []
+front_cluster (Some symbol ∷ rest) = symbol ∷ front_cluster rest
 
 -- the slots in probe order from a home on, wrapping around at the end
 abbrev pub probed : {S : Type 0} → List (Option S) → ℕ → List (Option S)
@@ -34,7 +34,7 @@ probed slots home = drop home slots ++ take home slots
 
 -- the symbols of the probe cluster from the home of a code on
 abbrev pub probe_cluster : {S : Type 0} → List (Option S) → ℕ → List S
-probe_cluster slots code = filled_run (probed slots (code % length slots))
+probe_cluster slots code = front_cluster (probed slots (code % length slots))
 
 -- the first symbol that passes the test
 abbrev pub first_passing : {S : Type 0} → (S → Bool) → List S → Option S

@@ -2,7 +2,7 @@
 -- Cited by the definitions of the byte buffer, and by what reads and writes a length.
 use Rattle.std.specs.Prelude.{ℕ, zero, suc, Bool, ◌+◌, ◌*◌, ◌/◌, ◌%◌, ◌^◌, ◌<◌, ◌≤◌, ◌&&◌, List, [], ◌∷◌, length, take, drop, nat_lt, nat_le, if◌then◌else◌, Option, IsTrue, SomeIff}
 use Rattle.std.specs.List.{prefix_len}
-use Rattle.string_interner.specs.declared.backend.buffer.spelling.Spelled.{Spelled}
+use Rattle.string_interner.specs.declared.backend.buffer.leb128.Spelled.{Spelled}
 
 -- A number in base 128, its lowest digit first. 128 is added to every digit but the last. There are at most `more`
 -- digits after the first, which only bounds the recursion.

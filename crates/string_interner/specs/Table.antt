@@ -4,7 +4,7 @@
 use Rattle.std.specs.Prelude.{◌≡◌, ℕ, ◌+◌, ◌*◌, ◌≤◌, ◌%◌, max, length, Option}
 use Rattle.string_interner.specs.Text.{Text}
 use Rattle.string_interner.specs.LoadFactor.{GrowsTo, IsSlotCount}
-use Rattle.string_interner.specs.Slots.{LooksContents, IsFilledRun, symbols}
+use Rattle.string_interner.specs.Slots.{LooksContents, IsProbeCluster, symbols}
 use Rattle.string_interner.specs.Index.{AddsPair, IsAbsent, look_up, text_of}
 use Rattle.string_interner.specs.Layout.{IsTable, SlotLayout}
 
@@ -51,7 +51,7 @@ module _ {S L : Type 0} (layout : SlotLayout S L) where
   pub record CountsLooks {B : Type 0} (table : TableContents L) (code : ℕ) (old new : LooksContents B) : Type 0 where
     pub backend : new.backend ≡ old.backend
     pub counts : old.count ≤ new.count
-    pub run : (f : ℕ) → IsFilledRun (layout.slots table.slots) (code % slot_count table) f → new.count ≤ old.count + f + 1
+    pub cluster : (f : ℕ) → IsProbeCluster (layout.slots table.slots) (code % slot_count table) f → new.count ≤ old.count + f + 1
     pub at_most : new.count ≤ old.count + entry_count table + 1
     pub no_slots : slot_count table ≡ 0 → new.count ≡ old.count
 

@@ -12,11 +12,6 @@ abbrev pub found_by : {S V : Type 0} → Entry S V → Option S
 found_by (Occupied symbol) = Some symbol
 found_by (Vacant _) = None
 
--- what holds of the symbol, if one was found
-abbrev pub IfOccupied : {S V : Type 0} → Entry S V → (S → Type 0) → Type 0
-IfOccupied (Occupied symbol) P = P symbol
-IfOccupied (Vacant _) P = ⊤
-
 -- what holds of the vacancy, if nothing was found
 abbrev pub IfVacant : {S V : Type 0} → Entry S V → (V → Type 0) → Type 0
 IfVacant (Occupied _) P = ⊤

@@ -1,8 +1,8 @@
 //! Indexes, which find the symbol of a text, and the hashers that they use.
 //!
 //! An interner looks texts up by the trait [`TextIndex`]. Take one of the two indexes here, or write your own: every
-//! contract of an interner holds for each that keeps the laws of the trait. Both are a hash table, [`Table`], over a layout
-//! of its slots. Called by itself, [`Table::find`] also bounds how many texts it reads.
+//! contract of an interner holds for each that keeps the laws of the trait. Both are a hash table, with slots stored in one of
+//! two ways. Called by itself, their `find` also bounds how many texts it reads.
 //!
 //! | Index | A slot holds | Load factor at most |
 //! |---|---|---|
@@ -21,10 +21,8 @@ mod tagged;
 mod text_index;
 
 pub use crate::hash::{
-    DefaultHashBuilder, FixedState, Fnv1a, FoldState, KeyedHasher, KeyedState, SeededHasher,
-    SeededState, StdHasher, TextHasher,
+    DefaultHashBuilder, FixedState, FoldState, SeededHasher, SeededState, StdHasher, TextHasher,
 };
 pub use index::{DefaultIndex, Index, TaggedIndex};
 pub use slots::Looks;
-pub use table::Table;
 pub use text_index::{CopyIndex, Entry, TextIndex};

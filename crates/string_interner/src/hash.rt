@@ -4,23 +4,16 @@
 //! texts can make them slow: take [`SeededHasher`] for texts from strangers, and [`FoldState`] for all others.
 
 ghost use Rattle.std.specs.Prelude.{◌≡◌, ℕ};
-ghost use Rattle.std.specs.Hash.DefaultHasher.{with_keys};
 ghost use Rattle.string_interner.specs.Text.{Text};
 ghost use Rattle.string_interner.specs.Hasher.{fnv_1a, one_write};
 
 mod seeded;
 
-use core::hash::keyed_hasher;
 pub use seeded::{SeededHash, SeededState};
-use std::fmt;
-use std::fmt::{Debug, Formatter};
-use std::hash::{BuildHasher, BuildHasherDefault, DefaultHasher, FoldHasher, Hasher};
+use std::hash::{BuildHasher, BuildHasherDefault, FoldHasher, Hasher};
 
 /// The default hasher of an interner.
-pub type DefaultHashBuilder = Fnv1a;
-
-/// [`FixedState`] under the name of the hash that it computes.
-pub type Fnv1a = FixedState;
+pub type DefaultHashBuilder = FixedState;
 
 /// Hashes texts: gives each text a 64-bit code.
 ///
@@ -29,10 +22,9 @@ pub type Fnv1a = FixedState;
 /// | Hasher | Codes | Take it when |
 /// |---|---|---|
 /// | [`FoldState`] | the same in each run | you trust where the texts come from: it is the fastest |
-/// | [`Fnv1a`] | the same in each run | the same, and texts are short, or you want the codes of 64-bit FNV-1a |
+/// | [`FixedState`] | the same in each run | the same, and texts are short, or you want the codes of 64-bit FNV-1a |
 /// | [`SeededHasher`] | those of two keys | strangers may choose the texts, and you have 128 random bits |
-/// | [`KeyedHasher`] | those of two keys | the same, and they may see codes, or time single calls |
-/// | [`StdHasher`] over `RandomState` | other ones in each run | the same, and you have a `HostRuntime`, which draws the keys |
+/// | [`StdHasher`] over `RandomState` | other ones in each run | the same, and they may see codes, or time single calls |
 pub trait TextHasher {
     /// The code of a text. It depends on the hasher's value and the text alone.
     ghost code: { Self → Text → ℕ };
@@ -77,12 +69,11 @@ impl TextHasher for FixedState {
 ///   one code.
 /// - [`SeededState`], which makes [`SeededHasher`], is about as fast, under two keys that you hand in. As long as the keys
 ///   are random and stay secret, no way is known to choose many texts that share a code.
-/// - [`KeyedState`], which makes [`KeyedHasher`], is SipHash-1-3 under two such keys. It is slower. It was made against
-///   attackers who see codes, too.
-/// - `RandomState` is SipHash-1-3 under keys that the system draws.
+/// - `RandomState` is SipHash-1-3 under keys that the system draws. It is slower. It was made against attackers who see
+///   codes, too.
 /// - `BuildHasherDefault<DefaultHasher>` is the same under keys that are 0: it protects from nothing.
 ///
-/// An index takes the low bits of a code. These five are made to spread them, which is not proved; a builder of your own
+/// An index takes the low bits of a code. These four are made to spread them, which is not proved; a builder of your own
 /// should, too.
 ///
 /// ```
@@ -102,56 +93,9 @@ pub struct StdHasher<S> {
 /// thousand tries, and then any number of texts have one code. Where someone may choose texts, take [`SeededHasher`].
 pub type FoldState = StdHasher<BuildHasherDefault<FoldHasher>>;
 
-/// SipHash-1-3 under the two keys of a [`KeyedState`]. No way is known to foresee its codes without them.
-pub type KeyedHasher = StdHasher<KeyedState>;
-
 /// The seeded hasher: about as fast as [`FoldState`], under the two keys of a [`SeededState`]. Without the keys no way is
 /// known to choose many texts that share a code.
 pub type SeededHasher = StdHasher<SeededState>;
-
-/// Builds hashers of SipHash-1-3 under two keys of 64 bits.
-///
-/// If the keys are random and secret, no way is known to choose texts that share a code; this is not proved. So draw them
-/// once a process, or once an interner, from the system. Where a [`HostRuntime`](std::HostRuntime) is at hand, std's
-/// `RandomState` does so.
-///
-/// The same keys give the same codes in each run. `Debug` shows no key.
-///
-/// ```
-/// let keyed = KeyedHasher::new(KeyedState::new(key0, key1));
-/// let names = StringInterner::<DefaultBackend, KeyedHasher>::with_hasher(alloc, keyed);
-/// ```
-#[derive(Clone, Copy)]
-pub struct KeyedState {
-    key0: u64,
-    key1: u64,
-}
-
-impl KeyedState {
-    /// Makes a builder of hashers under these keys.
-    pub fn new(key0: u64, key1: u64) -> Self
-        ensures { result ≡ record { key0 = key0; key1 = key1 } }
-    {
-        KeyedState { key0, key1 }
-    }
-}
-
-impl BuildHasher for KeyedState {
-    type Hasher = DefaultHasher;
-
-    ghost build_hasher = { λ state. with_keys state.key0 state.key1 };
-
-    #[inline]
-    fn build_hasher(&self) -> DefaultHasher {
-        keyed_hasher(self.key0, self.key1)
-    }
-}
-
-impl Debug for KeyedState {
-    fn fmt<W: fmt::Write>(&self, f: &mut Formatter<W>) -> fmt::Result {
-        f.debug_struct("KeyedState").finish_non_exhaustive()
-    }
-}
 
 impl<S: BuildHasher> StdHasher<S> {
     /// Makes a hasher that hashes each text by a hasher of this builder.

@@ -1,11 +1,11 @@
 //! An interner: each text once, with the symbol that stands for it.
 
-mod block;
-mod coded;
 mod extend;
 mod given;
 mod intern_all;
 mod intern_slice;
+mod look_ahead;
+mod new_text;
 mod touch;
 
 ghost use Rattle.std.specs.Prelude.{◌≡◌, ◌≤◌, ◌&&◌, ◌↔◌, List, [], ◌∷◌, length, take, IsTrue, IsSome, IfOk, IfSome, Some};
@@ -23,8 +23,9 @@ use crate::dedup::{CopyIndex, DefaultIndex, Entry, TextIndex};
 use crate::equal_texts::texts_are_equal;
 use crate::hash::{DefaultHashBuilder, TextHasher};
 use crate::symbol::Symbol;
-use coded::intern_coded;
 use given::Given;
+pub use intern_slice::Stopped;
+use new_text::intern_coded;
 use std::alloc::{AllocError, Global};
 use std::marker::Model;
 

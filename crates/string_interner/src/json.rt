@@ -3,9 +3,8 @@
 //! This is for saving an interner and loading it again. Over the same backend the texts keep their symbols, so numbers
 //! that were saved elsewhere stay valid.
 
-ghost use Rattle.std.specs.Prelude.{◌≡◌, length, Ok, IfOk, IsOkAnd};
+ghost use Rattle.std.specs.Prelude.{◌≡◌, Ok, IfOk, IsOkAnd};
 ghost use Rattle.serde_json.specs.View.{view, items_view};
-ghost use Rattle.string_interner.specs.SlotRule.{IsLeastSlotCount};
 ghost use Rattle.string_interner.specs.Interner.{HasLeastSlots};
 ghost use Rattle.string_interner.specs.Json.{json_of_texts, json_of_number, read_into, refused, KeepsLeastSlots, HasJsonForm, ReadsArray, ReadsArrayExactly, ReadsBack, ReadsElements, ReadsElementsExactly, symbol_read};
 
@@ -91,9 +90,7 @@ impl<B: Backend, H: TextHasher, I: TextIndex<B::Symbol>> StringInterner<B, H, I>
         ensures slots { IfOk result (λ _. KeepsLeastSlots I.rule self.old self.new) }
     {
         for (index, element) in elements.iter().enumerate() {
-            let Some(text) = element.as_str() else {
-                return Err(JsonError::NotAText { index });
-            };
+            let text = element.as_str().ok_or(JsonError::NotAText { index })?;
             let known = self.len();
             self.get_or_intern(text)?;
             if self.len() == known {
@@ -131,7 +128,7 @@ impl<
     /// `to_json` returns.
     ///
     /// Reads and fails as `from_json` does, but accepts no repeats: a string equal to an earlier element returns
-    /// `Repeated`, before a symbol or memory is asked for it. `["a", "b", "a"]` fails at index 2.
+    /// `Repeated`, before it looks for a symbol or memory. `["a", "b", "a"]` fails at index 2.
     pub fn from_json_exact(alloc: Global, value: &Value) -> Result<Self, JsonError>
         ensures reads { ReadsArrayExactly B.numbering (view value.now) result }
         ensures form { IfOk result (HasJsonForm (view value.now)) }
@@ -176,12 +173,10 @@ impl<B: Backend + Drop, H: TextHasher + Drop, I: TextIndex<B::Symbol> + Drop> St
         // What `to_json` returned is read back.
         ensures gives_back { ReadsBack B.numbering (view value.now) result }
     {
-        let Some(elements) = value.as_array() else {
-            return Err(JsonError::NotAList);
-        };
-        let mut different = StringInterner::with_hasher(alloc, hasher);
-        different.read_elements_exactly(elements)?;
-        Ok(different)
+        let elements = value.as_array().ok_or(JsonError::NotAList)?;
+        let mut interner = StringInterner::with_hasher(alloc, hasher);
+        interner.read_elements_exactly(elements)?;
+        Ok(interner)
     }
 }
 

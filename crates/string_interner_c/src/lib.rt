@@ -6,7 +6,7 @@ ghost use Rattle.std.specs.Str.{IsUtf8};
 ghost use Rattle.handles.specs.Any.{IsShrunk, KeepsFirst, ReadsAs, ReadsBy, any_eq, texts_in};
 ghost use Rattle.handles.specs.Calls.{Changes, Copies, CopiesJson, CopiesText, FindsBytes, FindsText, InternsBytes, InternsText, KnowsBytes, MakesNew, MakesRoom, Opens, Packs, Queries, ReadsJson, ResolvesSymbol, Writes};
 ghost use Rattle.handles.specs.Entries.{ListsFrom};
-ghost use Rattle.handles.specs.InternMany.{InternsJoined, InternsList};
+ghost use Rattle.handles.specs.InternMany.{InternsMany, listed, parts};
 ghost use Rattle.handles.specs.OneKind.{FindsIn, InternsIn, ResolvesIn};
 ghost use Rattle.handles.specs.Joined.{LendsJoinedIn};
 ghost use Rattle.handles.specs.Options.{MakesBy};
@@ -363,7 +363,7 @@ pub extern "C" fn interner_intern_joined(
     symbols: &mut [u32],
     done: &mut usize,
 ) -> u32
-    ensures { Writes (InternsJoined bytes.now ends.now)
+    ensures { Writes (InternsMany (parts bytes.now 0 ends.now))
         (h.old.value, symbols.old, done.old) result (h.new.value, symbols.new, done.new) }
 {
     finish(h.interner().intern_joined(bytes, ends, symbols, done))
@@ -377,7 +377,7 @@ pub extern "C" fn interner_intern_list(
     symbols: &mut [u32],
     done: &mut usize,
 ) -> u32
-    ensures { Writes (InternsList texts.now)
+    ensures { Writes (InternsMany (listed texts.now))
         (h.old.value, symbols.old, done.old) result (h.new.value, symbols.new, done.new) }
 {
     finish(h.interner().intern_list(texts, symbols, done))

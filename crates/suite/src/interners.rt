@@ -145,8 +145,11 @@ fn intern_slice<B: Backend, H: TextHasher, I: TextIndex<B::Symbol>>(
 ) -> Told {
     let texts = collect_texts(rt.alloc(), call)?;
     let mut numbers = vec![in rt.alloc(); 0_usize; texts.len()]?;
-    let mut done: usize = 0;
-    let outcome = mark_partly(interner.intern_slice(&texts, &mut numbers, &mut done));
+    let (done, ended) = match interner.intern_slice(&texts, &mut numbers) {
+        Ok(()) => (texts.len(), Ok(())),
+        Err(stopped) => (stopped.done, Err(stopped.error)),
+    };
+    let outcome = mark_partly(ended);
     if !is_refused(&outcome) {
         tell_numbers(rt, &numbers, done)?;
     }

@@ -6,10 +6,12 @@ ghost use Rattle.string_interner.specs.Hasher.{fnv_1a};
 ghost use Rattle.string_interner.specs.Symbol.{number_below, number_below-some};
 ghost use Rattle.suite.specs.Samples.{half_of, half_of-some, halves_equal, halves_same};
 
+use core::hash::keyed_hasher;
 use std::alloc::AllocError;
 use std::cell::Cell;
+use std::hash::Hasher;
 use std::marker::Model;
-use string_interner::dedup::{FixedState, KeyedHasher, KeyedState, TextHasher};
+use string_interner::dedup::{FixedState, TextHasher};
 use string_interner::symbol::Symbol;
 
 /// A hasher that gives all texts one code.
@@ -82,27 +84,31 @@ impl<'c> TextHasher for CountingHasher<'c> {
     }
 }
 
-/// A `KeyedHasher`, which is one under any keys. Those of its default stand for keys that a system draws: Python makes them
-/// of `PYTHONHASHSEED=1`.
+/// SipHash-1-3 under two keys. Those of its default stand for keys that a system draws: Python makes them of
+/// `PYTHONHASHSEED=1`.
 #[derive(Clone, Copy)]
 pub struct Keyed {
-    keyed: KeyedHasher,
+    key0: u64,
+    key1: u64,
 }
 
 impl TextHasher for Keyed {
     ghost use Rattle.suite.specs.Keyed.{keyed_code};
 
-    ghost code = { λ hasher text. keyed_code hasher.keyed.builder text };
+    ghost code = { λ hasher text. keyed_code hasher.key0 hasher.key1 text };
 
     fn hash_text(&self, text: &str) -> u64 {
-        self.keyed.hash_text(text)
+        let mut state = keyed_hasher(self.key0, self.key1);
+        state.write(text.as_bytes());
+        state.finish()
     }
 }
 
 impl Default for Keyed {
     fn default() -> Self {
         Keyed {
-            keyed: KeyedHasher::new(KeyedState::new(0xAED6_6CE1_84BE_2329, 0xEBE9_BBF1_F149_9052)),
+            key0: 0xAED6_6CE1_84BE_2329,
+            key1: 0xEBE9_BBF1_F149_9052,
         }
     }
 }

@@ -3,12 +3,12 @@
 //! This is for programs that read requests as data, and for statements about a whole session: one contract says what all
 //! replies are, for every backend.
 
-//~ ghost use Rattle.std.specs.Prelude.{◌≡◌, [], All, slice_get, Option, Some, None, IfOk, OnErr};
+//~ ghost use Rattle.std.specs.Prelude.{◌≡◌, [], slice_get, Option, Some, None, IfOk, OnErr};
 //~ ghost use Rattle.std.specs.Option.{option_copied};
 //~ ghost use Rattle.string_interner.specs.Extend.{texts_of, fresh};
 //~ ghost use Rattle.string_interner.specs.Interner.{KeepsBucketsAndSlots};
 //~ ghost use Rattle.string_interner.specs.ListAnswers.{AnswersAsAList};
-//~ ghost use Rattle.string_interner.specs.Run.{refusal, intern_reply, reply_number, CopyReply, text_at_number, NumberReply, ExtendReply, InternsNone, InternsKnown, Step, RunsAll};
+//~ ghost use Rattle.string_interner.specs.Run.{refusal, intern_reply, reply_number, CopyReply, text_at_number, NumberReply, ExtendReply, InternsNone, InternsKnown, KeepsUnlessNew, Step, RunsAll};
 
 use crate::rt::prelude::*; use crate::proved::backend::{Backend, InternError};
 use crate::proved::dedup::TextIndex;
@@ -190,6 +190,9 @@ fn step<B: Backend, H: TextHasher, I: TextIndex<B::Symbol>>(
 /// If no command is a `Number` or a `Truncate` and none fails, the replies are one function of the list and the
 /// commands, with each symbol's number the place of its entry. So all backends reply alike, but for these numbers.
 ///
+/// Buckets and slots are unchanged if no command interns a text, or if each interned text is known and no command is a
+/// `Truncate`; texts are unchanged, too, in the second case.
+///
 /// Memory for all replies is reserved first, in one allocation. Returns `Err` only if that fails; no command has run
 /// then.
 ///
@@ -202,18 +205,10 @@ pub fn run<B: Backend, H: TextHasher, I: TextIndex<B::Symbol>>(
 ) -> Result<Vec<Reply>, AllocError>
     //~ ensures run { RunsAll B.numbering interner.old.texts commands.now result interner.new.texts }
 
-    // If no command fails, names a number or drops texts, the replies are those of a list, by a function.
     //~ ensures as_a_list { IfOk result (λ replies. AnswersAsAList B.numbering.place
     //~     interner.old.texts commands.now replies.items interner.new.texts) }
     //~ ensures err { OnErr result (interner.new ≡ interner.old) }
-
-    // If no command interns a text, buckets and slots are unchanged.
-    //~ ensures stays { All InternsNone commands.now → KeepsBucketsAndSlots interner.old interner.new }
-
-    // If every text that a command interns is known, and none is a `Truncate`, texts, buckets and slots are unchanged.
-    //~ ensures known { All (InternsKnown interner.old.texts) commands.now
-    //~     → (interner.new.texts ≡ interner.old.texts)
-    //~     × KeepsBucketsAndSlots interner.old interner.new }
+    //~ ensures quiet { KeepsUnlessNew interner.old commands.now interner.new }
 {
     let mut replies = Vec::with_capacity(alloc, commands.len())?;
     for command in commands {

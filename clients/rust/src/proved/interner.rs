@@ -1,11 +1,11 @@
 //! An interner: each text once, with the symbol that stands for it.
 
-use crate::rt::prelude::*; pub(crate) mod block;
-pub(crate) mod coded;
-pub(crate) mod extend;
+use crate::rt::prelude::*; pub(crate) mod extend;
 pub(crate) mod given;
 pub(crate) mod intern_all;
 pub(crate) mod intern_slice;
+pub(crate) mod look_ahead;
+pub(crate) mod new_text;
 pub(crate) mod touch;
 
 //~ ghost use Rattle.std.specs.Prelude.{◌≡◌, ◌≤◌, ◌&&◌, ◌↔◌, List, [], ◌∷◌, length, take, IsTrue, IsSome, IfOk, IfSome, Some};
@@ -23,8 +23,9 @@ use crate::proved::dedup::{CopyIndex, DefaultIndex, Entry, TextIndex};
 use crate::proved::equal_texts::texts_are_equal;
 use crate::proved::hash::{DefaultHashBuilder, TextHasher};
 use crate::proved::symbol::Symbol;
-use coded::intern_coded;
 use given::Given;
+pub use intern_slice::Stopped;
+use new_text::intern_coded;
 use crate::rt::alloc::{AllocError, Global};
 use crate::rt::marker::Model;
 

@@ -64,23 +64,24 @@
 //! | [`symbol`] | which numbers symbols may have |
 //! | [`dedup`] | indexes, which find the symbol of a text, and hashers |
 //! | [`json`] | writing an interner to JSON, and reading it back with the same symbols |
-//! | [`number_list`] | numbers that take four bytes each as long as they fit |
 //! | [`scope`] | names in nested scopes |
 //! | [`run`] | a list of commands, with one reply for each |
 //!
 //! # Errors
 //!
 //! An interner takes the allocator when it is made, and `to_json`, `symbol_to_json` and `run` take it with the call. A call
-//! that can fail to allocate returns a `Result`. A failed call changes no text and no symbol, but `extend` and `intern_all`
-//! keep the texts before the one that failed.
+//! that can fail to allocate returns a `Result`. A failed call changes no text and no symbol, but `extend`, `intern_all` and
+//! `intern_slice` keep the texts before the one that failed.
 //~ #![tactic(auto)]
 
 use crate::rt::prelude::*; pub mod backend;
 pub mod dedup;
 pub(crate) mod equal_texts;
-pub mod hash;
+pub(crate) mod hash;
 pub(crate) mod interner;
 //~ pub mod json;
+// Public, because the codes of columns are such a list, and hidden, because no call of an interner takes one.
+#[doc(hidden)]
 pub mod number_list;
 //~ pub mod run;
 //~ pub mod scope;
@@ -92,7 +93,7 @@ pub use dedup::DefaultIndex;
 use dedup::TaggedIndex;
 pub use hash::DefaultHashBuilder;
 use hash::FoldState;
-pub use interner::StringInterner;
+pub use interner::{Stopped, StringInterner};
 pub use symbol::{DefaultSymbol, Symbol};
 
 /// An interner over the default backend, under the default hasher.

@@ -6,7 +6,7 @@ use super::shared::Shared;
 use crate::error::InternError;
 use crate::proved::backend as proved;
 use crate::proved::dedup::{TaggedIndex, TextIndex};
-use crate::proved::interner::coded::intern_coded;
+use crate::proved::interner::new_text::intern_coded;
 use crate::proved::interner::given::Given;
 use crate::proved::symbol::{Symbol as _, SymbolU32};
 use crate::rt::alloc::{AllocError, Global};

@@ -4,10 +4,10 @@
 //! its run, and who finds it in its place after opening the others has files of one run.
 
 use super::{Plain, npy, pair};
-use crate::arguments::Onto;
-use crate::blocks::count_byte;
 use crate::fault::Fault;
 use crate::hasher::LineHasher;
+use crate::input::blocks::count_byte;
+use crate::request::Onto;
 use crate::unfinished::{Unfinished, busy, is_same, store, store_folder, store_parent};
 use std::alloc::Global;
 use std::fs::File;

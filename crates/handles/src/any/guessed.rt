@@ -4,8 +4,8 @@ ghost use Rattle.string_interner.specs.Interner.{InternsInto};
 ghost use Rattle.string_interner.specs.LoadFactor.{seven_eighths};
 
 use super::HashedInterner;
+use super::intern_many::Texts;
 use crate::status::Status;
-use crate::text::{Text, text_of};
 use string_interner::backend::{Backend, InternError};
 use string_interner::symbol::SymbolU32;
 
@@ -42,8 +42,8 @@ fn intern_missed<B: Backend<Symbol = SymbolU32>>(
     interner.get_or_intern(text)
 }
 
-/// Reports whether these bytes are a text that a guess finds.
-pub fn is_found<B: Backend<Symbol = SymbolU32>>(
+/// Reports whether a guess finds a text.
+fn is_found<B: Backend<Symbol = SymbolU32>>(
     interner: &HashedInterner<B>,
     text: Result<&str, Status>,
 ) -> bool {
@@ -53,11 +53,26 @@ pub fn is_found<B: Backend<Symbol = SymbolU32>>(
     }
 }
 
-/// Fewer texts are interned without guesses.
-pub const FEWEST_FOR_GUESSES: usize = 8;
+/// Fewer texts are interned without guesses: to ask of few takes as long as what it saves.
+const FEWEST_FOR_GUESSES: usize = 8;
+
+/// Reports whether most of these texts are likely to be known, by the first and the one in the middle.
+pub fn are_likely_known<B: Backend<Symbol = SymbolU32>, T: Texts>(
+    interner: &HashedInterner<B>,
+    texts: &T,
+) -> bool {
+    let count = texts.len();
+    if count < FEWEST_FOR_GUESSES {
+        return false;
+    }
+    is_found(interner, texts.text_at(0)) && is_found(interner, texts.text_at(count / 2))
+}
 
 /// So many texts are looked for together in a large interner: as many as `touch` takes.
 const BLOCK_LEN: usize = 32;
+
+/// An interner of fewer texts is taken to fit the processor's caches. To look for its texts together takes longer than it saves.
+const FEWEST_FOR_BLOCKS: usize = 1 << 17;
 
 /// Returns the index of the first text for which `touch_block` is called: 0 if the interner is large and guesses are asked for, and
 /// else `usize::MAX`, behind all texts.
@@ -66,7 +81,7 @@ pub fn first_block<B: Backend<Symbol = SymbolU32>>(
     interner: &HashedInterner<B>,
     guesses: bool,
 ) -> usize {
-    if guesses && interner.is_large() {
+    if guesses && interner.len() >= FEWEST_FOR_BLOCKS {
         0
     } else {
         usize::MAX
@@ -76,18 +91,15 @@ pub fn first_block<B: Backend<Symbol = SymbolU32>>(
 /// Looks for a block of texts together, from an index on, so that they wait for memory at the same time. Returns the index of
 /// the text at which it is time for the next block.
 #[inline(never)]
-pub fn touch_block<B: Backend<Symbol = SymbolU32>>(
+pub fn touch_block<B: Backend<Symbol = SymbolU32>, T: Texts>(
     interner: &HashedInterner<B>,
-    texts: &[Text],
+    texts: &T,
     from: usize,
 ) -> usize {
-    let Some(rest) = texts.get(from..) else {
-        return usize::MAX;
-    };
-    let count = rest.len().min(BLOCK_LEN);
+    let count = texts.len().saturating_sub(from).min(BLOCK_LEN);
     let mut block = [""; BLOCK_LEN];
     for at in 0..count {
-        if let Ok(text) = text_of(rest[at].bytes) {
+        if let Ok(text) = texts.text_at(from + at) {
             block[at] = text;
         }
     }

@@ -1,5 +1,5 @@
 -- The texts that were interned together, one after another: the symbol of the next one is listed, or the next to be.
-use Rattle.std.proofs.Common.{◌≡◌, ℕ, ◌<◌, ◌≤◌, List, [], ◌∷◌, ◌++◌, length, map, get_or, take, Option, Some, None, Result, Ok, Err, sym, ap, subst, ◌∙◌, refl, inl, inr, arith}
+use Rattle.std.proofs.Common.{◌≡◌, ℕ, ◌-◌, ◌<◌, ◌≤◌, List, [], ◌∷◌, ◌++◌, length, map, get_or, take, Option, Some, None, Result, Ok, Err, sym, ap, subst, ◌∙◌, refl, inl, inr, arith}
 use Rattle.std.specs.Prelude.{◌^◌, ◌⊎◌, All, slice_get}
 use Rattle.std.specs.Option.{option_map_or}
 use Rattle.std.specs.declared.alloc.AllocError.{AllocError}
@@ -18,7 +18,7 @@ use Rattle.string_column.specs.Entries.{AreNumbered, NumbersAscend}
 use Rattle.string_column.specs.Column.{AreCodes}
 use Rattle.string_column.specs.Ahead.{IsAhead, IsListed, TakesRows}
 use Rattle.string_column.proofs.Lemmas.Rows.{codes-stay}
-use Rattle.string_column.proofs.Lemmas.AreNumbered.{slice_get-append, slice_get-push, numbered-push, symbol-is, text-is, ascend}
+use Rattle.string_column.proofs.Lemmas.AreNumbered.{slice_get-append, slice_get-push, numbered-push, symbol-is, text-is, ascend, number-fits}
 
 module _ {S : Type 0} (numbering : Numbering S) where
   -- the first of the numbers is that of a symbol, which stands for the first of the texts
@@ -181,6 +181,15 @@ module _ {S : Type 0} (numbering : Numbering S) where
         (ahead.new ∙ ap (λ rest. (front ++ fresh front some.0) ++ fresh (front ++ fresh front some.0) rest) next.texts_are) next.stands in
         (ascend numbering _ symbols (ordered _) ahead.numbered, rw (← same) (taken-known _ entries symbols next.text next.rest next.symbol place))
 
+    -- and a number after it fits
+    pub some-fits : ((texts : List Text) (text : Text) → numbering.place texts < numbering.place (texts ++ text ∷ [])) → (front entries texts : List Text) (codes numbers : List ℕ) (symbols : List S) (longer : List ℕ)
+        → (number : ℕ) (left : List ℕ) (symbol : S) → numbers ≡ number ∷ left → numbering.symbol_of number ≡ Some symbol → TakesSome front entries texts codes numbers symbols longer → numbering.number symbol < 2 ^ 64 - 1
+    some-fits grows front entries texts codes numbers symbols longer number left symbol more named some =
+        let ahead = rw more at some.6 in
+        let next = next-of _ entries symbols some.1 number left ahead in
+        let same : next.symbol ≡ symbol = same_Some _ _ (sym (next-symbol numbered entries some.1 number left next) ∙ named) in
+        rw (← same) (number-fits numbering numbered grows entries next.symbol next.text ahead.fits next.stands)
+
     -- the number has a symbol
     pub some-symbol : (front entries texts : List Text) (codes numbers : List ℕ) (symbols : List S) (longer : List ℕ) (number : ℕ) (left : List ℕ) → numbers ≡ number ∷ left
         → numbering.symbol_of number ≡ None → TakesSome front entries texts codes numbers symbols longer → ⊥
@@ -215,6 +224,7 @@ module _ {S : Type 0} (numbering : Numbering S) where
             distinct = ahead.distinct;
             numbered = rw longer_front at there.0;
             new = place.new ∙ ap (λ (f : List Text). f ++ fresh f next.rest) longer_front;
+            fits = ahead.fits;
             pending = next.pending;
             stand = next.stand;
             numbers_are = next.numbers_are;

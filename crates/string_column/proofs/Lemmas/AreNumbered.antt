@@ -1,9 +1,10 @@
 -- The symbols of the entries, by their indexes: where each entry begins, which text a symbol has, and one entry more.
-use Rattle.std.proofs.Common.{◌≡◌, ℕ, ◌-◌, ◌<◌, ◌≤◌, List, [], ◌∷◌, ◌++◌, length, get_or, zero, suc, Option, Some, None, Ok, sym, ap, subst, ◌∙◌, refl, inl, inr, arith, true, false, ltb, ltb-true, ltb-false}
-use Rattle.std.specs.Prelude.{◌^◌, ◌≢◌, slice_get, MatchOption}
+use Rattle.std.proofs.Common.{◌≡◌, ℕ, ◌-◌, ◌<◌, ◌≤◌, List, [], ◌∷◌, ◌++◌, length, take, get_or, zero, suc, Option, Some, None, Ok, sym, ap, subst, ◌∙◌, refl, inl, inr, arith, true, false, ltb, ltb-true, ltb-false}
+use Rattle.std.specs.Prelude.{◌^◌, ◌≢◌, All, slice_get, MatchOption}
 use Rattle.std.specs.List.Sorted.{IsNonDecreasingBy, IsPartitionPoint}
 use Rattle.std.proofs.lemmas.Bool.{cases_lt}
-use Rattle.std.proofs.lemmas.List.{length_push, take-append-le, take_at}
+use Rattle.std.proofs.Math.Seq.{get_or-append_seam}
+use Rattle.std.proofs.lemmas.List.{append_assoc, get_or_append_left, length_push, take-append-le, take_at}
 use Rattle.std.proofs.lemmas.Option.{get_or_from_slice_get, slice_get_within, slice_get-get_or}
 use Rattle.string_interner.specs.Text.{Text, first}
 use Rattle.string_interner.specs.Backend.{BeginsAt, Appends}
@@ -13,6 +14,7 @@ use Rattle.string_interner.specs.Numbering.{Numbering}
 use Rattle.string_interner.specs.Iter.{entries}
 use Rattle.string_interner.proofs.Lemmas.Backend.Entries.{first_entry}
 use Rattle.string_interner.proofs.Lemmas.Interner.StandsFor.{same_or_pushed}
+use Rattle.string_interner.proofs.Lemmas.Interner.InternsEach.{split-at}
 use Rattle.string_column.specs.Entries.{AreNumbered, NumbersAscend}
 
 -- an element stays where the list gets longer
@@ -136,19 +138,25 @@ module _ {S : Type 0} (numbering : Numbering S) where
         ];
       }
 
-  -- one entry more of a walk, with its symbol put last
-  pub numbered-walked : (front behind ahead behind' ahead' : List Text) (symbols longer : List S) (symbol : S) (text : Text) → AreNumbered numbering front symbols
-      → entries numbering behind ahead ≡ entries numbering front ahead → entries numbering behind ahead ≡ (Some symbol, text) ∷ entries numbering behind' ahead'
-      → longer ≡ symbols ++ symbol ∷ []
-      → AreNumbered numbering (front ++ text ∷ []) longer × (ahead ≡ text ∷ ahead') × (entries numbering behind' ahead' ≡ entries numbering (front ++ text ∷ []) ahead')
-  numbered-walked front behind ahead behind' ahead' symbols longer symbol text are same step put =
+  -- the next entry of a walk has the next symbol
+  pub walked-next : (front behind ahead behind' ahead' : List Text) (symbol : S) (text : Text) → entries numbering behind ahead ≡ entries numbering front ahead
+      → entries numbering behind ahead ≡ (Some symbol, text) ∷ entries numbering behind' ahead'
+      → (numbering.symbol_of (numbering.place front) ≡ Some symbol) × (ahead ≡ text ∷ ahead') × (entries numbering behind' ahead' ≡ entries numbering (front ++ text ∷ []) ahead')
+  walked-next front behind ahead behind' ahead' symbol text same step =
       let first_is = first_entry numbering behind ahead behind' ahead' (Some symbol) text step in
       let both : (numbering.symbol_of (numbering.place front), text) ∷ entries numbering (front ++ text ∷ []) ahead' ≡ (Some symbol, text) ∷ entries numbering behind' ahead' =
       sym (ap (entries numbering front) first_is) ∙ sym same ∙ step in
       let rest : entries numbering behind' ahead' ≡ entries numbering (front ++ text ∷ []) ahead' = cc in
       let pair : (numbering.symbol_of (numbering.place front), text) ≡ (Some symbol, text) = cc in
-      let next : numbering.symbol_of (numbering.place front) ≡ Some symbol = ap (λ (e : Option S × Text). e.0) pair in
-      (subst (AreNumbered numbering (front ++ text ∷ [])) (sym put) (numbered-push front text symbols symbol are next), first_is, rest)
+      (ap (λ (e : Option S × Text). e.0) pair, first_is, rest)
+
+  -- the next symbol has a greater number than all before it
+  pub next-greatest : (texts : List Text) (text : Text) (symbols : List S) (symbol : S) → NumbersInOrder numbering (texts ++ text ∷ []) → AreNumbered numbering texts symbols → numbering.symbol_of (numbering.place texts) ≡ Some symbol
+      → All (λ other. numbering.number other < numbering.number symbol) symbols
+  next-greatest texts text symbols symbol order are next = λ k d inside.
+      let long = length_push symbols symbol in
+      let less = ascend (texts ++ text ∷ []) (symbols ++ symbol ∷ []) order (numbered-push texts text symbols symbol are next) k (length symbols) d inside (omega arith) in
+      rw (get_or_append_left symbols (symbol ∷ []) d k inside, get_or-append_seam symbols symbol [] d) at less
 
   module _ (numbered : (i : ℕ) (s : S) → numbering.symbol_of i ≡ Some s → (numbering.number s ≡ i) × (i < 2 ^ 64)) where
     -- the entry of a symbol of the list begins at the symbol's number
@@ -159,3 +167,20 @@ module _ {S : Type 0} (numbering : Numbering S) where
           within = omega (arith, are.count);
           begins = sym (numbered _ symbol (symbol-is texts symbols i symbol are is)).0;
         }
+
+    module _ (grows : (texts : List Text) (text : Text) → numbering.place texts < numbering.place (texts ++ text ∷ [])) where
+      -- an entry is placed before what follows it
+      pub place-below : (front : List Text) (text : Text) (rest : List Text) → numbering.place front < numbering.place (front ++ text ∷ rest)
+      place-below front text [] = grows front text
+      place-below front text (next ∷ rest) =
+          let one = grows front text in
+          let more = place-below (front ++ text ∷ []) next rest in
+          let same = ap numbering.place (append_assoc front (text ∷ []) (next ∷ rest)) in omega (arith, one, more, same)
+
+      -- so the number of an entry's symbol is less than the greatest of a `usize`
+      pub number-fits : (texts : List Text) (symbol : S) (text : Text) → numbering.place texts < 2 ^ 64 → StandsFor numbering texts symbol text → numbering.number symbol < 2 ^ 64 - 1
+      number-fits texts symbol text fits stands =
+          let split = split-at texts stands.index (slice_get_within texts stands.index text stands.entry) in
+          let before = place-below (take stands.index texts) split.0 split.1 in
+          let whole = ap numbering.place split.2 in
+          let is = (numbered _ symbol stands.symbol_is).0 in omega (arith, before, whole, is, fits)

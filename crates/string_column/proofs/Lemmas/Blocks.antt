@@ -1,6 +1,6 @@
 -- A block of texts: what interning them together leaves, and the rows that they become.
 use Rattle.std.proofs.Common.{◌≡◌, ℕ, ◌<◌, ◌≤◌, List, [], ◌∷◌, ◌++◌, length, map, take, Result, Ok, Err, Option, Some, None, refl, sym, ap, subst, ◌∙◌, arith, Bor}
-use Rattle.std.specs.Prelude.{◌≢◌, IsOk, MatchOption, MatchResult}
+use Rattle.std.specs.Prelude.{◌^◌, ◌≢◌, IsOk, MatchOption, MatchResult}
 use Rattle.std.specs.declared.alloc.AllocError.{AllocError}
 use Rattle.std.proofs.lemmas.List.{append-nil, append_assoc, length-append, length-map, map-append, take_at, take_all, take-map, take-take, length-take-le}
 use Rattle.string_interner.specs.Text.{Text, IsDistinct, first}
@@ -9,8 +9,9 @@ use Rattle.string_interner.specs.SlotRule.{SlotRule}
 use Rattle.string_interner.specs.Interner.{InternerContents, Interns}
 use Rattle.string_interner.specs.StandsFor.{StandInOrder}
 use Rattle.string_interner.specs.Extend.{fresh, texts_of, StopsAt}
-use Rattle.string_interner.specs.InternAll.{InternsFront, Lists}
+use Rattle.string_interner.specs.InternAll.{InternsFront, InternsSlice, Lists}
 use Rattle.string_interner.specs.declared.backend.InternError.{InternError}
+use Rattle.string_interner.specs.declared.interner.intern_slice.Stopped.{Stopped}
 use Rattle.string_interner.specs.declared.backend.InternError.TheVariants.{NoSymbol, Memory}
 use Rattle.string_interner.proofs.Laws.{refused-keeps}
 use Rattle.string_interner.proofs.Lemmas.Interner.Extends.{all-fresh, fresh-append}
@@ -19,8 +20,7 @@ use Rattle.string_column.specs.Entries.{AreNumbered, IsRefusal}
 use Rattle.string_column.specs.Column.{AreCodes, IsColumn, AppendsYielded, dictionary_of, rows_of}
 use Rattle.string_column.specs.Ahead.{IsAhead, PutsRows, TakesRows}
 use Rattle.string_column.proofs.Lemmas.Counts.{fresh-distinct}
-use Rattle.string_column.proofs.Lemmas.Rows.{codes-stay, column-read}
-use Rattle.string_column.proofs.Lemmas.Shards.{codes-append}
+use Rattle.string_column.proofs.Lemmas.Rows.{codes-append, codes-stay, column-read}
 
 -- a list that is not empty has an element
 not-empty : {X : Type 0} (xs : List X) → xs ≢ [] → 0 < length xs
@@ -33,10 +33,17 @@ front-of n m xs ys all is upto parts = sym (take-take n m all upto) ∙ ap (λ l
 
 module _ {S : Type 0} (numbering : Numbering S) (rule : SlotRule) where
   -- the texts are interned in order, all of them or those before the first that fails, and these are the numbers of their symbols
-  abbrev pub Interned : List (Bor Text) → InternerContents → InternerContents → List ℕ → ℕ → Result (Unit {0}) InternError → Type 0
-  Interned texts old new numbers done outcome = (mid : InternerContents) × InternsFront numbering rule old texts done mid numbers × MatchResult outcome
+  abbrev pub Interned : List (Bor Text) → InternerContents → InternerContents → List ℕ → List ℕ → ℕ → Result (Unit {0}) InternError → Type 0
+  Interned texts old new before numbers done outcome = (mid : InternerContents) × InternsFront numbering rule old before texts done mid numbers × MatchResult outcome
       (λ _. (done ≡ length texts) × (new ≡ mid))
       (λ error. (refused : Bor Text) × (rest : List (Bor Text)) × (texts ≡ take done texts ++ refused ∷ rest) × StopsAt numbering rule old (texts_of (take done texts)) mid refused.now error new)
+
+  -- so a slice is interned
+  pub slice-interned : (texts : List (Bor Text)) (old new : InternerContents) (before numbers : List ℕ) (outcome : Result (Unit {0}) Stopped) (ended : ℕ × Result (Unit {0}) InternError)
+      → InternsSlice numbering rule texts (old, before) outcome (new, numbers) → MatchResult outcome (λ _. ended ≡ (length texts, Ok tt)) (λ stopped. ended ≡ (stopped.done, Err stopped.error))
+      → Interned texts old new before numbers ended.0 ended.1
+  slice-interned texts old new before numbers (Ok _) ended front is = rw is (new, front, (refl, refl))
+  slice-interned texts old new before numbers (Err stopped) ended slice is = rw is (slice.0, slice.1, (slice.2, slice.3, slice.4, slice.5))
 
   -- the interner has the texts that were interned, and no other new ones
   slice-texts : (old mid new : InternerContents) (texts : List (Bor Text)) (done : ℕ) (outcome : Result (Unit {0}) InternError)
@@ -47,10 +54,10 @@ module _ {S : Type 0} (numbering : Numbering S) (rule : SlotRule) where
   slice-texts old mid new texts done (Err error) ended = refused-keeps numbering mid.texts new.texts ended.0.now error ended.3.refuses.interns
 
   -- and the symbols of the texts are to be listed
-  pub slice-ahead : (texts : List (Bor Text)) (old new : InternerContents) (numbers : List ℕ) (done : ℕ) (outcome : Result (Unit {0}) InternError) (symbols : List S)
-      → Interned texts old new numbers done outcome → IsDistinct old.texts → AreNumbered numbering old.texts symbols
+  pub slice-ahead : (texts : List (Bor Text)) (old new : InternerContents) (before numbers : List ℕ) (done : ℕ) (outcome : Result (Unit {0}) InternError) (symbols : List S)
+      → Interned texts old new before numbers done outcome → IsDistinct old.texts → AreNumbered numbering old.texts symbols → numbering.place new.texts < 2 ^ 64
       → IsAhead numbering old.texts new.texts symbols (texts_of (take done texts)) (take done numbers)
-  slice-ahead texts old new numbers done outcome symbols interns distinct are =
+  slice-ahead texts old new before numbers done outcome symbols interns distinct are fits =
       let mid = interns.0 in
       let front = interns.1 in
       let same : new.texts ≡ mid.texts = slice-texts old mid new texts done outcome interns.2 in
@@ -59,6 +66,7 @@ module _ {S : Type 0} (numbering : Numbering S) (rule : SlotRule) where
         distinct = rw grown (fresh-distinct old.texts (texts_of (take done texts)) distinct);
         numbered = are;
         new = grown;
+        fits = fits;
         pending = front.appends.added;
         stand = subst (λ (entries : List Text). StandInOrder numbering entries front.appends.added (texts_of (take done texts))) (sym same) front.appends.stand;
         numbers_are = front.numbers_are ∙ ap (map numbering.number) front.appends.appended;
@@ -74,10 +82,10 @@ module _ {S : Type 0} (numbering : Numbering S) (rule : SlotRule) where
       of (Some i) e known = absurd known.0
 
   -- where all codes are put last, the call ends as interning did
-  pub block-put : (texts : List (Bor Text)) (old new : InternerContents) (numbers : List ℕ) (done : ℕ) (outcome : Result (Unit {0}) InternError) (codes longer : List ℕ) (symbols : List S) (written : Result (Unit {0}) AllocError)
-      → Interned texts old new numbers done outcome → written ≡ Ok tt → TakesRows numbering old.texts new.texts (texts_of (take done texts)) codes written (symbols, longer)
+  pub block-put : (texts : List (Bor Text)) (old new : InternerContents) (before numbers : List ℕ) (done : ℕ) (outcome : Result (Unit {0}) InternError) (codes longer : List ℕ) (symbols : List S) (written : Result (Unit {0}) AllocError)
+      → Interned texts old new before numbers done outcome → written ≡ Ok tt → TakesRows numbering old.texts new.texts (texts_of (take done texts)) codes written (symbols, longer)
       → AreNumbered numbering new.texts symbols × PutsRows numbering texts (old.texts, codes) outcome (new.texts, longer)
-  block-put texts old new numbers done outcome codes longer symbols written interns ok takes =
+  block-put texts old new before numbers done outcome codes longer symbols written interns ok takes =
       let ended = subst (λ (o : Result (Unit {0}) AllocError). MatchResult o (λ _. takes.1 ≡ []) (λ _. takes.1 ≢ [])) ok takes.8 in
       let all : texts_of (take done texts) ≡ takes.0 = takes.4 ∙ ap (λ rest. takes.0 ++ rest) ended ∙ append-nil takes.0 in
       let entries = old.texts ++ fresh old.texts takes.0 in
@@ -103,11 +111,11 @@ module _ {S : Type 0} (numbering : Numbering S) (rule : SlotRule) where
           (end.0, (end.1, end.2), subst (λ (list : List Text). IsRefusal numbering list end.0.now error) (sym same) (refusal interns.0.texts new.texts end.0.now error end.3.refuses.interns))
 
   -- where memory is missing for a code, the texts behind it are dropped
-  pub block-dropped : (texts : List (Bor Text)) (old new : InternerContents) (numbers : List ℕ) (done : ℕ) (outcome : Result (Unit {0}) InternError) (codes longer : List ℕ) (symbols : List S)
+  pub block-dropped : (texts : List (Bor Text)) (old new : InternerContents) (before numbers : List ℕ) (done : ℕ) (outcome : Result (Unit {0}) InternError) (codes longer : List ℕ) (symbols : List S)
       (written : Result (Unit {0}) AllocError) (error : AllocError) (kept : List Text)
-      → Interned texts old new numbers done outcome → written ≡ Err error → TakesRows numbering old.texts new.texts (texts_of (take done texts)) codes written (symbols, longer)
+      → Interned texts old new before numbers done outcome → written ≡ Err error → TakesRows numbering old.texts new.texts (texts_of (take done texts)) codes written (symbols, longer)
       → kept ≡ take (length symbols) new.texts → AreNumbered numbering kept symbols × PutsRows numbering texts (old.texts, codes) (Err (Memory error)) (kept, longer)
-  block-dropped texts old new numbers done outcome codes longer symbols written error kept interns stopped takes is =
+  block-dropped texts old new before numbers done outcome codes longer symbols written error kept interns stopped takes is =
       let ended = subst (λ (o : Result (Unit {0}) AllocError). MatchResult o (λ _. takes.1 ≡ []) (λ _. takes.1 ≢ [])) stopped takes.8 in
       let taken = takes.0 in
       let entries = old.texts ++ fresh old.texts taken in

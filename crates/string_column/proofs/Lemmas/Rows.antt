@@ -55,6 +55,13 @@ codes-stay dictionary more [] (row ∷ rows) are = absurd are
 codes-stay dictionary more (c ∷ codes) [] are = absurd are
 codes-stay dictionary more (c ∷ codes) (row ∷ rows) are = (slice_get-append dictionary more c row are.0, codes-stay dictionary more codes rows are.1)
 
+-- codes of rows behind others are behind theirs
+pub codes-append : (dictionary : List Text) (codes more : List ℕ) (rows rest : List Text) → AreCodes dictionary codes rows → AreCodes dictionary more rest → AreCodes dictionary (codes ++ more) (rows ++ rest)
+codes-append dictionary [] more [] rest are too = too
+codes-append dictionary [] more (row ∷ rows) rest are too = absurd are
+codes-append dictionary (code ∷ codes) more [] rest are too = absurd are
+codes-append dictionary (code ∷ codes) more (row ∷ rows) rest are too = (are.0, codes-append dictionary codes more rows rest are.1 too)
+
 -- the dictionary of rows with one row more
 pub dictionary-push : (rows : List Text) (row : Text) → dictionary_of (rows ++ row ∷ []) ≡ dictionary_of rows ++ fresh (dictionary_of rows) (row ∷ [])
 dictionary-push rows row = fresh-append [] rows (row ∷ [])

@@ -6,7 +6,7 @@ ghost use Rattle.string_column.specs.Column.{dictionary_of, rows_of, AppendsRows
 
 use super::Column;
 use crate::code_list::Codes;
-use crate::entries::TextList;
+use crate::dictionary::TextList;
 use std::alloc::{AllocError, Global};
 use string_interner::backend::{Backend, InternError};
 use string_interner::dedup::{TextHasher, TextIndex};

@@ -1,7 +1,7 @@
 -- The entries of a `BucketBackend`, packed: when one is read, when one more is packed, and when entries are dropped.
 use Rattle.std.proofs.Common.{◌≡◌, ℕ, zero, suc, ◌+◌, ◌-◌, ◌<◌, ◌≤◌, List, [], ◌∷◌, ◌++◌, length, take, drop, get_or, map, refl, sym, ap, subst, ◌∙◌, arith}
 use Rattle.std.proofs.lemmas.List.{get_or_default, get_or_append_left, get_or_push, length_push, get_or-map, get_or-take, length-take-le, map_push, take-map, take_rest}
-use Rattle.std.proofs.lemmas.List.Elements.{All-push, All-take, All-get_or}
+use Rattle.std.proofs.lemmas.List.Elements.{All-push, All-take}
 use Rattle.std.proofs.lemmas.List.Sums.{sum_by_push, sum_by-drop_more, sum_by-take-drop, sum_by-take-le}
 use Rattle.string_interner.specs.BucketEntries.{unpack, is_long, long_count, Leads, LeadFrom, IsSound, ArePacked}
 use Rattle.string_interner.specs.declared.backend.bucket.interned_str.InternedStr.{InternedStr}
@@ -53,11 +53,7 @@ unpack-same long more m n [] agree lead within = refl
 unpack-same long more m n (p ∷ packed) agree lead within =
     rw (unpack-one long more m n p agree lead.0 (omega (arith, within, count-first p packed)), unpack-same long more m (n + is_long p) packed agree lead.1 (omega (arith, within, count-first p packed))) refl
 
--- what is stored of an entry is sound
-pub sound-at : (long : List InternedStr) (packed : List Packed) (i : ℕ) (p q : Packed) → ArePacked long packed → i < length packed → p ≡ get_or packed i p → p ≡ q → IsSound q
-sound-at long packed i p q are h is q_is = subst IsSound (sym is ∙ q_is) (All-get_or IsSound packed i p h are.sound)
-
--- and tells what the entry is
+-- what is stored tells what the entry is
 pub unpack-at : (long : List InternedStr) (packed : List Packed) (i : ℕ) (p q : Packed) (d : InternedStr) → i < length packed → p ≡ get_or packed i p → p ≡ q → get_or (map (unpack long) packed) i d ≡ unpack long q
 unpack-at long packed i p q d h is q_is = get_or-map (unpack long) packed i p d h ∙ ap (unpack long) (sym is ∙ q_is)
 

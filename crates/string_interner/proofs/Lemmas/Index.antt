@@ -1,5 +1,4 @@
 pub mod EntryText
-pub mod FilledRun
 pub mod Fits
 pub mod Inserts
 pub mod IsWhole
@@ -12,4 +11,5 @@ pub mod Slots
 pub mod Steps
 pub mod Stored
 pub mod Vacancy
+pub mod ProbeCluster
 pub mod ProbeLoop

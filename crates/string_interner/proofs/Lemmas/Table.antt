@@ -2,3 +2,4 @@ pub mod EntryAhead
 pub mod IsCoded
 pub mod IsSoundTable
 pub mod IsTable
+pub mod Seeks

@@ -1,9 +1,9 @@
 -- Six texts of seven bytes in eight slots, under a hasher that gives the count of bytes: the home of all is the last slot,
 -- and they go round the end. Each text stands as its number, from 0 on.
 use Rattle.std.proofs.Common.{◌≡◌, ℕ, ◌%◌, List, [], ◌∷◌, length, Option, Some, None, refl, arith}
-use Rattle.string_interner.specs.Slots.{IsFilledRun}
+use Rattle.string_interner.specs.Slots.{IsProbeCluster}
 use Rattle.string_interner.specs.Probe.{FillsSlot}
-use Rattle.string_interner.proofs.Lemmas.Index.FilledRun.{filled_run-is}
+use Rattle.string_interner.proofs.Lemmas.Index.ProbeCluster.{probe_cluster-is}
 
 abbrev Eight : Type 0
 Eight = List (Option ℕ)
@@ -48,18 +48,18 @@ fifth-in-slot-3 = record { at = 3; in_range = omega arith; was_empty = refl; wri
 pub sixth-in-slot-4 : FillsSlot five six (7 % length five) 5
 sixth-in-slot-4 = record { at = 4; in_range = omega arith; was_empty = refl; written = refl; placed = (5, omega arith, refl) }
 
--- Of a text of so many bytes that is not there: its home, and its filled run.
+-- Of a text of so many bytes that is not there: its home, and its probe cluster.
 abbrev Passes : ℕ → ℕ → ℕ → Type 0
-Passes bytes home run = (bytes % length six ≡ home) × IsFilledRun six home run
+Passes bytes home cluster = (bytes % length six ≡ home) × IsProbeCluster six home cluster
 
 pub another-of-seven-bytes : Passes 7 7 6
-another-of-seven-bytes = (refl, filled_run-is six 7 (omega arith))
+another-of-seven-bytes = (refl, probe_cluster-is six 7 (omega arith))
 
 pub the-empty-text : Passes 0 0 5
-the-empty-text = (refl, filled_run-is six 0 (omega arith))
+the-empty-text = (refl, probe_cluster-is six 0 (omega arith))
 
 pub one-of-five-bytes : Passes 5 5 0
-one-of-five-bytes = (refl, filled_run-is six 5 (omega arith))
+one-of-five-bytes = (refl, probe_cluster-is six 5 (omega arith))
 
 pub one-of-fifteen-bytes : Passes 15 7 6
-one-of-fifteen-bytes = (refl, filled_run-is six 7 (omega arith))
+one-of-fifteen-bytes = (refl, probe_cluster-is six 7 (omega arith))

@@ -8,7 +8,7 @@ mod full_bucket;
 mod interned_str;
 mod lasting;
 
-ghost use Rattle.std.specs.Prelude.{◌≡◌, ◌+◌, ◌^◌, max, ◌<◌, ◌≤◌, [], ◌∷◌, ◌++◌, length, take, map, slice_get, true, false, Some, IfOk, OnOk, OnErr, refl};
+ghost use Rattle.std.specs.Prelude.{◌≡◌, ◌+◌, ◌^◌, ◌<◌, ◌≤◌, [], ◌∷◌, ◌++◌, length, take, map, slice_get, true, false, Some, IfOk, OnOk, OnErr, refl};
 ghost use Rattle.std.specs.Cmp.{partial_equiv_from_equiv, on_equiv};
 ghost use Rattle.std.proofs.Common.{rules};
 ghost use Rattle.string_interner.specs.Backend.{IsValidList};
@@ -139,11 +139,11 @@ impl<S: Symbol> Backend for BucketBackend<S> {
         S::try_from_usize(self.entries.len())
     }
 
+    /// Appends a copy of the text to the head, or to a new head if it does not fit. No stored byte changes its value or its
+    /// index.
     #[inline(always)]
     fn intern(&mut self, text: &str) -> Result<S, InternError>
         ensures appends { AppendsText S.symbol_of S.number self.old text.now result self.new }
-
-        // The text goes into a bucket, where all that stood stays.
         ensures statics { OnOk result (self.new.statics ≡ self.old.statics ++ false ∷ []) }
         ensures puts { OnOk result (Puts text.now self.old.full self.old.head
             self.new.full self.new.head) }
@@ -160,10 +160,9 @@ impl<S: Symbol> Backend for BucketBackend<S> {
         Ok(symbol)
     }
 
+    /// Appends a reference to the text. No bucket changes.
     fn intern_static(&mut self, text: &'static str) -> Result<S, InternError>
         ensures appends { AppendsText S.symbol_of S.number self.old text.now result self.new }
-
-        // The text stays where it is, and no bucket changes.
         ensures statics { OnOk result (self.new.statics ≡ self.old.statics ++ true ∷ []) }
         ensures keeps { KeepsBuckets self.old self.new }
         ensures err { OnErr result (self.new ≡ record self.old { room = self.new.room }) }

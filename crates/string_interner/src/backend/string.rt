@@ -2,7 +2,7 @@
 
 mod ends;
 
-ghost use Rattle.std.specs.Prelude.{◌≡◌, ◌*◌, ◌^◌, max, ◌<◌, ◌≤◌, [], length, slice_get, Some, IfOk, OnOk, refl};
+ghost use Rattle.std.specs.Prelude.{◌≡◌, ◌*◌, ◌^◌, ◌<◌, ◌≤◌, [], length, slice_get, Some, IfOk, IfSome, OnOk, refl};
 ghost use Rattle.std.specs.Option.{option_copied};
 ghost use Rattle.std.specs.Cmp.{partial_equiv_from_equiv, on_equiv};
 ghost use Rattle.std.proofs.Common.{rules};
@@ -16,7 +16,7 @@ use crate::backend::reserve::grow_bytes;
 use crate::backend::{Backend, CopyBackend, InternError, Iter};
 use crate::number_list::NumberList;
 use crate::symbol::{DefaultSymbol, Symbol};
-use ends::{find_span, span, start_of};
+use ends::{find_narrow_span, span, start_of};
 use std::alloc::{AllocError, Global};
 use std::marker::{Model, PhantomData};
 
@@ -77,13 +77,26 @@ impl<S: Symbol> StringBackend<S> {
         &self.joined[start..end]
     }
 
+    /// Returns the text of entry `index`, if there is one and its end takes four bytes. Calls no other function, so that a caller
+    /// which tries this first saves no registers.
+    #[inline(always)]
+    fn narrow_text(&self, index: usize) -> Option<&str>
+        ensures { IfSome result (λ text. slice_get self.now.texts index ≡ Some text.now) }
+    {
+        match find_narrow_span(&self.ends, index) {
+            Some((start, end)) => Some(&self.joined[start..end]),
+            None => None,
+        }
+    }
+
     /// Returns the text of entry `index`, and `None` if there are at most `index` entries.
     #[inline(always)]
     fn find_text(&self, index: usize) -> Option<&str>
         ensures { option_copied result ≡ slice_get self.now.texts index }
     {
-        match find_span(&self.ends, index) {
-            Some((start, end)) => Some(&self.joined[start..end]),
+        match self.narrow_text(index) {
+            Some(text) => Some(text),
+            None if index < self.ends.len() => Some(self.text_at(index)),
             None => None,
         }
     }
@@ -133,6 +146,7 @@ impl<S: Symbol> Backend for StringBackend<S> {
         S::try_from_usize(self.ends.len())
     }
 
+    /// Appends a copy of the text to the string, and its end to the list of ends.
     #[inline(always)]
     fn intern(&mut self, text: &str) -> Result<S, InternError> {
         let symbol = self.next_symbol().ok_or(InternError::NoSymbol)?;

@@ -26,7 +26,7 @@ const MOST_SLOTS_BY_STORED_CODE: usize = 0x1_0000_0000;
 
 /// A symbol and the stored code of its text, which lie together because whoever writes or moves one does so with both.
 #[derive(Clone, Copy)]
-pub struct CodedSymbol<S> {
+struct CodedSymbol<S> {
     symbol: S,
     code: u32,
 }

@@ -3,19 +3,15 @@
 ghost use Rattle.std.specs.Prelude.{◌≤◌, length, min};
 
 use super::StringInterner;
-use super::block::{BLOCK_LEN, FEWEST_FOR_BLOCKS, look_for};
+use super::look_ahead::{BLOCK_LEN, look_for};
 use crate::backend::Backend;
 use crate::dedup::TextIndex;
 use crate::hash::TextHasher;
 
 impl<B: Backend, H: TextHasher, I: TextIndex<B::Symbol>> StringInterner<B, H, I> {
-    /// Reports whether there are so many texts that `touch` is likely to be worth its time.
-    pub fn is_large(&self) -> bool {
-        self.len() >= FEWEST_FOR_BLOCKS
-    }
-
     /// Looks for the first 32 texts of a list together, so that they wait for memory at the same time: to look for one of them soon
-    /// after takes less time. Returns behind how many texts of the list the next call is worth its time.
+    /// after takes less time, if there are a hundred thousand texts or more. Returns behind how many texts of the list the next call is
+    /// worth its time.
     #[inline(never)]
     pub fn touch(&self, texts: &[&str]) -> usize
         ensures { min (length texts.now) 32 ≤ result }

@@ -25,8 +25,7 @@ macro_rules! each {
 
 pub(crate) mod entries;
 pub(crate) mod guessed;
-pub(crate) mod intern_joined;
-pub(crate) mod intern_list;
+pub(crate) mod intern_many;
 pub(crate) mod joined;
 pub(crate) mod one_kind;
 pub(crate) mod part;

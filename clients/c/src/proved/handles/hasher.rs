@@ -4,9 +4,9 @@
 //~ ghost use Rattle.string_interner.specs.Text.{Text};
 //~ ghost use Rattle.handles.specs.Hasher.{HasHasherCode, chosen_code, code_by, fold_code, seeded_code, sip_code};
 
-use crate::rt::prelude::*; use crate::proved::hash::{
-    FoldState, KeyedHasher, KeyedState, SeededHasher, SeededState, TextHasher,
-};
+use crate::rt::prelude::*; use crate::rt::hash::keyed_hasher;
+use crate::rt::hash::Hasher;
+use crate::proved::dedup::{FoldState, SeededHasher, SeededState, TextHasher};
 
 /// The hashers that a handle may have.
 #[derive(Clone, Copy)]
@@ -39,7 +39,7 @@ pub enum ChosenHasher {
     /// The fast one, with the same hash codes in each run. Do not use it if strangers choose the texts.
     Fixed(FoldState),
     /// SipHash-1-3 under two keys. Without them no way is known to predict its hash codes.
-    Keyed(KeyedHasher),
+    Keyed { key0: u64, key1: u64 },
     /// The seeded hasher under two keys. Without them no way is known to choose many texts that share a hash code.
     Seeded(SeededHasher),
 }
@@ -56,7 +56,7 @@ impl ChosenHasher {
     pub fn siphash(key0: u64, key1: u64) -> ChosenHasher
         //~ ensures { (text : Text) → chosen_code result text ≡ sip_code key0 key1 text }
     {
-        ChosenHasher::Keyed(KeyedHasher::new(KeyedState::new(key0, key1)))
+        ChosenHasher::Keyed { key0, key1 }
     }
 
     /// Returns the seeded hasher under these keys.
@@ -82,10 +82,12 @@ impl ChosenHasher {
 ///
 /// Not inlined, so that it costs a look-up under a fast hasher only a branch.
 #[inline(never)]
-fn keyed_code(hasher: &KeyedHasher, text: &str) -> u64
-    //~ ensures { result ≡ sip_code hasher.now.builder.key0 hasher.now.builder.key1 text.now }
+fn keyed_code(key0: u64, key1: u64, text: &str) -> u64
+    //~ ensures { result ≡ sip_code key0 key1 text.now }
 {
-    hasher.hash_text(text)
+    let mut state = keyed_hasher(key0, key1);
+    state.write(text.as_bytes());
+    state.finish()
 }
 
 impl TextHasher for ChosenHasher {
@@ -95,7 +97,7 @@ impl TextHasher for ChosenHasher {
     fn hash_text(&self, text: &str) -> u64 {
         match self {
             ChosenHasher::Fixed(hasher) => hasher.hash_text(text),
-            ChosenHasher::Keyed(hasher) => keyed_code(hasher, text),
+            ChosenHasher::Keyed { key0, key1 } => keyed_code(*key0, *key1, text),
             ChosenHasher::Seeded(hasher) => hasher.hash_text(text),
         }
     }

@@ -1,13 +1,10 @@
-//! How often each line occurs.
+//! `count`: how often each line occurs.
 
-//~ ghost use Rattle.std.specs.Prelude.{◌≡◌, ℕ, List, [], ◌∷◌, ◌++◌, slice_get, Some, IfOk, IfErr, IfSome, OnOk, length, map};
+//~ ghost use Rattle.std.specs.Prelude.{◌≡◌, ℕ, List, [], ◌∷◌, ◌++◌, IfOk, IfErr, IfSome, OnOk, length, map};
 //~ ghost use Rattle.std.specs.Io.KnownBytes.{Appends};
 //~ ghost use Rattle.std.specs.List.{flat_map, zip};
 //~ ghost use Rattle.string_interner.specs.Text.{Text};
-//~ ghost use Rattle.string_column.specs.Ahead.{IsListed};
-//~ ghost use Rattle.string_column.specs.Entries.{NumbersAscend};
-//~ ghost use Rattle.dictcol.specs.Answer.{IsLinesTaskFault};
-//~ ghost use Rattle.dictcol.specs.Blocks.{IsLinesFault};
+//~ ghost use Rattle.dictcol.specs.Blocks.{IsLinesFault, IsLinesTaskFault};
 //~ ghost use Rattle.dictcol.specs.Counts.{AreSorted, HasCounted, IsCountsText, counted, count_line, row_of};
 //~ ghost use Rattle.dictcol.specs.Fault.{IsOutputFault, IsTakeFault, IsWriteFault, WritesLast};
 //~ ghost use Rattle.dictcol.specs.Lines.{lines_of};
@@ -15,27 +12,25 @@
 //~ ghost use Rattle.dictcol.specs.Writes.{Writes};
 //~ ghost use Rattle.dictcol.specs.declared.fault.Fault.TheVariants.{Memory};
 
-use crate::rt::prelude::*; use crate::dictcol::blocks;
-use crate::dictcol::blocks::TakesLines;
-use crate::dictcol::fault::Fault;
-use crate::dictcol::file::write;
+use crate::rt::prelude::*; use crate::dictcol::fault::Fault;
 use crate::dictcol::hasher::LineHasher;
-use crate::dictcol::split::Lines;
+use crate::dictcol::input::blocks;
+use crate::dictcol::input::blocks::TakesLines;
+use crate::dictcol::input::split::Lines;
+use crate::dictcol::json::file::write;
 use crate::itoa::Buffer;
 use crate::rt::alloc::Global;
 use crate::rt::io::{Read, Write};
 use crate::rt::marker::Model;
-use crate::string_column::Column;
+use crate::string_column::{Column, Dictionary};
+use crate::proved::StringInterner;
 use crate::proved::backend::Backend;
 use crate::proved::dedup::TaggedIndex;
-use crate::proved::{StringInterner, Symbol};
 
 /// The distinct lines of those that were counted, with how often each occurred. A line that occurs again takes no memory.
 //~ #[derive(Drop)]
 struct Counts<B: Backend> {
-    lines: StringInterner<B, LineHasher, TaggedIndex<B::Symbol>>,
-    /// The symbol of each distinct line, in the order of first appearance.
-    symbols: Vec<B::Symbol>,
+    lines: Dictionary<B, LineHasher>,
     /// How often each occurred, in the same order.
     counts: Vec<usize>,
     /// How many lines were counted.
@@ -45,30 +40,14 @@ struct Counts<B: Backend> {
 //~ /// Contracts see the distinct lines, the counts and the total.
 //~ impl<B: Backend> Model for Counts<B> {
 //~     ghost use Rattle.std.specs.Prelude.{◌≡◌, length};
-//~     ghost use Rattle.string_column.specs.Entries.{AreNumbered};
 //~     ghost use Rattle.dictcol.specs.Counts.{CountsContents, contents_of};
 //~
 //~     ghost Value = { CountsContents };
 //~
-//~     ghost view = { λ c. contents_of c.lines.texts c.counts.items c.total };
+//~     ghost view = { λ c. contents_of c.lines c.counts.items c.total };
 //~
-//~     ghost invariant = { λ c. AreNumbered B.numbering c.lines.texts c.symbols.items
-//~         × (length c.counts.items ≡ length c.symbols.items) };
+//~     ghost invariant = { λ c. length c.counts.items ≡ length c.lines };
 //~ }
-
-/// Returns the index of a symbol of the list. Over most backends it is the number of the symbol.
-#[inline]
-fn index_of<S: Symbol>(symbols: &[S], symbol: S) -> usize
-    //~ requires ascend { NumbersAscend S.number symbols.now }
-    //~ requires listed { IsListed symbols.now symbol }
-    //~ ensures { slice_get symbols.now result ≡ Some symbol }
-{
-    let number = symbol.to_usize();
-    match symbols.get(number) {
-        Some(other) if *other == symbol => number,
-        _ => symbols.partition_point(|other| other.to_usize() < number),
-    }
-}
 
 impl<B: Backend> Counts<B> {
     /// Makes counts of no lines.
@@ -76,8 +55,7 @@ impl<B: Backend> Counts<B> {
         //~ ensures { HasCounted result [] }
     {
         Counts {
-            lines: StringInterner::with_hasher(alloc, hasher),
-            symbols: Vec::new(alloc),
+            lines: Dictionary::with_hasher(alloc, hasher),
             counts: Vec::new(alloc),
             total: 0,
         }
@@ -93,17 +71,14 @@ impl<B: Backend> Counts<B> {
     {
         let total = self.total.checked_add(1).ok_or(Fault::TooMany)?;
         // Before the line is interned, so that nothing has to be undone.
-        self.symbols.reserve(1).map_err(|_| Fault::Memory)?;
         self.counts.reserve(1).map_err(|_| Fault::Memory)?;
-        let symbol = self.lines.get_or_intern(line).map_err(Fault::of_intern)?;
+        let index = self.lines.intern(line).map_err(Fault::of_intern)?;
         self.total = total;
-        if self.lines.len() == self.symbols.len() {
-            let index = index_of(&self.symbols, symbol);
+        if index < self.counts.len() {
             // No count is above the total.
             self.counts[index] = self.counts[index].saturating_add(1);
             return Ok(());
         }
-        self.symbols.push_reserved(symbol);
         self.counts.push_reserved(1);
         Ok(())
     }
@@ -214,7 +189,7 @@ fn write_sorted<W: Write>(
 
 /// Writes how often each line of an input occurs, and the line: in the order of first appearance, or the most frequent first.
 /// Nothing is written before the whole input was counted.
-pub fn write_counts<B: Backend + Drop, R: Read, W: Write>(
+pub fn count<B: Backend + Drop, R: Read, W: Write>(
     alloc: Global,
     hasher: LineHasher,
     is_sorted: bool,
@@ -231,11 +206,11 @@ pub fn write_counts<B: Backend + Drop, R: Read, W: Write>(
     //~     (IsLinesTaskFault (LacksCount B.numbering) (R.remaining input.old)) }
 {
     let counts = count_input::<B, R>(alloc, hasher, input)?;
-    let rows = list_rows(alloc, &counts.counts, &counts.lines)?;
+    let rows = list_rows(alloc, &counts.counts, counts.lines.interner())?;
     write_sorted(rows, is_sorted, output)
 }
 
-/// Writes how often each row of a column occurs, and the row, in the order that `write_counts` has. Nothing is written before all
+/// Writes how often each row of a column occurs, and the row, in the order that `count` has. Nothing is written before all
 /// are counted.
 pub fn write_column_counts<B: Backend, W: Write>(
     alloc: Global,

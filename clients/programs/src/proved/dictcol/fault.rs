@@ -10,115 +10,90 @@ use crate::rt::io::ErrorKind;
 use crate::proved::backend::InternError;
 //~ use thiserror::Error;
 
-/// Why the program failed. It is displayed as the message for standard error.
+/// Why the program failed. It is displayed as the message for standard error. Lines are counted from 1, and elements from 0.
 #[derive(Debug)]
 pub enum Fault {
-    /// An argument is not UTF-8.
     //~ #[error("an argument is not UTF-8")]
     Argument,
-    /// Reading failed.
     //~ #[error("cannot read input: {0}")]
     Input(io::Error),
-    /// The line with this number (1-based) is the first that is not UTF-8.
+    /// The first line that is not UTF-8.
     //~ #[error("line {0} is not UTF-8")]
     NotUtf8(usize),
     /// The file is no JSON, nests deeper than 127, or has a number too large for a float.
     //~ #[error("{0}")]
     NotJson(crate::serde_json::Error),
-    /// The file ends within its JSON, at this place (1-based, in bytes).
+    /// The column is counted from 1, in bytes.
     //~ #[error("JSON ends too early, at line {line} column {column}")]
     EndsEarly { line: usize, column: usize },
-    /// The JSON begins with a byte order mark.
     //~ #[error("the JSON begins with a byte order mark")]
     ByteOrderMark,
-    /// The file is no object with an array of this name.
+    /// Also if the file is no object.
     //~ #[error("no array \"dictionary\"")]
     NoDictionary,
-    /// The element at this index (0-based) of the dictionary is no string.
     //~ #[error("dictionary[{0}] is not a string")]
     NotAText(usize),
-    /// The text at this index (0-based) of the dictionary is there already.
     //~ #[error("dictionary[{0}] repeats an earlier text")]
     Repeated(usize),
-    /// The text at this index (0-based) of the dictionary is more than one line.
     //~ #[error("dictionary[{0}] contains a newline")]
     HasNewline(usize),
-    /// The file has no array of this name.
     //~ #[error("no array \"lines\"")]
     NoLines,
-    /// The number at this index (0-based) of the lines is not the index of a text.
     //~ #[error("lines[{0}] is not the index of a text")]
     NotAnIndex(usize),
-    /// The file has no boolean of this name.
     //~ #[error("no boolean \"final_newline\"")]
     NoFinalNewline,
-    /// The line with this number (1-based) of `dict.txt` is the first that is not UTF-8.
     //~ #[error("dict.txt: line {0} is not UTF-8")]
     DictionaryNotUtf8(usize),
-    /// The last line of `dict.txt` has no newline.
     //~ #[error("dict.txt does not end in a newline")]
     NotEnded,
-    /// The line with this number (1-based) of `dict.txt` is there already.
     //~ #[error("dict.txt: line {0} repeats an earlier line")]
     RepeatedLine(usize),
-    /// `codes.npy` does not begin as a file of NumPy, or is too short.
+    /// Also if `codes.npy` is shorter than a header.
     //~ #[error("codes.npy is not in NumPy's format 1.0")]
     NotNpy,
-    /// `codes.npy` has other items.
     //~ #[error("codes.npy has another type than '<u4'")]
     OtherType,
-    /// `codes.npy` says that its items are in another order.
     //~ #[error("codes.npy is in Fortran's order")]
     OtherOrder,
-    /// `codes.npy` has not one dimension.
     //~ #[error("codes.npy has another shape than a list")]
     OtherShape,
-    /// `codes.npy` was cut off or extended.
     //~ #[error("codes.npy has another length than its header says")]
     OtherLength,
-    /// The number at this index (0-based) of `codes.npy` is not that of a line of `dict.txt`.
     //~ #[error("codes[{0}] is not the number of a line of dict.txt")]
     NotALine(usize),
     /// `dict.txt` has more or fewer lines than `pair.txt` says, or `codes.npy` other numbers.
     //~ #[error("dict.txt and codes.npy are not of one run (see pair.txt)")]
     NotAPair,
-    /// `no_final_newline` is not there, and `pair.txt` says that it is.
     //~ #[error("no_final_newline is missing (see pair.txt)")]
     NoCut,
-    /// `no_final_newline` is there, and `pair.txt` says that it is not.
+    /// If `pair.txt` says that it is not there.
     //~ #[error("no_final_newline is of another run (see pair.txt)")]
     OtherCut,
-    /// `dict.txt` cannot be read.
     //~ #[error("cannot read dict.txt: {0}")]
     DictionaryFile(io::Error),
-    /// `codes.npy` cannot be read.
     //~ #[error("cannot read codes.npy: {0}")]
     NumbersFile(io::Error),
-    /// `pair.txt` cannot be read.
     //~ #[error("cannot read pair.txt: {0}")]
     PairFile(io::Error),
     /// The system does not tell whether `no_final_newline` is there.
     //~ #[error("cannot read no_final_newline: {0}")]
     CutFile(io::Error),
-    /// A folder or its files cannot be written.
     //~ #[error("cannot write files: {0}")]
     Folder(io::Error),
-    /// What has the name of an unfinished folder is not what a killed run left. This stands in the name behind that of the folder.
+    /// The character behind DIR in the name of the unfinished folder.
     //~ #[error("cannot write files: DIR{0}dictcol-unfinished is not what a killed run leaves: move it away")]
     NotLeft(char),
-    /// The system gave no random keys.
     //~ #[error("cannot draw random keys: {0}")]
     NoKeys(io::Error),
-    /// The backend has no symbol for one more text.
+    /// If the backend has no symbol for one more, or the count is full.
     //~ #[error("too many distinct lines")]
     TooMany,
-    /// An allocation failed.
     //~ #[error("out of memory")]
     Memory,
-    /// Writing failed.
     //~ #[error("cannot write output: {0}")]
     Output(io::Error),
-    /// Nobody reads the output any more.
+    /// If nobody reads it any more.
     //~ #[error("output is closed")]
     ClosedOutput,
 } impl ::core::error::Error for Fault {} impl ::core::fmt::Display for Fault { fn fmt(&self, f: &mut ::core::fmt::Formatter<'_>) -> ::core::fmt::Result { match self { Self::Argument { .. } => f.write_str("an argument is not UTF-8"), Self::Input(it) => ::core::write!(f, "cannot read input: {0}", it), Self::NotUtf8(it) => ::core::write!(f, "line {0} is not UTF-8", it), Self::NotJson(it) => ::core::write!(f, "{0}", it), Self::EndsEarly { line, column, .. } => ::core::write!(f, "JSON ends too early, at line {line} column {column}"), Self::ByteOrderMark { .. } => f.write_str("the JSON begins with a byte order mark"), Self::NoDictionary { .. } => f.write_str("no array \"dictionary\""), Self::NotAText(it) => ::core::write!(f, "dictionary[{0}] is not a string", it), Self::Repeated(it) => ::core::write!(f, "dictionary[{0}] repeats an earlier text", it), Self::HasNewline(it) => ::core::write!(f, "dictionary[{0}] contains a newline", it), Self::NoLines { .. } => f.write_str("no array \"lines\""), Self::NotAnIndex(it) => ::core::write!(f, "lines[{0}] is not the index of a text", it), Self::NoFinalNewline { .. } => f.write_str("no boolean \"final_newline\""), Self::DictionaryNotUtf8(it) => ::core::write!(f, "dict.txt: line {0} is not UTF-8", it), Self::NotEnded { .. } => f.write_str("dict.txt does not end in a newline"), Self::RepeatedLine(it) => ::core::write!(f, "dict.txt: line {0} repeats an earlier line", it), Self::NotNpy { .. } => f.write_str("codes.npy is not in NumPy's format 1.0"), Self::OtherType { .. } => f.write_str("codes.npy has another type than '<u4'"), Self::OtherOrder { .. } => f.write_str("codes.npy is in Fortran's order"), Self::OtherShape { .. } => f.write_str("codes.npy has another shape than a list"), Self::OtherLength { .. } => f.write_str("codes.npy has another length than its header says"), Self::NotALine(it) => ::core::write!(f, "codes[{0}] is not the number of a line of dict.txt", it), Self::NotAPair { .. } => f.write_str("dict.txt and codes.npy are not of one run (see pair.txt)"), Self::NoCut { .. } => f.write_str("no_final_newline is missing (see pair.txt)"), Self::OtherCut { .. } => f.write_str("no_final_newline is of another run (see pair.txt)"), Self::DictionaryFile(it) => ::core::write!(f, "cannot read dict.txt: {0}", it), Self::NumbersFile(it) => ::core::write!(f, "cannot read codes.npy: {0}", it), Self::PairFile(it) => ::core::write!(f, "cannot read pair.txt: {0}", it), Self::CutFile(it) => ::core::write!(f, "cannot read no_final_newline: {0}", it), Self::Folder(it) => ::core::write!(f, "cannot write files: {0}", it), Self::NotLeft(it) => ::core::write!(f, "cannot write files: DIR{0}dictcol-unfinished is not what a killed run leaves: move it away", it), Self::NoKeys(it) => ::core::write!(f, "cannot draw random keys: {0}", it), Self::TooMany { .. } => f.write_str("too many distinct lines"), Self::Memory { .. } => f.write_str("out of memory"), Self::Output(it) => ::core::write!(f, "cannot write output: {0}", it), Self::ClosedOutput { .. } => f.write_str("output is closed"), } } }

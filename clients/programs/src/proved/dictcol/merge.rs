@@ -1,22 +1,23 @@
-//! Merging: a text that grows by what each file holds.
+//! `merge`: the files that `encode` wrote for some texts become that of the joined text, or its counts.
 
-//~ ghost use Rattle.std.specs.Prelude.{⊤, ◌≡◌, [], ◌∷◌, ◌++◌, drop, false, Some, IfOk, IfErr, IfSome, OnOk};
+//~ ghost use Rattle.std.specs.Prelude.{⊤, ◌≡◌, ◌⊎◌, [], ◌∷◌, ◌++◌, drop, false, Some, IfErr, IfOk, IfSome, IsErrAnd, IsOk, OnOk, map};
 //~ ghost use Rattle.std.specs.List.{flat_map, join_with_byte, list_any};
 //~ ghost use Rattle.string_interner.specs.Text.{Text};
-//~ ghost use Rattle.dictcol.specs.Blocks.{IsLinesFault};
 //~ ghost use Rattle.dictcol.specs.Counts.{IsCountsText};
-//~ ghost use Rattle.dictcol.specs.Fault.{IsLinesWriteFault, IsTakeFault, WritesLast};
-//~ ghost use Rattle.dictcol.specs.File.{DecodesFile, IsColumnFile, IsFileFault};
-//~ ghost use Rattle.dictcol.specs.Writes.{Writes};
-//~ ghost use Rattle.dictcol.specs.Lines.{behind_newline, has_newline, lines_of, text_of_lines};
+//~ ghost use Rattle.dictcol.specs.Fault.{IsTakeFault, IsWriteFault};
+//~ ghost use Rattle.dictcol.specs.File.{DecodesFile, HoldTogether, IsColumnFile, IsFileFault};
+//~ ghost use Rattle.dictcol.specs.Lines.{behind_newline, has_newline, lines_of, text_of_lines, AreLines};
+//~ ghost use Rattle.dictcol.specs.Merge.{IsInputFault, IsMergeFault};
 //~ ghost use Rattle.dictcol.specs.TooMany.{HasRefused, LacksLine};
+//~ ghost use Rattle.dictcol.specs.Writes.{Writes};
 //~ ghost use Rattle.dictcol.specs.declared.fault.Fault.TheVariants.{Memory};
 
-use crate::rt::prelude::*; use crate::dictcol::blocks::TakesLines;
+use crate::rt::prelude::*; use crate::dictcol::count;
 use crate::dictcol::fault::Fault;
 use crate::dictcol::hasher::LineHasher;
-use crate::dictcol::split::Lines;
-use crate::dictcol::{blocks, count, file, format};
+use crate::dictcol::input::whole::read_whole;
+use crate::dictcol::json::{file, format};
+use crate::dictcol::lines::end_rest;
 use crate::rt::alloc::Global;
 use crate::rt::io::{Read, Write};
 use crate::rt::marker::Model;
@@ -25,13 +26,13 @@ use crate::proved::backend::Backend;
 
 /// The text so far: the lines that a newline ends, and what stands behind the last newline.
 //~ #[derive(Drop)]
-pub struct Merged<B: Backend> {
+struct TextLines<B: Backend> {
     lines: Column<B, LineHasher>,
     rest: String,
 }
 
 //~ /// Contracts see the text.
-//~ impl<B: Backend> Model for Merged<B> {
+//~ impl<B: Backend> Model for TextLines<B> {
 //~     ghost use Rattle.std.specs.Prelude.{◌≡◌, false, string_bytes};
 //~     ghost use Rattle.std.specs.List.{list_any};
 //~     ghost use Rattle.string_interner.specs.Text.{Text};
@@ -45,43 +46,12 @@ pub struct Merged<B: Backend> {
 //~         × (has_newline (string_bytes m.rest) ≡ false) };
 //~ }
 
-/// A column takes lines as rows.
-impl<B: Backend> TakesLines for Column<B, LineHasher> {
-    //~ ghost use Rattle.dictcol.specs.TooMany.{LacksLine};
-
-    //~ ghost has_taken = { λ column lines. column ≡ lines };
-
-    //~ ghost refuses = { LacksLine B.numbering };
-
-    fn take_lines(&mut self, text: &str) -> Result<(), Fault> {
-        match self.encode(Lines::new(text)) {
-            Ok(()) => Ok(()),
-            Err(error) => Err(Fault::of_intern(error)),
-        }
-    }
-
-    fn count_lines(&self) -> usize {
-        self.len()
-    }
-}
-
-impl<B: Backend + Drop> Merged<B> {
-    /// Reads the text that is all that an input yields.
-    pub fn read<R: Read>(alloc: Global, hasher: LineHasher, input: &mut R) -> Result<Self, Fault>
-        //~ ensures text { IfOk result (λ text. IfSome (R.remaining input.old) (λ all. text ≡ all)) }
-        //~ ensures fault { IfErr result
-        //~     (IsLinesFault (LacksLine B.numbering) (R.remaining input.old)) }
-    {
-        let mut lines = Column::with_hasher(alloc, hasher);
-        let rest = blocks::read_lines(alloc, input, &mut lines)?;
-        Ok(Merged { lines, rest })
-    }
-
+impl<B: Backend + Drop> TextLines<B> {
     /// Makes the empty text.
-    pub fn new(alloc: Global, hasher: LineHasher) -> Self
+    fn new(alloc: Global, hasher: LineHasher) -> Self
         //~ ensures { result ≡ [] }
     {
-        Merged {
+        TextLines {
             lines: Column::with_hasher(alloc, hasher),
             rest: String::new(alloc),
         }
@@ -166,7 +136,7 @@ impl<B: Backend + Drop> Merged<B> {
     }
 
     /// Appends the text that a file holds.
-    pub fn append_file(
+    fn append_file(
         &mut self,
         alloc: Global,
         hasher: LineHasher,
@@ -186,55 +156,89 @@ impl<B: Backend + Drop> Merged<B> {
         }
         self.append(&lines, is_ended)
     }
+}
 
-    /// Writes how often each line of the text occurs, and the line, as `count` does for it. The text is used up: a rest without a
-    /// newline becomes a line.
-    pub fn write_counts<W: Write>(
-        &mut self,
-        alloc: Global,
-        is_sorted: bool,
-        output: &mut W,
-    ) -> Result<(), Fault>
-        //~ ensures written { OnOk result (Writes (IsCountsText is_sorted (lines_of self.old))
-        //~     (W.contents output.old) (W.contents output.new)) }
-        //~ ensures fault { IfErr result
-        //~     (IsLinesWriteFault (HasRefused (LacksLine B.numbering) (lines_of self.old))) }
+/// Appends the text that an input holds. What was read is freed before the lines are appended.
+fn append_input<B: Backend + Drop, R: Read>(
+    alloc: Global,
+    hasher: LineHasher,
+    text: &mut TextLines<B>,
+    input: &mut R,
+) -> Result<(), Fault>
+    //~ ensures ok { OnOk result ((more : Text) × (text.new ≡ text.old ++ more)
+    //~     × IfSome (R.remaining input.old) (λ file. DecodesFile file more)) }
+    //~ ensures fault { IfErr result (IsInputFault (R.remaining input.old)) }
+{
+    let bytes = read_whole(alloc, input)?;
+    text.append_file(alloc, hasher, bytes)
+}
 
-        // Unless all went well or a write failed, the output was not touched.
-        //~ ensures silent { WritesLast result output.old output.new }
-    {
-        if self.rest.is_empty() {
-            return count::write_column_counts(alloc, &self.lines, is_sorted, output);
-        }
-        match self.lines.push(&self.rest) {
-            Ok(_) => {
-                self.rest.clear();
-                count::write_column_counts(alloc, &self.lines, is_sorted, output)
-            }
-            Err(error) => Err(Fault::of_intern(error)),
+/// Reads the lines that the inputs hold, one behind the other, and whether the last one ends in a newline. Of a fault it tells which
+/// input it is of, if it is of one.
+fn read_files<B: Backend + Drop, R: Read>(
+    alloc: Global,
+    hasher: LineHasher,
+    inputs: &mut [R],
+) -> Result<(Column<B, LineHasher>, bool), (Option<usize>, Fault)>
+    //~ ensures lines { IfOk result (λ lines. (text : Text)
+    //~     × HoldTogether (map R.remaining inputs.old) text × AreLines text lines.0 lines.1) }
+    //~ ensures fault { IfErr result (IsMergeFault B.numbering (map R.remaining inputs.old)) }
+{
+    let mut text = TextLines::new(alloc, hasher);
+    for at in 0..inputs.len() {
+        match append_input(alloc, hasher, &mut text, &mut inputs[at]) {
+            Ok(()) => {}
+            Err(fault) => return Err((Some(at), fault)),
         }
     }
+    let TextLines { mut lines, rest } = text;
+    match end_rest(&mut lines, rest.as_str()) {
+        Ok(is_ended) => Ok((lines, is_ended)),
+        Err(fault) => Err((None, fault)),
+    }
+}
 
-    /// Writes the file of the text: what `encode` writes for it. The text is used up: a rest without a newline becomes a line.
-    pub fn write<W: Write>(&mut self, alloc: Global, output: &mut W) -> Result<(), Fault>
-        //~ ensures written { OnOk result
-        //~     (Writes (IsColumnFile self.old) (W.contents output.old) (W.contents output.new)) }
-        //~ ensures fault { IfErr result
-        //~     (IsLinesWriteFault (HasRefused (LacksLine B.numbering) (lines_of self.old))) }
+/// Writes one file for several: the one that `encode` writes for the texts that they hold, one behind the other. Nothing is written
+/// before all were read. `Err` has the fault, and the index of its input, if it is of one.
+pub fn merge<B: Backend + Drop, R: Read, W: Write>(
+    alloc: Global,
+    hasher: LineHasher,
+    inputs: &mut [R],
+    output: &mut W,
+) -> Result<(), (Option<usize>, Fault)>
+    //~ ensures written { OnOk result ((text : Text) × HoldTogether (map R.remaining inputs.old) text
+    //~     × Writes (IsColumnFile text) (W.contents output.old) (W.contents output.new)) }
 
-        // Unless all went well or a write failed, the output was not touched.
-        //~ ensures silent { WritesLast result output.old output.new }
-    {
-        if self.rest.is_empty() {
-            let is_ended = self.lines.len() > 0;
-            return format::write_file(alloc, &self.lines, is_ended, output);
-        }
-        match self.lines.push(&self.rest) {
-            Ok(_) => {
-                self.rest.clear();
-                format::write_file(alloc, &self.lines, false, output)
-            }
-            Err(error) => Err(Fault::of_intern(error)),
-        }
+    // Unless all went well or a write failed, the output was not touched.
+    //~ ensures silent { IsOk result ⊎ (IsErrAnd result (λ ended. IsWriteFault ended.1)
+    //~     ⊎ (output.new ≡ output.old)) }
+    //~ ensures fault { IfErr result (IsMergeFault B.numbering (map R.remaining inputs.old)) }
+{
+    let (lines, is_ended) = read_files::<B, R>(alloc, hasher, inputs)?;
+    match format::write_file(alloc, &lines, is_ended, output) {
+        Ok(()) => Ok(()),
+        Err(fault) => Err((None, fault)),
+    }
+}
+
+/// Writes what `count` writes for the text that several files hold, one behind the other.
+pub fn count_encoded<B: Backend + Drop, R: Read, W: Write>(
+    alloc: Global,
+    hasher: LineHasher,
+    is_sorted: bool,
+    inputs: &mut [R],
+    output: &mut W,
+) -> Result<(), (Option<usize>, Fault)>
+    //~ ensures written { OnOk result ((text : Text) × HoldTogether (map R.remaining inputs.old) text
+    //~     × Writes (IsCountsText is_sorted (lines_of text))
+    //~     (W.contents output.old) (W.contents output.new)) }
+    //~ ensures silent { IsOk result ⊎ (IsErrAnd result (λ ended. IsWriteFault ended.1)
+    //~     ⊎ (output.new ≡ output.old)) }
+    //~ ensures fault { IfErr result (IsMergeFault B.numbering (map R.remaining inputs.old)) }
+{
+    let (lines, _) = read_files::<B, R>(alloc, hasher, inputs)?;
+    match count::write_column_counts(alloc, &lines, is_sorted, output) {
+        Ok(()) => Ok(()),
+        Err(fault) => Err((None, fault)),
     }
 }

@@ -6,18 +6,17 @@ use crate::rt::prelude::*; pub mod folder;
 //~ ghost use Rattle.std.specs.Prelude.{◌≡◌, ◌<◌, All, List, [], ◌∷◌, ◌++◌, length, IfErr, IfOk, IfSome, OnOk, string_bytes};
 //~ ghost use Rattle.std.specs.Io.KnownBytes.{Keeps};
 //~ ghost use Rattle.string_interner.specs.Text.{Text};
-//~ ghost use Rattle.dictcol.specs.Answer.{IsLinesTaskFault};
-//~ ghost use Rattle.dictcol.specs.Blocks.{IsTextOf};
+//~ ghost use Rattle.dictcol.specs.Blocks.{IsLinesTaskFault, IsTextOf};
 //~ ghost use Rattle.dictcol.specs.Fault.{IsTakeFault, IsWriteFault};
 //~ ghost use Rattle.dictcol.specs.Lines.{lines_of};
 //~ ghost use Rattle.dictcol.specs.TooMany.{IsPastCount};
 //~ ghost use Rattle.dictcol.specs.declared.fault.Fault.TheVariants.{Memory};
 
-use crate::dictcol::block::Block;
-use crate::dictcol::blocks;
-use crate::dictcol::blocks::TakesLines;
 use crate::dictcol::fault::Fault;
-use crate::dictcol::split::Lines;
+use crate::dictcol::input::block::Block;
+use crate::dictcol::input::blocks;
+use crate::dictcol::input::blocks::TakesLines;
+use crate::dictcol::input::split::Lines;
 use crate::itoa::Buffer;
 use crate::rt::alloc::Global;
 use crate::rt::io;
@@ -68,7 +67,6 @@ impl<W: Write> Shard<W> {
         }
     }
 
-    /// Writes what waits.
     fn write(&mut self) -> Result<(), Fault>
         //~ ensures same { OnOk result
         //~     (Keeps (held_by W.contents self.old) (held_by W.contents self.new)) }
@@ -139,7 +137,6 @@ impl<H: TextHasher, W: Write> Shards<H, W> {
         Ok(())
     }
 
-    /// Writes what waits.
     fn write(&mut self) -> Result<(), Fault>
         //~ ensures same { OnOk result ((lines : List Text)
         //~     → HasSharded H.code W.contents self.old lines

@@ -4,8 +4,9 @@ use crate::rt::prelude::*; use crate::proved::number_list::NumberList;
 
 /// A list of codes, each the index of an entry in a dictionary.
 ///
-/// [`NumberList`] says how many bytes a code takes. No code of a [`Column`](crate::Column) takes eight bytes while the column
-/// has fewer than 2^32 distinct rows, unless `from_parts` or `from_interner` took a list with capacity for such.
+/// A code takes four bytes until one does not fit 32 bits, and eight from that one on. No code of a [`Column`](crate::Column) takes
+/// eight bytes while the column has fewer than 2^32 distinct rows, unless `from_parts` or `from_interner` took a list with capacity
+/// for such.
 ///
 /// ```ignore
 /// let mut codes = Codes::new(alloc);

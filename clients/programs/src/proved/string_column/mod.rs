@@ -11,16 +11,20 @@
 //! ```
 //!
 //! A code is not a symbol, because a backend may number otherwise: over `BufferBackend` the number of a symbol is the
-//! offset of its text. The symbol of each entry is stored next to the interner, so a row is resolved without a search.
+//! offset of its text. Then the symbol of each entry is stored next to the interner, so a row is resolved without a search.
 //! Encoding a known text needs the index of its symbol. If the number of that symbol is another, a binary search finds
 //! the index, because the numbers of the entries ascend.
+//!
+//! A [`Dictionary`] alone gives texts their indexes, for a list of your own that has something for each distinct text.
 //!
 //! The symbol type alone limits how many distinct rows a column has.
 //~ #![tactic(auto)]
 
 use crate::rt::prelude::*; pub(crate) mod code_list;
-pub(crate) mod entries;
+pub(crate) mod dictionary;
 pub(crate) mod rows;
+pub(crate) mod symbols;
 
 pub use code_list::Codes;
+pub use dictionary::Dictionary;
 pub use rows::{Column, Iter, PartsError};

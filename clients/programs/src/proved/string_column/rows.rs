@@ -3,7 +3,6 @@
 use crate::rt::prelude::*; pub(crate) mod append;
 pub(crate) mod iter;
 pub(crate) mod parts;
-pub(crate) mod shards;
 
 //~ ghost use Rattle.std.specs.Prelude.{◌≡◌, ◌↔◌, ◌≤◌, [], length, slice_get, IfOk, IsTrue};
 //~ ghost use Rattle.std.specs.Option.{option_copied};
@@ -12,7 +11,7 @@ pub(crate) mod shards;
 //~ ghost use Rattle.string_column.specs.Column.{dictionary_of, counts_of, AreCodes, AppendsRow, AppendsYielded};
 
 use crate::string_column::code_list::Codes;
-use crate::string_column::entries::{BLOCK_LEN, Entries, TextList};
+use crate::string_column::dictionary::{BLOCK_LEN, Dictionary, TextList};
 pub use iter::Iter;
 pub use parts::PartsError;
 use crate::rt::alloc::{AllocError, Global};
@@ -21,8 +20,8 @@ use crate::proved::StringInterner;
 use crate::proved::backend::{Backend, DefaultBackend, InternError};
 use crate::proved::dedup::{FoldState, TaggedIndex, TextHasher, TextIndex};
 
-/// A dictionary of fewer texts is taken to fit the processor's cache. There a block takes longer than its texts one by one. It has
-/// more texts than an interner that `is_large`, because the codes of a block take a pass of their own.
+/// A dictionary of fewer texts is taken to fit the processor's cache. There a block takes longer than its texts one by one. These are
+/// more texts than those from which on `intern_slice` looks ahead, because the codes of a block take a pass of their own.
 const FEWEST_FOR_BLOCKS: usize = 1 << 16;
 
 /// A list of texts, the rows. It stores equal rows once.
@@ -43,7 +42,7 @@ pub struct Column<
     H: TextHasher = FoldState,
     I: TextIndex<B::Symbol> = TaggedIndex<<B as Backend>::Symbol>,
 > {
-    dictionary: Entries<B, H, I>,
+    dictionary: Dictionary<B, H, I>,
     codes: Codes,
 }
 
@@ -86,7 +85,7 @@ impl<B: Backend, H: TextHasher, I: TextIndex<B::Symbol>> Column<B, H, I> {
         //~ ensures { result ≡ [] }
     {
         Column {
-            dictionary: Entries::with_hasher(alloc, hasher),
+            dictionary: Dictionary::with_hasher(alloc, hasher),
             codes: Codes::new(alloc),
         }
     }

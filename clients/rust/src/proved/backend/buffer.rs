@@ -1,8 +1,8 @@
 //! All texts in one byte buffer, each behind its length.
 
-use crate::rt::prelude::*; pub(crate) mod spelling;
+use crate::rt::prelude::*; pub(crate) mod leb128;
 
-//~ ghost use Rattle.std.specs.Prelude.{◌≡◌, ℕ, ◌+◌, ◌*◌, ◌^◌, ◌<◌, ◌≤◌, ◌↔◌, List, [], ◌++◌, length, take, slice_get, Option, Some, IsTrue, IfOk, OnOk, refl};
+//~ ghost use Rattle.std.specs.Prelude.{◌≡◌, ℕ, ◌+◌, ◌*◌, ◌^◌, ◌<◌, ◌≤◌, ◌↔◌, List, [], ◌++◌, length, take, slice_get, Option, Some, SomeIff, IsTrue, IfOk, OnOk, refl};
 //~ ghost use Rattle.std.specs.Option.{option_copied};
 //~ ghost use Rattle.std.specs.Cmp.{partial_equiv_from_equiv, on_equiv};
 //~ ghost use Rattle.string_interner.specs.Text.{Text, texts_eq, texts_eq-IsEquivalence};
@@ -15,7 +15,7 @@ use crate::rt::prelude::*; pub(crate) mod spelling;
 use crate::proved::backend::reserve::reserve_items;
 use crate::proved::backend::{Backend, CopyBackend, InternError, Iter};
 use crate::proved::symbol::{DefaultSymbol, Symbol};
-use spelling::{digit_count, number_at, push_number};
+use leb128::{digit_count, number_at, push_number};
 use crate::rt::alloc::{AllocError, Global};
 use crate::rt::marker::{Model, PhantomData};
 
@@ -102,6 +102,16 @@ impl<S: Symbol> BufferBackend<S> {
         &self.bytes
     }
 
+    /// Returns how many bytes an entry takes whose text has this length, if a `usize` can hold that. So the next place is so
+    /// much greater.
+    #[inline(always)]
+    pub fn entry_len(text_len: usize) -> Option<usize>
+        //~ ensures { SomeIff result (digits text_len + text_len < 2 ^ 64)
+        //~     (digits text_len + text_len) }
+    {
+        digit_count(text_len).checked_add(text_len)
+    }
+
     /// Returns the place of entry `index`. Reads the length of each entry before it.
     fn place_at(&self, index: usize) -> usize
         //~ requires { index ≤ length self.now.texts }
@@ -159,11 +169,10 @@ impl<S: Symbol> Backend for BufferBackend<S> {
         S::try_from_usize(self.as_bytes().len())
     }
 
+    /// Appends the length of the text and a copy of it.
     fn intern(&mut self, text: &str) -> Result<S, InternError> {
         let symbol = self.next_symbol().ok_or(InternError::NoSymbol)?;
-        let len = digit_count(text.len())
-            .checked_add(text.len())
-            .ok_or(AllocError)?;
+        let len = Self::entry_len(text.len()).ok_or(AllocError)?;
         // Allocates before it stores anything, so that nothing changes on `Err`.
         reserve_items(&mut self.bytes, len)?;
         push_number(&mut self.bytes, text.len());

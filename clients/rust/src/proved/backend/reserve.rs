@@ -3,7 +3,7 @@
 //!
 //! What grows a list is never inlined, so that it stays out of the hot path of its callers.
 
-//~ ghost use Rattle.std.specs.Prelude.{◌≡◌, ◌+◌, ◌≤◌, OnOk, OnErr, IsOk, vec_len, vec_capacity, string_bytes, string_len, string_capacity};
+//~ ghost use Rattle.std.specs.Prelude.{◌≡◌, ◌+◌, ◌≤◌, IsOk, vec_len, vec_capacity, string_bytes, string_len, string_capacity};
 //~ ghost use Rattle.string_interner.specs.Growth.{MakesRoom};
 
 use crate::rt::prelude::*; use crate::rt::alloc::AllocError;

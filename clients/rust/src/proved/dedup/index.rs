@@ -1,4 +1,4 @@
-//! The indexes by name: each is a [`Table`] over one layout of its slots.
+//! The indexes by name: each is a table over one layout of its slots.
 
 use crate::rt::prelude::*; use crate::proved::dedup::slots::Slots;
 use crate::proved::dedup::table::Table;

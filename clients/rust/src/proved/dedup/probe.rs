@@ -1,7 +1,6 @@
 //! Linear probing: from the home of a text on, slot by slot, round the end to the first.
 
-//~ ghost use Rattle.std.specs.Prelude.{◌≡◌, ℕ, ◌+◌, ◌<◌, ◌≤◌, ◌%◌, length};
-//~ ghost use Rattle.string_interner.specs.Text.{Text};
+//~ ghost use Rattle.std.specs.Prelude.{◌≡◌, ◌+◌, ◌<◌, ◌≤◌, ◌%◌, length};
 //~ ghost use Rattle.string_interner.specs.Entry.{entry_text};
 //~ ghost use Rattle.string_interner.specs.Slots.{probe_cluster};
 //~ ghost use Rattle.string_interner.specs.LoadFactor.{IsSlotCount};

@@ -114,7 +114,7 @@ impl<'a, B> Looks<'a, B> {
 
 /// A filled slot that was read: its symbol, and whether that symbol's text is the one looked for.
 //~ #[derive(Drop)]
-pub struct Seen<S> {
+pub(super) struct Seen<S> {
     pub symbol: S,
     pub matches: bool,
 }
@@ -122,7 +122,7 @@ pub struct Seen<S> {
 impl<'a, B: Backend> Looks<'a, B> {
     /// Reports whether the text of a symbol is this one. That is one look.
     #[inline(always)]
-    pub fn has_text(&mut self, symbol: B::Symbol, text: &str) -> bool
+    pub(super) fn has_text(&mut self, symbol: B::Symbol, text: &str) -> bool
         //~ requires { IsSome (entry_text B.numbering (B.texts self.old.backend) symbol) }
         //~ ensures value { result
         //~     ≡ has_text (entry_text B.numbering (B.texts self.old.backend)) text.now symbol }

@@ -3,16 +3,16 @@
 use crate::rt::prelude::*; pub(crate) mod growing;
 
 //~ ghost use Rattle.std.specs.Prelude.{◌≡◌, ℕ, ◌+◌, ◌<◌, ◌^◌, ◌↔◌, length, [], IsOk, IsTrue, IfOk, OnOk, OnErr};
-//~ ghost use Rattle.string_interner.specs.Text.{Text, IsDistinct};
+//~ ghost use Rattle.string_interner.specs.Text.{IsDistinct};
 //~ ghost use Rattle.string_interner.specs.Entry.{entry_text};
 //~ ghost use Rattle.string_interner.specs.Slots.{symbols};
 //~ ghost use Rattle.string_interner.specs.SlotRule.{IsLeastSlotCount};
 //~ ghost use Rattle.string_interner.specs.LoadFactor.{GrowsTo, rule_by};
 //~ ghost use Rattle.string_interner.specs.Layout.{FitsCode};
-//~ ghost use Rattle.string_interner.specs.Index.{IsAbsent, SameMap, look_up};
+//~ ghost use Rattle.string_interner.specs.Index.{IsAbsent, SameMap};
 //~ ghost use Rattle.string_interner.specs.Probe.{IsVacant};
 //~ ghost use Rattle.string_interner.specs.TextIndex.{IfVacant, found_by};
-//~ ghost use Rattle.string_interner.specs.Table.{CountsLooks, FitsAll, Grows, HasRoom, Inserts, InsertsByCode, IsBounded, Refills, Seeks, entry_count, slot_count};
+//~ ghost use Rattle.string_interner.specs.Table.{FitsAll, Grows, HasRoom, Inserts, InsertsByCode, IsBounded, Refills, Seeks, entry_count, slot_count};
 
 use crate::proved::backend::Backend;
 use crate::proved::dedup::layout::Layout;
@@ -141,14 +141,11 @@ impl<S: Symbol, L: Find<S>> Table<S, L> {
         looks: &mut Looks<'_, B>,
         text: &str,
     ) -> Entry<S, Vacancy>
-        //~ requires { (of : Text → ℕ)
-        //~     × (L.layout.fits (entry_text B.numbering (B.texts looks.old.backend)) of
-        //~     self.now.slots × (code ≡ of text.now)) }
-        //~ ensures found { found_by result
-        //~     ≡ look_up (entry_text B.numbering (B.texts looks.old.backend))
-        //~     (L.layout.slots self.now.slots) text.now }
+        //~ requires { FitsCode L.layout
+        //~     (entry_text B.numbering (B.texts looks.old.backend)) self.now.slots code text.now }
+        //~ ensures seeks { Seeks L.layout (entry_text B.numbering (B.texts looks.old.backend)) self.now
+        //~     code text.now looks.old looks.new (found_by result) }
         //~ ensures vacant { IfVacant result (IsVacant (L.layout.slots self.now.slots) code) }
-        //~ ensures looks { CountsLooks L.layout self.now code looks.old looks.new }
     {
         if self.slots.len() == 0 {
             return Entry::Vacant(Vacancy::by_code(code));
@@ -187,10 +184,8 @@ impl<S: Symbol, L: Find<S>> Table<S, L> {
     ) -> Option<S>
         //~ requires { L.layout.fits (entry_text B.numbering (B.texts looks.old.backend))
         //~     (H.code hasher.now) self.now.slots }
-        //~ ensures found { result ≡ look_up (entry_text B.numbering (B.texts looks.old.backend))
-        //~     (L.layout.slots self.now.slots) text.now }
-        //~ ensures looks { CountsLooks L.layout self.now (H.code hasher.now text.now)
-        //~     looks.old looks.new }
+        //~ ensures { Seeks L.layout (entry_text B.numbering (B.texts looks.old.backend)) self.now
+        //~     (H.code hasher.now text.now) text.now looks.old looks.new result }
     {
         self.symbol_of(hasher.hash_text(text), looks, text)
     }

@@ -1,10 +1,10 @@
 //! What an interner asks of an index of its texts.
 
-//~ ghost use Rattle.std.specs.Prelude.{◌≡◌, ℕ, ◌+◌, ◌<◌, ◌^◌, length, Option, Some, None, IsOk, IsSome, IfOk, IfSome, OnOk, OnErr};
+//~ ghost use Rattle.std.specs.Prelude.{◌≡◌, ℕ, ◌+◌, ◌<◌, ◌^◌, length, Option, None, IsOk, IsSome, IfOk, IfSome, OnOk, OnErr};
 //~ ghost use Rattle.string_interner.specs.Text.{Text, IsDistinct};
 //~ ghost use Rattle.string_interner.specs.Entry.{entry_text};
 //~ ghost use Rattle.string_interner.specs.SlotRule.{SlotRule, IsLoaded, IsLeastSlotCount, IsSlotRule};
-//~ ghost use Rattle.string_interner.specs.TextIndex.{AddsEntry, FindsEntry, HasCode, IfOccupied, IfVacant, IsNewText, found_by};
+//~ ghost use Rattle.string_interner.specs.TextIndex.{AddsEntry, FindsEntry, HasCode, IfVacant, found_by};
 
 use crate::rt::prelude::*; use crate::proved::backend::Backend;
 use crate::proved::hash::TextHasher;
@@ -84,8 +84,8 @@ pub trait TextIndex<S: Symbol>: Sized {
         // What holds of every index.
         //~ ensures loaded { IsLoaded rule (slots self.now) (entries self.now) };
 
-    /// Looks a text up, which has this code. Returns its symbol or, if it is new, where its symbol goes, which `insert_at`
-    /// takes. [`TextIndex::find`] returns a symbol alone.
+    /// Looks up a text with this code. Returns its symbol or, if it is new, where its symbol goes, which `insert_at` takes.
+    /// [`TextIndex::find`] returns a symbol alone.
     fn entry<B: Backend<Symbol = S>>(
         &self,
         code: u64,
@@ -93,10 +93,8 @@ pub trait TextIndex<S: Symbol>: Sized {
         text: &str,
     ) -> Entry<S, Self::Vacancy>;
         //~ requires { HasCode (indexes self.now) B.numbering (B.texts backend.now) code text.now }
-        //~ ensures occupied { IfOccupied result
-        //~     (λ symbol. entry_text B.numbering (B.texts backend.now) symbol ≡ Some text.now) }
-        //~ ensures new_text { IfVacant result
-        //~     (λ _. IsNewText (entry_text B.numbering (B.texts backend.now)) text.now) }
+        //~ ensures found { FindsEntry (entry_text B.numbering (B.texts backend.now)) text.now
+        //~     (found_by result) }
         //~ ensures vacant { IfVacant result (is_vacant self.now code) };
 
     /// Looks a text up, which has this code, and returns its symbol: `Some` exactly if an entry has the text.

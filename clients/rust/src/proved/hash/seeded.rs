@@ -19,8 +19,7 @@ use crate::rt::hash::{BuildHasher, Hasher};
 /// - If two texts of one length, a multiple of 16, share a code, they still do with the same 64 bytes appended, or 128, and so
 ///   on, because lengths that are equal modulo 64 turn the key alike.
 ///
-/// Someone who sees codes, or can time single calls, may find texts that share one. Against them take
-/// [`KeyedState`](super::KeyedState).
+/// Someone who sees codes, or can time single calls, may find texts that share one. Against them take std's `RandomState`.
 ///
 /// The same keys give the same codes in each run. `Debug` shows no key.
 ///

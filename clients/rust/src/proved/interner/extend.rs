@@ -9,14 +9,14 @@ use crate::proved::hash::TextHasher;
 use crate::rt::alloc::Global;
 
 impl<B: Backend, H: TextHasher, I: TextIndex<B::Symbol>> StringInterner<B, H, I> {
-    /// Interns the texts of a finite iterator in order, and stops at the first that fails.
+    /// Interns the texts of a finite iterator in order. Stops at the first that fails, as `get_or_intern` does.
     ///
-    /// The texts before it stay, and the iterator is not advanced after it; so texts are looked for one by one, and in a
-    /// large interner `intern_slice` may be faster. It fails as in `get_or_intern`; so none
-    /// fails for memory if the new texts fit the spare capacity of the backend and of the index. If all texts are
-    /// known, nothing changes. On `Ok` the slot count is unchanged if the load factor allows all texts, and else the
-    /// least that it allows. So it is for the texts before one that fails; `NoSymbol` leaves it there, and `Memory` may
-    /// come after one growth more.
+    /// - On `Err` the texts before the failed one stay, and the iterator is not advanced past it.
+    /// - It does not fail for memory if all new texts fit the spare capacity.
+    /// - If all texts are known, nothing changes.
+    /// - The slots grow only as far as the texts need. Before a failed allocation they may have doubled once more.
+    ///
+    /// For many texts in a large interner `intern_slice` is faster.
     pub fn extend<'t, T: IntoIterator<Item = &'t str>>(
         &mut self,
         iter: T,

@@ -1,26 +1,24 @@
 //! Interning the texts of an iterator into a list of their symbols.
 
-//~ ghost use Rattle.std.specs.Prelude.{◌≤◌, [], ◌∷◌, length, vec_capacity};
+//~ ghost use Rattle.std.specs.Prelude.{◌≡◌, ◌+◌, ◌≤◌, List, [], ◌∷◌, ◌++◌, length, map, Some, vec_capacity};
 //~ ghost use Rattle.string_interner.specs.Extend.{IsFinite, YieldedBy};
 //~ ghost use Rattle.string_interner.specs.InternAll.{InternsEach, Lists};
 
 use crate::rt::prelude::*; use super::StringInterner;
-use super::block::{BLOCK_LEN, FEWEST_FOR_BLOCKS, intern_each, look_for};
+use super::intern_slice::intern_front;
+use super::look_ahead::{Ahead, BLOCK_LEN, FEWEST_FOR_BLOCKS};
 use crate::proved::backend::{Backend, InternError};
 use crate::proved::dedup::TextIndex;
 use crate::proved::hash::TextHasher;
+use crate::proved::symbol::Symbol;
 
 impl<B: Backend, H: TextHasher, I: TextIndex<B::Symbol>> StringInterner<B, H, I> {
-    /// Interns the texts of a finite iterator in order, as `extend` does, and appends the symbol of each to a list: a
-    /// column becomes its symbols. Stops at the first text that fails.
+    /// Interns the texts of a finite iterator in order, and appends the symbol of each to a list: a column becomes its symbols.
+    /// Stops at the first text that fails, as `get_or_intern` does.
     ///
-    /// On `Err` the list has one symbol more for each text before that one, and these texts stay interned; so how much
-    /// longer the list is tells how many were done. Memory for a symbol is asked for before its text is interned, so
-    /// that no text is interned whose symbol is lost. Beyond what `extend` returns `Err` for, this returns `Memory` if the
-    /// list is full and cannot grow: never, if it has spare capacity for all texts.
-    ///
-    /// In a large interner 32 texts are looked for together, which takes less time than one after another if many of them are
-    /// known. So the iterator may have been advanced past the text that fails, by up to 31 texts.
+    /// - On `Err` the texts before the failed one stay, and the list has their symbols: its new length says how many.
+    /// - It also fails if the list is full and cannot grow. The text that it lacks room for is not interned.
+    /// - The iterator may be up to 31 texts past the failed one.
     ///
     /// ```ignore
     /// let mut symbols = Vec::new(alloc);
@@ -50,10 +48,14 @@ impl<B: Backend, H: TextHasher, I: TextIndex<B::Symbol>> StringInterner<B, H, I>
                 alone = alone.saturating_sub(1);
                 continue;
             }
+            if len == 0 {
+                symbols.reserve(1)?;
+            }
             block[len] = text;
             len += 1;
-            if len == BLOCK_LEN {
-                self.intern_block(&block, symbols, &mut alone)?;
+            // No more texts than the list has room for, so that none is interned whose symbol is lost.
+            if len == BLOCK_LEN || len == symbols.capacity() - symbols.len() {
+                self.intern_block(&block[..len], symbols, &mut alone)?;
                 len = 0;
             }
         }
@@ -79,10 +81,10 @@ impl<B: Backend, H: TextHasher, I: TextIndex<B::Symbol>> StringInterner<B, H, I>
         Ok(())
     }
 
-    /// Interns the texts of a block in order, and appends the symbol of each to a list. Stops at the first text that fails.
+    /// Interns the texts of a block in order, and appends the symbol of each to a list, which has room for them. Stops at the first
+    /// text that fails.
     ///
-    /// Hashes each text once. A text whose guess was wrong or missing is then looked up by itself. Stores in `alone` how
-    /// many texts are best interned one by one before the next block.
+    /// Stores in `alone` how many texts are best interned one by one before the next block.
     #[inline(never)]
     fn intern_block(
         &mut self,
@@ -90,31 +92,49 @@ impl<B: Backend, H: TextHasher, I: TextIndex<B::Symbol>> StringInterner<B, H, I>
         symbols: &mut Vec<B::Symbol>,
         alone: &mut usize,
     ) -> Result<(), InternError>
-        //~ requires { length texts.now ≤ 32 }
+        //~ requires few { length texts.now ≤ 32 }
+        //~ requires room { length symbols.old.items + length texts.now ≤ vec_capacity symbols.old }
         //~ ensures interns { InternsEach B.numbering I.rule (Lists texts.now)
         //~     (self.old, symbols.old) result (self.new, symbols.new) }
-        //~ ensures capacity { vec_capacity symbols.old ≤ vec_capacity symbols.new }
+        //~ ensures capacity { vec_capacity symbols.new ≡ vec_capacity symbols.old }
     {
-        let mut codes = [0; BLOCK_LEN];
-        let codes = &mut codes[..texts.len()];
-        let mut known = [None; BLOCK_LEN];
-        let known = &mut known[..texts.len()];
-        *alone = look_for(
-            &self.backend,
-            &self.hasher,
-            &self.index,
-            texts,
-            codes,
-            known,
-        );
-        intern_each(
+        let mut ahead = Ahead::new();
+        let mut numbers = [0; BLOCK_LEN];
+        let ended = intern_front(
             &mut self.backend,
             &self.hasher,
             &mut self.index,
             texts,
-            codes,
-            known,
-            symbols,
-        )
+            &mut numbers,
+            &mut ahead,
+        );
+        *alone = ahead.alone_after(texts.len());
+        match ended {
+            Ok(()) => {
+                push_numbers(symbols, &numbers[..texts.len()]);
+                Ok(())
+            }
+            Err(stopped) => {
+                push_numbers(symbols, &numbers[..stopped.done]);
+                Err(stopped.error)
+            }
+        }
+    }
+}
+
+/// Appends the symbols with these numbers to a list, which has room for them.
+#[inline(always)]
+fn push_numbers<S: Symbol>(symbols: &mut Vec<S>, numbers: &[usize])
+    //~ requires room { length symbols.old.items + length numbers.now ≤ vec_capacity symbols.old }
+    //~ requires named { (list : List S) × (map S.symbol_of numbers.now ≡ map Some list) }
+    //~ ensures pushed { (list : List S) → map S.symbol_of numbers.now ≡ map Some list
+    //~     → symbols.new.items ≡ symbols.old.items ++ list }
+    //~ ensures capacity { vec_capacity symbols.new ≡ vec_capacity symbols.old }
+{
+    for at in 0..numbers.len() {
+        let Some(symbol) = S::try_from_usize(numbers[at]) else {
+            unreachable!()
+        };
+        symbols.push_reserved(symbol);
     }
 }

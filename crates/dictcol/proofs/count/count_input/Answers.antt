@@ -3,7 +3,7 @@ use Rattle.std.proofs.lemmas.List.{nil_from_length}
 use Rattle.dictcol.specs.Counts.{HasCounted}
 use Rattle.dictcol.specs.Lines.{lines_of}
 use Rattle.dictcol.proofs.Counted.{counted-input}
-use Rattle.dictcol.proofs.Merged.{one-line}
+use Rattle.dictcol.proofs.TextLines.{one-line}
 use Rattle.std.proofs.lemmas.Result.{err_from_is_err_and}
 use Rattle.dictcol.specs.TooMany.{LacksCount}
 use Rattle.dictcol.proofs.TooMany.{rest-refused}

@@ -13,7 +13,7 @@ use Rattle.std.proofs.lemmas.Str.{is_utf8-from_IsUtf8, IsUtf8-from_is_utf8}
 use Rattle.string_interner.specs.Text.{Text}
 use Rattle.string_interner.specs.Backend.{BeginsAt}
 use Rattle.string_interner.specs.Spelling.{IsChain, digits, front_len, front_value, after_front, has_front}
-use Rattle.string_interner.specs.declared.backend.buffer.spelling.Spelled.{Spelled}
+use Rattle.string_interner.specs.declared.backend.buffer.leb128.Spelled.{Spelled}
 use Rattle.string_interner.specs.BufferBackend.{entry_of, bytes_of, entry_len, place_of, Reads, read_front, read_at}
 use Rattle.string_interner.specs.BufferLaws.{digits-ten, IsChain-cons, front_len-small, front_len-large, read_front-chain, length-bytes_of, from_place}
 use Rattle.string_interner.proofs.Lemmas.BufferBackend.Spelling.{front_there, has_front-there}

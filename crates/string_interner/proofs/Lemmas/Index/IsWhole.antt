@@ -8,9 +8,7 @@ use Rattle.string_interner.specs.Text.{Text, first}
 use Rattle.string_interner.specs.Slots.{symbols}
 use Rattle.string_interner.specs.Index.{AddsPair, Fits, IsAbsent, SameMap, has_text, look_up, text_of}
 use Rattle.string_interner.specs.Layout.{IsTable, plain_layout}
-use Rattle.string_interner.specs.TextIndex.{Adds, FindsEntry, IfOccupied, IfVacant, IsNewText, found_by}
-use Rattle.string_interner.specs.declared.dedup.text_index.Entry.{Entry}
-use Rattle.string_interner.specs.declared.dedup.text_index.Entry.TheVariants.{Occupied, Vacant}
+use Rattle.string_interner.specs.TextIndex.{Adds, FindsEntry, IsNewText}
 use Rattle.string_interner.specs.EntryLaws.{entry_text-is, entry_text-at}
 use Rattle.string_interner.proofs.Lemmas.Index.Inserts.{text_of_is}
 use Rattle.string_interner.proofs.Lemmas.Index.LookUp.{FirstIs, first_is, entry_from_has}
@@ -86,26 +84,10 @@ look_up-none {S = S} entry slots t none =
     by (look_up entry slots t) refl
 
 -- what a look-up found, where the slots hold each entry
-pub found-occupied : {S V : Type 0} (entry : S → Option Text) (slots : List (Option S)) (t : Text) (found : Entry S V) → found_by found ≡ look_up entry slots t
-    → IfOccupied found (λ s. entry s ≡ Some t)
-found-occupied entry slots t (Occupied s) e = look_up-text entry slots t s (sym e)
-found-occupied entry slots t (Vacant v) e = tt
-
 pub found-entry : {S : Type 0} (entry : S → Option Text) (code : Text → ℕ) (slots : List (Option S)) (t : Text) (found : Option S) → IsWhole entry code slots → found ≡ look_up entry slots t
     → FindsEntry entry t found
 found-entry entry code slots t (Some s) whole e = look_up-text entry slots t s (sym e)
 found-entry entry code slots t None whole e = λ s is. let n : None ≡ Some s = e ∙ whole.whole s t is in cc
-
--- what an entry tells, it tells of the symbol alone
-pub found-by : {S V : Type 0} (entry : S → Option Text) (t : Text) (found : Entry S V) → IfOccupied found (λ s. entry s ≡ Some t) → IfVacant found (λ _. IsNewText entry t)
-    → FindsEntry entry t (found_by found)
-found-by entry t (Occupied s) is is_new = is
-found-by entry t (Vacant v) is is_new = is_new
-
-pub found-vacant : {S V : Type 0} (entry : S → Option Text) (code : Text → ℕ) (slots : List (Option S)) (t : Text) (found : Entry S V) → IsWhole entry code slots → found_by found ≡ look_up entry slots t
-    → IfVacant found (λ _. IsNewText entry t)
-found-vacant entry code slots t (Occupied s) whole e = tt
-found-vacant entry code slots t (Vacant v) whole e = λ s is. let n : None ≡ Some s = e ∙ whole.whole s t is in cc
 
 module _ {S : Type 0} (numbering : Numbering S)
     (numbered : (i : ℕ) (s : S) → numbering.symbol_of i ≡ Some s → (numbering.number s ≡ i) × (i < 2 ^ 64))

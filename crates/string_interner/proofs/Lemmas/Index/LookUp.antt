@@ -6,12 +6,12 @@ use Rattle.std.proofs.lemmas.Slice.Eq.{bytes_eq-Decides}
 use Rattle.std.specs.List.{Contains}
 use Rattle.std.specs.Option.{IsSome, option_and_then, option_map_or}
 use Rattle.std.specs.Str.{bytes_eq}
-use Rattle.string_interner.specs.Slots.{probed, symbols, filled_run, first_passing}
-use Rattle.string_interner.specs.Index.{Fits, has_text, look_up, filled_run_of, text_in}
+use Rattle.string_interner.specs.Slots.{probed, symbols, front_cluster, probe_cluster, first_passing}
+use Rattle.string_interner.specs.Index.{Fits, has_text, look_up, text_in}
 use Rattle.string_interner.specs.Probe.{FillsSlot}
 use Rattle.string_interner.proofs.Lemmas.Index.ProbeLoop.{get_or-probe}
 use Rattle.string_interner.specs.Text.{Text}
-use Rattle.string_interner.proofs.Lemmas.Index.Slots.{here, there, none, head_or_tail, set_cases, set_here, set_there, Contains-symbols, symbols-in, run-in, run-set, symbols-set, probe-set, Contains-turned}
+use Rattle.string_interner.proofs.Lemmas.Index.Slots.{here, there, none, head_or_tail, set_cases, set_here, set_there, Contains-symbols, symbols-in, cluster-in, cluster-set, symbols-set, probe-set, Contains-turned}
 
 module _ {S : Type 0} (test : S → Bool) where
   -- what is known of the first that passes
@@ -85,11 +85,11 @@ module _ {S : Type 0} (entry : S → Option Text) where
         let e : Some s ≡ Some u = sym a.2 ∙ get_or_default slots a.0 (Some s) (Some u) a.1 ∙ ap (λ k. get_or slots k (Some u)) j ∙ b.2 in
         let q : s ≡ u = cc in q
 
-    -- the filled run of a text has its symbol, if any slot has
-    pub Fits-find : (t : Text) → first_passing (has_text entry t) (filled_run_of code slots t) ≡ look_up entry slots t
+    -- the probe cluster of a text has its symbol, if any slot has
+    pub Fits-find : (t : Text) → first_passing (has_text entry t) (probe_cluster slots (code t)) ≡ look_up entry slots t
     Fits-find t =
-        same_first (has_text entry t) (filled_run_of code slots t) (symbols slots)
-        (λ s e h. Contains-symbols slots s (Contains-turned slots (code t % length slots) (Some s) (run-in (probed slots (code t % length slots)) s h)))
+        same_first (has_text entry t) (probe_cluster slots (code t)) (symbols slots)
+        (λ s e h. Contains-symbols slots s (Contains-turned slots (code t % length slots) (Some s) (cluster-in (probed slots (code t % length slots)) s h)))
         (λ s e h. fits.placed s t (symbols-in slots s h) (entry_from_has t s e))
         (Fits-one t)
 
@@ -119,9 +119,9 @@ module _ {S : Type 0} (old new : List (Option S)) (home : ℕ) (symbol : S) (p :
   pub FillsSlot-symbols : length (symbols new) ≡ length (symbols old) + 1
   FillsSlot-symbols = ap (λ xs. length (symbols xs)) p.written ∙ symbols-set old p.at symbol p.in_range p.was_empty
 
-  -- each run keeps its symbols
-  pub FillsSlot-run : (from : ℕ) (s : S) → from < length old → Contains (filled_run (probed old from)) s → Contains (filled_run (probed new from)) s
-  FillsSlot-run from s l h =
+  -- each cluster keeps its symbols
+  pub FillsSlot-cluster : (from : ℕ) (s : S) → from < length old → Contains (front_cluster (probed old from)) s → Contains (front_cluster (probed new from)) s
+  FillsSlot-cluster from s l h =
       let place : (i : ℕ) × ((i < length old) × ((p.at ≡ from + i) ⊎ (p.at + length old ≡ from + i))) =
       let r = p.in_range in
       elim (cases_lt p.at from) [ inl b ↦ (p.at + length old - from, (omega arith, inr (omega arith))) | inr b ↦ (p.at - from, (omega arith, inl (omega arith))) ] in
@@ -129,7 +129,7 @@ module _ {S : Type 0} (old new : List (Option S)) (home : ℕ) (symbol : S) (p :
       let e : get_or (probed old from) i None ≡ None = get_or-probe old from i p.at None l place.1.0 p.in_range place.1.1 ∙ p.was_empty in
       let w : probed new from ≡ set (probed old from) i (Some symbol) =
       ap (λ xs. probed xs from) p.written ∙ probe-set old from i p.at (Some symbol) l place.1.0 p.in_range place.1.1 in
-      subst (λ (xs : List (Option S)). Contains (filled_run xs) s) (sym w) (run-set (probed old from) i (Some symbol) s e h)
+      subst (λ (xs : List (Option S)). Contains (front_cluster xs) s) (sym w) (cluster-set (probed old from) i (Some symbol) s e h)
 
   module _ (entry : S → Option Text) (code : Text → ℕ) (fits : Fits entry code old) (t : Text)
       (is : entry symbol ≡ Some t) (new_text : look_up entry old t ≡ None) (at_home : home ≡ code t % length old) where
@@ -155,20 +155,20 @@ module _ {S : Type 0} (old new : List (Option S)) (home : ℕ) (symbol : S) (p :
           ])
         ]
 
-    abbrev Runs : S → ℕ → Type 0
-    Runs s from = Contains (filled_run (probed new from)) s
+    abbrev InCluster : S → ℕ → Type 0
+    InCluster s from = Contains (front_cluster (probed new from)) s
 
     pub FillsSlot-fits : Fits entry code new
     FillsSlot-fits = record {
       entries = λ s h. elim (FillsSlot-cases s h) as (λ _. IsSome (entry s))
           [ inl e ↦ (let q : entry s ≡ Some t = ap entry (sym e) ∙ is in rw q refl) | inr o ↦ fits.entries s o ];
       distinct = distinct;
-      placed = λ s u h r. elim (FillsSlot-cases s h) as (λ _. Contains (filled_run_of code new u) s) [
+      placed = λ s u h r. elim (FillsSlot-cases s h) as (λ _. Contains (probe_cluster new (code u)) s) [
         | inl e ↦ (let q : Some u ≡ Some t = sym r ∙ ap entry (sym e) ∙ is in let v : u ≡ t = cc in
             let w : home ≡ code u % length new = at_home ∙ ap (λ n. code t % n) (sym FillsSlot-length) ∙ ap (λ x. code x % length new) (sym v) in
-            subst (Runs s) w (subst (λ (x : S). Runs x home) e p.placed))
+            subst (InCluster s) w (subst (λ (x : S). InCluster x home) e p.placed))
         | inr o ↦ (let w : code u % length old ≡ code u % length new = ap (λ n. code u % n) (sym FillsSlot-length) in
-            subst (Runs s) w (FillsSlot-run (code u % length old) s (let l = p.in_range in omega arith) (fits.placed s u o r)))
+            subst (InCluster s) w (FillsSlot-cluster (code u % length old) s (let l = p.in_range in omega arith) (fits.placed s u o r)))
       ];
     }
 

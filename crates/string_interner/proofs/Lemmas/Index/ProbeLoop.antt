@@ -2,12 +2,12 @@
 -- pass several at once, and where it ends.
 use Rattle.std.proofs.Common.{◌≡◌, ℕ, ◌+◌, ◌-◌, ◌<◌, ◌≤◌, ◌⊎◌, Bool, true, false, cond, List, ◌∷◌, Option, Some, None, length, get_or, take, drop, refl, sym, ap, ◌∙◌, inl, inr, arith, set, subst, zero, suc}
 use Rattle.std.proofs.lemmas.List.{drop_more, length-append, length-take-le, length-drop, get_or_append_left, get_or-append_right, get_or-take, get_or-drop}
-use Rattle.string_interner.specs.Slots.{probed, filled_run, first_passing, symbols}
+use Rattle.string_interner.specs.Slots.{probed, front_cluster, first_passing, symbols}
 use Rattle.std.specs.List.{Contains}
 use Rattle.std.specs.Option.{is_some}
 use Rattle.string_interner.specs.Probe.{IsFree, FillsSlot, Follows, Misses, Passes, StepsTo}
 use Rattle.string_interner.specs.declared.dedup.probe.Step.TheVariants.{Found, Free, On}
-use Rattle.string_interner.proofs.Lemmas.Index.Slots.{run-set_end, probe-set, run_within}
+use Rattle.string_interner.proofs.Lemmas.Index.Slots.{cluster-set_end, probe-set, cluster_within}
 use Rattle.string_interner.proofs.Lemmas.TaggedSlots.SymbolsIn.{symbols_in-at}
 use Rattle.string_interner.specs.Tagged.{TaggedContents, HasAnotherTag, TagTells, symbols_in}
 
@@ -33,12 +33,12 @@ module _ {S : Type 0} where
     pub in_range : at < length slots
     pub place : (at ≡ home + i) ⊎ (at + length slots ≡ home + i)
     pub found :
-        first_passing test (filled_run (probed slots home)) ≡ first_passing test (filled_run (drop i (probed slots home)))
-    pub run : length (filled_run (probed slots home)) ≡ i + length (filled_run (drop i (probed slots home)))
+        first_passing test (front_cluster (probed slots home)) ≡ first_passing test (front_cluster (drop i (probed slots home)))
+    pub cluster : length (front_cluster (probed slots home)) ≡ i + length (front_cluster (drop i (probed slots home)))
 
   pub Walked-start :
       (test : S → Bool) (slots : List (Option S)) (home : ℕ) → home < length slots → Walked test slots home 0 home
-  Walked-start test slots home h = record { in_range = h; place = inl (omega arith); found = refl; run = omega arith }
+  Walked-start test slots home h = record { in_range = h; place = inl (omega arith); found = refl; cluster = omega arith }
 
   -- the rest begins with the slot at `at`
   rest : (slots : List (Option S)) (home i at : ℕ) → home < length slots → i < length slots → at < length slots
@@ -50,22 +50,22 @@ module _ {S : Type 0} where
       ∙ ap (λ x. x ∷ drop (i + 1) (probed slots home)) (get_or-probe slots home i at None h k l p)
 
   module _ (test : S → Bool) (slots : List (Option S)) (home i at : ℕ) (h : home < length slots) (w : Walked test slots home i at) where
-    -- the slot is empty: nothing was found, and the run has i slots
+    -- the slot is empty: nothing was found, and the cluster has i slots
     pub Walked-empty : i < length slots → get_or slots at None ≡ None
-        → (first_passing test (filled_run (probed slots home)) ≡ None) × (length (filled_run (probed slots home)) ≡ i)
+        → (first_passing test (front_cluster (probed slots home)) ≡ None) × (length (front_cluster (probed slots home)) ≡ i)
     Walked-empty k e =
         let r = rest slots home i at h k w.in_range w.place ∙ ap (λ x. x ∷ drop (i + 1) (probed slots home)) e in (
-          w.found ∙ ap (λ xs. first_passing test (filled_run xs)) r,
-          w.run ∙ ap (λ xs. i + length (filled_run xs)) r ∙ (let z : i + 0 ≡ i = omega arith in z),
+          w.found ∙ ap (λ xs. first_passing test (front_cluster xs)) r,
+          w.cluster ∙ ap (λ xs. i + length (front_cluster xs)) r ∙ (let z : i + 0 ≡ i = omega arith in z),
         )
 
     pub Walked-hit : (s : S) → i < length slots → get_or slots at None ≡ Some s → test s ≡ true
-        → (first_passing test (filled_run (probed slots home)) ≡ Some s) × (i < length (filled_run (probed slots home)))
+        → (first_passing test (front_cluster (probed slots home)) ≡ Some s) × (i < length (front_cluster (probed slots home)))
     Walked-hit s k e t =
         let r = rest slots home i at h k w.in_range w.place ∙ ap (λ x. x ∷ drop (i + 1) (probed slots home)) e in
-        let more = filled_run (drop (i + 1) (probed slots home)) in
-        let n = ap (λ xs. length (filled_run xs)) r in let m = w.run in (
-          w.found ∙ ap (λ xs. first_passing test (filled_run xs)) r ∙ ap (λ b. cond b (Some s) (first_passing test more)) t,
+        let more = front_cluster (drop (i + 1) (probed slots home)) in
+        let n = ap (λ xs. length (front_cluster xs)) r in let m = w.cluster in (
+          w.found ∙ ap (λ xs. first_passing test (front_cluster xs)) r ∙ ap (λ b. cond b (Some s) (first_passing test more)) t,
           omega arith,
         )
 
@@ -73,13 +73,13 @@ module _ {S : Type 0} where
         → next < length slots → (next ≡ at + 1) ⊎ ((next ≡ 0) × (at + 1 ≡ length slots)) → Walked test slots home (i + 1) next
     Walked-more s next k e t l p =
         let r = rest slots home i at h k w.in_range w.place ∙ ap (λ x. x ∷ drop (i + 1) (probed slots home)) e in
-        let more = filled_run (drop (i + 1) (probed slots home)) in
-        let n = ap (λ xs. length (filled_run xs)) r in let m = w.run in let q = w.place in
+        let more = front_cluster (drop (i + 1) (probed slots home)) in
+        let n = ap (λ xs. length (front_cluster xs)) r in let m = w.cluster in let q = w.place in
         record {
           in_range = l;
           place = grind arith;
-          found = w.found ∙ ap (λ xs. first_passing test (filled_run xs)) r ∙ ap (λ b. cond b (Some s) (first_passing test more)) t;
-          run = omega arith;
+          found = w.found ∙ ap (λ xs. first_passing test (front_cluster xs)) r ∙ ap (λ b. cond b (Some s) (first_passing test more)) t;
+          cluster = omega arith;
         }
 
 module _ {S : Type 0} (slots : List (Option S)) (home : ℕ) (h : home < length slots) where
@@ -88,7 +88,7 @@ module _ {S : Type 0} (slots : List (Option S)) (home : ℕ) (h : home < length 
 
   pub free_at : (test : S → Bool) (i at : ℕ) → Walked test slots home i at → i < length slots → get_or slots at None ≡ None → IsFree slots home at
   free_at test i at w k e =
-      let run = (Walked-empty test slots home i at h w k e).1 in
+      let cluster = (Walked-empty test slots home i at h w k e).1 in
       let m : i < length (probed slots home) = omega (arith, length-probe slots home (omega arith)) in (
         w.in_range,
         λ s. record {
@@ -96,8 +96,8 @@ module _ {S : Type 0} (slots : List (Option S)) (home : ℕ) (h : home < length 
           in_range = w.in_range;
           was_empty = e;
           written = refl;
-          placed = subst (λ (xs : List (Option S)). Contains (filled_run xs) s) (sym (probe-set slots home i at (Some s) h k w.in_range w.place))
-              (run-set_end (probed slots home) i s run m);
+          placed = subst (λ (xs : List (Option S)). Contains (front_cluster xs) s) (sym (probe-set slots home i at (Some s) h k w.in_range w.place))
+              (cluster-set_end (probed slots home) i s cluster m);
         },
       )
 
@@ -113,7 +113,7 @@ module _ {S : Type 0} (slots : List (Option S)) (home : ℕ) (h : home < length 
 
   -- one slot is empty, so the walk does not come to the end
   pub comes_to_empty : (i at : ℕ) → Comes i at → length slots ≤ i → length (symbols slots) < length slots → ⊥
-  comes_to_empty i at w k free = let a = w.run in let b = run_within slots home in omega arith
+  comes_to_empty i at w k free = let a = w.cluster in let b = cluster_within slots home in omega arith
 
 module _ {S : Type 0} where
   pub empty_from : (o : Option S) → is_some o ≡ false → o ≡ None
@@ -144,7 +144,7 @@ module _ {S : Type 0} where
   module _ (test : S → Bool) (slots : List (Option S)) (home : ℕ) (h : home < length slots) (free : length (symbols slots) < length slots) where
     -- one slot is empty, so fewer slots are passed than there are
     within : (i at : ℕ) → Walked test slots home i at → i < length slots
-    within i at w = let r = w.run in let b = run_within slots home in omega arith
+    within i at w = let r = w.cluster in let b = cluster_within slots home in omega arith
 
     -- a slot that misses is passed
     one : (i at next : ℕ) → Walked test slots home i at → Misses test slots at → Follows (length slots) at next → Walked test slots home (i + 1) next
@@ -176,11 +176,11 @@ module _ {S : Type 0} where
           let a = s.steps_le in record { passed = s.passed + 1; walked = one s.passed at next s.walked m f; steps_le = omega arith }
 
       pub Stands-hit : (u : S) → get_or slots at None ≡ Some u → test u ≡ true
-          → (first_passing test (filled_run (probed slots home)) ≡ Some u) × (steps < length (filled_run (probed slots home)))
+          → (first_passing test (front_cluster (probed slots home)) ≡ Some u) × (steps < length (front_cluster (probed slots home)))
       Stands-hit u e t = let a = s.steps_le in let b = Walked-hit test slots home s.passed at h s.walked u (within s.passed at s.walked) e t in let c = b.1 in (b.0, omega arith)
 
       pub Stands-empty : get_or slots at None ≡ None
-          → (first_passing test (filled_run (probed slots home)) ≡ None) × (steps ≤ length (filled_run (probed slots home)))
+          → (first_passing test (front_cluster (probed slots home)) ≡ None) × (steps ≤ length (front_cluster (probed slots home)))
       Stands-empty e = let a = s.steps_le in let b = Walked-empty test slots home s.passed at h s.walked (within s.passed at s.walked) e in let c = b.1 in (b.0, omega arith)
 
       pub Stands-free : get_or slots at None ≡ None → IsFree slots home at
@@ -196,16 +196,16 @@ module _ {S : Type 0} where
 
     -- a step that finds a symbol finds that of the look-up
     pub Stands-found : (steps at : ℕ) (u : S) → Stands test slots home steps at → StepsTo test slots at (Found u)
-        → (first_passing test (filled_run (probed slots home)) ≡ Some u) × (steps < length (filled_run (probed slots home)))
+        → (first_passing test (front_cluster (probed slots home)) ≡ Some u) × (steps < length (front_cluster (probed slots home)))
     Stands-found steps at u s l = Stands-hit steps l.0 (Stands-passed steps at s l.0 l.1) u l.2 l.3
 
     -- and one that comes to an empty slot ends it there
     pub record EndsAt (steps at : ℕ) : Type 0 where
-      pub found : first_passing test (filled_run (probed slots home)) ≡ None
-      pub run : steps ≤ length (filled_run (probed slots home))
+      pub found : first_passing test (front_cluster (probed slots home)) ≡ None
+      pub cluster : steps ≤ length (front_cluster (probed slots home))
       pub is_free : IsFree slots home at
 
     pub Stands-free_to : (steps at to : ℕ) → Stands test slots home steps at → StepsTo test slots at (Free to) → EndsAt steps to
     Stands-free_to steps at to s l =
         let t = Stands-passed steps at s to l.0 in let e = Stands-empty steps to t l.1 in
-        record { found = e.0; run = e.1; is_free = Stands-free steps to t l.1 }
+        record { found = e.0; cluster = e.1; is_free = Stands-free steps to t l.1 }

@@ -4,7 +4,7 @@ use Rattle.std.proofs.lemmas.List.{take-append-drop, length-append, length-drop,
 use Rattle.std.proofs.Math.Seq.{take-set-lt}
 use Rattle.std.proofs.lemmas.List.Elements.{Contains-append_left, Contains-append_right, Contains-append_cases}
 use Rattle.std.specs.List.{Contains}
-use Rattle.string_interner.specs.Slots.{probed, symbols, filled_run}
+use Rattle.string_interner.specs.Slots.{probed, symbols, front_cluster}
 
 module _ {X : Type 0} where
   at_place : (xs : List X) (x : X) (k : ℕ) → k < length xs → get_or xs k x ≡ x → Contains xs x
@@ -78,31 +78,25 @@ module _ {S : Type 0} where
         | inr t ↦ there (Some s) (Some y) rest (symbols-in rest s t)
       ]
 
-  -- the filled run is made of slots
-  pub run-in : (slots : List (Option S)) (s : S) → Contains (filled_run slots) s → Contains slots (Some s)
-  run-in [] s h = absurd (none s h)
-  run-in (None ∷ rest) s h = absurd (none s h)
-  run-in (Some y ∷ rest) s h =
-      elim (head_or_tail s y (filled_run rest) h) as (λ _. Contains (Some y ∷ rest) (Some s)) [
+  -- the probe cluster is made of slots
+  pub cluster-in : (slots : List (Option S)) (s : S) → Contains (front_cluster slots) s → Contains slots (Some s)
+  cluster-in [] s h = absurd (none s h)
+  cluster-in (None ∷ rest) s h = absurd (none s h)
+  cluster-in (Some y ∷ rest) s h =
+      elim (head_or_tail s y (front_cluster rest) h) as (λ _. Contains (Some y ∷ rest) (Some s)) [
         | inl e ↦ subst (λ (z : S). Contains (Some z ∷ rest) (Some s)) (sym e) (here (Some s) rest)
-        | inr t ↦ there (Some s) (Some y) rest (run-in rest s t)
+        | inr t ↦ there (Some s) (Some y) rest (cluster-in rest s t)
       ]
 
-  pub length-run : (slots : List (Option S)) → length (filled_run slots) ≤ length (symbols slots)
-  length-run [] = omega arith
-  length-run (None ∷ rest) = omega arith
-  length-run (Some y ∷ rest) = let h = length-run rest in omega arith
+  pub length-cluster : (slots : List (Option S)) → length (front_cluster slots) ≤ length (symbols slots)
+  length-cluster [] = omega arith
+  length-cluster (None ∷ rest) = omega arith
+  length-cluster (Some y ∷ rest) = let h = length-cluster rest in omega arith
 
   pub length-symbols : (slots : List (Option S)) → length (symbols slots) ≤ length slots
   length-symbols [] = omega arith
   length-symbols (None ∷ rest) = let h = length-symbols rest in omega arith
   length-symbols (Some y ∷ rest) = let h = length-symbols rest in omega arith
-
-  -- where each slot is empty there is no symbol
-  pub symbols-none : (slots : List (Option S)) → ((k : ℕ) → k < length slots → get_or slots k None ≡ None) → symbols slots ≡ []
-  symbols-none [] h = refl
-  symbols-none (None ∷ rest) h = symbols-none rest (λ k l. h (suc k) (omega arith))
-  symbols-none (Some y ∷ rest) h = absurd (let e = h 0 (omega arith) in cc)
 
   pub symbols-append : (a b : List (Option S)) → symbols (a ++ b) ≡ symbols a ++ symbols b
   symbols-append [] b = refl
@@ -118,27 +112,27 @@ module _ {S : Type 0} where
   symbols-set (None ∷ rest) (suc i) s l e = symbols-set rest i s (omega arith) e
   symbols-set (Some y ∷ rest) (suc i) s l e = let h = symbols-set rest i s (omega arith) e in omega arith
 
-  -- and the runs keep what they had
-  pub run-set : (slots : List (Option S)) (i : ℕ) (v : Option S) (s : S) → get_or slots i None ≡ None
-      → Contains (filled_run slots) s → Contains (filled_run (set slots i v)) s
-  run-set [] i v s e h = h
-  run-set (None ∷ rest) i v s e h = absurd (none s h)
-  run-set (Some y ∷ rest) zero v s e h = cc
-  run-set (Some y ∷ rest) (suc i) v s e h =
-      elim (head_or_tail s y (filled_run rest) h) as (λ _. Contains (y ∷ filled_run (set rest i v)) s) [
-        | inl q ↦ subst (λ (z : S). Contains (z ∷ filled_run (set rest i v)) s) (sym q) (here s (filled_run (set rest i v)))
-        | inr t ↦ there s y (filled_run (set rest i v)) (run-set rest i v s e t)
+  -- and the clusters keep what they had
+  pub cluster-set : (slots : List (Option S)) (i : ℕ) (v : Option S) (s : S) → get_or slots i None ≡ None
+      → Contains (front_cluster slots) s → Contains (front_cluster (set slots i v)) s
+  cluster-set [] i v s e h = h
+  cluster-set (None ∷ rest) i v s e h = absurd (none s h)
+  cluster-set (Some y ∷ rest) zero v s e h = cc
+  cluster-set (Some y ∷ rest) (suc i) v s e h =
+      elim (head_or_tail s y (front_cluster rest) h) as (λ _. Contains (y ∷ front_cluster (set rest i v)) s) [
+        | inl q ↦ subst (λ (z : S). Contains (z ∷ front_cluster (set rest i v)) s) (sym q) (here s (front_cluster (set rest i v)))
+        | inr t ↦ there s y (front_cluster (set rest i v)) (cluster-set rest i v s e t)
       ]
 
-  -- the first empty slot, filled, is in the run
-  pub run-set_end : (slots : List (Option S)) (i : ℕ) (s : S) → length (filled_run slots) ≡ i → i < length slots
-      → Contains (filled_run (set slots i (Some s))) s
-  run-set_end [] i s e l = absurd (omega arith)
-  run-set_end (None ∷ rest) zero s e l = here s (filled_run rest)
-  run-set_end (None ∷ rest) (suc i) s e l = cc
-  run-set_end (Some y ∷ rest) zero s e l = cc
-  run-set_end (Some y ∷ rest) (suc i) s e l =
-      there s y (filled_run (set rest i (Some s))) (run-set_end rest i s (omega arith) (omega arith))
+  -- the first empty slot, filled, is in the cluster
+  pub cluster-set_end : (slots : List (Option S)) (i : ℕ) (s : S) → length (front_cluster slots) ≡ i → i < length slots
+      → Contains (front_cluster (set slots i (Some s))) s
+  cluster-set_end [] i s e l = absurd (omega arith)
+  cluster-set_end (None ∷ rest) zero s e l = here s (front_cluster rest)
+  cluster-set_end (None ∷ rest) (suc i) s e l = cc
+  cluster-set_end (Some y ∷ rest) zero s e l = cc
+  cluster-set_end (Some y ∷ rest) (suc i) s e l =
+      there s y (front_cluster (set rest i (Some s))) (cluster-set_end rest i s (omega arith) (omega arith))
 
   -- a write, seen from home on
   pub probe-set :
@@ -158,10 +152,10 @@ module _ {S : Type 0} where
       set-append_right (drop home slots) (take home slots) (length (drop home slots)) i v refl (omega (arith, length-drop home slots)) in
       cc
 
-  -- no run is longer than the count of filled slots
-  pub run_within : (slots : List (Option S)) (home : ℕ) → length (filled_run (probed slots home)) ≤ length (symbols slots)
-  run_within slots home =
-      let b = length-run (probed slots home) in
+  -- no cluster is longer than the count of filled slots
+  pub cluster_within : (slots : List (Option S)) (home : ℕ) → length (front_cluster (probed slots home)) ≤ length (symbols slots)
+  cluster_within slots home =
+      let b = length-cluster (probed slots home) in
       let c : length (symbols (probed slots home)) ≡ length (symbols (drop home slots)) + length (symbols (take home slots)) =
       ap length (symbols-append (drop home slots) (take home slots)) ∙ length-append (symbols (drop home slots)) (symbols (take home slots)) in
       let d : length (symbols (take home slots)) + length (symbols (drop home slots)) ≡ length (symbols slots) =

@@ -1,8 +1,8 @@
 -- Interning text after text into a list of their symbols.
 use Rattle.std.proofs.Common.{◌≡◌, ℕ, ◌+◌, ◌-◌, ◌≤◌, ◌<◌, zero, suc, List, [], ◌∷◌, ◌++◌, length, map, take, drop, set, get_or, refl, sym, ap, subst, ◌∙◌, arith, inl, inr, Option, Some, None, Ok, Err, Bor}
-use Rattle.std.specs.Prelude.{Result, Vec, IsOk, IfSome, option_and_then, vec_capacity}
+use Rattle.std.specs.Prelude.{◌^◌, Result, Vec, IsOk, IfSome, option_and_then, vec_capacity}
 use Rattle.std.specs.declared.alloc.Global.{Global}
-use Rattle.std.proofs.lemmas.List.{append_assoc, append-nil, get_or-drop, get_or-take, get_or_append_left, length-append, length-drop, length-take-le, map_push, map-append, take_more, take_more_set, take_all, length-set, get_or_default}
+use Rattle.std.proofs.lemmas.List.{append_assoc, append-nil, get_or-drop, get_or-take, get_or_append_left, length-append, length-drop, length-take-le, map_push, map-append, take_more, take_more_set, take_all, length-set, get_or_default, get_or-set_other}
 use Rattle.string_interner.specs.Text.{Text}
 use Rattle.string_interner.specs.SlotRule.{SlotRule, IsLoaded, GrowsFor, IsSlotRule}
 use Rattle.string_interner.specs.Interner.{InternerContents, InternsInto}
@@ -12,7 +12,8 @@ use Rattle.string_interner.specs.InternAll.{AppendsSymbols, InternsEach, Interns
 use Rattle.string_interner.proofs.Lemmas.Index.SlotRule.{grown-more, GrowsFor-joined}
 use Rattle.string_interner.proofs.Lemmas.Interner.Extends.{item-taken, interned-slots, stopped, taken-append, all-longer}
 use Rattle.string_interner.specs.declared.backend.InternError.{InternError}
-use Rattle.string_interner.specs.declared.interner.intern_slice.Ahead.{Ahead}
+use Rattle.string_interner.specs.declared.interner.look_ahead.Ahead.{Ahead}
+use Rattle.string_interner.specs.declared.interner.intern_slice.Stopped.{Stopped}
 use Rattle.string_interner.specs.Numbering.{Numbering}
 
 -- a list goes on with each of its items
@@ -21,26 +22,24 @@ split-at [] i within = absurd (omega arith)
 split-at (x ∷ xs) zero within = (x, xs, refl, λ d. refl)
 split-at (x ∷ xs) (suc i) within = let r = split-at xs i (omega arith) in (r.0, r.1, ap (λ l. x ∷ l) r.2, r.3)
 
--- items whose last ones wait in the front of a block go on with the item that fills it
+-- the numbers of symbols name each of them
+pub named-at : {X S : Type 0} (symbol_of : X → Option S) (numbers : List X) (list : List S) (at : ℕ) (d : X) → map symbol_of numbers ≡ map Some list → at < length numbers
+    → (s : S) × (symbol_of (get_or numbers at d) ≡ Some s) × (take (suc at) list ≡ take at list ++ s ∷ [])
+named-at symbol_of [] list at d are within = absurd (omega arith)
+named-at symbol_of (n ∷ ns) [] at d are within = absurd (cc)
+named-at symbol_of (n ∷ ns) (s ∷ list) zero d are within = (s, cc, refl)
+named-at symbol_of (n ∷ ns) (s ∷ list) (suc at) d are within = let r = named-at symbol_of ns list at d (cc) (omega arith) in (r.0, r.1, ap (λ l. s ∷ l) r.2)
+
+-- items whose last ones wait in the front of a block go on with one more
+pub waits-more : {X : Type 0} (items done block : List X) (len : ℕ) (x : X) → items ≡ done ++ take len block → len < length block → items ++ x ∷ [] ≡ done ++ take (len + 1) (set block len x)
+waits-more items done block len x is room = ap (λ xs. xs ++ x ∷ []) is ∙ append_assoc done (take len block) (x ∷ []) ∙ ap (λ xs. done ++ xs) (sym (take_more_set block len x room))
+
+-- the same where the item fills the block
 pub filled : {X : Type 0} (items done block : List X) (len : ℕ) (x : X) → items ≡ done ++ take len block → len + 1 ≡ length block → items ++ x ∷ [] ≡ done ++ set block len x
 filled items done block len x is full =
-    ap (λ xs. xs ++ x ∷ []) is ∙ append_assoc done (take len block) (x ∷ []) ∙ ap (λ xs. done ++ xs) (sym (take_more_set block len x (omega (arith, full))) ∙ take_all (len + 1) (set block len x) (omega (arith, full, length-set block len x)))
+    waits-more items done block len x is (omega (arith, full)) ∙ ap (λ xs. done ++ xs) (take_all (len + 1) (set block len x) (omega (arith, full, length-set block len x)))
 
 module _ {S : Type 0} (numbering : Numbering S) where
-  -- what is known of a text at the start is known of it later
-  pub known-at : (symbol_of : ℕ → Option S) (start now : List Text) → KeepsSymbols numbering start now → (texts : List (Bor Text)) (known : List (Option ℕ)) (at : ℕ) (d : Option ℕ) (found : Option S) (text : Bor Text)
-      → at < length texts → length known ≡ length texts → AreKnown symbol_of numbering start texts known → found ≡ option_and_then symbol_of (get_or known at d) → IfSome found (λ symbol. StandsFor numbering now symbol (get_or texts at text).now)
-  known-at symbol_of start now keeps texts known at d found text within count are is =
-      rw (is ∙ ap (option_and_then symbol_of) (get_or_default known at d None (omega (arith, count)))) (of (get_or known at None) (are at within text))
-    where
-      kept : (o : Option S) → IfSome o (λ symbol. StandsFor numbering start symbol (get_or texts at text).now) → IfSome o (λ symbol. StandsFor numbering now symbol (get_or texts at text).now)
-      kept None h = tt
-      kept (Some symbol) h = keeps symbol _ h
-
-      of : (k : Option ℕ) → IsKnown symbol_of numbering start (get_or texts at text).now k → IfSome (option_and_then symbol_of k) (λ symbol. StandsFor numbering now symbol (get_or texts at text).now)
-      of None h = tt
-      of (Some number) h = kept (symbol_of number) h
-
   -- what is known of a text is known of it later
   known-kept : (symbol_of : ℕ → Option S) (start now : List Text) → KeepsSymbols numbering start now → (text : Text) (known : Option ℕ) → IsKnown symbol_of numbering start text known → IsKnown symbol_of numbering now text known
   known-kept symbol_of start now keeps text None is = tt
@@ -51,23 +50,21 @@ module _ {S : Type 0} (numbering : Numbering S) where
       of (Some symbol) h = keeps symbol text h
 
   -- what was found ahead is known later
-  pub ahead-kept : (code : Text → ℕ) (symbol_of : ℕ → Option S) (was now : List Text) → KeepsSymbols numbering was now → (texts : List (Bor Text)) (at : ℕ) (ahead : Ahead) (codes : List ℕ) (known : List (Option ℕ))
-      → LooksAhead code symbol_of numbering was texts at ahead codes known → LooksAhead code symbol_of numbering now texts (at + 1) ahead codes known
-  ahead-kept code symbol_of was now keeps texts at ahead codes known is = record {
+  pub ahead-kept : (code : Text → ℕ) (symbol_of : ℕ → Option S) (was now : List Text) → KeepsSymbols numbering was now → (texts : List (Bor Text)) (at : ℕ) (ahead : Ahead)
+      → LooksAhead code symbol_of numbering was texts at ahead → LooksAhead code symbol_of numbering now texts (at + 1) ahead
+  ahead-kept code symbol_of was now keeps texts at ahead is = record {
     begun = let b = is.begun in omega (arith, b);
     within = is.within;
     few = is.few;
-    codes_count = is.codes_count;
-    known_count = is.known_count;
     codes_are = is.codes_are;
-    known_are = λ k above below text. known-kept symbol_of was now keeps (get_or texts k text).now (get_or known (k - ahead.start) None) (is.known_are k above below text);
+    known_are = λ k above below text. known-kept symbol_of was now keeps (get_or texts k text).now (get_or ahead.known (k - ahead.start) None) (is.known_are k above below text);
   }
 
-  -- after a block was looked for, whose codes and numbers were written to the front of two lists
+  -- after a block was looked up, whose codes and numbers were written to the front of two lists
   pub looks-ahead : (code : Text → ℕ) (symbol_of : ℕ → Option S) (entries : List Text) (texts : List (Bor Text)) (at end again : ℕ) (codes written : List ℕ) (known found : List (Option ℕ))
       → at ≤ end → end ≤ length texts → end ≤ at + 32 → length codes ≡ 32 → length known ≡ 32 → length written ≡ length (take (end - at) codes) → length found ≡ length (take (end - at) known)
       → AreCodes code (take (end - at) (drop at texts)) written → AreKnown symbol_of numbering entries (take (end - at) (drop at texts)) found
-      → LooksAhead code symbol_of numbering entries texts at (record { start = at; end = end; next = again }) (written ++ drop (end - at) codes) (found ++ drop (end - at) known)
+      → LooksAhead code symbol_of numbering entries texts at (record { start = at; end = end; next = again; codes = written ++ drop (end - at) codes; known = found ++ drop (end - at) known })
   looks-ahead code symbol_of entries texts at end again codes written known found ordered within few codes_count known_count written_count found_count are_codes are_known =
       let len = end - at in
       let codes_taken : length written ≡ len = written_count ∙ length-take-le len codes (omega (arith, few, codes_count)) in
@@ -79,8 +76,6 @@ module _ {S : Type 0} (numbering : Numbering S) where
         begun = omega arith;
         within = within;
         few = few;
-        codes_count = length-append written (drop len codes) ∙ omega (arith, codes_taken, length-drop len codes, codes_count, few);
-        known_count = length-append found (drop len known) ∙ omega (arith, known_taken, length-drop len known, known_count, few);
         codes_are = λ k above below text. get_or_append_left written (drop len codes) 0 (k - at) (omega (arith, above, below, codes_taken))
             ∙ are_codes (k - at) (omega (arith, above, below, block_len)) text ∙ ap (λ (b : Bor Text). code b.now) (same k above below text);
         known_are = λ k above below text. subst (λ (o : Option ℕ). IsKnown symbol_of numbering entries (get_or texts k text).now o) (sym (get_or_append_left found (drop len known) None (k - at) (omega (arith, above, below, known_taken))))
@@ -150,13 +145,6 @@ module _ {S : Type 0} (numbering : Numbering S) where
       (item, y, inl (stopped numbering rule laws old mid new (texts_of items) item.now error before.taken call before.grown)),
     )
 
-    -- where an item of a list is refused
-    pub refused-at : (xs : List (Bor Text)) (i : ℕ) (d : Bor Text) (old mid new : InternerContents) (was is : Vec S Global) (longer : List S) (error : InternError) (outcome : Result (Unit {0}) InternError)
-        → i < length xs → outcome ≡ Err error → AppendsSymbols numbering rule old was.items (texts_of (take i xs)) mid longer → InternsInto numbering rule mid (get_or xs i d).now (Err error) new
-        → is.items ≡ longer → InternsEach numbering rule (Lists xs) (old, was) outcome (new, is)
-    refused-at xs i d old mid new was is longer error outcome within e before call same = let s = split-at xs i within in
-        each-refused (Lists xs) (take i xs) s.0 old mid new was is longer error outcome (s.1, s.2) e before (subst (λ (b : Bor Text). InternsInto numbering rule mid b.now (Err error) new) (s.3 d) call) same
-
     -- where the list is full
     pub each-full : (yields : List (Bor Text) → Option (Bor Text) → Type 0) (items : List (Bor Text)) (item : Bor Text) (old mid : InternerContents) (was is : Vec S Global) (longer : List S) (now : ℕ) (error : InternError) (outcome : Result (Unit {0}) InternError)
         → yields items (Some item) → outcome ≡ Err error → IsMemory error → AppendsSymbols numbering rule old was.items (texts_of items) mid longer → is.items ≡ longer → vec_capacity was ≤ now → now < length longer + 1
@@ -224,33 +212,67 @@ module _ {S : Type 0} (numbering : Numbering S) where
     block-stopped yields done block old mid new was had is error outcome e stops less before each = rw e (block-last yields done block old mid new was had is (Err error) (λ ok. absurd (cc)) stops less before each)
 
     -- before the first text of a slice
-    pub front-none : (old : InternerContents) (texts : List (Bor Text)) (numbers : List ℕ) → IsLoaded rule old.slot_count (length old.texts) → InternsFront numbering rule old texts 0 old numbers
-    front-none old texts numbers loaded = record { within = omega arith; symbols = []; appends = each-none old [] loaded; numbers_are = refl }
+    pub front-none : (old : InternerContents) (texts : List (Bor Text)) (numbers : List ℕ) → IsLoaded rule old.slot_count (length old.texts) → InternsFront numbering rule old numbers texts 0 old numbers
+    front-none old texts numbers loaded = record { within = omega arith; symbols = []; appends = each-none old [] loaded; numbers_are = refl; count = refl; rest = λ k above. refl }
 
     -- after one more text of a slice
-    pub front-more : (old : InternerContents) (texts : List (Bor Text)) (at : ℕ) (d : Bor Text) (mid new : InternerContents) (numbers : List ℕ) (symbol : S) (number : ℕ) → at < length texts → at < length numbers
+    pub front-more : (old : InternerContents) (before : List ℕ) (texts : List (Bor Text)) (at : ℕ) (d : Bor Text) (mid new : InternerContents) (numbers : List ℕ) (symbol : S) (number : ℕ) → at < length texts → at < length numbers
         → IsLoaded rule mid.slot_count (length mid.texts) → IsLoaded rule new.slot_count (length new.texts) → number ≡ numbering.number symbol
-        → InternsFront numbering rule old texts at mid numbers → InternsInto numbering rule mid (get_or texts at d).now (Ok symbol) new → InternsFront numbering rule old texts (at + 1) new (set numbers at number)
-    front-more old texts at d mid new numbers symbol number within room was_loaded loaded is before call = record {
+        → InternsFront numbering rule old before texts at mid numbers → InternsInto numbering rule mid (get_or texts at d).now (Ok symbol) new → InternsFront numbering rule old before texts (at + 1) new (set numbers at number)
+    front-more old before texts at d mid new numbers symbol number within room was_loaded loaded is front call = record {
       within = omega (arith, within);
-      symbols = before.symbols ++ symbol ∷ [];
-      appends = each-at old [] texts at d mid new before.symbols (before.symbols ++ symbol ∷ []) symbol within was_loaded loaded before.appends call refl;
-      numbers_are = take_more_set numbers at number room ∙ ap (λ xs. xs ++ number ∷ []) before.numbers_are ∙ ap (λ n. map numbering.number before.symbols ++ n ∷ []) is ∙ sym (map_push numbering.number before.symbols symbol);
+      symbols = front.symbols ++ symbol ∷ [];
+      appends = each-at old [] texts at d mid new front.symbols (front.symbols ++ symbol ∷ []) symbol within was_loaded loaded front.appends call refl;
+      numbers_are = take_more_set numbers at number room ∙ ap (λ xs. xs ++ number ∷ []) front.numbers_are ∙ ap (λ n. map numbering.number front.symbols ++ n ∷ []) is ∙ sym (map_push numbering.number front.symbols symbol);
+      count = length-set numbers at number ∙ front.count;
+      rest = λ k above. get_or-set_other numbers at k number 0 (λ same. absurd (omega (arith, above, same))) ∙ front.rest k (omega (arith, above));
     }
 
     -- where a text of a slice is refused
-    pub slice-stopped : (texts : List (Bor Text)) (at done : ℕ) (d : Bor Text) (old mid new : InternerContents) (before numbers : List ℕ) (error : InternError) (outcome : Result (Unit {0}) InternError)
-        → done ≡ at → at < length texts → outcome ≡ Err error → InternsFront numbering rule old texts at mid numbers → length numbers ≡ length before
-        → ((k : ℕ) → at ≤ k → get_or numbers k 0 ≡ get_or before k 0) → InternsInto numbering rule mid (get_or texts at d).now (Err error) new → InternsSlice numbering rule texts (old, before) outcome (new, numbers, done)
-    slice-stopped texts at done d old mid new before numbers error outcome is within e front count rest call = let s = split-at texts at within in rw (e, is) (
+    pub slice-stopped : (texts : List (Bor Text)) (at : ℕ) (d : Bor Text) (old mid new : InternerContents) (before numbers : List ℕ) (error : InternError) (outcome : Result (Unit {0}) Stopped)
+        → at < length texts → outcome ≡ Err (record { done = at; error = error }) → InternsFront numbering rule old before texts at mid numbers
+        → InternsInto numbering rule mid (get_or texts at d).now (Err error) new → InternsSlice numbering rule texts (old, before) outcome (new, numbers)
+    slice-stopped texts at d old mid new before numbers error outcome within e front call = let s = split-at texts at within in rw e (
       mid,
       front,
-      count,
-      rest,
-      (
-        s.0,
-        s.1,
-        s.2,
-        stopped numbering rule laws old mid new (texts_of (take at texts)) s.0.now error front.appends.taken (subst (λ (b : Bor Text). InternsInto numbering rule mid b.now (Err error) new) (s.3 d) call) front.appends.grown,
-      ),
+      s.0,
+      s.1,
+      s.2,
+      stopped numbering rule laws old mid new (texts_of (take at texts)) s.0.now error front.appends.taken (subst (λ (b : Bor Text). InternsInto numbering rule mid b.now (Err error) new) (s.3 d) call) front.appends.grown,
     )
+
+    -- symbols are appended to a list as to an empty one
+    front-appends : (old mid : InternerContents) (texts : List Text) (was is added : List S) → AppendsSymbols numbering rule old [] texts mid added → is ≡ was ++ added → AppendsSymbols numbering rule old was texts mid is
+    front-appends old mid texts was is added appends e =
+        record { taken = appends.taken; grown = appends.grown; added = appends.added; stand = appends.stand; appended = e ∙ ap (λ xs. was ++ xs) appends.appended }
+
+    -- where the symbols of a slice were appended to a list
+    pub slice-done : (texts : List (Bor Text)) (old new : InternerContents) (before numbers : List ℕ) (was is : Vec S Global) (outcome : Result (Unit {0}) InternError) (front : InternsFront numbering rule old before texts (length texts) new numbers)
+        → outcome ≡ Ok tt → is.items ≡ was.items ++ front.symbols → InternsEach numbering rule (Lists texts) (old, was) outcome (new, is)
+    slice-done texts old new before numbers was is outcome front ok e = rw ok (
+      texts,
+      new,
+      subst (λ ts. AppendsSymbols numbering rule old was.items (texts_of ts) new is.items) (take_all (length texts) texts (omega arith)) (front-appends old new (texts_of (take (length texts) texts)) was.items is.items front.symbols front.appends e),
+      (refl, refl),
+    )
+
+    -- and where one of its texts failed
+    pub slice-failed : (texts : List (Bor Text)) (old new : InternerContents) (before numbers : List ℕ) (was is : Vec S Global) (stopped : Stopped) (outcome : Result (Unit {0}) InternError)
+        (slice : InternsSlice numbering rule texts (old, before) (Err stopped) (new, numbers)) → outcome ≡ Err stopped.error → is.items ≡ was.items ++ slice.1.symbols
+        → InternsEach numbering rule (Lists texts) (old, was) outcome (new, is)
+    slice-failed texts old new before numbers was is stopped outcome slice e longer = rw e (
+      take stopped.done texts,
+      slice.0,
+      front-appends old slice.0 (texts_of (take stopped.done texts)) was.items is.items slice.1.symbols slice.1.appends longer,
+      (slice.2, (slice.3, slice.4), inl slice.5),
+    )
+
+    -- the numbers of a slice name the symbols of its texts
+    pub front-named : ((i : ℕ) (s : S) → numbering.symbol_of i ≡ Some s → (numbering.number s ≡ i) × (i < 2 ^ 64)) → (texts : List (Bor Text)) (old mid : InternerContents) (before numbers : List ℕ) (done : ℕ)
+        (front : InternsFront numbering rule old before texts done mid numbers) → map numbering.symbol_of (take done numbers) ≡ map Some front.symbols
+    front-named numbered texts old mid before numbers done front = ap (map numbering.symbol_of) (front.numbers_are ∙ ap (map numbering.number) front.appends.appended) ∙ of front.appends.added _ front.appends.stand ∙ ap (map Some) (sym front.appends.appended)
+      where
+        of : (symbols : List S) (ts : List Text) → StandInOrder numbering mid.texts symbols ts → map numbering.symbol_of (map numbering.number symbols) ≡ map Some symbols
+        of _ _ none = refl
+        of _ _ (next {symbol = s} {symbols = symbols} {rest = rest} first more) =
+            ap (λ o. o ∷ map numbering.symbol_of (map numbering.number symbols)) (ap numbering.symbol_of (numbered _ s first.symbol_is).0 ∙ first.symbol_is) ∙ ap (λ os. Some s ∷ os) (of symbols rest more)

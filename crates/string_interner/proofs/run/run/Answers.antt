@@ -10,15 +10,17 @@ loop-command-preserved g c = record {
   ran = Run-step g.B.Backend.numbering _ _ _ _ _ _ _ _ _ _ c.loop-command-test.true c.loop-command.invariant.ran c.deref.ensures.value c.step-reply.ensures.step (search rules);
   count = search rules;
   room = search rules;
-  stays = λ none.
-      let before = c.loop-command.invariant.stays none in
-      let after = c.step-reply.ensures.stays (none c.loop-command.command-index _ c.loop-command-test.true) in
-      (after.0 ∙ before.0, after.1 ∙ before.1);
-  known = λ all.
-      let before = c.loop-command.invariant.known all in
-      let this = all c.loop-command.command-index _ c.loop-command-test.true in
-      let after = c.step-reply.ensures.known (rw before.0 this) in
-      (after.0 ∙ before.0, after.1.0 ∙ before.1, after.1.1 ∙ before.2);
+  quiet = record {
+    none = λ none.
+        let before = c.loop-command.invariant.quiet.none none in
+        let after = c.step-reply.ensures.stays (none c.loop-command.command-index _ c.loop-command-test.true) in
+        (after.0 ∙ before.0, after.1 ∙ before.1);
+    known = λ all.
+        let before = c.loop-command.invariant.quiet.known all in
+        let this = all c.loop-command.command-index _ c.loop-command-test.true in
+        let after = c.step-reply.ensures.known (rw before.0 this) in
+        (after.0 ∙ before.0, (after.1.0 ∙ before.1.0, after.1.1 ∙ before.1.1));
+  };
 }
 
 pub returns-clause-as_a_list : goal.returns-clause-as_a_list

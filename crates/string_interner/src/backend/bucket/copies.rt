@@ -2,7 +2,7 @@
 
 ghost use Rattle.std.specs.Prelude.{◌≡◌, ◌+◌, ◌^◌, ◌<◌, ◌≤◌, ◌↔◌, length, map, sum_by, All, IsSome, IfOk, IfSome, OnOk};
 ghost use Rattle.std.specs.Str.{IsUtf8};
-ghost use Rattle.string_interner.specs.BucketBackend.{buckets_of, byte_count, interned_text, interned_len, IsPart, IsEntry, IsRun, after_run, PushesCopy, AreCopies};
+ghost use Rattle.string_interner.specs.BucketBackend.{buckets_of, byte_count, interned_text, interned_len, IsPart, IsEntry, IsPiece, after_piece, PushesCopy, AreCopies};
 
 use crate::backend::bucket::buckets::{bucket_text, interned_text};
 use crate::backend::bucket::entries::Entries;
@@ -26,33 +26,34 @@ pub fn joint_capacity(full: &[FullBucket], head: &FixedString) -> Option<usize>
 
 /// A byte range of a bucket: adjacent texts that are still to be copied.
 #[derive(Clone, Copy)]
-struct Run {
+struct Piece {
     bucket: u8,
     span: Span,
 }
 
-/// Appends the texts of a run to `bucket`.
-fn copy_run(
-    run: Run,
+/// Appends the texts of a piece to `bucket`.
+fn copy_piece(
+    piece: Piece,
     full: &[FullBucket],
     head: &FixedString,
     bucket: &mut FixedString,
 ) -> Result<(), AllocError>
-    requires run { IsRun (buckets_of full.now head.now) run }
-    requires room { length (after_run (buckets_of full.now head.now) run bucket.old).bytes
+    requires piece { IsPiece (buckets_of full.now head.now) piece }
+    requires room { length (after_piece (buckets_of full.now head.now) piece bucket.old).bytes
         ≤ bucket.old.capacity }
-    ensures { OnOk result (bucket.new ≡ after_run (buckets_of full.now head.now) run bucket.old) }
+    ensures { OnOk result (bucket.new
+        ≡ after_piece (buckets_of full.now head.now) piece bucket.old) }
 {
     let whole = InternedStr::InBucket {
-        bucket: run.bucket,
-        span: run.span,
+        bucket: piece.bucket,
+        span: piece.span,
     };
     let text = interned_text(full, head, whole);
     let _ = bucket.push_str(text)?;
     Ok(())
 }
 
-/// Makes the run end where this text begins. If it ends elsewhere, copies it to `bucket`, and begins an empty one there.
+/// Makes the piece end where this text begins. If it ends elsewhere, copies it to `bucket`, and begins an empty one there.
 #[inline]
 fn lead_to(
     number: u8,
@@ -60,20 +61,20 @@ fn lead_to(
     full: &[FullBucket],
     head: &FixedString,
     bucket: &mut FixedString,
-    run: &mut Run,
+    piece: &mut Piece,
 ) -> Result<(), AllocError>
     requires there { IsPart (buckets_of full.now head.now) number from from }
-    requires run { IsRun (buckets_of full.now head.now) run.old }
-    requires room { length (after_run (buckets_of full.now head.now) run.old bucket.old).bytes
+    requires piece { IsPiece (buckets_of full.now head.now) piece.old }
+    requires room { length (after_piece (buckets_of full.now head.now) piece.old bucket.old).bytes
         ≤ bucket.old.capacity }
-    ensures same { OnOk result (after_run (buckets_of full.now head.now) run.new bucket.new
-        ≡ after_run (buckets_of full.now head.now) run.old bucket.old) }
-    ensures run { OnOk result (IsRun (buckets_of full.now head.now) run.new) }
-    ensures ends { OnOk result ((run.new.bucket ≡ number) × (run.new.span.to ≡ from)) }
+    ensures same { OnOk result (after_piece (buckets_of full.now head.now) piece.new bucket.new
+        ≡ after_piece (buckets_of full.now head.now) piece.old bucket.old) }
+    ensures piece { OnOk result (IsPiece (buckets_of full.now head.now) piece.new) }
+    ensures ends { OnOk result ((piece.new.bucket ≡ number) × (piece.new.span.to ≡ from)) }
 {
-    if run.bucket != number || run.span.to != from {
-        copy_run(*run, full, head, bucket)?;
-        *run = Run {
+    if piece.bucket != number || piece.span.to != from {
+        copy_piece(*piece, full, head, bucket)?;
+        *piece = Piece {
             bucket: number,
             span: Span { from, to: from },
         };
@@ -81,8 +82,8 @@ fn lead_to(
     Ok(())
 }
 
-/// Pushes the copy of an entry. A text in a bucket joins the run, so it comes next in `bucket`. A static text stays a
-/// reference.
+/// Pushes the copy of an entry. A text in a bucket joins the piece, so it comes next in `bucket`. A static text stays
+/// a reference.
 #[inline]
 fn push_copy(
     copies: &mut Entries,
@@ -90,17 +91,17 @@ fn push_copy(
     full: &[FullBucket],
     head: &FixedString,
     bucket: &mut FixedString,
-    run: &mut Run,
+    piece: &mut Piece,
 ) -> Result<(), AllocError>
     requires entry { IsEntry (buckets_of full.now head.now) interned }
-    requires run { IsRun (buckets_of full.now head.now) run.old }
-    requires room { length (after_run (buckets_of full.now head.now) run.old bucket.old).bytes
+    requires piece { IsPiece (buckets_of full.now head.now) piece.old }
+    requires room { length (after_piece (buckets_of full.now head.now) piece.old bucket.old).bytes
         + interned_len interned ≤ bucket.old.capacity }
     ensures pushes { OnOk result (PushesCopy (buckets_of full.now head.now) interned
-        (after_run (buckets_of full.now head.now) run.old bucket.old)
-        (after_run (buckets_of full.now head.now) run.new bucket.new)
+        (after_piece (buckets_of full.now head.now) piece.old bucket.old)
+        (after_piece (buckets_of full.now head.now) piece.new bucket.new)
         copies.old.items copies.new.items) }
-    ensures run { OnOk result (IsRun (buckets_of full.now head.now) run.new) }
+    ensures piece { OnOk result (IsPiece (buckets_of full.now head.now) piece.new) }
 {
     let InternedStr::InBucket {
         bucket: number,
@@ -110,12 +111,12 @@ fn push_copy(
         copies.push(interned)?;
         return Ok(());
     };
-    lead_to(number, span.from, full, head, bucket, run)?;
+    lead_to(number, span.from, full, head, bucket, piece)?;
     // For the proof: states that the capacity is a `usize`.
     let _ = bucket.capacity();
-    let from = bucket.len() + (run.span.to - run.span.from);
+    let from = bucket.len() + (piece.span.to - piece.span.from);
     let to = from + (span.to - span.from);
-    run.span.to = span.to;
+    piece.span.to = span.to;
     let span = Span { from, to };
     copies.push(InternedStr::InBucket { bucket: 0, span })?;
     Ok(())
@@ -144,11 +145,11 @@ pub fn copies_of(
     // For the proof: states that the first bucket is a text, so that one can begin at its first byte.
     let _ = bucket_text(full, head, 0);
     let span = Span { from: 0, to: 0 };
-    let mut run = Run { bucket: 0, span };
+    let mut piece = Piece { bucket: 0, span };
     for index in 0..entries.len() {
         let interned = entries.get(index);
-        push_copy(&mut copies, interned, full, head, &mut bucket, &mut run)?;
+        push_copy(&mut copies, interned, full, head, &mut bucket, &mut piece)?;
     }
-    copy_run(run, full, head, &mut bucket)?;
+    copy_piece(piece, full, head, &mut bucket)?;
     Ok((copies, bucket))
 }

@@ -1,6 +1,6 @@
 //! Where the texts of all entries are stored, in 16 bytes each.
 
-ghost use Rattle.std.specs.Prelude.{◌≡◌, ◌↔◌, ℕ, ◌+◌, ◌^◌, ◌<◌, ◌≤◌, List, [], ◌∷◌, ◌++◌, length, take, slice_index_or, true, false, IsOk, IsSome, IfOk, IfSome, OnOk, OnErr};
+ghost use Rattle.std.specs.Prelude.{◌≡◌, ◌↔◌, ◌+◌, ◌^◌, ◌<◌, ◌≤◌, List, [], ◌∷◌, ◌++◌, length, take, slice_index_or, true, false, IsOk, IsSome, IfOk, IfSome, OnOk, OnErr};
 ghost use Rattle.string_interner.specs.BucketEntries.{long_count, HasSpan, Packs};
 ghost use Rattle.string_interner.specs.declared.backend.bucket.interned_str.InternedStr.{InternedStr};
 
@@ -17,7 +17,7 @@ const LONG: usize = 1 << 32;
 
 /// A packed entry. The fields of each kind lie around its tag, so that it takes 16 bytes.
 #[derive(Drop)]
-pub enum Packed {
+enum Packed {
     /// A long text: the index of its entry among the long ones.
     Long(usize),
     /// A static text: its length, and where it lies.

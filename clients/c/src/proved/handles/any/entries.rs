@@ -1,7 +1,6 @@
 //! All texts, a list of some of them at a time.
 
 //~ ghost use Rattle.std.specs.Prelude.{◌≡◌, ◌+◌, ◌<◌, ◌^◌};
-//~ ghost use Rattle.string_interner.specs.Spelling.{digits};
 //~ ghost use Rattle.handles.specs.Any.{any_of};
 //~ ghost use Rattle.handles.specs.Entries.{IsEntryAt, ListsFrom, step_of};
 //~ ghost use Rattle.handles.specs.Kind.{numbering_in};
@@ -10,21 +9,8 @@
 use crate::rt::prelude::*; use super::{AnyInterner, HashedInterner, resolve_in};
 use crate::handles::kind::Kind;
 use crate::handles::text::{Cursor, Entry, Text};
-use crate::proved::backend::{Backend, StringBackend};
+use crate::proved::backend::{Backend, BufferBackend, StringBackend};
 use crate::proved::symbol::SymbolU32;
-
-/// Returns how many digits a length has in front of a text of the kind `Buffer`.
-#[inline(always)]
-fn digit_count(mut number: usize) -> usize
-    //~ ensures { result ≡ digits number }
-{
-    let mut count = 1;
-    while number >= 128 {
-        number /= 128;
-        count += 1;
-    }
-    count
-}
 
 /// Returns the place behind an entry whose text has this length, in an interner of this kind, if it fits a `usize`.
 #[inline(always)]
@@ -32,7 +18,10 @@ fn place_after(kind: Kind, place: usize, len: usize) -> usize
     //~ ensures { place + step_of kind len < 2 ^ 64 → result ≡ place + step_of kind len }
 {
     match kind {
-        Kind::Buffer => place.saturating_add(digit_count(len)).saturating_add(len),
+        Kind::Buffer => {
+            let step = BufferBackend::<SymbolU32>::entry_len(len).unwrap_or(usize::MAX);
+            place.saturating_add(step)
+        }
         _ => place.saturating_add(1),
     }
 }

@@ -1,18 +1,18 @@
 //! The file `dict.txt`: distinct lines, of which each ends in a newline.
 
-//~ ghost use Rattle.std.specs.Prelude.{◌≡◌, ◌+◌, ◌<◌, List, [], ◌∷◌, ◌++◌, ℕ, length, IfOk, IfErr, IfSome, MatchOption, OnOk, vec_len, vec_capacity};
+//~ ghost use Rattle.std.specs.Prelude.{◌≡◌, ◌+◌, List, [], ℕ, IfOk, IfErr, IfSome, MatchOption, OnOk};
 //~ ghost use Rattle.std.specs.Io.KnownBytes.{Appends};
 //~ ghost use Rattle.string_interner.specs.Text.{Text, IsDistinct};
 //~ ghost use Rattle.string_column.specs.Parts.{IsRepeat};
-//~ ghost use Rattle.dictcol.specs.Fault.{IsOutputFault, WritesLast};
 //~ ghost use Rattle.dictcol.specs.Lines.{text_of_ended};
 //~ ghost use Rattle.dictcol.specs.TooMany.{LacksLine};
 //~ ghost use Rattle.dictcol.specs.Plain.{line_bounds, IsBoundsFault, IsDictionary, IsDictionaryFault, IsLinesFile};
 
-use crate::rt::prelude::*; use super::read_lines;
-use crate::dictcol::blocks::check_utf8;
+use crate::rt::prelude::*; use crate::dictcol::block_writer::BlockWriter;
 use crate::dictcol::fault::Fault;
 use crate::dictcol::hasher::LineHasher;
+use crate::dictcol::input::blocks::check_utf8;
+use crate::dictcol::lines::read_lines;
 use crate::memchr::memchr;
 use crate::rt::alloc::Global;
 use crate::rt::io;
@@ -22,75 +22,23 @@ use crate::proved::StringInterner;
 use crate::proved::backend::Backend;
 use crate::proved::dedup::TaggedIndex;
 
-/// How many bytes are written at once.
-const BLOCK: usize = 1 << 16;
-
-/// Appends a line and a newline to a block, which has room for them.
-#[inline(always)]
-fn put_line(block: &mut Vec<u8>, line: &str)
-    //~ requires { vec_len block.old + length line.now < vec_capacity block.old }
-    //~ ensures { block.new.items ≡ block.old.items ++ (line.now ++ 10 ∷ []) }
-{
-    let Ok(()) = block.extend_from_slice(line.as_bytes()) else {
-        unreachable!()
-    };
-    block.push_reserved(b'\n');
-}
-
-/// Writes a block, which then has the line and its newline. These are written, too, if they are longer than a block.
-#[cold]
-#[inline(never)]
-fn write_block<W: Write>(output: &mut W, block: &mut Vec<u8>, line: &str) -> io::Result<()>
-    //~ ensures { OnOk result ((text : Text)
-    //~     × (text ++ block.new.items ≡ block.old.items ++ (line.now ++ 10 ∷ []))
-    //~     × Appends (W.contents output.old) (W.contents output.new) text) }
-{
-    output.write_all(block)?;
-    block.clear();
-    if line.len() < block.capacity() {
-        put_line(block, line);
-        return Ok(());
-    }
-    output.write_all(line.as_bytes())?;
-    output.write_all(b"\n")
-}
-
-/// Writes each text, and a newline, through an empty block.
-fn write_lines<B: Backend, W: Write>(
+/// Writes a file of texts of one line each through an empty block: each text, and a newline.
+pub fn write_file<B: Backend, W: Write>(
+    block: &mut BlockWriter,
     output: &mut W,
-    block: &mut Vec<u8>,
     texts: &StringInterner<B, LineHasher, TaggedIndex<B::Symbol>>,
 ) -> io::Result<()>
-    //~ requires { block.old.items ≡ [] }
-    //~ ensures { OnOk result (Appends (W.contents output.old) (W.contents output.new)
-    //~     (text_of_ended texts.now.texts [])) }
-{
-    for (_, text) in texts {
-        if text.len() < block.capacity() - block.len() {
-            put_line(block, text);
-        } else {
-            write_block(output, block, text)?;
-        }
-    }
-    output.write_all(block)
-}
-
-/// Writes a file of texts of one line each: each text, and a newline.
-pub fn write_file<B: Backend, W: Write>(
-    alloc: Global,
-    output: &mut W,
-    texts: &StringInterner<B, LineHasher, TaggedIndex<B::Symbol>>,
-) -> Result<(), Fault>
+    //~ requires { block.old ≡ [] }
     //~ ensures written { OnOk result (Appends (W.contents output.old) (W.contents output.new)
     //~     (text_of_ended texts.now.texts [])) }
-    //~ ensures silent { WritesLast result output.old output.new }
-    //~ ensures fault { IfErr result IsOutputFault }
+    //~ ensures empty { OnOk result (block.new ≡ []) }
 {
-    let Ok(mut block) = Vec::with_capacity(alloc, BLOCK) else {
-        return Err(Fault::Memory);
-    };
-    write_lines(output, &mut block, texts).map_err(Fault::of_write)?;
-    output.flush().map_err(Fault::of_write)
+    for (_, text) in texts {
+        block.append(output, text.as_bytes())?;
+        block.put(b"\n");
+    }
+    block.write(output)?;
+    output.flush()
 }
 
 /// Returns the number (1-based) of the first line that equals an earlier one. Returns `None` if all lines are distinct.

@@ -4,10 +4,10 @@
 //! its run, and who finds it in its place after opening the others has files of one run.
 
 use crate::rt::prelude::*; use super::{Plain, npy, pair};
-use crate::dictcol::arguments::Onto;
-use crate::dictcol::blocks::count_byte;
 use crate::dictcol::fault::Fault;
 use crate::dictcol::hasher::LineHasher;
+use crate::dictcol::input::blocks::count_byte;
+use crate::dictcol::request::Onto;
 use crate::dictcol::unfinished::{Unfinished, busy, is_same, store, store_folder, store_parent};
 use crate::rt::alloc::Global;
 use crate::rt::fs::File;

@@ -1,15 +1,13 @@
 //! The file `codes.npy`: an array of numbers of four bytes in NumPy's format 1.0.
 
-//~ ghost use Rattle.std.specs.Prelude.{◌≡◌, ℕ, ◌*◌, ◌^◌, ◌<◌, ◌≤◌, ◌++◌, List, All, length, take, IfOk, IfErr, OnOk};
-//~ ghost use Rattle.std.specs.Io.KnownBytes.{Appends};
+//~ ghost use Rattle.std.specs.Prelude.{◌≡◌, ℕ, ◌*◌, ◌^◌, ◌<◌, [], ◌++◌, List, All, length, IfOk, IfErr, OnOk};
 //~ ghost use Rattle.std.specs.List.{flat_map};
-//~ ghost use Rattle.dictcol.specs.Fault.{IsArrayDamage, IsWriteFault};
-//~ ghost use Rattle.string_interner.specs.Text.{Text};
+//~ ghost use Rattle.dictcol.specs.Fault.{IsArrayDamage};
 //~ ghost use Rattle.dictcol.specs.Plain.{code_bytes, npy_header, AreNumbers, IsArrayFault, IsNotALine, IsNpy, IsNumbersFault};
 //~ ghost use Rattle.dictcol.specs.Writes.{Writes};
 
-use crate::rt::prelude::*; use crate::dictcol::fault::Fault;
-use crate::dictcol::file::write;
+use crate::rt::prelude::*; use crate::dictcol::block_writer::BlockWriter;
+use crate::dictcol::fault::Fault;
 use crate::itoa::Buffer;
 use crate::memchr::memmem;
 use crate::rt::alloc::{AllocError, Global};
@@ -18,9 +16,6 @@ use crate::rt::io::Write;
 
 /// How many bytes stand before the numbers.
 pub const HEADER: usize = 128;
-
-/// How many numbers are written at once.
-const BLOCK: usize = 1 << 12;
 
 /// Returns what stands before so many numbers.
 pub fn format_header(alloc: Global, count: usize) -> Result<Vec<u8>, AllocError>
@@ -37,45 +32,24 @@ pub fn format_header(alloc: Global, count: usize) -> Result<Vec<u8>, AllocError>
     Ok(header)
 }
 
-/// Puts the bytes of numbers to the front of a block.
-fn put_numbers(block: &mut [[u8; 4]], numbers: &[u32])
-    //~ requires { length numbers.now ≤ length block.old }
-    //~ ensures len { length block.new ≡ length block.old }
-    //~ ensures front { flat_map (λ bytes. bytes) (take (length numbers.now) block.new)
-    //~     ≡ flat_map code_bytes numbers.now }
-{
-    for index in 0..numbers.len() {
-        block[index] = numbers[index].to_le_bytes();
-    }
-}
-
-/// Writes numbers.
-fn write_numbers<W: Write>(output: &mut W, numbers: &[u32]) -> io::Result<()>
-    //~ ensures { OnOk result (Appends (W.contents output.old) (W.contents output.new)
-    //~     (flat_map code_bytes numbers.now)) }
-{
-    let mut block = [[0; 4]; BLOCK];
-    let mut rest = numbers;
-    'numbers: while !rest.is_empty() {
-        let count = rest.len().min(BLOCK);
-        let (front, behind) = rest.split_at(count);
-        put_numbers(&mut block, front);
-        output.write_all(block[..count].as_flattened())?;
-        rest = behind;
-    }
-    Ok(())
-}
-
-/// Writes a file of numbers: its header, and the numbers.
-pub fn write_file<W: Write>(output: &mut W, header: &[u8], numbers: &[u32]) -> Result<(), Fault>
-    //~ requires { header.now ≡ npy_header (length numbers.now) }
-    //~ ensures written { OnOk result
+/// Writes a file of numbers through an empty block: its header, and the numbers.
+pub fn write_file<W: Write>(
+    block: &mut BlockWriter,
+    output: &mut W,
+    header: &[u8],
+    numbers: &[u32],
+) -> io::Result<()>
+    //~ requires empty { block.old ≡ [] }
+    //~ requires header { header.now ≡ npy_header (length numbers.now) }
+    //~ ensures { OnOk result
     //~     (Writes (IsNpy numbers.now) (W.contents output.old) (W.contents output.new)) }
-    //~ ensures fault { IfErr result IsWriteFault }
 {
-    write(output, header)?;
-    write_numbers(output, numbers).map_err(Fault::of_write)?;
-    output.flush().map_err(Fault::of_write)
+    block.append(output, header)?;
+    for number in numbers {
+        block.append(output, &number.to_le_bytes())?;
+    }
+    block.write(output)?;
+    output.flush()
 }
 
 /// Returns what is wrong with a header.

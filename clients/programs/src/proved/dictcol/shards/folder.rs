@@ -4,13 +4,11 @@
 //~ ghost use Rattle.dictcol.specs.Shards.{IsWritten};
 
 use crate::rt::prelude::*; use super::{Shard, Shards};
-use crate::dictcol::arguments::{Parts, Reading, Source};
 use crate::dictcol::fault::Fault;
-use crate::dictcol::inputs::{Inputs, report_progress};
-use crate::dictcol::mend::Mended;
+use crate::dictcol::input::zero::Exchanged;
+use crate::dictcol::job::Job;
+use crate::dictcol::request::{Reading, ShardFolder, Source};
 use crate::dictcol::unfinished::{Unfinished, store};
-use crate::dictcol::zero::Exchanged;
-use crate::dictcol::{tell_skipped, warn_of_encoded};
 use crate::rt::fs::File;
 use crate::rt::io::ErrorKind;
 use crate::rt::{fs, io};
@@ -34,15 +32,15 @@ fn create(rt: &HostRuntime, path: &str, is_exchanged: bool) -> Result<Shard<Exch
 /// Creates the files of the shards.
 fn create_files(
     rt: &HostRuntime,
-    parts: Parts<'_>,
+    place: ShardFolder<'_>,
     is_exchanged: bool,
 ) -> Result<Vec<Shard<Exchanged<File>>>, Fault>
     //~ ensures some { IfOk result (λ shards. 0 < length shards.items) }
     //~ ensures written { IfOk result (λ shards. All IsWritten shards.items) }
 {
-    let (alloc, folder) = (rt.alloc(), parts.folder);
+    let (alloc, folder) = (rt.alloc(), place.folder);
     let mut shards = Vec::new(alloc);
-    for number in 0..parts.count.get() {
+    for number in 0..place.count.get() {
         let path = crate::rt::format!(in alloc; "{folder}/{number}").map_err(|_| Fault::Memory)?;
         let shard = create(rt, path.as_str(), is_exchanged)?;
         shards.push(shard).map_err(|_| Fault::Memory)?;
@@ -59,32 +57,19 @@ fn store_files(shards: &Shards<FoldState, Exchanged<File>>) -> Result<(), Fault>
     store(order.output().get_ref())
 }
 
-/// Writes the lines of the input into files of the folder, stores these, and returns how many lines were left out. Every machine
-/// has the same hash codes.
+/// Writes the lines of the input into files of the folder, and stores these.
 fn write_files(
-    rt: &HostRuntime,
-    parts: Parts<'_>,
-    reading: Reading,
-    inputs: &mut Inputs<'_>,
-) -> Result<usize, Fault> {
-    let (alloc, folder) = (rt.alloc(), parts.folder);
-    let path = crate::rt::format!(in alloc; "{folder}/{ORDER}").map_err(|_| Fault::Memory)?;
+    job: &mut Job<'_, FoldState>,
+    place: ShardFolder<'_>,
+    is_exchanged: bool,
+) -> Result<(), Fault> {
+    let (rt, folder) = (job.rt, place.folder);
+    let path = crate::rt::format!(in rt.alloc(); "{folder}/{ORDER}").map_err(|_| Fault::Memory)?;
     let order = create(rt, path.as_str(), false)?;
-    let outputs = create_files(rt, parts, reading.is_zero_ended)?;
-    let mut shards = Shards::new(FoldState::default(), outputs, order);
-    let skipped = match reading.mending {
-        Some(mending) => {
-            let mut mended = Mended::new(alloc, inputs, mending);
-            shards.write_lines(alloc, &mut mended)?;
-            mended.skipped()
-        }
-        None => {
-            shards.write_lines(alloc, inputs)?;
-            0
-        }
-    };
-    store_files(&shards)?;
-    Ok(skipped)
+    let outputs = create_files(rt, place, is_exchanged)?;
+    let mut shards = Shards::new(job.hasher, outputs, order);
+    shards.write_lines(rt.alloc(), &mut job.input)?;
+    store_files(&shards)
 }
 
 /// Returns whether a file of this name is written: that of a shard has its number.
@@ -105,48 +90,47 @@ fn begin(rt: &HostRuntime, folder: &str) -> Result<Unfinished, Fault> {
 
 /// Does what `write_files` does, in a folder that gets its name once all its files are stored.
 fn write_folder(
-    rt: &HostRuntime,
-    parts: Parts<'_>,
+    job: &mut Job<'_, FoldState>,
+    place: ShardFolder<'_>,
     unfinished: &Unfinished,
-    reading: Reading,
-    inputs: &mut Inputs<'_>,
-) -> Result<usize, Fault> {
-    let count = parts.count;
+    is_exchanged: bool,
+) -> Result<(), Fault> {
+    let count = place.count;
     let folder = unfinished.path();
-    let skipped = write_files(rt, Parts { count, folder }, reading, inputs)?;
-    unfinished.rename(rt, parts.folder).map_err(Fault::Folder)?;
-    Ok(skipped)
+    write_files(job, ShardFolder { count, folder }, is_exchanged)?;
+    unfinished
+        .rename(job.rt, place.folder)
+        .map_err(Fault::Folder)
 }
 
 /// Writes the lines of the files, or of standard input, into a folder, which is made for them. A run that fails or is killed leaves
 /// none of this name, or a whole one. Returns how it ended, and where.
 pub fn write<'a>(
     rt: &'a HostRuntime,
-    parts: Parts<'a>,
+    place: ShardFolder<'a>,
     reading: Reading,
     files: &'a [Source<'a>],
 ) -> (Source<'a>, Result<(), Fault>) {
-    let folder = Source::File(parts.folder);
-    let unfinished = match begin(rt, parts.folder) {
+    let folder = Source::File(place.folder);
+    let unfinished = match begin(rt, place.folder) {
         Ok(unfinished) => unfinished,
         Err(fault) => return (folder, Err(fault)),
     };
-    let mut inputs = Inputs::new(rt, files, reading.is_zero_ended);
-    let fault = match write_folder(rt, parts, &unfinished, reading, &mut inputs) {
-        Ok(skipped) => {
-            tell_skipped(rt, skipped);
-            report_progress(rt, inputs.length(), "done");
-            warn_of_encoded(rt, &inputs);
-            return (folder, Ok(()));
+    // Every machine has the same hash codes.
+    let mut job = Job::new(rt, FoldState::default(), reading, files);
+    match write_folder(&mut job, place, &unfinished, reading.is_zero_ended) {
+        Ok(()) => {
+            job.tell_skipped();
+            job.report_end();
+            job.warn_of_encoded();
+            (folder, Ok(()))
         }
-        Err(fault) => fault,
-    };
-    unfinished.remove(rt);
-    match fault {
-        Fault::Output(error) | Fault::Folder(error) => (folder, Err(Fault::Folder(error))),
-        fault => {
-            let (source, fault) = inputs.locate(fault);
-            (source, Err(fault))
+        Err(fault) => {
+            unfinished.remove(rt);
+            match fault {
+                Fault::Output(error) | Fault::Folder(error) => (folder, Err(Fault::Folder(error))),
+                fault => job.locate(fault),
+            }
         }
     }
 }

@@ -6,7 +6,7 @@
 
 use crate::rt::prelude::*; use super::Column;
 use crate::string_column::code_list::Codes;
-use crate::string_column::entries::TextList;
+use crate::string_column::dictionary::TextList;
 use crate::rt::alloc::{AllocError, Global};
 use crate::proved::backend::{Backend, InternError};
 use crate::proved::dedup::{TextHasher, TextIndex};

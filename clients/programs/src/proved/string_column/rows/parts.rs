@@ -8,7 +8,7 @@
 
 use crate::rt::prelude::*; use super::Column;
 use crate::string_column::code_list::Codes;
-use crate::string_column::entries::{Entries, TextList};
+use crate::string_column::dictionary::{Dictionary, TextList};
 use crate::rt::alloc::{AllocError, Global};
 use crate::rt::fmt;
 use crate::proved::StringInterner;
@@ -82,7 +82,7 @@ fn check_codes(codes: &Codes, count: usize) -> Result<bool, PartsError>
 
 /// Interns texts into an empty dictionary, each of which must be new.
 fn intern_entries<B: Backend, H: TextHasher, I: TextIndex<B::Symbol>>(
-    entries: &mut Entries<B, H, I>,
+    entries: &mut Dictionary<B, H, I>,
     texts: &[&str],
 ) -> Result<(), PartsError>
     //~ requires { entries.old ≡ [] }
@@ -123,7 +123,7 @@ impl<B: Backend + Drop, H: TextHasher + Drop, I: TextIndex<B::Symbol> + Drop> Co
     ) -> Result<Self, PartsError>
         //~ ensures { IsMadeOf B.numbering (texts_of dictionary.now) codes.items result }
     {
-        let mut entries = Entries::with_hasher(alloc, hasher);
+        let mut entries = Dictionary::with_hasher(alloc, hasher);
         intern_entries(&mut entries, dictionary)?;
         if check_codes(&codes, dictionary.len())? {
             return Ok(Column {
@@ -142,7 +142,7 @@ impl<B: Backend + Drop, H: TextHasher + Drop, I: TextIndex<B::Symbol> + Drop> Co
     /// bytes for each text while it runs, and then drops the interner that you gave. Returns `NoEntry`, `NoSymbol` and `Memory`
     /// as `from_parts` does.
     ///
-    /// Allocates a list of the symbols.
+    /// Allocates a list of the symbols from the first on whose number is not the index of its text.
     ///
     /// ```ignore
     /// let colors = <Column>::from_interner(alloc, FoldState::default(), interner, codes)?;
@@ -157,20 +157,25 @@ impl<B: Backend + Drop, H: TextHasher + Drop, I: TextIndex<B::Symbol> + Drop> Co
     {
         // For the proof: states that the texts are distinct.
         let _ = interner.len();
-        let entries = Entries::from_interner(alloc, interner).map_err(PartsError::Memory)?;
+        let entries = Dictionary::from_interner(alloc, interner).map_err(PartsError::Memory)?;
         if check_codes(&codes, entries.len())? {
             return Ok(Column {
                 dictionary: entries,
                 codes,
             });
         }
-        Column::encode_codes(alloc, Entries::with_hasher(alloc, hasher), &entries, &codes)
+        Column::encode_codes(
+            alloc,
+            Dictionary::with_hasher(alloc, hasher),
+            &entries,
+            &codes,
+        )
     }
 
     /// Makes a column of a row for each code, the index of a text, in a dictionary without entries.
     fn encode_codes<T: TextList>(
         alloc: Global,
-        dictionary: Entries<B, H, I>,
+        dictionary: Dictionary<B, H, I>,
         texts: &T,
         codes: &Codes,
     ) -> Result<Self, PartsError>

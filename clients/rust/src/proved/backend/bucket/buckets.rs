@@ -47,7 +47,7 @@ pub fn interned_text<'a>(
 /// Its capacity in bytes is the least power of two above both `before` and the text's length. Returns `Err` only if an
 /// allocation fails or that capacity does not fit a `usize`.
 #[cold]
-pub fn new_head(alloc: Global, before: usize, text: &str) -> Result<(FixedString, Span), AllocError>
+fn new_head(alloc: Global, before: usize, text: &str) -> Result<(FixedString, Span), AllocError>
     //~ ensures bytes { IfOk result (λ made. made.0.bytes ≡ text.now) }
     //~ ensures capacity { IfOk result (λ made. IsNextPowerOfTwo (max before (length text.now) + 1)
     //~     made.0.capacity) }

@@ -1,6 +1,6 @@
 //! Where each text begins and ends, by the list of their ends, in bytes from the start of the first.
 
-//~ ghost use Rattle.std.specs.Prelude.{◌≡◌, ◌<◌, ◌≤◌, length, SomeIff};
+//~ ghost use Rattle.std.specs.Prelude.{◌≡◌, ◌<◌, ◌≤◌, length, IfSome};
 //~ ghost use Rattle.string_interner.specs.StringBackend.{span_of, start_at};
 
 use crate::rt::prelude::*; use crate::proved::number_list::NumberList;
@@ -30,17 +30,16 @@ pub fn span(ends: &NumberList, index: usize) -> (usize, usize)
     }
 }
 
-/// Returns the start and the end of text `index`, and `None` if there are at most `index` texts.
+/// Returns the start and the end of text `index`, if there is one and its end takes four bytes.
 #[inline(always)]
-pub fn find_span(ends: &NumberList, index: usize) -> Option<(usize, usize)>
-    //~ ensures { SomeIff result (index < length ends.now.items) (span_of ends.now.items index) }
+pub fn find_narrow_span(ends: &NumberList, index: usize) -> Option<(usize, usize)>
+    //~ ensures within { IfSome result (λ _. index < length ends.now.items) }
+    //~ ensures value { IfSome result (λ found. found ≡ span_of ends.now.items index) }
 {
     let (narrow, _) = ends.as_slices();
     // The end before one of four bytes has four, too, so there is nothing else to test.
     if index < narrow.len() {
         Some(narrow_span(narrow, index))
-    } else if index < ends.len() {
-        Some(wide_span(ends, index))
     } else {
         None
     }

@@ -1,9 +1,9 @@
 use Rattle.std.proofs.Common.{◌≡◌, [], length, subst, rules}
 use Rattle.std.specs.Io.KnownBytes.{Appends}
-use Rattle.std.proofs.lemmas.Result.{on_ok_weaker}
 use Rattle.string_column.specs.Column.{dictionary_of, AreCodes}
 use Rattle.dictcol.specs.Lines.{text_of_ended}
 use Rattle.dictcol.specs.Plain.{IsNpy}
+use Rattle.dictcol.specs.Writes.{Writes}
 use Rattle.dictcol.proofs.PlainColumns.{narrow-codes, narrow-rows, onto-plain}
 use Rattle.dictcol.proofs.plain.Plain.write.Goals as goal
 
@@ -19,7 +19,8 @@ returns-clause-written g c = λ before text onto.
     let none : length c.as_slices.result.1.now ≡ 0 = search rules in
     let same = narrow-codes c.codes.result.now.items c.as_slices.result.0.now c.as_slices.result.1.now c.as_slices.ensures none in
     let are : AreCodes (dictionary_of c.args.self.now.lines) c.as_slices.result.0.now c.args.self.now.lines = subst (λ codes. AreCodes (dictionary_of lines) codes lines) same c.codes.ensures in
-    let wrote = subst (λ texts. Appends (g.D.Write.contents c.args.dictionary.now) (g.D.Write.contents c.write_file.new.output) (text_of_ended texts [])) c.dictionary.ensures c.in_ok-write_file.ensures.written in
-    on_ok_weaker c.write_file-2.result (λ w.
+    let ended : Appends (g.D.Write.contents c.args.dictionary.now) (g.D.Write.contents c.write_file.new.output) (text_of_ended c.dictionary-texts.result.now.texts []) = search rules in
+    let wrote = subst (λ texts. Appends (g.D.Write.contents c.args.dictionary.now) (g.D.Write.contents c.write_file.new.output) (text_of_ended texts [])) c.dictionary-texts.ensures ended in
+    let w : Writes (IsNpy c.split_at.result.1.now) (g.N.Write.contents c.args.numbers.now) (g.N.Write.contents c.write_file-2.new.output) = search rules in
     let npy = subst (λ codes. IsNpy codes w.0) c.split_at.ensures.back w.1 in
-    (text_of_ended (dictionary_of lines) [], w.0, onto-plain before text w.0 lines c.args.self.now.known c.args.self.now.is_cut c.as_slices.result.0.now onto are npy, wrote, w.2)) c.write_file-2.ensures.written
+    (text_of_ended (dictionary_of lines) [], w.0, onto-plain before text w.0 lines c.args.self.now.known c.args.self.now.is_cut c.as_slices.result.0.now onto are npy, wrote, w.2)

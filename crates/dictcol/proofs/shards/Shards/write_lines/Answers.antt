@@ -2,7 +2,7 @@ use Rattle.std.proofs.Common.{◌≡◌, ◌≢◌, [], ◌∷◌, ◌++◌, str
 use Rattle.std.proofs.lemmas.List.{nil_from_length}
 use Rattle.dictcol.specs.Lines.{lines_of}
 use Rattle.dictcol.specs.Shards.{HasSharded}
-use Rattle.dictcol.proofs.Merged.{one-line}
+use Rattle.dictcol.proofs.TextLines.{one-line}
 use Rattle.dictcol.proofs.Sharded.{written-input}
 use Rattle.std.proofs.lemmas.Result.{err_from_is_err_and}
 use Rattle.dictcol.specs.TooMany.{IsPastCount}

@@ -1,8 +1,7 @@
 use Rattle.std.proofs.Common.{◌≡◌, List, length, Some, string_bytes, sym, subst, inl}
 use Rattle.std.proofs.lemmas.Result.{IfOk-weaker, IfErr-weaker, err_from_is_err_and}
 use Rattle.string_interner.specs.Text.{Text}
-use Rattle.dictcol.specs.Answer.{IsLinesTaskFault}
-use Rattle.dictcol.specs.Blocks.{held, IsTextOf}
+use Rattle.dictcol.specs.Blocks.{held, IsLinesTaskFault, IsTextOf}
 use Rattle.dictcol.specs.Fault.{IsNotUtf8}
 use Rattle.dictcol.specs.Shards.{HasSharded}
 use Rattle.dictcol.specs.TooMany.{IsPastCount}

@@ -1,7 +1,7 @@
 use Rattle.std.proofs.Common.{length, ap, ◌∙◌, arith}
 use Rattle.std.specs.Option.{option_copied}
 use Rattle.std.specs.Str.{IsValidUpTo, valid_up_to}
-use Rattle.string_interner.specs.declared.backend.buffer.spelling.Spelled.{Spelled}
+use Rattle.string_interner.specs.declared.backend.buffer.leb128.Spelled.{Spelled}
 use Rattle.string_interner.proofs.Lemmas.BufferBackend.Reads.{read_front-no_front, read_front-short, read_front-tested, after_spelled, text_spelled}
 use Rattle.string_interner.proofs.backend.buffer.front_text.Goals as goal
 

@@ -1,12 +1,21 @@
-use Rattle.std.proofs.Common.{◌≡◌, ℕ, List, refl, rules, arith, sym, ap, subst, ◌∙◌, ◌++◌, [], ◌∷◌, Ok, None, slice_set, take}
+use Rattle.std.proofs.Common.{◌≡◌, ℕ, List, ◌+◌, refl, rules, arith, sym, ap, subst, ◌∙◌, ◌++◌, [], ◌∷◌, Ok, None, slice_set, take}
 use Rattle.std.proofs.lemmas.List.{append-nil}
-use Rattle.string_interner.specs.Extend.{YieldedBy}
-use Rattle.string_interner.proofs.Lemmas.Interner.InternsEach.{each-none, block-done, block-last, block-stopped, filled}
+use Rattle.string_interner.specs.Extend.{YieldedBy, texts_of}
+use Rattle.string_interner.specs.InternAll.{AppendsSymbols}
+use Rattle.string_interner.proofs.Lemmas.Interner.InternsEach.{each-none, block-done, block-last, block-stopped, waits-more}
 use Rattle.string_interner.proofs.Lemmas.Interner.Extends.{yields-more, yielded-front, drained-by}
 use Rattle.string_interner.proofs.interner.StringInterner.intern_all.Goals as goal
 
 pub loop-text-init : goal.loop-text-init
-loop-text-init g c = ([], refl, each-none g.B.Backend.numbering g.I.TextIndex.rule g.met.I.TextIndex.rule_laws _ _ c.len.ensures.holds.loaded, omega arith, omega arith, refl)
+loop-text-init g c = (
+  [],
+  refl,
+  each-none g.B.Backend.numbering g.I.TextIndex.rule g.met.I.TextIndex.rule_laws _ _ c.len.ensures.holds.loaded,
+  omega arith,
+  omega arith,
+  refl,
+  λ some. absurd (some refl),
+)
 
 -- where the block is empty, all items so far went in
 all-in : {X : Type 0} (items done block : List X) (len : ℕ) → items ≡ done ++ take len block → len ≡ 0 → items ≡ done
@@ -30,26 +39,31 @@ loop-text-preserved-then-is_alone g c =
       omega (arith, inv.3, c.in_ok-intern_next.ensures.capacity),
       inv.4,
       inv.5,
+      λ some. absurd (some empty),
     )
 
 pub returns-in_err-intern_block : goal.returns-in_err-intern_block
 returns-in_err-intern_block g c =
-    let inv = c.loop-text.invariant in let block = slice_set c.loop-text.block c.loop-text.len c.in-Some.text in
-    block-stopped g.B.Backend.numbering g.I.TextIndex.rule g.met.I.TextIndex.rule_laws (YieldedBy g.T.IntoIterator g.T.IntoIter.Iterator c.args.texts) inv.0 block _ c.loop-text.self _ c.args.symbols.now c.loop-text.symbols c.intern_block.new.symbols c.in_err-intern_block.field-0.0 c.from_residual-in_err-intern_block.result (search rules)
+    let inv = c.loop-text.invariant in let block = take (c.loop-text.len + 1) (slice_set c.loop-text.block c.loop-text.len c.in-Some.text) in
+    let same : c.if-len-eq0-2.symbols.items ≡ c.loop-text.symbols.items = search rules in
+    block-stopped g.B.Backend.numbering g.I.TextIndex.rule g.met.I.TextIndex.rule_laws (YieldedBy g.T.IntoIterator g.T.IntoIter.Iterator c.args.texts) inv.0 block _ c.loop-text.self _ c.args.symbols.now c.if-len-eq0-2.symbols c.intern_block.new.symbols c.in_err-intern_block.field-0.0 c.from_residual-in_err-intern_block.result (search rules)
     (yielded-front g.T.IntoIterator.into_iter_gives g.T.IntoIter.Iterator.next_gives c.args.texts c.into_iter-text-iterator.result c.next.new.self inv.0 block (c.loop-text.yielded ++ c.in-Some.text ∷ []) c.into_iter-text-iterator.ensures.into_iter_gives
-    (filled c.loop-text.yielded inv.0 c.loop-text.block c.loop-text.len c.in-Some.text inv.1 (search rules))
+    (waits-more c.loop-text.yielded inv.0 c.loop-text.block c.loop-text.len c.in-Some.text inv.1 (search rules))
     (yields-more g.T.IntoIter.Iterator.next_gives c.loop-text.yielded c.in-Some.text c.into_iter-text-iterator.result _ c.next.new.self c.loop-text.yielded_by c.in-Some.ensures.steps))
-    inv.3 inv.2 c.in_err-intern_block.ensures.interns
+    (search rules) (subst (λ items. AppendsSymbols g.B.Backend.numbering g.I.TextIndex.rule c.args.self.now c.args.symbols.now.items (texts_of inv.0) c.loop-text.self items) (sym same) inv.2) c.in_err-intern_block.ensures.interns
 
-pub loop-text-preserved-then-len-eq-BLOCK_LEN : goal.loop-text-preserved-then-len-eq-BLOCK_LEN
-loop-text-preserved-then-len-eq-BLOCK_LEN g c =
-    let inv = c.loop-text.invariant in let block = slice_set c.loop-text.block c.loop-text.len c.in-Some.text in (
+pub loop-text-preserved-in-loop-text : goal.loop-text-preserved-in-loop-text
+loop-text-preserved-in-loop-text g c =
+    let inv = c.loop-text.invariant in let block = take (c.loop-text.len + 1) (slice_set c.loop-text.block c.loop-text.len c.in-Some.text) in
+    let same : c.if-len-eq0-2.symbols.items ≡ c.loop-text.symbols.items = search rules in (
       inv.0 ++ block,
-      filled c.loop-text.yielded inv.0 c.loop-text.block c.loop-text.len c.in-Some.text inv.1 (search rules) ∙ sym (append-nil (inv.0 ++ block)),
-      block-done g.B.Backend.numbering g.I.TextIndex.rule g.met.I.TextIndex.rule_laws inv.0 block _ c.loop-text.self _ c.args.symbols.now c.loop-text.symbols c.intern_block.new.symbols (Ok tt) refl inv.2 c.in_ok-intern_block.ensures.interns,
-      omega (arith, inv.3, c.in_ok-intern_block.ensures.capacity),
+      waits-more c.loop-text.yielded inv.0 c.loop-text.block c.loop-text.len c.in-Some.text inv.1 (search rules) ∙ sym (append-nil (inv.0 ++ block)),
+      block-done g.B.Backend.numbering g.I.TextIndex.rule g.met.I.TextIndex.rule_laws inv.0 block _ c.loop-text.self _ c.args.symbols.now c.if-len-eq0-2.symbols c.intern_block.new.symbols (Ok tt) refl
+          (subst (λ items. AppendsSymbols g.B.Backend.numbering g.I.TextIndex.rule c.args.self.now c.args.symbols.now.items (texts_of inv.0) c.loop-text.self items) (sym same) inv.2) c.in_ok-intern_block.ensures.interns,
+      search rules,
       omega arith,
       search rules,
+      λ some. absurd (some refl),
     )
 
 pub returns : goal.returns

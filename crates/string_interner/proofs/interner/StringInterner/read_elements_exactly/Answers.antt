@@ -1,4 +1,4 @@
-use Rattle.std.proofs.Common.{rules, refl, sym, ◌∙◌, Err}
+use Rattle.std.proofs.Common.{◌≡◌, rules, refl, sym, ◌∙◌, Err}
 use Rattle.string_interner.specs.declared.json.JsonError.TheVariants.{NotAText, Repeated}
 use Rattle.string_interner.proofs.Lemmas.Interner.Extends.{interned-least}
 use Rattle.string_interner.proofs.Lemmas.Json.Reads.{next_element}
@@ -13,9 +13,10 @@ loop-index-preserved g c =
       slots = λ before. interned-least g.B.Backend.numbering g.I.TextIndex.rule g.met.I.TextIndex.rule_laws _ _ _ _ call c.len.ensures.holds.loaded (c.loop-index.invariant.slots before);
     }
 
-pub returns-in_default-clause-reads : goal.returns-in_default-clause-reads
-returns-in_default-clause-reads g c = c.loop-index.invariant.reads (Err (NotAText c.loop-index.index))
-    (exact_no_text g.B.Backend.numbering _ _ _ _ _ _ (next_element _ _ _ c.loop-index-test.true c.index-elements-index.is) (search rules) refl)
+pub returns-in_err-text-clause-reads : goal.returns-in_err-text-clause-reads
+returns-in_err-text-clause-reads g c =
+    let is : c.from_residual.result ≡ Err (NotAText c.loop-index.index) = search rules in
+    c.loop-index.invariant.reads _ (exact_no_text g.B.Backend.numbering _ _ _ _ _ _ (next_element _ _ _ c.loop-index-test.true c.index-elements-index.is) (search rules) (rw is refl))
 
 pub returns-in_err-get_or_intern-clause-reads : goal.returns-in_err-get_or_intern-clause-reads
 returns-in_err-get_or_intern-clause-reads g c = c.loop-index.invariant.reads _

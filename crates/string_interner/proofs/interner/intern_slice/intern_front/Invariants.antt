@@ -1,21 +1,17 @@
-use Rattle.std.proofs.Common.{◌≡◌, ◌≤◌, ℕ, length}
-use Rattle.std.specs.Prelude.{slice_index_or}
+use Rattle.std.proofs.Common.{length}
 use Rattle.string_interner.specs.SlotRule.{IsLoaded}
 use Rattle.string_interner.specs.Interner.{IsSoundInterner, contents_of}
 use Rattle.string_interner.specs.InternAll.{InternsFront, LooksAhead}
 use Rattle.string_interner.proofs.interner.intern_slice.intern_front.Given as goal
 
--- the texts so far went in and gave their numbers, the rest of the numbers stays, the parts are those of an interner, the slots
--- are loaded as its are, and what was found ahead is known
+-- the texts so far went in and gave their numbers, the parts are those of an interner, the slots are loaded as its are, and what
+-- was found ahead is known
 abbrev pub invariant-loop-at : goal.invariant-loop-at
 invariant-loop-at g l = record {
   front : InternsFront g.B.Backend.numbering g.I.TextIndex.rule
-      (contents_of (g.B.Backend.texts l.fn.backend) (g.B.Backend.buckets l.fn.backend) (g.B.Backend.room l.fn.backend) (g.I.TextIndex.slots l.fn.index)) l.texts l.at
+      (contents_of (g.B.Backend.texts l.fn.backend) (g.B.Backend.buckets l.fn.backend) (g.B.Backend.room l.fn.backend) (g.I.TextIndex.slots l.fn.index)) l.fn.numbers l.texts l.at
       (contents_of (g.B.Backend.texts l.backend) (g.B.Backend.buckets l.backend) (g.B.Backend.room l.backend) (g.I.TextIndex.slots l.index)) l.numbers;
-  count : length l.numbers ≡ length l.fn.numbers;
-  rest : (k : ℕ) → l.at ≤ k → slice_index_or l.numbers k 0 ≡ slice_index_or l.fn.numbers k 0;
-  done : l.done ≡ l.at;
   sound : IsSoundInterner g.B.Backend.numbering (λ entry. g.I.TextIndex.indexes l.index entry (g.H.TextHasher.code l.hasher)) (g.I.TextIndex.entries l.index) (g.B.Backend.texts l.backend);
   loaded : IsLoaded g.I.TextIndex.rule (g.I.TextIndex.slots l.index) (length (g.B.Backend.texts l.backend));
-  ahead : LooksAhead (g.H.TextHasher.code l.hasher) g.B.Symbol.Symbol.symbol_of g.B.Backend.numbering (g.B.Backend.texts l.backend) l.texts l.at l.ahead l.codes l.known;
+  ahead : LooksAhead (g.H.TextHasher.code l.hasher) g.B.Symbol.Symbol.symbol_of g.B.Backend.numbering (g.B.Backend.texts l.backend) l.texts l.at l.ahead;
 }

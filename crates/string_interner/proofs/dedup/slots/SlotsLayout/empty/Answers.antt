@@ -1,7 +1,7 @@
 use Rattle.std.proofs.Common.{rules, ◌≡◌, ◌-◌, ◌^◌, None, inl, inr, refl, replicate}
 use Rattle.string_interner.proofs.Lemmas.Index.Stored.{made, made-stored}
 use Rattle.string_interner.proofs.dedup.slots.SlotsLayout.empty.Goals as goal
-use Rattle.string_interner.proofs.dedup.slots.SlotsLayout.empty.Goals.{In_ok-from_elem-2, then-has_numbers, else-has_numbers, then-has_narrow_numbers, else-has_narrow_numbers}
+use Rattle.string_interner.proofs.dedup.slots.SlotsLayout.empty.Goals.{then-has_numbers, else-has_numbers, then-has_narrow_numbers, else-has_narrow_numbers}
 
 pub invariant_of-result : goal.invariant_of-result
 invariant_of-result g c =

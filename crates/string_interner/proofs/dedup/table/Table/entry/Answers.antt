@@ -1,12 +1,6 @@
-use Rattle.std.proofs.Common.{◌%◌, arith, ap, ◌∙◌, length, rules}
-use Rattle.string_interner.specs.Entry.{entry_text}
-use Rattle.string_interner.specs.Slots.{probed, filled_run, first_passing}
-use Rattle.string_interner.specs.Index.{has_text}
-use Rattle.string_interner.proofs.Lemmas.Index.Slots.{run_within}
-use Rattle.string_interner.proofs.Lemmas.Index.LookUp.{Fits-find}
-use Rattle.string_interner.proofs.Lemmas.Index.FilledRun.{run-le}
+use Rattle.std.proofs.Common.{ap, arith, rules}
 use Rattle.string_interner.proofs.Lemmas.Table.IsSoundTable.{HasFreeSlot-sound}
-use Rattle.string_interner.proofs.Lemmas.Table.IsTable.{Fits-of}
+use Rattle.string_interner.proofs.Lemmas.Table.Seeks.{seeks}
 use Rattle.string_interner.proofs.dedup.table.Table.entry.Goals as goal
 
 pub probe_for-requires-clause-free : goal.probe_for-requires-clause-free
@@ -15,24 +9,10 @@ probe_for-requires-clause-free g c = let n = c.len.ensures in HasFreeSlot-sound 
 pub probe_for-requires-clause-fits : goal.probe_for-requires-clause-fits
 probe_for-requires-clause-fits g c = rw (ap (λ x. x.slots) c.self.view_is) c.requires
 
-pub returns-clause-found : goal.returns-clause-found
-returns-clause-found g c =
-    let slots = g.L.Layout.layout.slots c.args.self.now.slots in let test = has_text (entry_text g.B.Backend.numbering (g.B.Backend.texts c.args.looks.now.backend)) c.args.text.now in
-    c.probe_for.ensures.found ∙ ap (λ x. first_passing test (filled_run (probed (g.L.Layout.layout.slots x.slots) (c.args.code % length (g.L.Layout.layout.slots x.slots))))) c.self.view_is
-    ∙ ap (λ n. first_passing test (filled_run (probed slots (n % length slots)))) c.requires.1.1
-    ∙ Fits-find _ _ _ (Fits-of g.L.Layout.layout g.met.L.Layout.layout_laws _ _ c.args.self.now.slots c.requires.1.0) _
+pub returns-clause-seeks : goal.returns-clause-seeks
+returns-clause-seeks g c =
+    let n = c.len.ensures in
+    rw (← c.self.view_is) (seeks g.L.Layout.layout g.met.L.Layout.layout_laws _ _ _ _ _ _ _ (rw (ap (λ x. x.slots) c.self.view_is) c.requires) (omega arith) c.probe_for.ensures.found (search rules) (search rules) (search rules))
 
 pub returns-clause-vacant : goal.returns-clause-vacant
 returns-clause-vacant g c = rw (← c.self.view_is) c.probe_for.ensures.vacant
-
-pub returns-clause-looks : goal.returns-clause-looks
-returns-clause-looks g c =
-    let slots = g.L.Layout.layout.slots c.self.inside.slots in let n = c.len.ensures in
-    let run = run_within slots (c.args.code % length slots) in
-    rw (← c.self.view_is) (record {
-      backend = search rules;
-      counts = search rules;
-      run = λ f r. let le = run-le slots (c.args.code % length slots) f (omega arith) r in omega arith;
-      at_most = omega arith;
-      no_slots = search rules;
-    })

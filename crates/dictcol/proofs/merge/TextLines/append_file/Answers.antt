@@ -1,0 +1,34 @@
+use Rattle.std.proofs.Common.{◌≡◌, ◌≢◌, ◌++◌, [], length, true, string_bytes, refl, sym, ap, ◌∙◌, rules, inl, inr}
+use Rattle.dictcol.specs.Lines.{text_of_ended, text_of_lines}
+use Rattle.dictcol.proofs.TextLines.{picked-plain, ended-lines, no-text}
+use Rattle.std.proofs.lemmas.Result.{IfErr-weaker}
+use Rattle.dictcol.proofs.TooMany.{take-weaker}
+use Rattle.dictcol.proofs.merge.TextLines.append_file.Goals as goal
+
+pub invariant_of-self : goal.invariant_of-self
+invariant_of-self g c =
+    let holds = c.in_ok-lines.ensures.lines.1 in
+    (picked-plain holds.dictionary holds.each_a_line holds.numbers c.in_ok-lines.lines holds.picked, c.self.invariant.1)
+
+pub returns-then-is_empty-2-clause-ok : goal.returns-then-is_empty-2-clause-ok
+returns-then-is_empty-2-clause-ok g c =
+    let lines = c.in_ok-lines.lines in
+    let rest = string_bytes c.self.inside.rest in
+    let none : length (string_bytes c.self.inside.rest) ≡ 0 = search rules in
+    let empty : c.self.inside.lines ≡ [] = search rules in
+    let some : c.in_ok-lines.lines ≢ [] = λ e. search rules in
+    let is_ended : c.in_ok-lines.is_ended ≡ true = search rules in
+    let view : text_of_ended c.self.inside.lines (string_bytes c.self.inside.rest) ≡ c.args.self.now = search rules in
+    let old = sym view ∙ no-text c.self.inside.lines rest empty none in
+    let file = c.in_ok-lines.ensures.lines in (
+      text_of_lines lines c.in_ok-lines.is_ended,
+      (file.0, (lines, c.in_ok-lines.is_ended, file.1, refl), file.2),
+      ended-lines lines rest some none ∙ ap (text_of_lines lines) (sym is_ended) ∙ ap (λ text. text ++ text_of_lines lines c.in_ok-lines.is_ended) (sym old),
+    )
+
+pub append-requires : goal.append-requires
+append-requires g c =
+    let holds = c.in_ok-lines.ensures.lines.1 in picked-plain holds.dictionary holds.each_a_line holds.numbers c.in_ok-lines.lines holds.picked
+
+pub returns-clause-err : goal.returns-clause-err
+returns-clause-err g c = IfErr-weaker c.append.result _ _ (λ fault taking. inr (c.args.bytes.items, refl, inl (take-weaker fault (λ _. tt) taking))) c.append.ensures.fault

@@ -1,0 +1,235 @@
+//! The input: files that are read one after another, as `cat` writes them.
+
+ghost use Rattle.std.specs.Prelude.{◌≡◌, ◌≤◌, length, true, IfOk, OnOk};
+ghost use Rattle.dictcol.specs.Inputs.{goes_on, lines_begun, newlines_with, noted, source_at, IsLocated};
+
+use crate::fault::Fault;
+use crate::input::blocks::count_byte;
+use crate::input::zero::exchange_ends;
+use crate::request::Source;
+use std::fs::File;
+use std::io;
+use std::io::{ErrorKind, IsTerminal, Read};
+
+/// With what a file begins that `encode` wrote.
+const ENCODED: &[u8] = b"{\"dictionary\":[";
+
+/// Input of this many bytes is long: progress is reported on a terminal.
+const LONG: usize = 1 << 24;
+
+/// Reports on a terminal how far the work on a long input is.
+pub fn report_progress(rt: &HostRuntime, bytes: usize, what: &str) {
+    if bytes >= LONG && rt.stderr().is_terminal() {
+        // Nothing is lost if standard error is closed.
+        let _ = eprintln!(rt; "dictcol: {} MiB {what}", bytes >> 20);
+    }
+}
+
+/// Where a file begins in the input.
+#[derive(Clone, Copy)]
+struct Begin<'a> {
+    source: Source<'a>,
+    /// How many newlines come before it.
+    newlines: usize,
+    /// How many lines begin before it: one more if its first bytes are of a line of an earlier file.
+    lines: usize,
+}
+
+/// Reads some files one after another. If a file does not end in a newline, its last line and the first of the next file are one.
+#[derive(Drop)]
+pub struct Inputs<'a> {
+    rt: &'a HostRuntime,
+    sources: &'a [Source<'a>],
+    /// Whether newlines and zero bytes are exchanged.
+    is_exchanged: bool,
+    /// The index of the file that is read.
+    at: usize,
+    /// This file, if it is open and not standard input.
+    file: Option<File>,
+    /// Whether it gave bytes so far.
+    has_bytes: bool,
+    /// How many bytes were read.
+    length: usize,
+    is_ended: bool,
+    /// How many newlines were read.
+    newlines: usize,
+    /// Whether there is a line behind the last of them.
+    is_within: bool,
+    /// Of several files those that gave bytes so far.
+    begins: Vec<Begin<'a>>,
+    /// The first of them that looks like one that `encode` wrote.
+    encoded: Option<Source<'a>>,
+}
+
+impl<'a> Inputs<'a> {
+    /// Returns the input of these files, none of which is open yet, in which newlines and zero bytes are exchanged or not.
+    pub fn new(rt: &'a HostRuntime, sources: &'a [Source<'a>], is_exchanged: bool) -> Inputs<'a> {
+        Inputs {
+            rt,
+            sources,
+            is_exchanged,
+            at: 0,
+            file: None,
+            has_bytes: false,
+            length: 0,
+            is_ended: false,
+            newlines: 0,
+            is_within: false,
+            begins: Vec::new(rt.alloc()),
+            encoded: None,
+        }
+    }
+
+    /// Reads from a file, which is opened first if none is open.
+    fn read_source(&mut self, source: Source<'a>, buf: &mut [u8]) -> io::Result<usize>
+        ensures { IfOk result (λ count. count ≤ length buf.new) }
+    {
+        let Source::File(path) = source else {
+            return self.rt.stdin().read(buf);
+        };
+        if let Some(file) = &mut self.file {
+            return file.read(buf);
+        }
+        let mut file = File::open(self.rt, path)?;
+        let outcome = file.read(buf);
+        self.file = Some(file);
+        outcome
+    }
+
+    /// Notes the first bytes of a file.
+    fn note_begin(&mut self, bytes: &[u8]) -> io::Result<()>
+        ensures begun { OnOk result (self.new.has_bytes ≡ true) }
+        ensures begin { OnOk result (self.new.begins.items ≡ noted self.old.sources.now
+            self.old.begins.items record {
+              source = source_at self.old.sources.now self.old.at;
+              newlines = self.old.newlines;
+              lines = lines_begun self.old.newlines self.old.is_within;
+            }) }
+    {
+        let source = self.current();
+        if self.encoded.is_none() && bytes.starts_with(ENCODED) {
+            self.encoded = Some(source);
+        }
+        let begin = Begin {
+            source,
+            newlines: self.newlines,
+            lines: if self.is_within {
+                self.newlines.saturating_add(1)
+            } else {
+                self.newlines
+            },
+        };
+        self.has_bytes = true;
+        if self.sources.len() > 1 && self.begins.push(begin).is_err() {
+            return Err(io::Error::from(ErrorKind::OutOfMemory));
+        }
+        Ok(())
+    }
+
+    /// Counts the newlines of several files, so that the file of a line can be found.
+    fn count_newlines(&mut self, bytes: &[u8])
+        ensures { self.new.newlines
+            ≡ newlines_with self.old.sources.now self.old.newlines bytes.now }
+    {
+        if self.sources.len() > 1 {
+            self.newlines = self.newlines.saturating_add(count_byte(b'\n', bytes));
+        }
+    }
+
+    /// Notes whether a line goes on behind the bytes.
+    fn note_end(&mut self, bytes: &[u8])
+        ensures { self.new.is_within ≡ goes_on self.old.is_within bytes.now }
+    {
+        if let Some(last) = bytes.last() {
+            self.is_within = *last != b'\n';
+        }
+    }
+
+    /// Notes how many bytes were read at once, which are none at the end of the input.
+    fn note_length(&mut self, count: usize) {
+        self.length = self.length.saturating_add(count);
+        if count == 0 && !self.is_ended {
+            self.is_ended = true;
+            report_progress(self.rt, self.length, "read");
+        }
+    }
+
+    /// Returns how many bytes were read.
+    pub fn length(&self) -> usize {
+        self.length
+    }
+
+    /// Returns the first file that looks like one that `encode` wrote.
+    pub fn find_encoded(&self) -> Option<Source<'a>> {
+        self.encoded
+    }
+
+    /// Returns the file that is read, or the only one. Behind the last of several it is standard input, which has no name to tell.
+    fn current(&self) -> Source<'a>
+        ensures { result ≡ source_at self.now.sources.now self.now.at }
+    {
+        let at = if self.sources.len() == 1 { 0 } else { self.at };
+        match self.sources.get(at) {
+            Some(source) => *source,
+            None => Source::StandardInput,
+        }
+    }
+
+    /// Returns the file that a fault is about, if it is about one, and the fault as one of this file: lines are counted from its
+    /// own first one, and a line of two files is one of that in which it begins.
+    pub fn locate(&self, fault: Fault) -> (Source<'a>, Fault)
+        ensures { IsLocated self.now.begins.items
+            (source_at self.now.sources.now self.now.at) fault result }
+    {
+        let Fault::NotUtf8(line) = fault else {
+            return (self.current(), fault);
+        };
+        let count = self.begins.len();
+        for later in 0..count {
+            let begin = self.begins[count - 1 - later];
+            if begin.lines < line {
+                return (
+                    begin.source,
+                    Fault::NotUtf8(line.saturating_sub(begin.newlines)),
+                );
+            }
+        }
+        (self.current(), fault)
+    }
+}
+
+impl Inputs<'_> {
+    /// Reads bytes as they are.
+    fn read_plain(&mut self, buf: &mut [u8]) -> io::Result<usize>
+        ensures { IfOk result (λ count. count ≤ length buf.new) }
+    {
+        let sources = self.sources;
+        for index in self.at..sources.len() {
+            let count = self.read_source(sources[index], buf)?;
+            if count > 0 || buf.is_empty() {
+                return Ok(count);
+            }
+            self.at = index + 1;
+            self.file = None;
+            self.has_bytes = false;
+        }
+        Ok(0)
+    }
+}
+
+impl Read for Inputs<'_> {
+    fn read(&mut self, buf: &mut [u8]) -> io::Result<usize> {
+        let count = self.read_plain(buf)?;
+        self.note_length(count);
+        let bytes = &mut buf[..count];
+        if self.is_exchanged {
+            exchange_ends(bytes);
+        }
+        if !self.has_bytes && !bytes.is_empty() {
+            self.note_begin(bytes)?;
+        }
+        self.count_newlines(bytes);
+        self.note_end(bytes);
+        Ok(count)
+    }
+}

@@ -1,0 +1,155 @@
+//! A task over files: what reads their lines, and what is written of them.
+
+use crate::answer::write_answer;
+use crate::columns;
+use crate::fault::Fault;
+use crate::hasher::LineHasher;
+use crate::input::inputs::{Inputs, report_progress};
+use crate::input::mend::Mended;
+use crate::input::zero::Exchanged;
+use crate::merge::{count_encoded, merge};
+use crate::request::{Answer, Reading, Source, Task};
+use crate::shown::ShownPath;
+use std::io::BufWriter;
+use string_interner::backend::Backend;
+
+/// How many bytes are written at once.
+pub const BUFFER: usize = 1 << 16;
+
+/// What is said of lines that look like what `encode` writes.
+const LOOKS_ENCODED: &str = "lines were read from what encode wrote (see decode, count --encoded)";
+
+/// Files whose lines are read, and what hashes these.
+#[derive(Drop)]
+pub struct Job<'a, H> {
+    pub rt: &'a HostRuntime,
+    pub hasher: H,
+    files: &'a [Source<'a>],
+    is_zero_ended: bool,
+    /// The lines of all files.
+    pub input: Mended<Inputs<'a>>,
+}
+
+impl<'a, H> Job<'a, H> {
+    /// Returns the job over these files, none of which is open yet.
+    pub fn new(
+        rt: &'a HostRuntime,
+        hasher: H,
+        reading: Reading,
+        files: &'a [Source<'a>],
+    ) -> Job<'a, H> {
+        let is_zero_ended = reading.is_zero_ended;
+        let inputs = Inputs::new(rt, files, is_zero_ended);
+        Job {
+            rt,
+            hasher,
+            files,
+            is_zero_ended,
+            input: Mended::new(rt.alloc(), inputs, reading.mending),
+        }
+    }
+
+    /// Tells on standard error how many lines were left out.
+    pub fn tell_skipped(&self) {
+        let skipped = self.input.skipped();
+        if skipped > 0 {
+            // Nothing is lost if standard error is closed.
+            let _ = eprintln!(self.rt; "dictcol: lines left out that are not UTF-8: {skipped}");
+        }
+    }
+
+    /// Reports on a terminal that a long input is done.
+    pub fn report_end(&self) {
+        report_progress(self.rt, self.input.get_ref().length(), "done");
+    }
+
+    /// Warns on standard error if a file whose lines were read looks like one that `encode` wrote.
+    pub fn warn_of_encoded(&self) {
+        // Nothing is lost if standard error is closed.
+        let _ = match self.input.get_ref().find_encoded() {
+            Some(Source::File(path)) => {
+                let path = ShownPath(path);
+                eprintln!(self.rt; "dictcol: {path}: warning: {LOOKS_ENCODED}")
+            }
+            Some(Source::StandardInput) => eprintln!(self.rt; "dictcol: warning: {LOOKS_ENCODED}"),
+            None => Ok(()),
+        };
+    }
+
+    /// Returns the file that a fault of reading is about, and the fault as one of this file.
+    pub fn locate(&self, fault: Fault) -> (Source<'a>, Result<(), Fault>) {
+        let (source, fault) = self.input.get_ref().locate(fault);
+        (source, Err(fault))
+    }
+}
+
+impl<'a> Job<'a, LineHasher> {
+    /// Does a task, in which the backend `B` stores the lines. Returns how it ended, and the file where it ended, if it was at one.
+    pub fn run<B: Backend + Drop>(&mut self, task: Task<'a>) -> (Source<'a>, Result<(), Fault>) {
+        let outcome = match task {
+            Task::Answer(answer) => self.answer::<B>(answer),
+            Task::WriteColumns(columns) => return columns::write::<B>(self, columns),
+            Task::Merge => return self.end_merge(self.merge::<B>()),
+            Task::CountEncoded { is_sorted } => {
+                return self.end_merge(self.count_encoded::<B>(is_sorted));
+            }
+        };
+        if let Err(fault) = outcome {
+            return self.locate(fault);
+        }
+        self.tell_skipped();
+        self.report_end();
+        if task.reads_lines() {
+            self.warn_of_encoded();
+        }
+        (Source::StandardInput, Ok(()))
+    }
+
+    /// Writes an answer to standard output, much of it at once.
+    fn answer<B: Backend + Drop>(&mut self, answer: Answer) -> Result<(), Fault> {
+        let (alloc, stdout) = (self.rt.alloc(), self.rt.stdout());
+        let output = Exchanged::new(alloc, stdout, self.is_zero_ended).map_err(|_| Fault::Memory)?;
+        let mut output = BufWriter::with_capacity(alloc, BUFFER, output).map_err(
+            |_| Fault::Memory,
+        )?;
+        write_answer::<B, _, _>(alloc, self.hasher, answer, &mut self.input, &mut output)
+    }
+
+    /// Returns each file as an input of its own.
+    fn split(&self) -> Result<Vec<Inputs<'a>>, (Option<usize>, Fault)> {
+        let mut inputs = Vec::new(self.rt.alloc());
+        for at in 0..self.files.len() {
+            let input = Inputs::new(self.rt, &self.files[at..=at], false);
+            inputs.push(input).map_err(|_| (None, Fault::Memory))?;
+        }
+        Ok(inputs)
+    }
+
+    fn merge<B: Backend + Drop>(&self) -> Result<(), (Option<usize>, Fault)> {
+        let mut inputs = self.split()?;
+        let output = &mut self.rt.stdout();
+        merge::<B, _, _>(self.rt.alloc(), self.hasher, &mut inputs, output)
+    }
+
+    fn count_encoded<B: Backend + Drop>(
+        &self,
+        is_sorted: bool,
+    ) -> Result<(), (Option<usize>, Fault)> {
+        let mut inputs = self.split()?;
+        let output = &mut self.rt.stdout();
+        let (alloc, hasher) = (self.rt.alloc(), self.hasher);
+        count_encoded::<B, _, _>(alloc, hasher, is_sorted, &mut inputs, output)
+    }
+
+    /// Returns how a merge ended, and the file where it ended, if it was at one: standard output has no name to tell.
+    fn end_merge(
+        &self,
+        outcome: Result<(), (Option<usize>, Fault)>,
+    ) -> (Source<'a>, Result<(), Fault>) {
+        match outcome {
+            Ok(()) => (Source::StandardInput, Ok(())),
+            Err((Some(at), fault)) if at < self.files.len() => (self.files[at], Err(fault)),
+            Err((_, fault)) => (Source::StandardInput, Err(fault)),
+        }
+    }
+}
