@@ -14,7 +14,7 @@ use Rattle.dictcol.specs.Fault.{IsNotUtf8, IsParseFault, IsSyntaxDamage, IsValue
 use Rattle.dictcol.specs.Lines.{has_newline, text_of_lines, AreLines}
 use Rattle.dictcol.specs.Places.{IsEarlyEnd}
 use Rattle.dictcol.specs.declared.fault.Fault.{Fault}
-use Rattle.dictcol.specs.declared.json.file.Parts.{Parts}
+use Rattle.dictcol.specs.declared.json_form.file.Parts.{Parts}
 
 -- the object with these texts, numbers and boolean
 abbrev pub column_file : List Text → List ℕ → Bool → Data

@@ -17,7 +17,7 @@ use crate::hasher::LineHasher;
 use crate::input::blocks;
 use crate::input::blocks::TakesLines;
 use crate::input::split::Lines;
-use crate::json::file::write;
+use crate::json_form::file::write;
 use itoa::Buffer;
 use std::alloc::Global;
 use std::io::{Read, Write};

@@ -10,7 +10,7 @@ use crate::fault::Fault;
 use crate::hasher::LineHasher;
 use crate::input::blocks::check_utf8;
 use crate::input::whole::read_whole;
-use crate::json::file;
+use crate::json_form::file;
 use std::alloc::Global;
 use std::io::{Read, Write};
 

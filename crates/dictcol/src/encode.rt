@@ -9,7 +9,7 @@ ghost use Rattle.dictcol.specs.Writes.{Writes};
 
 use crate::fault::Fault;
 use crate::hasher::LineHasher;
-use crate::json::format;
+use crate::json_form::format;
 use crate::lines::read_lines;
 use std::alloc::Global;
 use std::io::{Read, Write};

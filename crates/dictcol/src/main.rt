@@ -14,7 +14,7 @@ mod hasher;
 mod help;
 mod input;
 mod job;
-mod json;
+mod json_form;
 mod lines;
 mod merge;
 mod names;

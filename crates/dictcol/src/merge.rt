@@ -16,7 +16,7 @@ use crate::count;
 use crate::fault::Fault;
 use crate::hasher::LineHasher;
 use crate::input::whole::read_whole;
-use crate::json::{file, format};
+use crate::json_form::{file, format};
 use crate::lines::end_rest;
 use std::alloc::Global;
 use std::io::{Read, Write};

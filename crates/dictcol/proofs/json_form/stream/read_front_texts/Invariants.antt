@@ -1,0 +1,19 @@
+use Rattle.std.proofs.Common.{◌≡◌, ◌++◌, false, map, length}
+use Rattle.std.specs.List.{list_any}
+use Rattle.json.specs.Lex.{tokens}
+use Rattle.json.specs.Token.{string}
+use Rattle.dictcol.specs.Lines.{has_newline}
+use Rattle.dictcol.proofs.json_form.stream.read_front_texts.Given as goal
+use denote.Shadow.{shadow}
+use denote.Text.{Utf8}
+
+-- the texts so far were read, and none has a newline
+abbrev pub invariant-texts : goal.invariant-texts
+invariant-texts g l = record {
+  so_far : map string l.initial.dictionary.texts ++ tokens l.list ≡ map string l.dictionary.texts ++ tokens l.ahead;
+  plain : list_any has_newline l.dictionary.texts ≡ false;
+  utf8 : shadow (Utf8 l.ahead);
+}
+
+abbrev pub decreases-texts : goal.decreases-texts
+decreases-texts g l = length l.ahead

@@ -1,0 +1,11 @@
+use Rattle.std.proofs.Common.{◌≡◌, ◌∷◌, rules}
+use Rattle.std.proofs.lemmas.Result.{err_from_is_err_and}
+use Rattle.json.specs.Token.{string}
+use Rattle.dictcol.proofs.Crowded.{text-lacks}
+use Rattle.dictcol.proofs.json_form.stream.read_texts.Goals as goal
+
+pub returns-in_err-push_text-clause-fault : goal.returns-in_err-push_text-clause-fault
+returns-in_err-push_text-clause-fault g c =
+    let next : c.texts.reader ≡ string c.in-Some-String.text.now ∷ c.next.new.self = search rules in
+    let p = err_from_is_err_and c.from_residual.result c.from_residual.ensures.1 in
+    rw (p.1, p.2) (text-lacks g.B.Backend.numbering _ _ _ _ c.in-Some-String.text.now _ c.texts.invariant.so_far next c.in_err-push_text.ensures.fault)
