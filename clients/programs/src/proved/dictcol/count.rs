@@ -17,7 +17,7 @@ use crate::dictcol::hasher::LineHasher;
 use crate::dictcol::input::blocks;
 use crate::dictcol::input::blocks::TakesLines;
 use crate::dictcol::input::split::Lines;
-use crate::dictcol::json::file::write;
+use crate::dictcol::json_form::file::write;
 use crate::itoa::Buffer;
 use crate::rt::alloc::Global;
 use crate::rt::io::{Read, Write};

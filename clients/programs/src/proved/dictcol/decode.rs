@@ -10,7 +10,7 @@ use crate::rt::prelude::*; use crate::dictcol::fault::Fault;
 use crate::dictcol::hasher::LineHasher;
 use crate::dictcol::input::blocks::check_utf8;
 use crate::dictcol::input::whole::read_whole;
-use crate::dictcol::json::file;
+use crate::dictcol::json_form::file;
 use crate::rt::alloc::Global;
 use crate::rt::io::{Read, Write};
 

@@ -9,7 +9,7 @@
 
 use crate::rt::prelude::*; use crate::dictcol::fault::Fault;
 use crate::dictcol::hasher::LineHasher;
-use crate::dictcol::json::format;
+use crate::dictcol::json_form::format;
 use crate::dictcol::lines::read_lines;
 use crate::rt::alloc::Global;
 use crate::rt::io::{Read, Write};

@@ -16,7 +16,7 @@ use crate::rt::prelude::*; use crate::dictcol::count;
 use crate::dictcol::fault::Fault;
 use crate::dictcol::hasher::LineHasher;
 use crate::dictcol::input::whole::read_whole;
-use crate::dictcol::json::{file, format};
+use crate::dictcol::json_form::{file, format};
 use crate::dictcol::lines::end_rest;
 use crate::rt::alloc::Global;
 use crate::rt::io::{Read, Write};

@@ -14,7 +14,7 @@ pub(crate) mod hasher;
 pub(crate) mod help;
 pub(crate) mod input;
 pub(crate) mod job;
-pub(crate) mod json;
+pub(crate) mod json_form;
 pub(crate) mod lines;
 pub(crate) mod merge;
 pub(crate) mod names;

@@ -205,7 +205,11 @@ fn texts_alone(known: &[Option<usize>]) -> usize {
     let found = known.iter().filter(|number| number.is_some()).count();
     // If fewer are found, the block takes longer than its texts one by one, since the others are then looked up again. A block is
     // short if a list of symbols has room for no more.
-    if found < known.len() / 4 { TEXTS_ALONE } else { 0 }
+    if found < known.len() / 4 {
+        TEXTS_ALONE
+    } else {
+        0
+    }
 }
 
 /// Returns the number of the symbol that the index guesses for a code.

@@ -22,7 +22,7 @@
 use crate::rt::prelude::*; use crate::dictcol::fault::Fault;
 use crate::dictcol::hasher::LineHasher;
 use crate::dictcol::input::blocks::{check_utf8, count_byte};
-use crate::dictcol::json::stream;
+use crate::dictcol::json_form::stream;
 use crate::memchr::memrchr;
 use crate::serde_json::Value;
 use crate::rt::alloc::Global;

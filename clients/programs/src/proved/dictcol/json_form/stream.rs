@@ -18,8 +18,8 @@
 
 use crate::rt::prelude::*; use crate::dictcol::fault::Fault;
 use crate::dictcol::hasher::LineHasher;
-use crate::dictcol::json::file::{Dictionary, Parts};
-use crate::dictcol::json::quoted::split_text;
+use crate::dictcol::json_form::file::{Dictionary, Parts};
+use crate::dictcol::json_form::quoted::split_text;
 use crate::tokens::{Reader, Scratch, Token};
 use crate::rt::alloc::Global;
 use crate::string_column::Codes;
