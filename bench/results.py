@@ -84,9 +84,8 @@ def summary(name, times):
 
 
 def code_of(text):
-    """The lines of a source without comments, imports of words, contracts and proofs, of which no machine code is made."""
-    text = CLAUSE.sub("", GHOST_USE.sub("", COMMENT.sub("", text)))
-    return "\n".join(line.strip() for line in text.splitlines() if line.strip())
+    """A source without comments, imports of words, contracts, proofs and layout, of which no machine code is made."""
+    return " ".join(CLAUSE.sub("", GHOST_USE.sub("", COMMENT.sub("", text))).split())
 
 
 def sum_of(part, top=TOP):
