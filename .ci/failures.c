@@ -8,17 +8,23 @@
    TELL_BYTES=1     says `bytes BYTES PEAK` there at the end: how many bytes are held, and the most that were at once, as the C
                     library rounds them, both since `reset_bytes` where that is called
    READ_BYTES=N     has reading standard input fail once N bytes were read, as if a peer is gone
+   READ_AT_ONCE=N   has each read, of whatever file, take at most N bytes
+   INTERRUPT=N      has the Nth read, counted from 1, of whatever file fail as if a signal came
+   TELL_READS=1     says `reads N` on standard error at the end: how many reads there were
    WRITE_BYTES=N    has each write to standard output take at most N bytes
    BROKEN_WRITE=N   breaks the Nth write there, counted from 1, and each after it: they fail with the error number ERROR, or
                     take nothing if that is 0
    NO_RANDOM=1      has each request for random bytes fail
+   COUNT_RANDOM=1   has the random bytes be 1, 2, 3 and so on
    TELL_DRAWN=1     says `draws BYTES` on standard error at the end: how many random bytes were drawn
    TELL_UNSTORED=1  says `unstored FILES` on standard error before each file or folder is renamed: to how many files was written
                     that the system was not asked to store since, by fsync
+   TELL_WRITES=1    says `writes CALLS` there at the end: how many calls wrote to files that are no standard stream
    TELL_FOLDERS=1   says `renamed` or `removed` on standard error behind each call that renames or removes a file or folder by its
                     path, and `stored` behind each fsync of a folder
-   STOP_AT=N        stops the process, as SIGSTOP does, before the Nth call, counted from 1, that looks for, opens, makes, locks,
-                    renames or removes a file or folder
+   OTHER_DEVICE=N   has the Nth answer to what a file is, counted from 1, tell another device
+   STOP_AT=N        stops the process, as SIGSTOP does, before the Nth call, counted from 1, that looks for, opens, makes, links,
+                    locks, renames or removes a file or folder, or says who may use it
 
    The built programs call malloc, realloc and free, and no other call for memory; those of bench/ calloc, too. This
    includes nothing: the kit's compiler runs where no headers of the C library are installed. For one thread. */
@@ -39,7 +45,8 @@ extern int close(int file);
 #define STANDARD_ERROR 2
 /* No run of a trial has a file of a greater number open. */
 #define FILES 1024
-/* Linux's numbers for a call that it does not have, and for a connection that was reset. */
+/* Linux's numbers for a call that a signal interrupted, one that it does not have, and a connection that was reset. */
+#define INTERRUPTED 4
 #define NO_SUCH_CALL 38
 #define CONNECTION_RESET 104
 #define STOP 19
@@ -58,6 +65,13 @@ struct part {
     size_type count;
 };
 
+/* What Linux tells of a file. */
+struct about {
+    unsigned char others[136];
+    unsigned device_major, device_minor;
+    unsigned char more[112];
+};
+
 static size_type setting(const char *name, size_type otherwise) {
     const char *number = getenv(name);
     return number ? strtoul(number, 0, 10) : otherwise;
@@ -72,9 +86,15 @@ static size_type least(size_type one, size_type other) {
     return one < other ? one : other;
 }
 
+static size_type reads;
+
 long read(int file, void *bytes, size_type count) {
     FIND_NEXT(read)
     static size_type done;
+    if (++reads == setting("INTERRUPT", 0)) {
+        return failed(INTERRUPTED);
+    }
+    count = least(count, setting("READ_AT_ONCE", ~0UL));
     if (file != STANDARD_INPUT) {
         return next(file, bytes, count);
     }
@@ -98,10 +118,13 @@ static void note_stored(int file, int is_stored) {
     }
 }
 
+static size_type writes_of_files;
+
 long write(int file, const void *bytes, size_type count) {
     FIND_NEXT(write)
     static size_type writes;
     if (file != STANDARD_OUTPUT) {
+        writes_of_files += file > STANDARD_ERROR;
         note_stored(file, 0);
         return next(file, bytes, count);
     }
@@ -171,6 +194,12 @@ int getentropy(void *bytes, size_type count) {
         return (int)failed(NO_SUCH_CALL);
     }
     drawn += count;
+    if (setting("COUNT_RANDOM", 0)) {
+        for (size_type at = 0; at < count; at++) {
+            ((unsigned char *)bytes)[at] = (unsigned char)(at + 1);
+        }
+        return 0;
+    }
     return next(bytes, count);
 }
 
@@ -187,16 +216,33 @@ int open(const char *path, int flags, unsigned mode) {
     return next(path, flags, mode);
 }
 
-int statx(int folder, const char *path, int flags, unsigned mask, void *told) {
+int statx(int folder, const char *path, int flags, unsigned mask, struct about *told) {
     FIND_NEXT(statx)
+    static size_type answers;
     count_call();
-    return next(folder, path, flags, mask, told);
+    int outcome = next(folder, path, flags, mask, told);
+    if (outcome == 0 && ++answers == setting("OTHER_DEVICE", 0)) {
+        told->device_minor ^= 1;
+    }
+    return outcome;
 }
 
 int mkdir(const char *path, unsigned mode) {
     FIND_NEXT(mkdir)
     count_call();
     return next(path, mode);
+}
+
+int link(const char *old, const char *path) {
+    FIND_NEXT(link)
+    count_call();
+    return next(old, path);
+}
+
+int fchmod(int file, unsigned mode) {
+    FIND_NEXT(fchmod)
+    count_call();
+    return next(file, mode);
 }
 
 int flock(int file, int how) {
@@ -268,8 +314,14 @@ __attribute__((destructor)) static void tell_held(void) {
     if (getenv("TELL_BYTES")) {
         tell("bytes %lu %lu\n", live - base, peak - base);
     }
+    if (getenv("TELL_WRITES")) {
+        tell("writes %lu\n", writes_of_files, 0);
+    }
     if (getenv("TELL_DRAWN")) {
         tell("draws %lu\n", drawn, 0);
+    }
+    if (getenv("TELL_READS")) {
+        tell("reads %lu\n", reads, 0);
     }
 }
 

@@ -15,13 +15,15 @@ PICTURES = {"out": HERE / "out/pictures", "docs": DOCS / "pictures"}
 # The results that the documents show.
 MEASURED = HERE / "measured"
 # What is measured by itself, each with a file of results.
-PARTS = ("times", "memory", "cycles", "columns", "threads")
+PARTS = ("times", "memory", "cycles", "rust", "columns", "threads")
+# Those that the driver measures, which has the library's proved half.
+OF_LIBRARY = ("times", "memory", "cycles")
 TEXTS = ("identifiers", "words", "long")
 # The sources of what each part measures, and of what it is measured by.
 LIBRARY = ("crates/string_interner/src", "crates/handles/src", "crates/string_interner_c/src", "bench/ours", "bench/beside/src", "bench/driver.py")
 SOURCES = {
-    **dict.fromkeys(("times", "memory"), LIBRARY),
-    "cycles": (*LIBRARY, "clients/rust/src", "bench/rust"),
+    **dict.fromkeys(OF_LIBRARY, LIBRARY),
+    "rust": ("clients/rust/src", "bench/rust"),
     "columns": ("crates/string_interner/src", "crates/string_column/src", "crates/dictcol/src", "bench/columns.py"),
     "threads": ("clients/rust/src", "bench/threads"),
 }

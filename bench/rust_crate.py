@@ -7,7 +7,7 @@ from cycles import count, cycles_in
 from results import HERE, RUST, TOP
 
 OUT = HERE / "out"
-PHASES = ("fill", "known", "unknown", "resolve", "shuffled", "iterate", "extend", "clone", "tokenizer")
+PHASES = ("fill", "known", "unknown", "resolve", "shuffled", "iterate", "loop", "extend", "clone", "again", "tokenizer")
 
 
 def build(done, words, name, crates=()):

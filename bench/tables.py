@@ -108,7 +108,7 @@ def columns(results):
 
 def speed(results):
     """For the README and the crate's page: what a user of the original gets."""
-    shown = {"fill": "new text", "known": "known text", "unknown": "unknown text", "resolve": "resolve", "iterate": "iterate"}
+    shown = {"fill": "new text", "known": "known text", "unknown": "unknown text", "resolve": "resolve", "loop": "`for` loop"}
     shown["tokenizer"] = "tokenizer"
     said = "Estimated cycles divided by those of string-interner 0.19, by the default hasher and the fixed one; lower is better"
     rows = list(table_rows(results, shown))

@@ -17,6 +17,9 @@ SECONDS = 60
 # What the library says at the end of a run that gave back all memory, and what stands for that line where it is missing.
 HELD_NOTHING, HELD = b"holds 0\n", b"not all memory was given back\n"
 
+# The signals by which a user ends a run early.
+ENDING = signal.SIGINT, signal.SIGTERM, signal.SIGHUP
+
 # What the library says when it refuses a request for memory.
 REFUSED = b"request refused\n"
 
@@ -99,11 +102,17 @@ class Program:
             return End(process.returncode, b"", told.read()), used.ru_maxrss
 
     @contextmanager
-    def stopped(self, words, data, call, folder):
-        """A run that stops before its call of this number that looks for, opens, makes, locks, renames or removes a file or
-        folder. It goes on or is killed by `end`; without such a call it has ended."""
+    def stopped(self, words, data, call, folder, ignored=()):
+        """A run that stops before its call of this number that looks for, opens, makes, links, locks, renames or removes a file or
+        folder, without these signals. It goes on or is killed by `end`; without such a call it has ended."""
         environment = {"LD_PRELOAD": self.library, "STOP_AT": str(call)}
-        with holding(data) as given, subprocess.Popen([self.path, *words], stdin=given, stdout=subprocess.PIPE,
+
+        def choose_signals():
+            # A shell has what it starts behind its back ignore SIGINT.
+            for it in ENDING:
+                signal.signal(it, signal.SIG_IGN if it in ignored else signal.SIG_DFL)
+
+        with holding(data) as given, subprocess.Popen([self.path, *words], stdin=given, stdout=subprocess.PIPE, preexec_fn=choose_signals,
                                                       stderr=subprocess.PIPE, env=environment, cwd=folder) as started:
             try:
                 yield Stopped(started)
@@ -127,6 +136,8 @@ class Stopped:
         """How it ends after this signal."""
         if self.is_stopped:
             os.kill(self.started.pid, by)
+            # What stopped goes on before it takes another signal than this one and SIGKILL.
+            os.kill(self.started.pid, signal.SIGCONT)
         return end_of(self.started)
 
 

@@ -30,17 +30,19 @@ NAMES_THE_ORIGINAL = "docs/PORTING.md"
 # The page with a table of the toolchain's libraries that each crate uses, whose contracts are trusted, and a row of it.
 NAMES_THE_TRUSTED = "docs/promises.md"
 TRUSTED = re.compile(r"^\| `(\w+)` \| ((?:`\w+`(?:, )?)+) \|$", re.M)
+# A line for the crates.txt of a reader's project.
+LISTED = re.compile(r"^ *((\w+)(?: staticlib)?:(?: \w+)*)$", re.M)
 # What names the version, and the line that does; of several such lines the first.
 VERSIONS = {
     "CHANGELOG.md": r"^## \[(.*)\] - \d{4}-\d\d-\d\d$",
-    "clients/c/Cargo.toml": r'^version = "(.*)"$',
-    "clients/programs/Cargo.toml": r'^version = "(.*)"$',
+    "Cargo.toml": r'^version = "(.*)"$',
     "clients/python/string_interner/__init__.py": r'^__version__ = "(.*)"$',
     "clients/rust/Cargo.toml": r'^version = "0\.19\.\d+\+(.*)"$',
     "crates/dictcol/src/main.rt": r'^const VERSION: &str = "dictcol (.*)\\n";$',
+    "crates/intern/src/help.rt": r'^pub const VERSION: &str = "intern (.*)\\n";$',
 }
 # Folders of what is built, as .gitignore has them.
-BUILT = {"out", "__pycache__"}
+BUILT = {"out", "target", "__pycache__"}
 # How long a page may be: the front page fits on two screens, and a user's page is read at one sitting.
 MOST_LINES = 120
 USERS_PAGE = re.compile(r"docs/[a-z]+\.md")
@@ -193,6 +195,14 @@ def other_libraries(text):
     yield from (f"names {it}, which {crate} does not use" for crate, it in sorted(named - used))
 
 
+def other_lines(text):
+    """The lines for a reader's crates.txt that name a crate of ours, and other libraries than our line of it. The record of its proof
+    does not fit such a line."""
+    lines = listed(TOP)
+    yield from (f"has the line {line!r}, and crates.txt {lines[crate]!r}" for line, crate in LISTED.findall(text)
+                if lines.get(crate, line) != line)
+
+
 def faults():
     """What is wrong with the documents."""
     repository = Repository()
@@ -206,7 +216,7 @@ def faults():
         yield from (f"{FRONT_PAGE}: {it}" for it in found)
     for page, text in texts.items():
         untried = STEP.sub("", text) if is_tried(page) else text
-        found = [*broken_links(page, text), *missing_names(page, untried, repository)]
+        found = [*broken_links(page, text), *missing_names(page, untried, repository), *other_lines(text)]
         found += untried_blocks(BLOCK.findall(untried), repository)
         found += other_libraries(text) if page == NAMES_THE_TRUSTED else []
         yield from (f"{page}: {it}" for it in dict.fromkeys(found))

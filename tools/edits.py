@@ -5,7 +5,7 @@ crates/CRATE/bugs/PATH.bugs has the planted bugs of src/PATH.rt, with an empty l
   bug:        its name
   function:   the function whose promise it breaks, for a bug that the prover must refuse
   scenario:   what catches it, for a bug that the prover accepts and a run of a built program must catch: a scenario and words of
-              its first line, or words for run-program
+              its first line, or words for run-program, which name a function of a part: the fewer trials, the sooner the end
   file:       another file of the crate, or this source as a whole, in which the next old texts stand
   old:        a text that stands once in the function, or in the file if there is no `function:`, or a `file:`; it may be empty
               for all of a file, if there is one

@@ -46,6 +46,13 @@ def outcome(program, trial):
     return faults, count
 
 
+def chosen(parts, word):
+    """The trials that a word names: those of a part, as `columns`, or of one function of it, as `columns:try_links`."""
+    part, _, function = word.partition(":")
+    trials = parts.get(part, ())
+    return (it for it in trials if it[0].__name__ == function) if function else trials
+
+
 class Tally:
     """Counts what passed and what failed, part by part."""
 

@@ -30,7 +30,8 @@ from needs import missing, python_with
 # What a page needs besides a shell and `rt`.
 NEEDS = {
     "docs/c.md": ["cc", "pkg-config"],
-    "docs/columns.md": ["cc", "python3-config", "python distributed pandas"],
+    "docs/columns.md": ["cc", "python3-config"],
+    "docs/dask.md": ["cc", "python3-config", "python distributed"],
     "docs/python.md": ["cc", "python3-config", "python pip setuptools wheel"],
     "docs/rust.md": ["cc", "cargo"],
 }
@@ -64,17 +65,19 @@ UNSET = ("PYTHONPATH", "PKG_CONFIG_PATH", "LD_LIBRARY_PATH", "STRING_INTERNER_LI
 
 def script_of(text):
     """The steps of a page as a script that prints a mark before each block of commands; and what each of these must print, or
-    None."""
-    script, printed = ["set -eu"], []
+    None. Behind the last step cargo runs each program again, because the page may have put another one into its package since."""
+    script, blocks = ["set -eu"], []
     for file, language, step in STEP.findall(text):
         if file:
             script.append(f"mkdir -p {quote(os.path.dirname(file) or '.')}\nprintf %s {quote(step)} >{quote(file)}")
         elif language == "sh":
             script.append(f"printf '{MARK}'\n{step}")
-            printed.append(None)
-        elif printed:
-            printed[-1] = step
-    return "\n".join(script), printed
+            blocks.append((step, None))
+        elif blocks:
+            blocks[-1] = (blocks[-1][0], step)
+    again = [(commands, told) for commands, told in blocks if commands.startswith("cargo run ")]
+    script += [f"printf '{MARK}'\n{commands}" for commands, _ in again]
+    return "\n".join(script), [told for _, told in blocks + again]
 
 
 def copy_sources(folder):

@@ -22,6 +22,7 @@ trait Interner: Clone {
     fn number(symbol: Self::Symbol) -> usize;
     fn count(&self) -> usize;
     fn walk(&self) -> usize;
+    fn loop_over(&self) -> usize;
     fn add_all(&mut self, texts: &[String]);
 }
 
@@ -60,7 +61,18 @@ macro_rules! interner {
 
             #[inline]
             fn walk(&self) -> usize {
-                self.iter().map(|(symbol, text)| Self::number(symbol) + text.len()).sum()
+                self.iter()
+                    .map(|(symbol, text)| Self::number(symbol) + text.len())
+                    .sum()
+            }
+
+            #[inline]
+            fn loop_over(&self) -> usize {
+                let mut sum = 0;
+                for (symbol, text) in self {
+                    sum += Self::number(symbol) + text.len();
+                }
+                sum
             }
 
             #[inline]
@@ -126,7 +138,12 @@ fn inputs(count: usize) -> Inputs {
         source.push_str(&new[place]);
         source.push(char::from(b" (;=+\n"[random.below(6)]));
     }
-    Inputs { new, known, unknown, source }
+    Inputs {
+        new,
+        known,
+        unknown,
+        source,
+    }
 }
 
 #[inline(never)]
@@ -137,12 +154,18 @@ fn intern<I: Interner>(interner: &mut I, texts: &[String], symbols: &mut Vec<I::
 
 #[inline(never)]
 fn find<I: Interner>(interner: &I, texts: &[String]) -> usize {
-    texts.iter().filter(|text| interner.find(text).is_some()).count()
+    texts
+        .iter()
+        .filter(|text| interner.find(text).is_some())
+        .count()
 }
 
 #[inline(never)]
 fn resolve<I: Interner>(interner: &I, symbols: &[I::Symbol]) -> usize {
-    symbols.iter().map(|symbol| interner.resolve(*symbol).map_or(0, str::len)).sum()
+    symbols
+        .iter()
+        .map(|symbol| interner.resolve(*symbol).map_or(0, str::len))
+        .sum()
 }
 
 /// Interns each word of a source text, as a tokenizer does.
@@ -157,7 +180,9 @@ fn tokens<I: Interner>(interner: &mut I, source: &str) -> usize {
             at += 1;
         }
         if from < at {
-            sum = sum.wrapping_mul(31).wrapping_add(I::number(interner.intern(&source[from..at])));
+            sum = sum
+                .wrapping_mul(31)
+                .wrapping_add(I::number(interner.intern(&source[from..at])));
         }
         at += 1;
     }
@@ -181,32 +206,46 @@ fn measure<I: Interner>(inputs: &Inputs) {
     time("resolve", &mut || resolve(&it, &symbols));
     time("shuffled", &mut || resolve(&it, &mixed));
     time("iterate", &mut || it.walk());
+    time("loop", &mut || it.loop_over());
     let mut filled = I::empty();
     time("extend", &mut || {
         filled.add_all(&inputs.new);
         filled.count()
     });
     let mut copies = Vec::with_capacity(1);
-    time("clone", &mut || {
-        copies.push(it.clone());
-        copies[0].count()
-    });
+    // The first copy is of fresh memory, and the second of what the first had.
+    for phase in ["clone", "again"] {
+        copies.clear();
+        time(phase, &mut || {
+            copies.push(it.clone());
+            copies[0].count()
+        });
+    }
     time("tokenizer", &mut || tokens(&mut it, &inputs.source));
     for (phase, nanoseconds, sum) in lines {
         println!("{phase}\t{nanoseconds:.1}\t{sum}");
     }
 }
 
-const KINDS: [(&str, fn(&Inputs)); 3] = [
+type Measure = fn(&Inputs);
+
+const KINDS: [(&str, Measure); 3] = [
     ("original", measure::<original::DefaultStringInterner>),
     ("default", measure::<ours::DefaultStringInterner>),
-    ("fixed", measure::<ours::StringInterner<ours::DefaultBackend, FixedHashBuilder>>),
+    (
+        "fixed",
+        measure::<ours::StringInterner<ours::DefaultBackend, FixedHashBuilder>>,
+    ),
 ];
 
 fn main() {
     let [_, kind, count] = &*std::env::args().collect::<Vec<_>>() else {
         panic!("usage: rust KIND COUNT");
     };
-    let measure = KINDS.iter().find(|(name, _)| name == kind).expect("no such kind").1;
+    let measure = KINDS
+        .iter()
+        .find(|(name, _)| name == kind)
+        .expect("no such kind")
+        .1;
     measure(&inputs(count.parse().expect("COUNT is a number")));
 }

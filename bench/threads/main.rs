@@ -7,7 +7,7 @@
 
 use std::cell::UnsafeCell;
 use std::collections::BTreeSet;
-use std::hash::{BuildHasher, Hash, Hasher};
+use std::hash::BuildHasher;
 use std::hint::{black_box, spin_loop};
 use std::sync::atomic::{AtomicU32, AtomicUsize, Ordering::SeqCst};
 use std::sync::RwLock;
@@ -63,7 +63,9 @@ impl Contestant for Plain {
     #[inline]
     fn resolve(&self, symbol: &Self::Symbol) -> usize {
         // SAFETY: as above.
-        unsafe { &*self.0.get() }.resolve(*symbol).map_or(0, str::len)
+        unsafe { &*self.0.get() }
+            .resolve(*symbol)
+            .map_or(0, str::len)
     }
 }
 
@@ -122,7 +124,10 @@ impl Rodeo {
     /// Copies a text. It is lent for as long as the maps, which go with the bytes.
     fn store(&self, text: &str) -> &'static str {
         let from = self.used.fetch_add(text.len(), SeqCst);
-        let place = self.bytes[from..][..text.len()].as_ptr().cast::<u8>().cast_mut();
+        let place = self.bytes[from..][..text.len()]
+            .as_ptr()
+            .cast::<u8>()
+            .cast_mut();
         // SAFETY: no other thread has these bytes, which are inside of a cell.
         unsafe {
             place.copy_from_nonoverlapping(text.as_ptr(), text.len());
@@ -149,9 +154,7 @@ impl Contestant for Rodeo {
         if let Some(symbol) = self.symbols.get(text) {
             return *symbol;
         }
-        let mut hasher = self.symbols.hasher().build_hasher();
-        text.hash(&mut hasher);
-        let code = hasher.finish();
+        let code = self.symbols.hasher().hash_one(text);
         let shard = self.symbols.determine_shard(code as usize);
         let mut shard = self.symbols.shards()[shard].write();
         match shard.raw_entry_mut().from_key_hashed_nocheck(code, text) {
@@ -233,7 +236,9 @@ fn texts(count: usize) -> Texts {
     let mut all: Vec<String> = Vec::with_capacity(count);
     while all.len() < count {
         let length = 5 + random.below(MOST - 4);
-        let text: String = (0..length).map(|_| char::from(LETTERS[random.below(LETTERS.len())])).collect();
+        let text: String = (0..length)
+            .map(|_| char::from(LETTERS[random.below(LETTERS.len())]))
+            .collect();
         if seen.insert(text.clone()) {
             all.push(text);
         }
@@ -242,7 +247,8 @@ fn texts(count: usize) -> Texts {
     let mut any = || -> Vec<usize> { (0..parts * CALLS).map(|_| random.below(count)).collect() };
     Texts {
         new: lay_out(all.iter().map(String::as_str)),
-        known: [any(), any(), any(), any()].map(|places| lay_out(places.iter().map(|place| &*all[*place]))),
+        known: [any(), any(), any(), any()]
+            .map(|places| lay_out(places.iter().map(|place| &*all[*place]))),
     }
 }
 
@@ -251,7 +257,11 @@ fn texts(count: usize) -> Texts {
 fn pin(processor: usize) {
     // SAFETY: a set of no processors is all zeros, and the calls read what they are passed.
     unsafe {
-        libc::sched_setscheduler(0, libc::SCHED_FIFO, &libc::sched_param { sched_priority: 1 });
+        libc::sched_setscheduler(
+            0,
+            libc::SCHED_FIFO,
+            &libc::sched_param { sched_priority: 1 },
+        );
         let mut set: libc::cpu_set_t = mem::zeroed();
         libc::CPU_SET(processor, &mut set);
         libc::sched_setaffinity(0, size_of_val(&set), &set);
@@ -275,8 +285,18 @@ fn part_of<T>(list: &[T], turn: usize) -> &[T] {
 
 /// Runs a body for each thread and the number of this round in threads that begin at the same time. Each first runs `before` for the
 /// next round. They make so many calls. What a body returns is dropped after that. Returns the nanoseconds of a call.
-fn run<T: Send>(threads: usize, calls: usize, before: impl Fn(usize, usize) + Sync, body: impl Fn(usize, usize) -> T + Sync) -> f64 {
-    let (ready, before, body, turn) = (&AtomicUsize::new(0), &before, &body, TURN.fetch_add(1, SeqCst));
+fn run<T: Send>(
+    threads: usize,
+    calls: usize,
+    before: impl Fn(usize, usize) + Sync,
+    body: impl Fn(usize, usize) -> T + Sync,
+) -> f64 {
+    let (ready, before, body, turn) = (
+        &AtomicUsize::new(0),
+        &before,
+        &body,
+        TURN.fetch_add(1, SeqCst),
+    );
     let time = move |thread: usize| {
         pin((thread + turn) % THREADS);
         ready.fetch_add(1, SeqCst);
@@ -289,7 +309,9 @@ fn run<T: Send>(threads: usize, calls: usize, before: impl Fn(usize, usize) + Sy
         (spent() - begun, kept)
     };
     let times: Vec<_> = thread::scope(|scope| {
-        let all: Vec<_> = (0..threads).map(|thread| scope.spawn(move || time(thread))).collect();
+        let all: Vec<_> = (0..threads)
+            .map(|thread| scope.spawn(move || time(thread)))
+            .collect();
         all.into_iter().map(|it| it.join().unwrap()).collect()
     });
     times.iter().map(|it| it.0).sum::<f64>() / calls as f64
@@ -309,12 +331,24 @@ fn rows_of<C: Contestant + 'static>(name: &str, texts: &'static Texts) -> Vec<Ro
     // Symbols stay for as long as texts are known.
     let all: Vec<_> = texts.new.iter().map(|text| names.intern(text)).collect();
     mem::forget(all);
-    let symbols = texts.known.each_ref().map(|texts| texts.iter().map(|text| names.intern(text)).collect::<Vec<_>>());
+    let symbols = texts.known.each_ref().map(|texts| {
+        texts
+            .iter()
+            .map(|text| names.intern(text))
+            .collect::<Vec<_>>()
+    });
     let symbols: &[_; THREADS] = Box::leak(Box::new(symbols));
     let mut rows = Vec::new();
-    for threads in [1, THREADS].into_iter().filter(|threads| *threads == 1 || C::IS_SHARED) {
+    for threads in [1, THREADS]
+        .into_iter()
+        .filter(|threads| *threads == 1 || C::IS_SHARED)
+    {
         let mut add = |call: &str, round: Box<dyn Fn() -> f64>| {
-            rows.push(Row { name: format!("{name}\t{call} {threads}"), round, times: Vec::new() });
+            rows.push(Row {
+                name: format!("{name}\t{call} {threads}"),
+                round,
+                times: Vec::new(),
+            });
         };
         let find = |thread: usize, turn| {
             for text in part_of(&texts.known[thread], turn) {
@@ -329,12 +363,23 @@ fn rows_of<C: Contestant + 'static>(name: &str, texts: &'static Texts) -> Vec<Ro
         let part = count / threads;
         let fill = move || {
             let names = C::new(count);
-            let fill = |thread, _| -> Vec<_> { texts.new[thread * part..][..part].iter().map(|text| names.intern(text)).collect() };
+            let fill = |thread, _| -> Vec<_> {
+                texts.new[thread * part..][..part]
+                    .iter()
+                    .map(|text| names.intern(text))
+                    .collect()
+            };
             run(threads, count, |_, _| (), fill)
         };
         // What is measured is in the caches as far as it has room there.
-        add("known", Box::new(move || run(threads, threads * CALLS, find, find)));
-        add("resolve", Box::new(move || run(threads, threads * CALLS, resolve, resolve)));
+        add(
+            "known",
+            Box::new(move || run(threads, threads * CALLS, find, find)),
+        );
+        add(
+            "resolve",
+            Box::new(move || run(threads, threads * CALLS, resolve, resolve)),
+        );
         add("new", Box::new(fill));
     }
     rows
@@ -353,7 +398,10 @@ fn print_memory<C: Contestant>(name: &str, texts: &Texts) {
     let before = live();
     let names = C::new(texts.new.len());
     symbols.extend(texts.new.iter().map(|text| names.intern(text)));
-    println!("{name}\tbytes\t{:.1}", (live() - before) as f64 / texts.new.len() as f64);
+    println!(
+        "{name}\tbytes\t{:.1}",
+        (live() - before) as f64 / texts.new.len() as f64
+    );
 }
 
 /// Prints the median of a row.
@@ -365,7 +413,12 @@ fn print_times(mut row: Row) {
 }
 
 fn main() {
-    let [count, rounds] = [1, 2].map(|place| std::env::args().nth(place).and_then(|it| it.parse().ok()).expect("threads COUNT ROUNDS"));
+    let [count, rounds] = [1, 2].map(|place| {
+        std::env::args()
+            .nth(place)
+            .and_then(|it| it.parse().ok())
+            .expect("threads COUNT ROUNDS")
+    });
     let texts: &Texts = Box::leak(Box::new(texts(count)));
     let mut rows = Vec::new();
     macro_rules! measure {
@@ -376,7 +429,10 @@ fn main() {
     }
     measure!(Plain, "plain");
     measure!(ours::sync::Interner, "sync::Interner");
-    measure!(RwLock<original::DefaultStringInterner>, "RwLock of the original");
+    measure!(
+        RwLock<original::DefaultStringInterner>,
+        "RwLock of the original"
+    );
     measure!(Rodeo, "dashmap, as lasso");
     // Its lists are 4096 whatever the count of texts.
     if count <= 100_000 {

@@ -69,7 +69,7 @@ def in_one_process(read):
     rows = read()
     column, joined, ends = Column(rows), "".join(rows).encode(), array("Q", accumulate(map(len, rows)))
     yield "Interner().intern_all(rows)", lambda rows: Interner().intern_all(rows), read
-    yield "Interner().intern_column(joined, ends)", lambda _: Interner().intern_column(joined, ends)
+    yield "Interner().intern_column(joined, ends=ends)", lambda _: Interner().intern_column(joined, ends=ends)
     yield "Column(rows)", Column, read
     yield "Column.merge", lambda _: Column(["first"]).merge(column)
     yield "Column.counts", lambda _: column.counts()

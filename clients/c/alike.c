@@ -15,7 +15,7 @@
   CALL(new_with) CALL(resolve) CALL(shrink) CALL(string_find_utf8) CALL(string_intern_utf8) CALL(string_joined) \
   CALL(string_resolve) CALL(to_json) CALL(truncate) CALL(version)
 
-enum { HANDLES = 6, MANY = 40, MOST_BYTES = 4096, MOST_JSON = 1 << 20, MOST_LOGGED = 3 << 20 };
+enum { HANDLES = 6, MANY = 40, LARGE = (1 << 22) + 1, MOST_BYTES = 4096, MOST_JSON = 1 << 20, MOST_LOGGED = 3 << 20 };
 
 /* A build: its calls, its handles, and what the last command returned and wrote. */
 typedef struct build {
@@ -274,7 +274,7 @@ static void draw(given *of, build *one) {
   of->options.kind = (interner_kind)(below(20) ? below(3) : below(9));
   of->options.hasher = (interner_hasher)(below(20) ? below(3) : below(9));
   of->options.capacity = below(9) ? below(300) : (size_t)(state >> below(64));
-  if (of->options.capacity > 100000 && of->options.capacity < (size_t)1 << 50) of->options.capacity = 9;
+  if (of->options.capacity > 100000 && of->options.capacity < (size_t)1 << 50) of->options.capacity = below(8) ? 9 : LARGE;
   of->options.key0 = state, of->options.key1 = below(1000);
   of->exact = below(2);
   of->text = some_text();

@@ -9,7 +9,7 @@
 #include <string.h>
 #include <time.h>
 
-enum { LENGTH = 32, FEW = 3000, MANY = 16000, HOMES = 4096, LARGE = 1 << 20 };
+enum { LENGTH = 32, FEW = 3000, MANY = 16000, HOMES = 4096, LARGE = 1 << 20, LARGER = (1 << 22) + 1 };
 
 __extension__ typedef unsigned __int128 product;
 
@@ -134,11 +134,11 @@ static void spell_json(const char *texts, size_t count) {
   json_len = (size_t)(at + 1 - json);
 }
 
-/* The calls that make a handle: NEW_LARGE is NEW_WITH of a large capacity. */
-enum { NEW, FROM_JSON, NEW_WITH, FROM_JSON_WITH, FROM_JSON_EXACT, CLONE, NEW_LARGE };
+/* The calls that make a handle: NEW_LARGE and NEW_LARGER are NEW_WITH of large capacities. */
+enum { NEW, FROM_JSON, NEW_WITH, FROM_JSON_WITH, FROM_JSON_EXACT, CLONE, NEW_LARGE, NEW_LARGER };
 
 static interner *make_by(int call, interner_kind kind, interner_hasher hasher) {
-  const size_t capacity = call == NEW_WITH ? 9 : call == NEW_LARGE ? LARGE : 0;
+  const size_t capacity = call == NEW_WITH ? 9 : call == NEW_LARGE ? LARGE : call == NEW_LARGER ? LARGER : 0;
   const interner_options options = {kind, hasher, capacity, secret.key0, secret.key1};
   interner *made, *original;
   interner_status status;
@@ -146,7 +146,8 @@ static interner *make_by(int call, interner_kind kind, interner_hasher hasher) {
   case NEW: status = interner_new(kind, &made); break;
   case FROM_JSON: status = interner_from_json(kind, json, json_len, &made); break;
   case NEW_WITH:
-  case NEW_LARGE: status = interner_new_with(&options, &made); break;
+  case NEW_LARGE:
+  case NEW_LARGER: status = interner_new_with(&options, &made); break;
   case FROM_JSON_WITH: status = interner_from_json_with(&options, json, json_len, false, &made); break;
   case FROM_JSON_EXACT: status = interner_from_json_with(&options, json, json_len, true, &made); break;
   default:
@@ -168,7 +169,7 @@ static double least_time(int call, interner_kind kind, interner_hasher hasher, c
     size_t done;
     double begun = (double)clock(), took;
     interner *names = make_by(call, kind, hasher);
-    if (call == NEW_LARGE) {
+    if (call >= NEW_LARGE) {
       /* To make a large table, and to write to its memory for the first time, takes longer than to intern texts. */
       if (interner_intern_joined(names, texts, count * LENGTH, ends, count, symbols, count, &done) != INTERNER_OK) abort();
       interner_truncate(names, 0);
@@ -211,11 +212,11 @@ static bool all_agree(void) {
   choose(fixed, MANY);
   if (!agrees(NEW, FROM_JSON, INTERNER_FIXED, FEW, true) || !agrees(NEW_WITH, NEW_LARGE, INTERNER_FIXED, FEW, true)) return false;
   if (!agrees(NEW_WITH, NEW_LARGE, INTERNER_SEEDED, MANY, false)) return false;
-  if (!agrees(NEW_WITH, NEW_LARGE, INTERNER_SIPHASH, MANY, false)) return false;
+  if (!agrees(NEW_WITH, NEW_LARGER, INTERNER_SIPHASH, MANY, false)) return false;
   choose(seeded(guessed), MANY);
   if (!agrees(NEW_WITH, NEW_LARGE, INTERNER_SEEDED, MANY, false)) return false;
   choose(seeded(secret), FEW);
-  if (!agrees(NEW_WITH, NEW_LARGE, INTERNER_SEEDED, FEW, true)) return false;
+  if (!agrees(NEW_WITH, NEW_LARGER, INTERNER_SEEDED, FEW, true)) return false;
   if (!agrees(NEW_WITH, NEW_LARGE, INTERNER_SIPHASH, FEW, false)) return false;
   /* A large table has more homes than texts can be chosen for. */
   choose_for_siphash(guessed, FEW);

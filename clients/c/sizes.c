@@ -1,5 +1,5 @@
-/* sizes: parts and JSON of each size are interned and read, so that none fails but for memory; and shrinking a truncated handle
- * releases what the texts took that are gone. */
+/* sizes: parts and JSON of each size are interned and read, also many texts, and copied, so that none fails but for memory; and
+ * shrinking a truncated handle releases what the texts took that are gone. */
 #include "string_interner.h"
 #include <malloc.h>
 #include <stdio.h>
@@ -8,7 +8,7 @@
 
 #define MUST(claim) ((claim) ? (void)0 : fail(#claim, __LINE__))
 
-enum { TEXTS = 20000, KEPT = 100, LENGTH = 30, LARGEST = 4 << 20 };
+enum { TEXTS = 20000, KEPT = 100, MANY_TEXTS = (1 << 20) + 5, MOST_TEXTS = (1 << 22) + 5, LENGTH = 30, LARGEST = 4 << 20 };
 
 static const interner_kind kinds[] = {INTERNER_STRING, INTERNER_BUCKET, INTERNER_BUFFER};
 static interner_kind kind;
@@ -60,7 +60,8 @@ static size_t held(void) {
   return counts.uordblks + counts.hblkhd;
 }
 
-static void shrink_after_truncation(void) {
+/* Of so many texts so many are kept. */
+static void shrink_after_truncation(size_t texts, size_t kept) {
   /* What a text takes: its bytes and its end; its entry, since buckets stay; its bytes and its length. */
   static const size_t taken[] = {LENGTH + 4, 16, LENGTH + 1};
   interner *h;
@@ -68,16 +69,35 @@ static void shrink_after_truncation(void) {
   size_t i, full;
   char text[LENGTH + 1];
   MUST(interner_new(kind, &h) == INTERNER_OK);
-  for (i = 0; i < TEXTS; i++) {
+  for (i = 0; i < texts; i++) {
     snprintf(text, sizeof text, "%0*zu", LENGTH, i);
     MUST(interner_get_or_intern(h, text, LENGTH, &symbol) == INTERNER_OK);
   }
   full = held();
-  interner_truncate(h, KEPT);
+  interner_truncate(h, kept);
   MUST(held() == full);
   interner_shrink(h);
   /* All but a hundredth, because pages are given back whole. */
-  MUST(held() + (TEXTS - KEPT) * taken[kind] / 100 * 99 <= full && interner_len(h) == KEPT);
+  MUST(held() + (texts - kept) * taken[kind] / 100 * 99 <= full && interner_len(h) == kept);
+  write_and_read(h);
+  interner_free(h);
+}
+
+/* So many texts are copied, and of some of them JSON is written and read. */
+static void hold_many(size_t texts) {
+  interner *h, *copy;
+  interner_symbol symbol;
+  size_t i;
+  char text[LENGTH + 1];
+  MUST(interner_new(kind, &h) == INTERNER_OK);
+  for (i = 0; i < texts; i++) {
+    size_t len = (size_t)snprintf(text, sizeof text, "%zx", i);
+    MUST(interner_get_or_intern(h, text, len, &symbol) == INTERNER_OK);
+  }
+  MUST(interner_clone(h, &copy) == INTERNER_OK && interner_equal(h, copy) && interner_len(copy) == texts);
+  interner_free(copy);
+  interner_truncate(h, MANY_TEXTS);
+  interner_shrink(h);
   write_and_read(h);
   interner_free(h);
 }
@@ -87,8 +107,10 @@ int main(void) {
   for (i = 0; i < 3; i++) {
     kind = kinds[i];
     intern_each_size();
-    shrink_after_truncation();
+    shrink_after_truncation(TEXTS, KEPT);
+    shrink_after_truncation(MANY_TEXTS, MANY_TEXTS / 2);
+    hold_many(kind == INTERNER_STRING ? MOST_TEXTS : MANY_TEXTS);
   }
-  printf("parts and JSON have any size, and shrinking gives back what is gone\n");
+  printf("parts and JSON have any size, many texts are held, and shrinking gives back what is gone\n");
   return 0;
 }

@@ -4,10 +4,13 @@ The library is the one that STRING_INTERNER_LIB names, or else in the repository
 cargo compiles it, of the sources that are here, too.
 """
 
+import logging
 import os
 import shutil
 import subprocess
 import sysconfig
+import time
+import tomllib
 from pathlib import Path
 
 from setuptools import Extension, setup
@@ -17,14 +20,18 @@ from setuptools.command.sdist import sdist
 try:
     from setuptools.command.bdist_wheel import bdist_wheel
 except ImportError:  # setuptools before 70.1
-    from wheel.bdist_wheel import bdist_wheel
+    try:
+        from wheel.bdist_wheel import bdist_wheel
+    except ImportError:
+        raise SystemExit("setup.py: this Python has no wheel: install that (Debian's python3-wheel), or setuptools 70.1 or later") from None
 
 ARCHIVE = "libstring_interner.a"
+# How often a long step says that it is at work.
+SECONDS = 5
 HERE = Path(__file__).resolve().parent
 # The sources of the library: in the archive of this package's sources, and in the repository. No other package is used.
 PACKED = HERE / "library"
-SOURCES = PACKED if PACKED.exists() else HERE.parent
-PARTS = ["c/Cargo.toml", "c/src", "c/string_interner.h", *(f"rust/src/{it}" for it in ("unchecked.rs", "proved", "rt"))]
+SOURCES = PACKED if PACKED.exists() else HERE.parent.parent
 FLAGS = ["-O2", "-std=c11", "-Wall", "-Wextra", "-Wno-cast-function-type", "-Wno-missing-field-initializers", "-fvisibility=hidden", "-g0"]
 
 
@@ -32,12 +39,42 @@ class BuildWithLibrary(build_ext):
     def build_extensions(self):
         if sysconfig.get_config_var("Py_GIL_DISABLED"):
             raise SystemExit("setup.py: the module needs the global lock, which this Python is built without")
-        headers, archive = find_library() or compile_library(Path(self.build_temp).resolve() / "library")
+        headers, archive = find_library() or self.compile_library(Path(self.build_temp).resolve() / "library")
         for extension in self.extensions:
             extension.include_dirs.append(str(headers))
             extension.extra_objects.append(str(archive))
             extension.depends.append(str(archive))
         super().build_extensions()
+
+    def compile_library(self, folder):
+        """Returns the folder of the header and the archive that cargo makes in a folder, without a network. It is for this machine,
+        whatever target a setting of cargo names."""
+        command = ["cargo", "build", "--quiet", "--release", "--offline", "-p", "string-interner-c", "--target-dir", str(folder)]
+        try:
+            about = subprocess.run(["cargo", "-vV"], check=True, stdout=subprocess.PIPE, encoding="utf-8", cwd=SOURCES).stdout
+            host = next(line.removeprefix("host: ") for line in about.splitlines() if line.startswith("host: "))
+            logging.info("setup.py: compiling the library by cargo, in a minute")
+            status = self.run_and_tell([*command, "--target", host], SOURCES)
+        except FileNotFoundError:
+            raise SystemExit(
+                "setup.py: no cargo, which compiles the library: install Rust 1.85 or later, or name the folder of a library in "
+                "STRING_INTERNER_LIB"
+            ) from None
+        except subprocess.CalledProcessError as error:
+            status = error.returncode
+        if status:
+            raise SystemExit("setup.py: cargo did not compile the library")
+        return SOURCES / "clients/c", folder / host / "release" / ARCHIVE
+
+    def run_and_tell(self, command, folder):
+        """Runs a command, and says each few seconds that it is at work. Returns how it ended."""
+        start = time.monotonic()
+        with subprocess.Popen(command, cwd=folder) as running:
+            while True:
+                try:
+                    return running.wait(SECONDS)
+                except subprocess.TimeoutExpired:
+                    logging.info("setup.py: still compiling, %.0f s", time.monotonic() - start)
 
 
 class ManyLinuxWheel(bdist_wheel):
@@ -51,13 +88,11 @@ class ManyLinuxWheel(bdist_wheel):
 class SourcesOfAll(sdist):
     def make_release_tree(self, base_dir, files):
         super().make_release_tree(base_dir, files)
-        for part in PARTS:
-            target = Path(base_dir, "library", part)
-            target.parent.mkdir(parents=True, exist_ok=True)
-            if (SOURCES / part).is_dir():
-                shutil.copytree(SOURCES / part, target)
-            else:
-                shutil.copyfile(SOURCES / part, target)
+        # Cargo asks for all packages of a workspace, and builds one.
+        workspace = tomllib.loads((SOURCES / "Cargo.toml").read_text(encoding="utf-8"))["workspace"]
+        for package in workspace["members"]:
+            shutil.copytree(SOURCES / package, Path(base_dir, "library", package), ignore=shutil.ignore_patterns("out", "target"))
+        shutil.copy(SOURCES / "Cargo.toml", Path(base_dir, "library"))
 
 
 def find_library():
@@ -74,25 +109,6 @@ def find_library():
             "release has it, too: unpack that, and name its folder. Without STRING_INTERNER_LIB cargo compiles the library"
         )
     return None
-
-
-def compile_library(folder):
-    """Returns the folder of the header and the archive that cargo makes in a folder, without a network. It is for this machine, whatever
-    target a setting of cargo names."""
-    source = SOURCES / "c"
-    command = ["cargo", "build", "--quiet", "--release", "--offline", "--target-dir", str(folder), "--target"]
-    try:
-        about = subprocess.run(["cargo", "-vV"], check=True, stdout=subprocess.PIPE, encoding="utf-8", cwd=source).stdout
-        host = next(line.removeprefix("host: ") for line in about.splitlines() if line.startswith("host: "))
-        subprocess.run([*command, host], check=True, cwd=source)
-    except FileNotFoundError:
-        raise SystemExit(
-            "setup.py: no cargo, which compiles the library: install Rust 1.85 or later, or name the folder of a library in "
-            "STRING_INTERNER_LIB"
-        ) from None
-    except subprocess.CalledProcessError:
-        raise SystemExit("setup.py: cargo did not compile the library") from None
-    return source, folder / host / "release" / ARCHIVE
 
 
 setup(

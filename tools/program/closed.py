@@ -1,15 +1,19 @@
-"""What is tried of `dictcol` with each of its standard streams open or closed, in each form in which it reads and writes."""
+"""What is tried of `dictcol` in each form in which it reads and writes: each of its standard streams open or closed, and each read
+interrupted."""
 
 import errno
 import os
+import shutil
 import tempfile
 from itertools import product
 from pathlib import Path
 
 from edits import TOP
 from program.columns import columns_of, files_in, write_files
+from program.reckon import ENCODED as LOOKS_ENCODED
 from program.reckon import answer, failed, misused, skip_invalid, told, unreadable, unwritable, warned
 from program.shards import shards_of
+from program.streams import run_interrupted
 
 TEXT, BROKEN, MORE = b"red\ngreen\nred", b"a\n\xff\nb\n\xc3\na\n", b"blue\nred\n"
 ENCODED = answer([b"encode"], TEXT)[1]
@@ -66,6 +70,22 @@ def forms():
     yield [b"count", b"--sort"], None, misused(b"unknown option '--sort'"), None
 
 
+def write_all(folder):
+    """Writes what the forms read."""
+    for name, content in FILES.items():
+        Path(folder, name).write_bytes(content)
+    write_files(f"{folder}/plain", columns_of(TEXT))
+
+
+def all_files(folder):
+    return {it.name: files_in(it) if it.is_dir() else it.read_bytes() for it in Path(folder).iterdir()}
+
+
+def files_after(made):
+    """All files behind a run that makes these."""
+    return FILES | {"plain": columns_of(TEXT)} | ({"new": made} if made else {})
+
+
 def close(numbers):
     for number in numbers:
         os.close(number)
@@ -84,15 +104,22 @@ def try_closed(program, words, given, end, made):
     """The status is right, what was read stays as it was, and no file gets a message."""
     for closed in ([it for it, is_closed in enumerate(them) if is_closed] for them in product((False, True), repeat=3)):
         with tempfile.TemporaryDirectory() as folder:
-            for name, content in FILES.items():
-                Path(folder, name).write_bytes(content)
-            write_files(f"{folder}/plain", columns_of(TEXT))
+            write_all(folder)
             name, wanted = f"{words} without {closed}", end_with(closed, given, end)
             yield name, program.run(words, given or b"", folder=folder, before=lambda: close(closed)), wanted
-            found = {it.name: files_in(it) if it.is_dir() else it.read_bytes() for it in Path(folder).iterdir()}
-            files = FILES | {"plain": columns_of(TEXT)} | ({"new": made} if made and wanted[0] == 0 else {})
-            yield f"{name}, files", found, files
+            yield f"{name}, files", all_files(folder), files_after(made if wanted[0] == 0 else None)
+
+
+def try_interrupted(program, words, given, end, made):
+    """A signal during a read changes nothing, whatever file is read. A warning is of what the first read gives."""
+    size = max(5, len(LOOKS_ENCODED) * (b"warning" in end[2]))
+    with tempfile.TemporaryDirectory() as folder:
+        write_all(folder)
+        for name, ended in run_interrupted(program, words, given or b"", size, folder=folder):
+            yield name, ended, end
+            yield f"{name}, files", all_files(folder), files_after(made)
+            shutil.rmtree(f"{folder}/new", ignore_errors=True)
 
 
 def trials():
-    return [(try_closed, *given) for given in forms()]
+    return [(trial, *given) for trial in (try_closed, try_interrupted) for given in forms()]

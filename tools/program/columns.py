@@ -1,6 +1,7 @@
 """What is tried of plain columns: of the files that `dictcol encode --plain` writes and `dictcol decode` reads."""
 
 import errno
+import fcntl
 import itertools
 import os
 import random
@@ -8,14 +9,18 @@ import shutil
 import signal
 import struct
 import subprocess
+import sys
 import tempfile
+import termios
+import threading
 import time
+from contextlib import suppress
 from pathlib import Path
 
-from built import SECONDS, end_of, holding
+from built import ENDING, SECONDS, end_of, holding
 from needs import python_with
 from program.cases import MANY
-from program.reckon import answer, failed, skip_invalid, told, unwritten, warned
+from program.reckon import answer, failed, misused, skip_invalid, told, unwritten, warned
 from program.streams import limit_files
 
 BACKENDS = (b"string", b"bucket", b"buffer")
@@ -83,6 +88,16 @@ def try_text(program, data):
         Path(folder, "text").write_bytes(data)
         yield f"{data[:40]}, again", program.run(b"encode --plain=new/string text".split(), b"\xff", folder=folder), OK
         yield f"{data[:40]}, files again", files_in(f"{folder}/new/string"), columns_of(data)
+
+
+# More lines than a number of 20 bits counts, of which no newline ends the last.
+LONG_TEXT = b"x\n" * (1 << 20) + b"x"
+
+
+def try_long_text(program):
+    with tempfile.TemporaryDirectory() as folder:
+        yield "a long text", program.run(b"encode --plain it".split(), LONG_TEXT, folder=folder), OK
+        yield "a long text, decoded", program.run(b"decode it".split(), folder=folder), (0, LONG_TEXT, b"")
 
 
 def try_texts_in_turn(program):
@@ -154,17 +169,20 @@ def try_reading(program):
 
 
 def try_several(program):
-    """Of several folders the last one is written, and of several to write onto the last one is read."""
+    """A second folder to write, or to write onto, is refused, and nothing is written: no lines are left out in silence."""
+    twice = b"option '--%s' is given twice"
     with tempfile.TemporaryDirectory() as folder:
         write_files(f"{folder}/old", columns_of(b"old\n"))
-        write_files(f"{folder}/older", columns_of(b"older\n"))
-        for words, before in (
-                (b"encode --plain a --onto older --plain b --onto old --plain new", b"old"),
-                (b"encode --plain=a --plain=new --onto=old --onto=older", b"older"),
-                (b"encode --onto nowhere --plain=a --onto=older --plain new", b"older")):
-            yield f"{words}", program.run(words.split(), LINES, folder=folder), OK
-            yield f"{words}, files", files_in(f"{folder}/new"), columns_of(LINES, [before])
-            yield f"{words}, folders", sorted(path.name for path in Path(folder).iterdir()), ["new", "old", "older"]
+        for words, message in (
+                (b"--plain new --onto old --plain other", twice % b"plain"), (b"--plain=new --plain=new", twice % b"plain"),
+                (b"--plain new --plain new --onto old --onto old", twice % b"plain"),
+                (b"--plain new --onto old --onto=old", twice % b"onto"), (b"--onto old --plain new --onto=other", twice % b"onto"),
+                (b"--onto-dictionary old --onto-dictionary old --plain new", twice % b"onto-dictionary"),
+                (b"--plain new --onto old --onto-dictionary old", b"option '--onto' excludes option '--onto-dictionary'"),
+                (b"--onto-dictionary=old --onto=old --plain=new", b"option '--onto' excludes option '--onto-dictionary'")):
+            for given in (b"encode " + words, words + b" encode", b"encode --backend=bucket - " + words):
+                yield f"{given}", program.run(given.split(), LINES, folder=folder), misused(message)
+            yield f"{words}, folders", sorted(path.name for path in Path(folder).iterdir()), ["old"]
 
 
 LINES = b"red\ngreen\n"
@@ -248,9 +266,10 @@ def try_missing(program):
             where = f"without {name}".encode()
             message = b"%s: cannot read %s: %s" % (where, name.encode(), told(errno.ENOENT))
             yield f"without {name}", program.run([b"decode", where], folder=folder), failed(1, message)
-            ended = program.run([*b"encode --plain new --onto".split(), where], LINES, folder=folder)
             advice = b" (see --onto-dictionary)" if name == "codes.npy" else b""
-            yield f"onto one without {name}", ended, failed(1, message + advice)
+            for new in b"new", where:
+                ended = program.run([b"encode", b"--plain", new, b"--onto", where], LINES, folder=folder)
+                yield f"{new} onto one without {name}", ended, failed(1, message + advice)
         # Only a file that is not there can be done without.
         write_files(f"{folder}/unread", files)
         Path(folder, "unread/codes.npy").unlink()
@@ -395,22 +414,72 @@ def try_end(program, text, is_cut, message):
 
 
 def try_exchange(program):
-    """Files that cannot be replaced: none of yesterday's numbers are beside today's dictionary, and nothing unfinished stays."""
+    """Files that cannot be replaced: the files from before are there, and nothing unfinished."""
     for name in "dict.txt", "pair.txt", "no_final_newline", "codes.npy":
-        for data in b"blue\ngreen", b"blue\ngreen\n":
-            with tempfile.TemporaryDirectory() as folder:
-                before = columns_of(LINES)
-                write_files(f"{folder}/it", {it: content for it, content in before.items() if it != name})
-                Path(folder, "it", name).mkdir()
-                Path(folder, "it", name, "kept").write_bytes(b"kept")
-                ended = program.run(b"encode --plain it".split(), data, folder=folder)
-                yield f"{name} is a folder, {data}", ended, failed(1, b"it: cannot write files: " + told(errno.EISDIR))
-                found = {path.name for path in Path(folder, "it").iterdir()}
-                wanted = {"dict.txt", "pair.txt", "no_final_newline", name}
-                yield f"{name} is a folder, {data}, files {found}", found <= wanted, True
-                yield f"{name} is a folder, {data}, what it has", files_in(f"{folder}/it/{name}"), {"kept": b"kept"}
-                if name == "codes.npy":
-                    yield f"{data}, the dictionary", Path(folder, "it/dict.txt").read_bytes(), before["dict.txt"]
+        for data, old in itertools.product((b"blue\ngreen", b"blue\ngreen\n"), (LINES, LINES.removesuffix(b"\n"))):
+            for missing in None, "pair.txt":
+                with tempfile.TemporaryDirectory() as folder:
+                    before = {it: content for it, content in columns_of(old).items() if it not in (name, missing)}
+                    write_files(f"{folder}/it", before)
+                    Path(folder, "it", name).mkdir(exist_ok=True)
+                    Path(folder, "it", name, "kept").write_bytes(b"kept")
+                    ended = program.run(b"encode --plain it".split(), data, folder=folder)
+                    case = f"{name} is a folder, {data} onto {old} without {missing}"
+                    yield case, ended, failed(1, b"it: cannot write files: " + told(errno.EISDIR))
+                    yield f"{case}, what it has", files_in(f"{folder}/it/{name}"), {"kept": b"kept"}
+                    shutil.rmtree(f"{folder}/it/{name}")
+                    yield f"{case}, files", files_in(f"{folder}/it"), before
+
+
+# Who may use old files, and what a mask leaves of a new one.
+MODES, MASK = (0o600, 0o640, 0o664, 0o444, 0o666), 0o022
+
+
+def mode_of(path):
+    return path.stat().st_mode & 0o7777
+
+
+def modes_in(folder):
+    return {path.name: mode_of(path) for path in Path(folder).iterdir()}
+
+
+def try_modes(program):
+    """New files have the modes of the old ones, and are open to nobody else before; where all may choose owners, theirs, too."""
+    for mode, (name, other) in itertools.product(MODES, (("dict.txt", 0o600), ("codes.npy", 0o640), ("pair.txt", 0o644))):
+        with tempfile.TemporaryDirectory() as folder:
+            before = columns_of(b"red\ngreen\n")
+            write_files(f"{folder}/it", before)
+            for path in Path(folder, "it").iterdir():
+                path.chmod(other if path.name == name else mode)
+                if os.geteuid() == 0:
+                    os.chown(path, 1, 2)
+            ended = program.run(WRITE, b"blue\ngreen", folder=folder, before=lambda: os.umask(MASK))
+            yield f"{mode:o}, {name} {other:o}", ended, OK
+            wanted = {it: other if it == name else mode for it in before}
+            # A file that was not there is as open as the numbers.
+            yield f"{mode:o}, {name} {other:o}, modes", modes_in(f"{folder}/it"), wanted | {"no_final_newline": wanted["codes.npy"]}
+            owners = {(path.stat().st_uid, path.stat().st_gid) for path in Path(folder, "it").iterdir()}
+            yield f"{mode:o}, owners", owners, {(1, 2) if os.geteuid() == 0 else (os.geteuid(), os.getegid())}
+    with tempfile.TemporaryDirectory() as folder:
+        yield "new files", program.run(WRITE, b"a", folder=folder, before=lambda: os.umask(MASK)), OK
+        yield "new files, modes", {*modes_in(f"{folder}/it").values()}, {0o666 & ~MASK}
+        Path(folder, "private").write_bytes(b"kept")
+        Path(folder, "private").chmod(0o600)
+        Path(folder, "it/dict.txt").unlink()
+        Path(folder, "it/dict.txt").symlink_to("../private")
+        yield "a link", program.run(WRITE, b"b", folder=folder), OK
+        yield "a link, its mode", modes_in(f"{folder}/it")["dict.txt"], 0o600
+    for call in itertools.count(1):
+        with tempfile.TemporaryDirectory() as folder:
+            write_files(f"{folder}/it", columns_of(FIRST))
+            for path in Path(folder, "it").iterdir():
+                path.chmod(0o600)
+            with program.stopped(WRITE, SECOND, call, folder) as run:
+                files = [path for path in Path(folder, "it").rglob("*") if path.is_file()]
+                yield f"call {call}, modes", {mode_of(path) for path in files} <= {0o600}, True
+                if not run.is_stopped:
+                    break
+                run.end()
 
 
 def try_links(program):
@@ -481,21 +550,29 @@ def try_folders_stored(program):
     """Each step is stored before the next, so that also a power cut leaves the files from before, or no numbers, or the new ones."""
     with tempfile.TemporaryDirectory() as folder:
         Path(folder, "it").mkdir()
-        for data in b"red\ngreen\n", b"red\ngreen":
-            cut = b"removed\n" if data.endswith(b"\n") else b"renamed\n"
-            wanted = b"removed\nstored\nrenamed\n" + cut + b"renamed\nstored\nrenamed\nstored\n"
-            for name, made in (b"it", 0), (f"it/in/{cut.decode()[:-1]}".encode(), 2):
+        old = {}
+        for data in b"red\ngreen\n", b"red\ngreen", b"red\ngreen\n":
+            new = columns_of(data)
+            for name, made in (b"it", 0), (b"it/in/%d" % len(old), 1 if old else 2):
+                # What was there is moved away: the numbers before all else, and a dictionary never.
+                kept = {} if made else old
+                names = [*[it for it in ("pair.txt", "no_final_newline") for files in (kept, new) if it in files], "dict.txt"]
+                wanted = [*("codes.npy" in kept) * ["renamed"], "stored", *["renamed"] * len(names), "stored", "renamed", "stored"]
                 ended = program.run([b"encode", b"--plain", name], data, folder=folder, TELL_FOLDERS=1)
-                is_new = made and b"removed" in cut
-                yield f"{data} in {name}", ended, (0, b"", b"stored\n" * (made if is_new else made // 2) + wanted)
+                told_of = "".join(f"{it}\n" for it in ["stored"] * made + wanted)
+                yield f"{data} in {name}", ended, (0, b"", told_of.encode())
+            old = new
 
 
 def try_stored(program):
-    """All files are stored before the first of them gets its place."""
+    """All files are stored before the first of them gets its place, and the first old one loses it."""
     with tempfile.TemporaryDirectory() as folder:
-        for data in b"red\ngreen\n", b"red\ngreen":
+        old = {}
+        for data in b"red\ngreen\n", b"red\ngreen", b"a\n":
+            new = columns_of(data)
             ended = program.run(b"encode --plain it".split(), data, folder=folder, TELL_UNSTORED=1)
-            yield f"{data}", ended, (0, b"", b"unstored 0\n" * len(columns_of(data)))
+            yield f"{data}", ended, (0, b"", b"unstored 0\n" * (len(new) + len({*old} - {"dict.txt"})))
+            old = new
 
 
 # Where a run puts files before all are written.
@@ -511,13 +588,13 @@ def read_folder(folder):
     return {it.name: it.read_bytes() for it in path.iterdir() if it.name != UNFINISHED} if path.exists() else None
 
 
-def each_stop(program, words, data, old):
+def each_stop(program, words, data, old, ignored=()):
     """A run over a folder with the files of this text, or without any, stopped before each of its calls in turn."""
     for call in itertools.count(1):
         with tempfile.TemporaryDirectory() as folder:
             if old is not None:
                 write_files(f"{folder}/it", columns_of(old))
-            with program.stopped(words, data, call, folder) as run:
+            with program.stopped(words, data, call, folder, ignored) as run:
                 yield f"call {call} onto {old}", folder, run
                 if not run.is_stopped:
                     return
@@ -531,8 +608,42 @@ def try_killed_writers(program, old):
             run.end(signal.SIGKILL)
         found, before = read_folder(folder) or {}, {} if old is None else columns_of(old)
         yield f"{name}, killed", found in (before, columns_of(FIRST)) or "codes.npy" not in found, True
+        if old is not None:
+            yield f"{name}, the dictionary", found.get("dict.txt") in (before["dict.txt"], columns_of(FIRST)["dict.txt"]), True
+            read = program.run(b"decode it".split(), folder=folder)
+            lost = failed(1, b"it: cannot read codes.npy: " + told(errno.ENOENT))
+            yield f"{name}, read", read in [(0, it, b"") for it in (old, FIRST)] if "codes.npy" in found else read == lost, True
         yield f"{name}, the next", program.run(WRITE, SECOND, folder=folder), OK
         yield f"{name}, files of the next", files_in(f"{folder}/it"), columns_of(SECOND)
+
+
+def end_early(run, number):
+    """How a run ends by one of these signals, and how it must."""
+    by = ENDING[number % len(ENDING)]
+    return run.end(by), (-by if run.is_stopped else 0, b"", b"")
+
+
+def try_ended_writers(program, old):
+    """Wherever a signal ends a run, the folder has the files from before, or those of the run. The next run is as any other."""
+    for number, (name, folder, run) in enumerate(each_stop(program, WRITE, FIRST, old)):
+        ended, wanted = end_early(run, number)
+        yield f"{name}, ended", ended, wanted
+        # No proved program can take a signal.
+        if program.is_by_cargo:
+            found = files_in(f"{folder}/it") if Path(folder, "it").exists() else None
+            before = None if old is None else columns_of(old)
+            yield f"{name}, files", found == columns_of(FIRST) or ended.status != 0 and found == before, True
+        yield f"{name}, the next", program.run(WRITE, SECOND, folder=folder), OK
+        yield f"{name}, files of the next", files_in(f"{folder}/it"), columns_of(SECOND)
+
+
+def try_ignored(program):
+    """A signal that is left out, as by nohup, does not end a run."""
+    for name, folder, run in each_stop(program, WRITE, FIRST, SECOND, ENDING):
+        for by in ENDING if run.is_stopped else ():
+            os.kill(run.started.pid, by)
+        yield f"{name}, ignored", run.end(), OK
+        yield f"{name}, files", files_in(f"{folder}/it"), columns_of(FIRST)
 
 
 def is_begun(folder):
@@ -556,19 +667,55 @@ def try_writers(program, old):
         yield f"{name}, files", files_in(f"{folder}/it"), columns_of(last)
 
 
-def try_readers(program):
-    """Wherever files are replaced beside a run that reads them, it gets those of one run, or fails and says so."""
-    for words in b"decode it".split(), b"encode --onto it --plain new".split():
+READ, READ_ONTO = b"decode it".split(), b"encode --onto it --plain new".split()
+# A text with the codes of FIRST, and with another end: beside its third file, codes of FIRST are no others.
+ALIKE = b"blue\nwhite\nblue\n"
+
+
+def is_read(words, folder, ended, after):
+    """Whether a run has read the first text, or the one after it."""
+    if words == READ:
+        return ended in ((0, FIRST, b""), (0, after, b""))
+    wanted = [columns_of(b"red\n", [*dict.fromkeys(it.removesuffix(b"\n").split(b"\n"))]) for it in (FIRST, after)]
+    return ended == OK and files_in(f"{folder}/new") in wanted
+
+
+def try_readers(program, after):
+    """Wherever files are replaced by those of another text beside a run that reads them, it gets those of one run."""
+    for words in READ, READ_ONTO:
         for name, folder, run in each_stop(program, words, b"red\n", FIRST):
-            yield f"{name}, the writer", program.run(WRITE, SECOND, folder=folder), OK
+            yield f"{name}, the writer", program.run(WRITE, after, folder=folder), OK
             ended = run.end()
-            if ended.status == 0 and b"decode" in words:
-                yield f"{name}, decoded", ended in ((0, FIRST, b""), (0, SECOND, b"")), True
-            elif ended.status == 0:
-                wanted = [columns_of(b"red\n", [*dict.fromkeys(it.removesuffix(b"\n").split(b"\n"))]) for it in (FIRST, SECOND)]
-                yield f"{name}, written onto", files_in(f"{folder}/new") in wanted, True
-            else:
-                yield f"{name}, {ended}", (ended.output, ended.error.count(b"\n")), (b"", 1)
+            yield f"{name}, {words}, {ended}", is_read(words, folder, ended, after), True
+
+
+def try_readers_beside(program):
+    """Wherever a run reads files beside one that replaces them, it gets those of one run. It waits for them if it must."""
+    for words in READ, READ_ONTO:
+        for name, folder, run in each_stop(program, WRITE, SECOND, FIRST):
+            with holding(b"red\n") as given, subprocess.Popen([program.path, *words], stdin=given, stdout=subprocess.PIPE,
+                                                              stderr=subprocess.PIPE, cwd=folder) as reader:
+                # It may wait until the other one goes on.
+                with suppress(subprocess.TimeoutExpired):
+                    reader.wait(timeout=0.1)
+                yield f"{name}, the writer", run.end(), OK
+                ended = end_of(reader)
+            yield f"{name}, {words}, {ended}", is_read(words, folder, ended, SECOND), True
+
+
+def lock_shortly(path):
+    """Locks a folder, if there is one that nobody has, for a moment and beside others, as a run does that looks whether it is taken."""
+    with suppress(OSError):
+        folder = os.open(path, os.O_RDONLY)
+        threading.Timer(0.02, os.close, [folder]).start()
+        fcntl.flock(folder, fcntl.LOCK_SH | fcntl.LOCK_NB)
+
+
+def try_looks_beside(program):
+    """Wherever another run looks whether one writes, that one goes on."""
+    for name, folder, run in each_stop(program, WRITE, SECOND, FIRST):
+        lock_shortly(f"{folder}/it/{UNFINISHED}")
+        yield f"{name}, looked for", run.end(), OK
 
 
 EXTEND = b"encode --onto it --plain it".split()
@@ -607,9 +754,52 @@ def try_writer_that_reads(program, words, before):
             time.sleep(0.1)
             busy = failed(1, b"it: cannot write files: resource busy")
             yield f"{words}, the second", program.run(words, b"white\n", folder=folder), busy
+            unread = failed(1, b"it: cannot read codes.npy: another run is writing")
+            for reading in READ, READ_ONTO:
+                read = program.run(reading, b"", folder=folder)
+                yield f"{words}, {reading}", read.status == 0 if before else read == unread, True
             ended = end_of(first)
         yield f"{words}, the first", ended, OK
         yield f"{words}, files", files_in(f"{folder}/it"), columns_of(b"blue\n", before)
+
+
+def unread(pipe):
+    """How many bytes of a pipe were not read."""
+    return int.from_bytes(fcntl.ioctl(pipe.fileno(), termios.FIONREAD, bytes(4)), sys.byteorder)
+
+
+def try_late_writers(program):
+    """Wherever a run is stopped, one that begins then and reads has the folder, unless the first one has it: whoever does not, fails
+    at once."""
+    for name, folder, first in each_stop(program, WRITE, FIRST, THIRD):
+        pipe = subprocess.PIPE
+        with subprocess.Popen([program.path, *WRITE], stdin=pipe, stdout=pipe, stderr=pipe, cwd=folder) as second:
+            with suppress(BrokenPipeError):
+                os.write(second.stdin.fileno(), SECOND)
+            wait_for(lambda: not unread(second.stdin) or second.poll() is not None)
+            is_second = second.poll() is None
+            ends = [first.end(), end_of(second)]
+        busy = failed(1, b"it: cannot write files: resource busy")
+        # Without a stop the first one has ended before.
+        wanted = [busy, OK] if is_second and first.is_stopped else [OK, OK] if is_second else [OK, busy]
+        yield f"{name}, both", ends, wanted
+        yield f"{name}, files", files_in(f"{folder}/it"), columns_of(SECOND if is_second else FIRST)
+
+
+# A run asks less often than so what a file is.
+QUESTIONS = 20
+
+
+def try_devices(program):
+    """Files with one number are others if they are on other devices: a run that finds one of them in the place of the other reads
+    again, or finds the folder busy to write."""
+    with tempfile.TemporaryDirectory() as folder:
+        write_files(f"{folder}/it", columns_of(FIRST))
+        ends = [program.run(b"decode it".split(), folder=folder, OTHER_DEVICE=number) for number in range(1, QUESTIONS)]
+        yield "decoded", {*ends}, {(0, FIRST, b"")}
+        ends = [program.run(WRITE, FIRST, folder=folder, OTHER_DEVICE=number) for number in range(1, QUESTIONS)]
+        yield "written", {*ends}, {OK, failed(1, b"it: cannot write files: resource busy")}
+        yield "files", {it: content for it, content in columns_of(FIRST).items() if Path(folder, "it", it).read_bytes() != content}, {}
 
 
 # So many times two runs write at once, and a third one reads.
@@ -629,8 +819,7 @@ def try_race(program):
                 with holding(text) as given:
                     runs.append(subprocess.Popen([program.path, *WRITE], stdin=given, stderr=subprocess.DEVNULL, cwd=folder))
             read = program.run(b"decode it".split(), folder=folder)
-            is_one = read in [(0, text, b"") for text in texts] or read.status in (1, 2) and not read.output
-            yield f"race {number}, read {read.status}", is_one, True
+            yield f"race {number}, read {read.status}", read in [(0, text, b"") for text in texts], True
             statuses = [run.wait() for run in runs]
             wins = [files for files, status in zip(whole, statuses) if status == 0]
             yield f"race {number}, {statuses}", (len(wins) > 0, {*statuses} <= {0, 1}, files_in(f"{folder}/it") in wins), (True,) * 3
@@ -661,7 +850,7 @@ def try_refused(program):
 
 
 # What NumPy says of the codes, mapped, and that it saves them as they are.
-READ = """
+BY_NUMPY = """
 import pathlib, sys, numpy
 folder = pathlib.Path(sys.argv[1])
 codes = numpy.load(folder / "codes.npy", mmap_mode="r")
@@ -679,7 +868,7 @@ def try_numpy(program):
     for data in TEXTS if python else ():
         with tempfile.TemporaryDirectory() as folder:
             yield f"{data[:40]}", program.run([b"encode", b"--plain", b"it"], data, folder=folder), OK
-            read = subprocess.run([python, "-c", READ, f"{folder}/it"], capture_output=True, check=False)
+            read = subprocess.run([python, "-c", BY_NUMPY, f"{folder}/it"], capture_output=True, check=False)
             count = len(data.removesuffix(b"\n").split(b"\n")) if data else 0
             ended = data + b"\n" * (bool(data) and not data.endswith(b"\n"))
             yield f"{data[:40]}, read by NumPy", (read.stdout, read.stderr), (b"<u4 (%d,) True\n" % count + ended, b"")
@@ -708,6 +897,7 @@ def try_random(program, seed):
 def trials():
     return [
         *((try_text, data) for data in TEXTS),
+        (try_long_text,),
         (try_texts_in_turn,),
         (try_output,),
         (try_reading,),
@@ -718,14 +908,19 @@ def trials():
         *((try_pair, *given) for given in OF_TWO_RUNS),
         *((try_end, *given) for given in OF_ANOTHER_END),
         (try_exchange,),
+        (try_modes,),
         (try_stored,),
         (try_links,),
         (try_unlike,),
         (try_folders_stored,),
-        *((trial, old) for trial in (try_killed_writers, try_writers) for old in (None, SECOND, THIRD)),
+        *((trial, old) for trial in (try_killed_writers, try_ended_writers, try_writers) for old in (None, SECOND, THIRD)),
+        (try_ignored,),
         (try_extenders,),
         *((try_writer_that_reads, *given) for given in ((WRITE, ()), (EXTEND, (b"red", b"green")))),
-        (try_readers,),
+        *((try_readers, after) for after in (SECOND, ALIKE)),
+        (try_readers_beside,), (try_looks_beside,),
+        (try_late_writers,),
+        (try_devices,),
         (try_race,),
         (try_missing,),
         (try_unreadable,),

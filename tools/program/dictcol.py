@@ -9,11 +9,10 @@ import re
 import resource
 import subprocess
 import tempfile
-import time
 from itertools import chain, count, product
 from pathlib import Path
 
-from program import closed, columns, shards, shell
+from program import closed, columns, pairs, shards, shell
 from program.cases import MANY, MEBIBYTE, cases, rows
 from program.reckon import MEMORY, answer, failed, misused, unreadable, unwritable, warned
 from program.requests import OUTPUT_BUFFER, asks_of_lines
@@ -54,8 +53,7 @@ def lists_inputs(words, asks):
 
 
 def count_asks_of_words(asks):
-    """How many requests come before those for the buffer of standard output, or by `merge`, which has none, for the block that a
-    file is read to, which is as long."""
+    """How many requests come before that for the buffer of standard output."""
     return next((number for number, size in enumerate(asks) if size == OUTPUT_BUFFER), len(asks))
 
 
@@ -246,7 +244,8 @@ def try_large(program, name):
 
 
 def try_long_input(program, length, number):
-    """So many lines of this many bytes, which are zero and take no room on the disk. No part of them is held here."""
+    """So many lines of this many bytes, which are zero and take no room on the disk, in standard input and in a file that is named. No
+    part of them is held here."""
     with tempfile.TemporaryDirectory() as folder:
         given, wanted = Path(folder, "given"), Path(folder, "wanted")
         with open(given, "wb") as lines:
@@ -257,9 +256,11 @@ def try_long_input(program, length, number):
             counts.write(b"%d " % number)
             counts.seek(length, os.SEEK_CUR)
             counts.write(b"\n")
-        with open(given, "rb") as lines, open(f"{folder}/counts", "wb") as counts:
-            yield f"{number} lines of {length} bytes", program.run([b"count"], lines, counts), (0, b"", b"")
-        yield f"{number} lines of {length} bytes, counted", filecmp.cmp(wanted, f"{folder}/counts", shallow=False), True
+        for words in [b"count"], [b"count", b"given"]:
+            name = f"{words} of {number} lines of {length} bytes"
+            with open(given if len(words) == 1 else os.devnull, "rb") as lines, open(f"{folder}/counts", "wb") as counts:
+                yield name, program.run(words, lines, counts, folder=folder), (0, b"", b"")
+            yield f"{name}, counted", filecmp.cmp(wanted, f"{folder}/counts", shallow=False), True
 
 
 def chosen_lines(length, start, key):
@@ -279,6 +280,17 @@ CHOSEN, FLOODED = 80000, 3
 KNOWN = ((START + 32, MULTIPLIER), (0, 0))
 
 
+def least_seconds(program, words, data, **settings):
+    """The least processor time of three runs, and their statuses. Other work of the machine leaves it alone."""
+    times, statuses = [], set()
+    for _ in range(3):
+        before = resource.getrusage(resource.RUSAGE_CHILDREN)
+        statuses.add(program.run(words, data, **settings).status)
+        after = resource.getrusage(resource.RUSAGE_CHILDREN)
+        times.append(after.ru_utime - before.ru_utime + after.ru_stime - before.ru_stime)
+    return min(times), statuses
+
+
 def try_chosen_lines(program):
     """Lines that were chosen against a hasher whose keys are known take no longer than others: at most three times as long, in
     the best of three runs."""
@@ -287,14 +299,32 @@ def try_chosen_lines(program):
         times = []
         for lines in usual, *(chosen_lines(CHOSEN, *known) for known in KNOWN):
             texts = [b'"%s"' % line for line in lines]
-            data = file_of(texts, [b"0"]) if word == b"decode" else b"\n".join(lines)
-            times.append([])
-            for _ in range(3):
-                start = time.monotonic()
-                status = program.run([word], data).status
-                times[-1].append(time.monotonic() - start)
-                yield f"{word} of {CHOSEN} lines", status, 0
-        yield f"chosen lines do not slow {word}: {times}", max(map(min, times[1:])) <= FLOODED * min(times[0]), True
+            least, statuses = least_seconds(program, [word], file_of(texts, [b"0"]) if word == b"decode" else b"\n".join(lines))
+            times.append(least)
+            yield f"{word} of {CHOSEN} lines", statuses, {0}
+        yield f"chosen lines do not slow {word}: {times}", max(times[1:]) <= FLOODED * times[0], True
+
+
+# The keys if random bytes are 1, 2, 3 and so on. Over so many lines that have one code a run takes at least so many times as long.
+DRAWN = tuple(int.from_bytes(range(first, first + 8), "little") for first in (1, 9))
+FEW, SLOWED = 10000, 10
+
+
+def try_drawn_keys(program):
+    """Both keys that are drawn are those of the hasher, each in its place: lines that are chosen under them slow a run down."""
+    one, other = DRAWN
+    start = one ^ (other << 32 | other >> 32) % 2**64
+    usual, chosen = [b"%032d" % number for number in range(FEW)], chosen_lines(FEW, start, other)
+    for words in [b"encode"], [b"count"]:
+        (usually, _), (slowly, statuses) = (least_seconds(program, words, b"\n".join(it), COUNT_RANDOM=1) for it in (usual, chosen))
+        yield f"{words} of {FEW} lines", statuses, {0}
+        yield f"lines chosen under the keys slow {words}: {usually}, {slowly}", slowly > SLOWED * usually, True
+
+
+def try_lines_and_keys(program):
+    """One after another, since both compare times."""
+    yield from try_chosen_lines(program)
+    yield from try_drawn_keys(program)
 
 
 LONG = b"".join(b"%d\n" % number for number in range(30000))
@@ -304,6 +334,7 @@ STREAMS = Streams(
         ([b"encode"], b"red\ngreen\nred", b'{"dictionary":["red","green"],"final_newline":false,"lines":[0,1,0]}\n'),
         ([b"decode"], '{"dictionary":["é",""],"final_newline":true,"lines":[1,0,0]}'.encode(), "\né\né\n".encode()),
         ([b"count", b"-z", b"--invalid=replace"], b"a\n\xff\0b\0b", "1 a\n\ufffd\x002 b\x00".encode()),
+        ([b"count", b"--encoded"], b'{"dictionary":["red","green"],"final_newline":true,"lines":[1,0,1]}', b"2 green\n1 red\n"),
     ),
     failing=(
         ([b"count"], b"\xff", failed(2, b"line 1 is not UTF-8 (see --invalid)")),
@@ -320,7 +351,7 @@ def parts():
     return {
         "cases": cases(CASES, try_case),
         "tables": rows(CASES, TABLES),
-        "streams": [*STREAMS.trials(), *shell.trials(), *closed.trials()],
+        "streams": [*STREAMS.trials(), *shell.trials(), *closed.trials(), *pairs.trials()],
         "columns": columns.trials(),
         "shards": shards.trials(),
         "random": [(trial, seed) for trial in (try_random_lines, shell.try_random_bytes) for seed in range(200)],
@@ -332,7 +363,7 @@ def parts():
             shell.long_trials(),
         ),
         # Alone, since it compares times.
-        "chosen": [(try_chosen_lines,)],
+        "chosen": [(try_lines_and_keys,)],
         # The second is longer than a number of 32 bits counts.
         "large": [*((try_large, name) for name in LARGE), (try_long_input, 130 * MEBIBYTE, 2), (try_long_input, MEBIBYTE, 4100)],
     }

@@ -3,11 +3,13 @@
 import random
 
 from asks import COMMAND, REPLY, Calls
+from edits import TOP
 from program.cases import MANY, MEBIBYTE, cases, rooms_of_input, rows
 from program.streams import Streams
 from program.texts import BACKENDS, OUT_OF_MEMORY, UNREADABLE, UNWRITABLE, USAGE, answer, bad_line, lines_of
 
 CASES = "crates/intern/cases"
+VERSION = (TOP / "VERSION").read_bytes().strip()
 # In bytes: the buffer of standard output, and a reply where rustc compiled it, which has no word of its own for the tag.
 OUTPUT_BUFFER, REPLY_BY_RUSTC = 8192, 24
 # The words of lines, as a run of scenarios calls them.
@@ -105,6 +107,24 @@ def try_unknown_word(program, row):
     for data in (b"i a\n", b"\xff", b"x\n", b""):
         yield f"word {row!r}", program.run([row], data), USAGE
         yield f"second word {row!r}", program.run([b"string", row], data), USAGE
+
+
+# The words that ask for a text of the program, and with what that begins.
+TOLD = {b"--help": USAGE[2] + b"       intern --help | --version\n\n", b"--version": b"intern " + VERSION + b"\n"}
+
+
+def try_told(program, word):
+    """Each asks for its text alone, whatever the input is, and is a wrong argument beside another word."""
+    ended = program.run([word], b"i a\n")
+    yield f"{word}", ended._replace(output=ended.output[:len(TOLD[word])]), (0, TOLD[word], b"")
+    for data in b"", b"\xff", b"x\n":
+        yield f"{word} over {data}", program.run([word], data), ended
+        for other in b"string", *TOLD:
+            for words in [word, other], [other, word]:
+                yield f"{words} over {data}", program.run(words, data), USAGE
+    with open("/dev/full", "wb") as full:
+        yield f"{word}, a full disk", program.run([word], b"", full), (1, b"", UNWRITABLE)
+    yield f"{word} and a buffer", program.run_with_asks([word], b"")[0], ended
 
 
 def try_no_text(program, row):
@@ -215,7 +235,7 @@ def parts():
     return {
         "cases": cases(CASES, try_case),
         "tables": rows(CASES, TABLES),
-        "streams": STREAMS.trials(),
+        "streams": [*STREAMS.trials(), *((try_told, word) for word in TOLD)],
         "random": ((try_random, seed, word) for seed in range(60) for word in BACKENDS),
         "scale": ((try_large, *given, word) for given in large_inputs() for word in BACKENDS),
     }

@@ -67,14 +67,36 @@ def warned(data, name=b""):
     return b"dictcol: %swarning: lines were read from what encode wrote (see decode, count --encoded)\n" % name
 
 
+def line_end(words):
+    """The byte that ends a line."""
+    return b"\0" if {b"-z", b"--zero-terminated"} & {*words} else b"\n"
+
+
+def mend(words, data):
+    """What `--invalid` makes of an input, and how a run tells of it."""
+    if b"--invalid=replace" in words:
+        return data.decode(errors="replace").encode(), b""
+    return skip_invalid(data, line_end(words)) if b"--invalid=skip" in words else (data, b"")
+
+
+def find_invalid(texts, end):
+    """The place of the text, and the number of the line there, in which the first line that is not UTF-8 begins, if there is one."""
+    start = 0
+    for line in b"".join(texts).split(end):
+        if not is_utf8(line):
+            break
+        start += len(line) + 1
+    for place, text in enumerate(texts):
+        if start < len(text):
+            return place, text.count(end, 0, start) + 1
+        start -= len(text)
+    return None
+
+
 def answer(words, data):
     """How a run of `encode` or `count` on UTF-8 must end, as Python reckons it. With `--invalid` it need not be UTF-8."""
-    told, warning = b"", warned(data)
-    end = b"\0" if b"-z" in words else b"\n"
-    if b"--invalid=replace" in words:
-        data = data.decode(errors="replace").encode()
-    elif b"--invalid=skip" in words:
-        data, told = skip_invalid(data, end)
+    warning, end = warned(data), line_end(words)
+    data, told = mend(words, data)
     lines = data.removesuffix(end).split(end) if data else []
     counts = Counter(lines)
     if words[0] == b"encode":

@@ -5,14 +5,17 @@ import itertools
 import os
 import random
 import resource
+import shutil
 import signal
 import subprocess
 import tempfile
 from collections import Counter
+from contextlib import suppress
 from pathlib import Path
 
 from edits import TOP
-from program.columns import NOT_LEFT, OK, UNFINISHED, all_in, columns_of, each_stop, files_in, is_begun, make_unlike, npy
+from program.columns import (NOT_LEFT, OK, UNFINISHED, all_in, columns_of, each_stop, end_early, files_in, is_begun, make_unlike,
+                             npy)
 from program.reckon import failed, misused, skip_invalid, told, warned
 
 MULTIPLIER, START = 0x9E3779B97F4A7C15, 0x243F6A8885A308D3
@@ -144,14 +147,60 @@ def try_failing(program):
                              (b"shard 2 new/new", errno.ENOENT)):
             message = b"%s: cannot write files: %s" % (words.split()[-1], told(error))
             yield f"{words}", program.run(words.split(), b"a\n", folder=folder), failed(1, message)
-        for kind, most, error in ((resource.RLIMIT_FSIZE, 100000, errno.EFBIG), (resource.RLIMIT_NOFILE, 10, errno.EMFILE)):
-            ended = program.run(b"shard 20 new".split(), b"a\n" * 300000, folder=folder, before=limit(kind, most))
-            yield f"a limit of {most}", ended, failed(1, b"new: cannot write files: " + told(error))
+        ended = program.run(b"shard 20 new".split(), b"a\n" * 300000, folder=folder, before=limit(resource.RLIMIT_FSIZE, 100000))
+        yield "files of 100,000 bytes", ended, failed(1, b"new: cannot write files: " + told(errno.EFBIG))
         for name, end in ((b"bytes", failed(2, b"bytes: line 300001 is not UTF-8 (see --invalid)")),
                           (b"missing", failed(1, b"missing: cannot read input: " + told(errno.ENOENT)))):
             yield f"{name}", program.run([b"shard", b"2", b"new", name], folder=folder), end
         found = {path.name: path.is_dir() and [*path.iterdir()] for path in Path(folder).iterdir()}
         yield "what is there", found, {"file": False, "bytes": False, "there": []}
+
+
+def limit_open_files(most):
+    """Lets a run have so many files open, and gives it none of this process but the standard streams."""
+    def set_limit():
+        for file in map(int, os.listdir("/proc/self/fd")):
+            # The folder itself is closed by now.
+            with suppress(OSError):
+                os.set_inheritable(file, file <= 2)
+        limit(resource.RLIMIT_NOFILE, most)()
+    return set_limit
+
+
+def try_open_files(program):
+    """More shards than a run may have files open are told before anything is made. The limit counts the three standard streams, the
+    numbers of the lines, the folder, and a file that is read."""
+    with tempfile.TemporaryDirectory() as folder:
+        Path(folder, "colors").write_bytes(COLORS)
+        for most, files in itertools.product((5, 6, 7, 30), ([], [b"colors"], [b"-"], [b"-", b"colors"])):
+            allowed = max(most - 5 - (b"colors" in files), 0)
+            for count in {allowed + 1, allowed + 2, 1000, 1 << 40}:
+                words = [b"shard", b"%d" % count, b"it", *files]
+                ended = program.run(words, COLORS, folder=folder, before=limit_open_files(most), TELL_FOLDERS=1)
+                message = b"it: cannot write files: the limit of open files allows %d shards (see ulimit -n)" % allowed
+                yield f"{words}, {most} open files", ended, failed(1, message)
+                yield f"{words}, {most} open files, what is there", os.listdir(folder), ["colors"]
+            if allowed:
+                words = [b"shard", b"%d" % allowed, b"it", *files]
+                ended = program.run(words, COLORS, folder=folder, before=limit_open_files(most))
+                yield f"{words}, {most} open files", ended, OK
+                shutil.rmtree(f"{folder}/it")
+
+
+# A shard is written once so many bytes wait for it.
+WRITTEN = 1 << 16
+
+
+def try_few_writes(program):
+    """A shard is written when it has enough, and at the end."""
+    with tempfile.TemporaryDirectory() as folder:
+        for count in 1, 20, 300:
+            ended = program.run([b"shard", b"%d" % count, b"it"], LONG * 10, folder=folder, TELL_WRITES=1)
+            most = sum(len(file) // WRITTEN + 1 for file in files_in(f"{folder}/it").values())
+            word, _, writes = ended.error.partition(b" ")
+            yield f"{count} shards", (ended.status, ended.output, word), (0, b"", b"writes")
+            yield f"{count} shards, {int(writes)} writes of at most {most}", int(writes) <= most, True
+            shutil.rmtree(f"{folder}/it")
 
 
 def try_stored(program):
@@ -180,6 +229,21 @@ def try_killed(program):
         yield f"{name}, files", files_in(made), wanted
         if not run.is_stopped or wanted != shards_of(COLORS, 2):
             yield f"{name}, folders", os.listdir(folder), ["it"]
+
+
+def try_ended(program):
+    """Wherever a signal ends a run, there is no folder, or a whole one. The next run is as any other."""
+    for number, (name, folder, run) in enumerate(each_stop(program, SHARD, COLORS, None)):
+        ended, wanted = end_early(run, number)
+        yield f"{name}, ended", ended, wanted
+        made = Path(folder, "it")
+        if program.is_by_cargo:
+            yield f"{name}, folders", os.listdir(folder), ["it"] * made.exists()
+        if made.exists():
+            yield f"{name}, files", files_in(made), shards_of(COLORS, 2)
+        else:
+            yield f"{name}, the next", program.run(b"shard 3 it".split(), MORE_COLORS, folder=folder), OK
+            yield f"{name}, folders of the next", os.listdir(folder), ["it"]
 
 
 def try_beside(program):
@@ -263,10 +327,13 @@ HELD, MOST = 1 << 26, 1 << 24
 
 
 def try_in_little_memory(program):
-    with tempfile.TemporaryDirectory() as folder:
-        data = (b"a" * 99 + b"\n") * (HELD // 100)
-        ended = program.run(b"shard 4 it".split(), data, folder=folder, before=limit(resource.RLIMIT_AS, MOST))
-        yield f"{HELD} bytes in {MOST} bytes of memory", ended, OK
+    """Equal lines, and as many of one shard after another as a block has, so that each shard is once the longest."""
+    of_shards = {code_of(b"%99d" % number) % 64: b"%99d\n" % number for number in range(1000)}
+    turns = b"".join(of_shards[shard] * ((1 << 20) // 100) for shard in range(64))
+    for count, name, data in (4, "equal lines", (b"a" * 99 + b"\n") * (HELD // 100)), (64, "shards in turn", turns):
+        with tempfile.TemporaryDirectory() as folder:
+            ended = program.run([b"shard", b"%d" % count, b"it"], data, folder=folder, before=limit(resource.RLIMIT_AS, MOST))
+            yield f"{name}, {len(data)} bytes in {MOST} bytes of memory", ended, OK
 
 
 def try_random(program, seed):
@@ -284,8 +351,11 @@ def trials():
         (try_reading,),
         (try_recipe,),
         (try_failing,),
+        (try_open_files,),
+        (try_few_writes,),
         (try_stored,),
         (try_killed,),
+        (try_ended,),
         (try_beside,),
         (try_links,),
         (try_unlike,),

@@ -1,10 +1,14 @@
 """What is tried of the program `dictcol` as a shell uses it: files by their names, options, terminals."""
 
+import bz2
 import errno
+import gzip
+import lzma
 import os
 import pty
 import random
 import re
+import signal
 import subprocess
 import tempfile
 import tty
@@ -17,6 +21,7 @@ from edits import TOP
 from program.columns import OK, columns_of, files_in
 from program.reckon import ENCODED, MEMORY, answer, failed, is_utf8, misused, told, unreadable, unwritten, warned
 from program.requests import asks_of_lines
+from program.streams import limit_files
 
 VERSION = (TOP / "VERSION").read_bytes().strip()
 
@@ -68,27 +73,29 @@ def write_files(folder, files):
     return names
 
 
-# So often one file is named.
-MANY_TIMES = 1500
+# So many files are named, of which each comes again and again.
+MANY_NAMES = 5000
 
 
 def try_many_files(program):
-    """A hundred files, of which some end in the midst of a line, a file that is named twice and 1,500 times, and a line of 110 kB
-    in two files."""
+    """A hundred files, of which some end in the midst of a line, one of them that is named twice, 5,000 names of them in no order that
+    comes again, also before one that is damaged, and a line of 110 kB in two files."""
     parts = [b"%d\nline\n%s" % (number % 7, b"half" * (number % 3)) for number in range(100)]
+    orders = [range(100), [1] * 2, random.Random(0).choices(range(100), k=MANY_NAMES)]
+    texts = [b"".join(parts[it] for it in order) for order in orders]
     with tempfile.TemporaryDirectory() as folder:
         names = write_files(folder, parts)
-        for word in b"encode", b"count":
-            yield f"{word} of 100 files", program.run([word, *names], folder=folder), answer([word], b"".join(parts))
-            for times in 2, MANY_TIMES:
-                ended = program.run([word, *[names[1]] * times], folder=folder)
-                yield f"{word} of a file {times} times", ended, answer([word], parts[1] * times)
+        for word, order, text in ((word, *it) for word in (b"encode", b"count") for it in zip(orders, texts)):
+            yield f"{word} of {len(order)} files", program.run([word, *[names[it] for it in order]], folder=folder), answer([word], text)
     with tempfile.TemporaryDirectory() as folder:
         names = write_files(folder, [answer([b"encode"], part)[1] for part in parts])
-        yield "100 files merged", program.run([b"merge", *names], folder=folder), answer([b"encode"], b"".join(parts))
-        for times in 2, MANY_TIMES:
-            ended = program.run([b"merge", *[names[1]] * times], folder=folder)
-            yield f"a file merged {times} times", ended, answer([b"encode"], parts[1] * times)
+        Path(folder, "bad").write_bytes(b"{}")
+        for words, order, text in ((words, *it) for words in (b"merge", b"count --encoded") for it in zip(orders, texts)):
+            named = [*words.split(), *[names[it] for it in order]]
+            wanted = answer([b"encode" if words == b"merge" else b"count"], text)
+            yield f"{words} of {len(order)} files", program.run(named, folder=folder), wanted
+            ended = program.run([*named, b"bad"], folder=folder)
+            yield f"{words} of {len(order)} files and a bad one", ended, failed(2, b'bad: no array "dictionary"')
         for backend in b"string", b"bucket", b"buffer":
             yield from try_refused_files(program, folder, [b"merge", b"--backend", backend, *names[:12]])
     halves = b"a\n" + b"b" * 70000, b"b" * 40000 + b"\nb\n"
@@ -358,6 +365,83 @@ def try_counts_of_encoded(program):
         yield from try_refused_files(program, folder, [b"count", b"--encoded", b"--sorted", *names[:3]])
 
 
+# What is compressed, what reads it, and the first line that is not UTF-8, also if a zero byte ends each.
+PACKED = (
+    (gzip.compress(LINES, mtime=0), b"zcat", 1, 1), (b"\x28\xb5\x2f\xfd\x04\x00", b"zstdcat", 1, 1), (lzma.compress(LINES), b"xzcat", 1, 1),
+    (bz2.compress(LINES), b"bzcat", 1, 1), (b"BZh11AY&SY\nred\n\xff", b"bzcat", 3, 1), (b"\x1f\x8b", b"zcat", 1, 1),
+)
+# What is not, as it looks.
+NOT_PACKED = (b"\x1f\xff", b"\x1f\x8a\x8b", b"\x8b\x1f", b"\x28\xb5\x2f\xfe", b"\xfd7zXY", b"BZh9\xff", b"BZh91AY&SX\xff",
+              b"BZi91AY&SY\xff", b"a\n\x1f\x8b\n", b"\x1f", b"")
+
+
+def try_packed(program):
+    """A line that is not UTF-8 in compressed input is told with what reads that, by each command, also in a second file."""
+    told_of = b"%sline %d is not UTF-8: it looks compressed (%s FILE | dictcol ..)"
+    with tempfile.TemporaryDirectory() as folder:
+        Path(folder, "lines").write_bytes(LINES)
+        Path(folder, "half").write_bytes(b"red")
+        Path(folder, "encoded").write_bytes(answer([b"encode"], LINES)[1])
+        for data, reader, line, zero_ended in PACKED:
+            Path(folder, "packed").write_bytes(data)
+            for words in (b"encode", b"count", b"count -z", b"encode --plain new", b"shard 2 new", b"decode", b"count --encoded"):
+                number = zero_ended if b"-z" in words else line
+                wanted = failed(2, told_of % (b"packed: ", number, reader))
+                yield f"{words} of {data[:10]}", program.run([*words.split(), b"packed"], folder=folder), wanted
+                wanted = failed(2, told_of % (b"", number, reader))
+                yield f"{words} of {data[:10]} as input", program.run(words.split(), data, folder=folder), wanted
+            for words in b"encode lines packed", b"merge packed", b"merge encoded packed encoded", b"count --encoded encoded packed":
+                wanted = failed(2, told_of % (b"packed: ", line, reader))
+                yield f"{words} of {data[:10]}", program.run(words.split(), folder=folder), wanted
+            # The first line of the second file goes on with the last one of the first, and is one of that.
+            ended = program.run(b"count half packed".split(), folder=folder)
+            wanted = failed(2, (b"half" if line == 1 else b"packed") + b": line %d is not UTF-8 (see --invalid)" % line)
+            yield f"a line that goes on with {data[:10]}", ended, wanted
+            words = [b"count", b"--invalid=replace"]
+            yield f"mended, {data[:10]}", program.run(words, data), answer(words, data)
+        for data in NOT_PACKED:
+            Path(folder, "other").write_bytes(data)
+            bad = b"other: line %d is not UTF-8 (see --invalid)" % (data.count(b"\n", 0, 3) + 1)
+            wanted = answer([b"count"], data) if is_utf8(data) else failed(2, bad)
+            yield f"{data} looks compressed", program.run([b"count", b"other"], folder=folder), wanted
+        yield "nothing is left", sorted(path.name for path in Path(folder).iterdir()), ["encoded", "half", "lines", "other", "packed"]
+
+
+def try_file_limit(program):
+    """At the limit of a file's length the system's signal ends a run. One that gets no signal says what failed."""
+    data = b"".join(b"%d\n" % number for number in range(9999))
+    for words in [b"encode"], [b"count"]:
+        for is_left_out in False, True:
+            def limit(is_left_out=is_left_out):
+                limit_files(1000)
+                signal.signal(signal.SIGXFSZ, signal.SIG_IGN if is_left_out else signal.SIG_DFL)
+            with tempfile.TemporaryFile() as output:
+                ended = program.run(words, data, output, before=limit)
+            wanted = unwritten(errno.EFBIG) if is_left_out else (-signal.SIGXFSZ, b"", b"")
+            yield f"{words} at the limit of a file, the signal left out: {is_left_out}", ended, wanted
+
+
+def try_far_json(program):
+    """Members that are not used are read as deep, and with numbers as great, as the page says, and no further."""
+    page = (TOP / "crates/dictcol/dictcol.1").read_text(encoding="utf-8")
+    depth, = re.findall(r"^Arrays and objects may nest (\d+) deep,", page, re.M)
+    greatest, = re.findall(r"about ([\d.]+e\d+);", page)
+    text = b'{"dictionary":["red"],"final_newline":true,"lines":[0],"more":%s}'
+    # The object itself is one.
+    for nested in int(depth) - 1, int(depth):
+        for begin, end in ((b"[", b"]"), (b'{"a":', b"}")):
+            ended = program.run([b"decode"], text % (begin * nested + b"0" + end * nested))
+            is_read = nested < int(depth)
+            yield f"{nested} of {begin} in a member, {ended}", ended == (0, b"red\n", b""), is_read
+            yield f"{nested} of {begin} in a member: told", ended.status == 2 and b" at line 1 column " in ended.error, not is_read
+    for number, is_read in ((b"1.79e308", True), (b"-1.79e308", True), (b"%d" % 10**308, True), (b"1.8e308", False),
+                            (b"%d" % 10**309, False)):
+        ended = program.run([b"decode"], text % number)
+        yield f"{number[:9]} in a member, {ended}", ended == (0, b"red\n", b""), is_read
+        yield f"{number[:9]} in a member: told", b"number out of range" in ended.error, not is_read
+        yield f"{number[:9]} is below {greatest}", abs(float(number)) < float(greatest), is_read
+
+
 def ended_names(names):
     return b"".join(name + b"\0" for name in names)
 
@@ -370,7 +454,9 @@ def try_backends(program):
     """The lines are stored in the backend that is named: without what it asks for them, a run asks for the same over each."""
     with tempfile.TemporaryDirectory() as folder:
         write_files(folder, [answer([b"encode"], STORED)[1]])
-        for words in b"encode", b"encode --plain new", b"merge 0.json", b"count --encoded 0.json":
+        Path(folder, "list").write_bytes(b"-\0")
+        for words in (b"encode", b"encode --plain new", b"encode --files0-from=list", b"encode --invalid=skip", b"merge 0.json",
+                      b"count --encoded 0.json"):
             others = []
             for backend in b"string", b"bucket", b"buffer":
                 asks = program.run_with_asks([*words.split(), b"--backend", backend], STORED, folder=folder)[1]
@@ -380,6 +466,8 @@ def try_backends(program):
             yield f"{words}, what else it asks for over each backend", others, others[:1] * 3
 
 
+# What is said behind a fault of a file whose name may be a whole list.
+UNENDED = b" (no zero byte ends a name in the list: see --files0-from)"
 # Lists of names: the list and what is told of it.
 BAD_LISTS = (
     (b"\0", b"1: invalid zero-length file name"),
@@ -455,6 +543,29 @@ def try_bad_lists(program):
         yield "nothing is left", sorted(path.name for path in Path(folder).iterdir()), ["bytes", "list", "none", "one"]
 
 
+def try_unended_lists(program):
+    """A list whose names newlines end is one name, and told as such a list if there is no such file."""
+    with tempfile.TemporaryDirectory() as folder:
+        for name in "one", "bytes", "none":
+            Path(folder, name).write_bytes(b"red\n")
+        for data in b"one\nbytes\n", b"missing\n", b"missing\nnone", b"missing\none\n" + b"a" * 300:
+            Path(folder, "list").write_bytes(data)
+            shown = b'"%s"' % data.replace(b"\n", b"\\n")
+            error = errno.ENAMETOOLONG if len(data) > 255 else errno.ENOENT
+            wanted = 1, b"", unreadable(error, shown + b": ").removesuffix(b"\n") + UNENDED + b"\n"
+            for words in b"count", b"encode", b"encode --plain it", b"shard 2 it", b"count --encoded":
+                words = [*words.split(), b"--files0-from=list"]
+                yield f"{words} of {data[:20]}", program.run(words, folder=folder), wanted
+        # With a zero byte the newline is a part of the name, and so it is if there is such a file.
+        wanted = 1, b"", unreadable(errno.ENOENT, b'"one\\n": ')
+        yield "a name with a newline", program.run(b"count --files0-from=-".split(), b"one\n\0", folder=folder), wanted
+        Path(folder, "one\n").write_bytes(b"red\n")
+        ended = program.run(b"count --files0-from=-".split(), b"one\n", folder=folder)
+        yield "a file with a newline in its name", ended, (0, b"1 red\n", b"")
+        Path(folder, "one\n").unlink()
+        yield "nothing is left", sorted(path.name for path in Path(folder).iterdir()), ["bytes", "list", "none", "one"]
+
+
 # More names than arguments may be, which take two megabytes.
 LISTED = 300000
 
@@ -484,7 +595,9 @@ def try_controls(program):
             missing = 1, b"", unreadable(errno.ENOENT, told_name + b": ")
             for words in ([b"count", name], [b"merge", name], [b"decode", name], [b"encode", b"--files0-from", name]):
                 yield f"{words}", program.run(words, folder=folder), missing
-            yield f"{word!r} in a list", program.run(b"count --files0-from=-".split(), name, folder=folder), missing
+            unended = UNENDED if "\n" in word else b""
+            wanted = 1, b"", missing[2].removesuffix(b"\n") + unended + b"\n"
+            yield f"{word!r} in a list", program.run(b"count --files0-from=-".split(), name, folder=folder), wanted
             for words, message in (
                 ([name], b"unknown command %s" % between),
                 ([b"decode", b"a", name], b"extra operand %s" % between),
@@ -505,6 +618,30 @@ def try_controls(program):
         for words in [b"--a\nb"], [b"count", b"-\x1b"]:
             shown = words[-1].replace(b"\n", b"\\n").replace(b"\x1b", b"\\u{1b}")
             yield f"{words}", program.run(words), misused(b'unknown option "%s"' % shown)
+
+
+# So many bytes of a name or a word are shown, less those of a letter that does not end there.
+SHOWN = 1024
+
+
+def try_long_names(program):
+    """Of a long name the letters are shown that are whole within its first bytes, and two dots."""
+    for unit, around in ("a", 2), ("é", 3), ("x\n", 4), ("日", 3), ("😀", 4), ("a😀", 6):
+        for length in range(SHOWN - around, SHOWN + around):
+            name = (unit * SHOWN).encode()[:length].decode(errors="ignore") + "b" * (length % 2)
+            shown = name if len(name.encode()) <= SHOWN else name.encode()[:SHOWN].decode(errors="ignore")
+            dots = b".." if shown != name else b""
+            is_escaped = "\n" in shown
+            written = shown.replace("\n", "\\n").encode()
+            path = b'"%s"%s' % (written, dots) if is_escaped else written + dots
+            word = path if is_escaped else b"'%s'%s" % (written, dots)
+            ended = program.run([b"merge", name.encode()])
+            yield f"{len(name.encode())} bytes of {unit!r}", ended, (1, b"", unreadable(errno.ENAMETOOLONG, path + b": "))
+            ended = program.run([name.encode()])
+            yield f"a command of {len(name.encode())} bytes of {unit!r}", ended, misused(b"unknown command " + word)
+    for length in 5000, 3 << 20:
+        ended = program.run(b"count --files0-from=-".split(), b"a" * length + b"\0")
+        yield f"a name of {length} bytes in a list", ended, (1, b"", unreadable(errno.ENAMETOOLONG, b"a" * SHOWN + b"..: "))
 
 
 def try_folders(program):
@@ -597,7 +734,8 @@ def try_telling_to_a_full_disk(program):
 def trials():
     return [(trial,) for trial in (
         try_telling_to_a_full_disk, try_operands, try_files, try_many_files, try_encoded, try_counts_of_encoded, try_merges,
-        try_backends, try_invalid, try_blocks, try_drawing, try_help, try_lists, try_bad_lists, try_controls, try_folders,
+        try_packed, try_file_limit, try_far_json, try_long_names, try_backends, try_invalid, try_blocks, try_drawing, try_help, try_lists,
+        try_bad_lists, try_unended_lists, try_controls, try_folders,
         try_terminal_as_a_file)]
 
 

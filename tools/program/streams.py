@@ -48,8 +48,8 @@ class Streams:
 
     def trials(self):
         return [(trial, self) for trial in (
-            failing_input, failing_output, output_of_any_length, output_that_breaks_off, reader_that_leaves, input_in_pieces,
-            output_in_pieces, output_in_few_writes, closed_error)]
+            failing_input, interrupted_input, failing_output, output_of_any_length, output_that_breaks_off, reader_that_leaves,
+            input_in_pieces, output_in_pieces, output_in_few_writes, closed_error)]
 
     def inputs(self):
         """The arguments and inputs, each with how a run over it ends."""
@@ -77,6 +77,22 @@ def failing_input(program, streams):
         for count in range(len(data) + 1):
             name = f"{words}, input {data!r} that breaks off after {count} bytes"
             yield name, program.run(words, data, READ_BYTES=count), (1, b"", streams.unreadable(errno.ECONNRESET))
+
+
+def run_interrupted(program, words, data, size, **settings):
+    """How a run ends whose reads take at most so many bytes: with none of them interrupted, and with each in turn."""
+    ended = program.run(words, data, READ_AT_ONCE=size, TELL_READS=1, **settings)
+    told, _, count = ended.error.rpartition(b"reads ")
+    yield f"{words}, at most {size} bytes read at once", ended._replace(error=told)
+    for number in range(1, int(count) + 1):
+        yield f"{words}, read {number} interrupted", program.run(words, data, READ_AT_ONCE=size, INTERRUPT=number, **settings)
+
+
+def interrupted_input(program, streams):
+    """A signal during a read changes nothing. Lines and characters may be held by halves then."""
+    for (words, data, wanted), size in product(streams.inputs(), (1, 4, 1 << 20)):
+        for name, ended in run_interrupted(program, words, data, size):
+            yield f"{name}, of {data!r}", ended, wanted
 
 
 def failing_output(program, streams):

@@ -29,7 +29,10 @@ struct Text {
 
 /// The bytes as a number, the lowest first.
 fn number(bytes: &[u8]) -> u128 {
-    bytes.iter().rev().fold(0, |number, &byte| number << 8 | u128::from(byte))
+    bytes
+        .iter()
+        .rev()
+        .fold(0, |number, &byte| number << 8 | u128::from(byte))
 }
 
 fn text(bytes: &[u8]) -> Text {
@@ -43,7 +46,10 @@ fn text(bytes: &[u8]) -> Text {
         _ => bytes[length - 16..].to_vec(),
     };
     let before = bytes[..length.saturating_sub(1)].chunks_exact(16);
-    Text { length: length as u32, blocks: before.chain([&last[..]]).map(number).collect() }
+    Text {
+        length: length as u32,
+        blocks: before.chain([&last[..]]).map(number).collect(),
+    }
 }
 
 /// The two words of the product, joined by xor.
@@ -53,12 +59,17 @@ fn product(a: u64, b: u64) -> u64 {
 }
 
 fn fold(start: u64, key: u64, text: &Text) -> u64 {
-    text.blocks.iter().fold(start, |state, &block| product(block as u64 ^ state, (block >> 64) as u64 ^ key))
+    text.blocks.iter().fold(start, |state, &block| {
+        product(block as u64 ^ state, (block >> 64) as u64 ^ key)
+    })
 }
 
 /// The seeded hasher.
 fn seeded((key0, key1): Keys, text: &Text) -> u64 {
-    product(fold(key0 ^ key1.rotate_left(text.length), key1, text) ^ key1, key0 | 1)
+    product(
+        fold(key0 ^ key1.rotate_left(text.length), key1, text) ^ key1,
+        key0 | 1,
+    )
 }
 
 /// The same without the last product.
@@ -121,22 +132,50 @@ fn families() -> Vec<Family> {
         family("low bits and high bits", |v| halves(v, v << 52)),
         family("six low bits of each half", |v| halves(v & 63, v >> 6)),
         family("six high and six low bits", |v| halves(v << 58, v >> 6)),
-        family("six low and six high bits", |v| halves(v & 63, v >> 6 << 58)),
-        family("six high bits of each half", |v| halves(v << 58, v >> 6 << 58)),
-        family("swapped halves", |v| if v & 1 == 0 { halves(v / 2, v / 2 * 77 + 5) } else { halves(v / 2 * 77 + 5, v / 2) }),
+        family("six low and six high bits", |v| {
+            halves(v & 63, v >> 6 << 58)
+        }),
+        family("six high bits of each half", |v| {
+            halves(v << 58, v >> 6 << 58)
+        }),
+        family("swapped halves", |v| {
+            if v & 1 == 0 {
+                halves(v / 2, v / 2 * 77 + 5)
+            } else {
+                halves(v / 2 * 77 + 5, v / 2)
+            }
+        }),
         family("eight bytes, low bits", |v| v.to_le_bytes().to_vec()),
-        family("eight bytes, high bits", |v| (v << 52).to_le_bytes().to_vec()),
+        family("eight bytes, high bits", |v| {
+            (v << 52).to_le_bytes().to_vec()
+        }),
         family("so many zeros", |v| zeros(v as usize)),
         family("so many letters", |v| vec![b'a'; v as usize]),
-        family("two blocks, low bits of the first", |v| [halves(v, 0), zeros(16)].concat()),
-        family("two blocks, high bits of the first", |v| [halves(v << 52, 0), zeros(16)].concat()),
-        family("twenty blocks behind the first", |v| [halves(v, 0), zeros(320)].concat()),
-        family("two blocks, low bits of the second", |v| [zeros(16), halves(v, 0)].concat()),
-        family("blocks of two kinds", |v| twelve(v, |is_set| if is_set { halves(2, 1) } else { halves(1, 2) })),
-        family("highest bits of blocks", |v| twelve(v, |is_set| halves(u64::from(is_set) << 63, 0))),
-        family("near the public multiplier", |v| halves(v << 8, MULTIPLIER ^ 4)),
+        family("two blocks, low bits of the first", |v| {
+            [halves(v, 0), zeros(16)].concat()
+        }),
+        family("two blocks, high bits of the first", |v| {
+            [halves(v << 52, 0), zeros(16)].concat()
+        }),
+        family("twenty blocks behind the first", |v| {
+            [halves(v, 0), zeros(320)].concat()
+        }),
+        family("two blocks, low bits of the second", |v| {
+            [zeros(16), halves(v, 0)].concat()
+        }),
+        family("blocks of two kinds", |v| {
+            twelve(v, |is_set| if is_set { halves(2, 1) } else { halves(1, 2) })
+        }),
+        family("highest bits of blocks", |v| {
+            twelve(v, |is_set| halves(u64::from(is_set) << 63, 0))
+        }),
+        family("near the public multiplier", |v| {
+            halves(v << 8, MULTIPLIER ^ 4)
+        }),
         family("the public multiplier", |v| halves(v, MULTIPLIER)),
-        family("two bits of the public multiplier", |v| [&(v << 20).to_le_bytes()[..], b"\x15|J\x7f9y7\x1e"].concat()),
+        family("two bits of the public multiplier", |v| {
+            [&(v << 20).to_le_bytes()[..], b"\x15|J\x7f9y7\x1e"].concat()
+        }),
         family("a byte that undoes the length", undo_length),
         family("identifiers", |v| format!("x{v}").into_bytes()),
     ]
@@ -149,8 +188,13 @@ fn shared(hash: Hash, keys: Keys, texts: &[Text], bit: u32) -> f64 {
         return f64::INFINITY;
     }
     let mut homes = vec![0_u32; HOMES];
-    codes.iter().for_each(|&code| homes[(code >> bit) as usize % HOMES] += 1);
-    let pairs: f64 = homes.iter().map(|&n| f64::from(n) * (f64::from(n) - 1.0) / 2.0).sum();
+    codes
+        .iter()
+        .for_each(|&code| homes[(code >> bit) as usize % HOMES] += 1);
+    let pairs: f64 = homes
+        .iter()
+        .map(|&n| f64::from(n) * (f64::from(n) - 1.0) / 2.0)
+        .sum();
     let count = texts.len() as f64;
     pairs / (count * (count - 1.0) / 2.0 / HOMES as f64)
 }
@@ -180,31 +224,51 @@ fn worst(pairs: usize, measure: impl Fn(Keys) -> f64) -> f64 {
 
 /// Whether the two weaker functions are seen to be weak: both by the pairs, and the unfinished one by the looks.
 fn tells_weak_functions(families: &[Family]) -> bool {
-    let of = |name| &families.iter().find(|(it, _)| *it == name).expect("a family of this name").1;
-    let (near, high) = (of("near the public multiplier"), of("high bits of the second half"));
+    let of = |name| {
+        &families
+            .iter()
+            .find(|(it, _)| *it == name)
+            .expect("a family of this name")
+            .1
+    };
+    let (near, high) = (
+        of("near the public multiplier"),
+        of("high bits of the second half"),
+    );
     worst(3, |keys| shared(plain, keys, near, 0)) > 100.0
         && worst(100, |keys| shared(unfinished, keys, high, 0)) > 4.0
         && worst(100, |keys| probed(unfinished, keys, high)) > 4.0
-        && worst(3, |keys| shared(plain, keys, of("the public multiplier"), 0)).is_infinite()
+        && worst(3, |keys| {
+            shared(plain, keys, of("the public multiplier"), 0)
+        })
+        .is_infinite()
 }
 
 /// Whether the proved rows have these codes, and no others. The keys are those of the rows.
 fn agrees_with_worked_rows() -> bool {
     let rows = include_str!("../../crates/string_interner/proofs/Worked/SeededHash.antt");
-    let mut chosen = ["Elephant", "Aardvark"].map(|word| format!("pelhxgajlndawnwxG5WzMie1{word}")).to_vec();
+    let mut chosen = ["Elephant", "Aardvark"]
+        .map(|word| format!("pelhxgajlndawnwxG5WzMie1{word}"))
+        .to_vec();
     let plain = "|a|ab|foo|1234|Tiger|12345678|123456789|fifteen bytes !|sixteen bytes ok|seventeen bytes !";
     chosen.extend(plain.split('|').map(String::from));
     chosen.push("the quick brown fox jumps over the lazy dog".to_owned());
     chosen.push("a".repeat(80));
     rows.replace('_', "").matches("≡ 0x").count() == chosen.len()
         && chosen.iter().all(|it| {
-            let code = seeded((0xAED6_6CE1_84BE_2329, 0xEBE9_BBF1_F149_9052), &text(it.as_bytes()));
-            rows.replace('_', "").contains(&format!("≡ 0x{code:016X}\n"))
+            let code = seeded(
+                (0xAED6_6CE1_84BE_2329, 0xEBE9_BBF1_F149_9052),
+                &text(it.as_bytes()),
+            );
+            rows.replace('_', "")
+                .contains(&format!("≡ 0x{code:016X}\n"))
         })
 }
 
 fn main() {
-    let mut counts = std::env::args().skip(1).map(|word| word.parse().expect("a count of pairs of keys"));
+    let mut counts = std::env::args()
+        .skip(1)
+        .map(|word| word.parse().expect("a count of pairs of keys"));
     let (pairs, probes) = (counts.next().unwrap_or(100), counts.next().unwrap_or(1000));
     let families = families();
     let mut wrong = Vec::new();
@@ -224,6 +288,10 @@ fn main() {
         wrong.push("a weaker function is not told apart".to_owned());
     }
     wrong.iter().for_each(|it| println!("{it}"));
-    println!("{} passed, {} failed", families.len() + 2 - wrong.len(), wrong.len());
+    println!(
+        "{} passed, {} failed",
+        families.len() + 2 - wrong.len(),
+        wrong.len()
+    );
     std::process::exit(i32::from(!wrong.is_empty()));
 }

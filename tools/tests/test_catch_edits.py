@@ -34,6 +34,12 @@ class CatchTest(SmallRepository):
         self.assertFalse(catch(self.bugs[0], None, None).is_good)
         self.assertFalse(catch(self.bugs[0], "1 in the place of 2", "1 in the place of 2").is_good)
 
+    def test_a_word_names_a_part_or_one_function_of_it(self):
+        parts = {"both": [(say, "1"), (mock.Mock(__name__="it"),), (say, "2")]}
+        self.assertEqual([*CATCH["chosen"](parts, "both")], parts["both"])
+        self.assertEqual([*CATCH["chosen"](parts, "both:say")], [(say, "1"), (say, "2")])
+        self.assertEqual([*CATCH["chosen"](parts, "both:other"), *CATCH["chosen"](parts, "other")], [])
+
     def test_the_first_fault_is_enough(self):
         program = Program.__new__(Program)
         trials = [(say, "1"), (say, "0", "in vain"), (mock.Mock(side_effect=AssertionError("in vain"), __name__="it"),)]

@@ -70,7 +70,7 @@ class ClientsBuild(unittest.TestCase):
             command.parent.mkdir(exist_ok=True)
             command.write_text(text.format(top=self.top))
             command.chmod(0o755)
-        for name in ("clients/c/Cargo.toml", "clients/c/src", "clients/rust/src/proved", "clients/rust/src/rt"):
+        for name in ("Cargo.toml", "clients/c/Cargo.toml", "clients/c/src", "clients/rust/Cargo.toml", "clients/rust/src"):
             (self.top / name).mkdir(parents=True)
         (self.top / "clients/rust/src/unchecked.rs").write_text("unchecked")
         heap = self.top / "rt/c/heap"
@@ -106,6 +106,14 @@ class ClientsBuild(unittest.TestCase):
         self.assertEqual((self.proofs, self.modules, ran.stderr), (1, 1, ""))
         self.build("--install", "there", has_rt=False)
         self.assertTrue((self.top / "there/lib/libstring_interner.so").exists())
+
+    def test_says_that_cargo_is_at_work(self):
+        for name, text in (("sleep", "#!/bin/sh\nexec /bin/sleep 0.1\n"), ("cargo", CARGO.format(top=self.top).replace("echo cargo", "/bin/sleep 1; echo cargo"))):
+            (self.top / "cargo" / name).write_text(text)
+            (self.top / "cargo" / name).chmod(0o755)
+        ran = self.build(has_rt=False, has_cargo=True)
+        self.assertRegex(ran.stderr, r"(?m)\Abuild: compiling the library for C by cargo, in a minute\n(build: still compiling, [0-9]+ s\n)+build: making")
+        self.assertEqual(self.build(has_rt=False, has_cargo=True).stderr, "")
 
     def test_proves_again_after_an_edit(self):
         self.build()

@@ -13,6 +13,9 @@ echo "wants $1"
 exit 1
 """
 
+CRATES = "crates serde serde_derive serde_json bincode"
+CRATES_OF_BENCH = "crates ahash dashmap hashbrown indexmap libc string_cache"
+
 
 class ClientsCheckTest(unittest.TestCase):
     """In a folder where no command is there that a test needs, so that each language says no more than what it wants."""
@@ -21,7 +24,7 @@ class ClientsCheckTest(unittest.TestCase):
         folder = tempfile.TemporaryDirectory()
         self.addCleanup(folder.cleanup)
         self.top = Path(folder.name)
-        for name in ("clients/check", "clients/tally", "clients/rust/Cargo.toml", "clients/programs/Cargo.toml"):
+        for name in ("clients/check", "clients/tally", "clients/rust/Cargo.toml"):
             (self.top / name).parent.mkdir(parents=True, exist_ok=True)
             shutil.copy(TOP / name, self.top / name)
         for name, text in (("clients/build", "#!/bin/sh\necho 'not made'\nexit 1\n"), ("tools/needs.py", NEEDS)):
@@ -41,11 +44,11 @@ class ClientsCheckTest(unittest.TestCase):
         return [line for line in lines if line.startswith("wants ")]
 
     def test_rust_and_the_programs_are_tested(self):
-        crates = "wants crates serde serde_derive serde_json bincode"
-        self.assertEqual(self.wanted(), ["wants cc", "wants cargo", crates, "wants cargo"])
+        rust = ["cargo", "cargo-clippy", "rustfmt", CRATES, CRATES_OF_BENCH]
+        self.assertEqual(self.wanted(), [f"wants {it}" for it in ("cc", *rust, "cargo")])
 
     def test_once_leaves_the_programs_out(self):
-        self.assertEqual(self.wanted("--once")[-1], "wants crates serde serde_derive serde_json bincode")
+        self.assertEqual(self.wanted("--once")[-1], f"wants {CRATES_OF_BENCH}")
 
 
 if __name__ == "__main__":

@@ -162,14 +162,25 @@ class DocumentsTest(SmallRepository):
         missing = ["json", "std_alloc"]
         self.assertEqual(list(documents.faults()), [f"{page}: does not name {it}, which low uses" for it in missing])
 
+    def test_lines_of_crates(self):
+        self.write("crates.txt", "low: json\nhigh: low\narchive staticlib: low\n")
+        page = "    low: json\n    yours: low\n\n```text\nhigh: low\narchive staticlib: low\nlow of words: json\n```\n"
+        self.write("docs/MORE.md", page)
+        self.assertEqual(list(documents.faults()), [])
+        for old, new in ("low: json", "low: core json"), ("high: low", "high:"), ("archive staticlib:", "archive:"):
+            self.write("docs/MORE.md", page.replace(old, new))
+            line = next(it.strip() for it in page.splitlines() if old in it)
+            self.assertEqual(list(documents.faults()),
+                             [f"docs/MORE.md: has the line {line.replace(old, new)!r}, and crates.txt {line!r}"])
+
     def test_versions(self):
         places = {
             "CHANGELOG.md": "# Changes\n\n## [Unreleased]\n\n## [0.2.0] - 2030-01-02\n\n## [0.1.0] - 2029-01-02\n",
-            "clients/c/Cargo.toml": 'version = "0.2.0"\n',
-            "clients/programs/Cargo.toml": 'version = "0.2.0"\n',
+            "Cargo.toml": 'version = "0.2.0"\n',
             "clients/python/string_interner/__init__.py": '__version__ = "0.2.0"\n',
             "clients/rust/Cargo.toml": 'version = "0.19.1+0.2.0"\n',
             "crates/dictcol/src/main.rt": 'const VERSION: &str = "dictcol 0.2.0\\n";\n',
+            "crates/intern/src/help.rt": 'pub const VERSION: &str = "intern 0.2.0\\n";\n',
         }
         for name, text in ("VERSION", "0.2.0\n"), *places.items():
             self.write(name, text)
@@ -183,6 +194,7 @@ class DocumentsTest(SmallRepository):
 
     def test_an_unpacked_release(self):
         shutil.rmtree(self.top / ".git")
-        self.write("crates/low/out/BUILT.md", "See [nothing](nothing.md).\n")
+        for folder in ("crates/low/out", "target"):
+            self.write(f"{folder}/BUILT.md", "See [nothing](nothing.md).\n")
         self.assertEqual(list(documents.faults()), [])
         self.assertEqual(self.faults_after("src/lib.rt", "src/main.rt"), ["README.md: no file `src/main.rt`"])

@@ -18,10 +18,10 @@ ALIAS = re.compile(r"^pub type (\w+)(?:<.*?>)? =\s*(\w+)", re.M)
 # free memory, write a message, or only say what saves time or memory; and examples, of which nothing is promised. Tests see what
 # they do.
 UNPLANTED = set("""
-    StringInterner::backend Scopes::interner Handle::interner Column::dictionary Column::codes Dictionary::interner
-    TableTextIndex::allocator NumberList::allocator StdHasher::new ReturnedDrop::drop HandleDrop::drop interner_free
-    SymbolU16Symbol::has_narrow_numbers SymbolU32Symbol::has_narrow_numbers
-    SeededStateDebug::fmt PartsErrorDisplay::fmt count_bytes collect encode""".split())
+    StringInterner::backend StringInterner::hasher StringInterner::index Scopes::interner Handle::interner Column::dictionary
+    Column::codes Dictionary::interner TableTextIndex::allocator NumberList::allocator StdHasher::new ReturnedDrop::drop
+    HandleDrop::drop interner_free SymbolU16Symbol::has_narrow_numbers SymbolU32Symbol::has_narrow_numbers SeededStateDebug::fmt
+    PartsErrorDisplay::fmt count_bytes collect encode""".split())
 
 
 def is_open(path, src):
@@ -73,6 +73,11 @@ class ReadTableTest(unittest.TestCase):
                 self.read(text)
 
 
+def words_of(parts):
+    """What names trials of a program: each part, and each function of one."""
+    return {word for part, trials in parts.items() for word in (part, *(f"{part}:{it[0].__name__}" for it in trials))}
+
+
 class PlantedBugsTest(unittest.TestCase):
     """The planted bugs of this repository."""
 
@@ -104,13 +109,13 @@ class PlantedBugsTest(unittest.TestCase):
         self.assertEqual(without, UNPLANTED)
 
     def test_each_scenario_is_there(self):
-        parts = {"intern": set(intern.parts()), "dictcol": set(dictcol.parts())}
+        words = {"intern": words_of(intern.parts()), "dictcol": words_of(dictcol.parts())}
         for edit in self.every(True):
             with self.subTest(edit.name):
                 if edit.program == "suite":
                     self.assertNotEqual(list(scenarios.find_scenarios(*edit.scenario)), [])
                 else:
-                    self.assertLessEqual(set(edit.scenario), parts[edit.program])
+                    self.assertLessEqual(set(edit.scenario), words[edit.program])
 
 
 if __name__ == "__main__":

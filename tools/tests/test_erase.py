@@ -33,6 +33,7 @@ def without_models(text, of):
     """A source text without what is ghost as a whole, in which no brace stands at the margin but the last one."""
     text = re.sub(r"^(?:///.*\n)*impl\b[^{]*\bModel for [^{]*\{\n(?:    .*\n|\n)*\}$", "", text, flags=re.M)
     text = re.sub(r"^use thiserror::Error;$|^ *#\[error\(.*\)\]$|^#!?\[tactic\(.*\)\]$", "", text, flags=re.M)
+    text = re.sub(rf"^(pub mod ({'|'.join(of.for_others)});)$", r'#[cfg(feature = "parts")] \1', text, flags=re.M)
     return re.sub(rf"^(#\[cfg\(test\)\]\n)?(pub )?mod ({'|'.join(of.left_out)});$", "", text, flags=re.M)
 
 
@@ -160,12 +161,14 @@ class EraseTest(TestCase):
     def test_modules_are_open_to_the_crate(self):
         self.gives(
             "mod low;\npub mod high;\npub(super) mod side;\n/// JSON.\npub mod json;\n",
-            "pub(crate) mod low;",
+            "pub mod low;",
             "pub mod high;",
             "pub(super) mod side;",
-            "//~ /// JSON.",
-            "//~ pub mod json;",
+            "/// JSON.",
+            '#[cfg(feature = "parts")] pub mod json;',
         )
+        self.gives("pub mod json;\n", "pub mod json;", place="symbol.rs")
+        self.assertIn("//~ mod tests;\n", ERASE("mod a;\nmod tests;\n", "main.rs", TOOL["INTERN"]))
 
     def test_traits_are_for_sized_types(self):
         self.gives("trait A<T: B<u8>>: C {}\ntrait D<T> {\n}\n", "trait A<T: B<u8>>: Sized + C {}", "trait D<T>: Sized {", "}")
@@ -234,12 +237,17 @@ class EraseTest(TestCase):
     def test_indexes_that_are_within(self):
         """In functions that are named, and in no others, also not of their names in another file."""
         self.gives(
-            "fn item_with(at: [u8; 2]) {\n    self.tags[at] == of(&tags[at..])\n}\nfn f() { self.tags[at] }\n",
+            "fn item_with(at: [u8; 2]) {\n    self.tags[at] == of(self.items[at], self.items[1])\n}\nfn f() { self.tags[at] }\n",
             "fn item_with(at: [u8; 2]) {",
-            "    *unsafe { self.tags.at_unchecked(at) } == of(unsafe { tags.sixteen_unchecked(at) })",
+            "    *unsafe { self.tags.at_unchecked(at) } == of(*unsafe { self.items.at_unchecked(at) }, self.items[1])",
             "}",
             "fn f() { self.tags[at] }",
             place="dedup/tagged.rs",
+        )
+        self.gives(
+            "fn lanes_with() { of(&tags[at..]) }\n",
+            "fn lanes_with() { of(unsafe { tags.sixteen_unchecked(at) }) }",
+            place="dedup/tagged/tags.rs",
         )
         self.gives(
             "fn interned_text(it: &'a [u8]) { &bytes[span.from..span.to] }\n",
@@ -248,19 +256,22 @@ class EraseTest(TestCase):
         )
         for place in ("", "dedup/tagged/tags.rs"):
             self.gives("fn item_with() { self.tags[at] }\n", "fn item_with() { self.tags[at] }", place=place)
-        for other in ("tags[at]", "self.tags[at + 1]", "&tags[..at]", "&self.tags[at..]", "&bytes[from..to]", "bytes[span.from..span.to]"):
-            self.refuses(f"fn lanes_with() {{\n    {other}\n}}\n", 2, "in another form", "dedup/tagged/tags.rs")
+        for other in ("&tags[at]", "&tags[at + 1..]", "&tags[..at]", "&self.tags[at..]", "&tags[at..]; &tags[at..]"):
+            self.refuses(f"\nfn lanes_with() {{\n    {other}\n}}\n", 2, "not once &tags", "dedup/tagged/tags.rs")
 
     def test_parts_of_the_joined_texts(self):
-        source = "fn {}() {{\n    Some(&joined[ends[0]..ends[1]]);\n    joined[a..b].as_bytes(); ends[..1]\n}}\n"
+        source = "fn {}() {{\n    narrow[place + index] as u8; narrow[place - 1];\n    joined[start..end].as_bytes(); &joined[a..b]\n}}\n"
         of = TOOL["HANDLES"]
         erased = ERASE(source.format("string_entries"), "any/entries.rs", of)
-        self.assertIn("Some(crate::unchecked::cut(joined, ends[0]..ends[1]));\n", erased)
-        self.assertIn("crate::unchecked::cut(joined, a..b).as_bytes(); ends[..1]\n", erased)
-        narrow = "fn string_entries() { narrow[place + index] as usize; narrow[place - 1] }\n"
-        self.assertIn("{ *crate::unchecked::at(narrow, place + index) as usize; narrow[place - 1] }", ERASE(narrow, "any/entries.rs", of))
+        self.assertIn("    *unsafe { narrow.at_unchecked(place + index) } as u8; narrow[place - 1];\n", erased)
+        self.assertIn("    unsafe { crate::unchecked::cut_unchecked(joined, start..end) }.as_bytes(); &joined[a..b]\n", erased)
         for name, place in (("string_entries", "any.rs"), ("entries", "any/entries.rs")):
             self.assertNotIn("unchecked", ERASE(source.format(name), place, of))
+        self.gives(
+            "fn narrow_text() { Some(&self.joined[start..end]) }\n",
+            "fn narrow_text() { Some(unsafe { crate::unchecked::cut_unchecked(&self.joined, start..end) }) }",
+            place="backend/string.rs",
+        )
 
     def test_what_is_called_seldom(self):
         """It is a call in the functions of SELDOM alone."""
@@ -326,6 +337,25 @@ class EraseTest(TestCase):
             "}",
         )
 
+    def test_items_lose_bounds(self):
+        """Those of the table alone, and each of them."""
+        self.gives("pub trait CopyHasher: TextHasher {\n}\ntrait B: TextHasher {}\n", "pub trait CopyHasher: Sized {", "}",
+                   "trait B: Sized + TextHasher {}", place="hash.rs")
+        struct, other = "struct StringInterner<B, H: TextHasher = D> {}", "impl<H: TextHasher> C<H> { fn length() {} }"
+        block = "impl<B: Store, H: TextHasher, I> C<H> {{ fn len(h: u8) where H: TextHasher {{}} }}"
+        self.gives(f"{struct}\n{other}\n{block.format()}\n", "struct StringInterner<B, H = D> {}", other,
+                   "impl<B: Store, H, I> C<H> { fn len(h: u8) where H: TextHasher {} }", place="interner.rs")
+        self.refuses("trait CopyHasher {}\n", 1, "not once CopyHasher: TextHasher", place="hash.rs")
+        self.refuses(f"\nstruct StringInterner<H: TextHasher, G: A<H: TextHasher>> {{}}\n{block.format()}\n", 2, "not once H: TextHasher",
+                     place="interner.rs")
+
+    def test_a_bound_that_no_item_loses(self):
+        """A row of the table that is not used, and one for a file that is not there."""
+        self.refuses("trait Copied: TextHasher {}\n", 1, "no `trait CopyHasher`, which loses a bound", place="hash.rs")
+        with tempfile.TemporaryDirectory() as folder, self.assertRaisesRegex(SystemExit, "no hash.rs, in which items lose a bound"):
+            (Path(folder) / "sources").mkdir()
+            TOOL["erase_all"](TOOL["LIBRARY"], Path(folder) / "sources", Path(folder) / "into")
+
     def test_a_handle_that_stays_is_only_read(self):
         """As the contract says of each handle by itself. The body reads what it lent to be changed."""
         for contract, h, g in (
@@ -344,10 +374,10 @@ class EraseTest(TestCase):
     def test_paths_of_other_crates(self):
         """A module that is left out is one of the package."""
         self.exports(
-            "use handles::{calls};\nuse handles::handle::Handle;\nfn f() { string_interner::json::f(); string_interner::hash::f(); }\n",
+            "use handles::{calls};\nuse handles::handle::Handle;\nfn f() { string_interner::json::f(); serde_json::f(); }\n",
             "use crate::handles::{calls};",
             "use crate::handle::Handle;",
-            "fn f() { crate::json::f(); crate::proved::hash::f(); }",
+            "fn f() { crate::proved::json::f(); crate::rt::serde_json::f(); }",
         )
         self.exports("fn f() { crate::g(); part.to_vec(alloc) }\n", "fn f() { crate::exports::g(); part.try_to_vec(alloc) }")
 
@@ -374,13 +404,24 @@ class SourcesTest(TestCase):
         TOOL["write_all"](cls.top)
 
     def pairs(self):
-        """Each source with what is written of it, and the crate."""
+        """Each source without the bounds that its items lose, with what is written of it, and the crate."""
         for of in TOOL["ALL"]:
             for path in sorted(of.sources.rglob("*.rt")):
                 place = path.relative_to(of.sources).with_suffix(".rs")
                 if of.takes(place):
                     target = self.top / of.into / ("mod.rs" if str(place) in ("lib.rs", "main.rs") else place)
-                    yield path.read_text(encoding="utf-8"), target.read_text(encoding="utf-8"), of
+                    source = self.without_bounds(path.read_text(encoding="utf-8"), of.unbound.get(str(place), {}))
+                    yield source, target.read_text(encoding="utf-8"), of
+
+    @staticmethod
+    def without_bounds(source, bounds):
+        for words, bound in bounds.items():
+            item = source.index(words)
+            # What a function is in loses the bound.
+            item = source.rindex("\nimpl", 0, item) if words.startswith("fn ") else item
+            at = source.index(bound, item)
+            source = source[:at] + bound.split(":")[0] + source[at + len(bound) :]
+        return source
 
     def test_each_line_keeps_its_number(self):
         for source, erased, _ in self.pairs():
@@ -394,14 +435,18 @@ class SourcesTest(TestCase):
             erased = self.with_paths_of_the_source(erased.replace(PRELUDE, "", 1), of)
             erased = re.sub(r"#\[test\] fn holds_at_line_\d+\(\) \{ assert(.*;) \}", r"const _: () = prove\1", erased)
             erased = re.sub(r"^\} impl(<'a>)? ::core::error::Error .*$", "}", erased, flags=re.M)
-            erased = re.sub(r"\*unsafe \{ self\.(\w+)\.at_unchecked\((\w+)\) \}", r"self.\1[\2]", erased)
+            erased = re.sub(r"\*unsafe \{ ([\w.]+)\.at_unchecked\(([\w +]+)\) \}", r"\1[\2]", erased)
             erased = re.sub(r"unsafe \{ (\w+)\.sixteen_unchecked\((\w+)\) \}", r"&\1[\2..]", erased)
-            erased = re.sub(r"unsafe \{ crate::unchecked::cut_unchecked\((\w+), (.*)\) \}", r"&\1[\2]", erased)
-            erased = erased.replace("pub(crate) mod ", "mod ").replace(": Sized + ", ": ").replace(": Sized ", " ")
+            erased = erased.replace("crate::unchecked::cut_unchecked", "cut")
+            erased = re.sub(r"unsafe \{ cut\(&?([\w.]+), (.*?\.\..*?)\) \}(?!\.as_bytes)", r"&\1[\2]", erased)
+            erased = re.sub(r"unsafe \{ cut\((\w+), (.*?)\) \}", r"\1[\2]", erased)
+            erased = re.sub(r"\bpub(?:\(crate\))? mod (\w+;)", r"mod \1", erased)
+            erased = erased.replace(": Sized + ", ": ").replace(": Sized ", " ")
             erased = erased.replace("pub fn main(", "fn main(").replace(".try_collect(", ".collect(")
             source, erased = INLINE.sub("#[inline]", source), erased.replace("#[cold] #[inline(never)]", "#[inline]")
             source, erased = self.of_handles(source, of), self.of_handles(erased, of)
-            source = without_models(source, of).replace("final fn ", "fn ").replace("pub(crate) mod ", "mod ")
+            source = without_models(source, of).replace("final fn ", "fn ")
+            source = re.sub(r"\bpub(?:\(crate\))? mod (\w+;)", r"mod \1", source)
             source = source.replace("use core::", "use std::")
             source = re.sub(r"#\[derive\((.*)\)\]", self.plain_derive, source)
             source = re.sub(r"fmt<W: (?:fmt::)?Write>(\(&self, f: &mut (?:fmt::)?Formatter)<W>\)", r"fmt\1<'_>)", source)
@@ -414,8 +459,8 @@ class SourcesTest(TestCase):
             for it in modules if crate != of.crate else ():
                 erased = erased.replace(f"crate::{it}::", f"{crate}::{it}::")
         erased = erased.replace(of.name, "crate")
-        # Macros first, because they are in a module that has another name.
-        for crate, name in sorted(of.names.items(), key=lambda it: not it[0].endswith("!")):
+        # What is in a module that has another name, too, first.
+        for crate, name in sorted(of.names.items(), key=lambda it: (not it[0].endswith("!"), -len(it[1]))):
             mark = "!" if crate.endswith("!") else "::"
             erased = erased.replace(f"{name}{mark}", f"{'std' if crate == 'core' else crate.removesuffix('!')}{mark}")
         return erased
@@ -426,9 +471,6 @@ class SourcesTest(TestCase):
         if of.crate not in ("handles", "string_interner_c"):
             return text
         text = re.sub(r"(&(?:'a )?)mut Handle\b", r"\1Handle", text).replace(".interner()", ".read()").replace("try_to_vec", "to_vec")
-        if of.crate == "handles":
-            text = text.replace("*crate::unchecked::at(narrow, place + index)", "narrow[place + index]")
-            return re.sub(r"crate::unchecked::cut\(joined, (.*?\.\..*?)\)", r"joined[\1]", text.replace("&joined[", "joined["))
         text = re.sub(r"\b(\w+): \*const ([^,]*), \1_len: usize", r"\1: &[\2]", text)
         text = re.sub(r"\b(\w+): \*mut ([^,]*), \1_len: usize", r"\1: &mut [\2]", text)
         text = re.sub(r" let alloc = Global;| let (\w+) = unsafe \{ crate::border::slice(_mut)?\(\1, \1_len\) \};", "", text)

@@ -187,12 +187,21 @@ class Records(unittest.TestCase):
 
     def test_a_project_with_another_library_is_told_that_it_will_be_proved(self):
         write(self.here / "project/crates/string_interner/src/lib.rt", "two")
-        folder, ran = self.take_library()
+        folder, ran = self.take_library(status=3)
         self.assertRegex(ran.stderr, "^library: rt will prove string_interner, in minutes: string_interner is not as its proof ")
         self.assertFalse((folder / "out").exists())
 
     def test_a_project_that_names_no_library(self):
         self.assertIn("crates.txt names string_interner or string_column", self.take_library("yours:\n", 1)[1].stderr)
+
+    def test_a_page_whose_steps_would_prove_the_library_fails(self):
+        for it in "WHAT", "rlibs/core.rlib/format":
+            write(self.here / "kit" / it, "")
+        steps = "```sh\nmkdir ../yours\necho 'string_interner:{}' >../yours/crates.txt\nbin/library ../yours\n```\n"
+        for libraries, status in ("", 0), (" core", 1):
+            write(self.top / "docs/rattle.md", steps.format(libraries))
+            said = self.run_in_copy("tools/try_guide.py", "", "docs/rattle.md", status=status).stdout
+            self.assertEqual("library: rt will prove string_interner, in minutes: " in said, status == 1)
 
     def test_proofs_are_recorded_where_no_record_fits(self):
         self.assertEqual(self.proved(), EVERY)

@@ -8,7 +8,7 @@ import subprocess
 import sys
 import tempfile
 import unittest
-from itertools import accumulate, combinations, islice
+from itertools import accumulate, combinations, islice, product
 from pathlib import Path
 from unittest import mock
 
@@ -122,6 +122,12 @@ class BuiltTest(unittest.TestCase):
         found = [it for it in find_scenarios() if it.first in scenarios.built_firsts()]
         pairs = {pair for it in found for first in (it.first, *it.firsts_again()) for pair in pairs_of(first)}
         self.assertEqual(pairs - {pair for first in scenarios.built_firsts() for pair in pairs_of(first)}, set())
+
+    def test_each_bad_hasher_over_each_backend(self):
+        """Two words that are together elsewhere do not stand for a run of these."""
+        firsts = {it.first.decode() for it in find_scenarios("thirty_texts_under_a_bad_hasher")}
+        nine = product(("string", "bucket", "buffer"), ("constant", "length", "salted"))
+        self.assertEqual({f"interner {backend} SymbolU32 {hasher}" for backend, hasher in nine}, firsts)
 
 
 class ChosenTest(unittest.TestCase):

@@ -39,14 +39,15 @@ if [ "$1" = -vV ]; then
     echo 'host: of_this_machine'
     exit
 fi
-[ "$*" = 'build --release --offline --target of_this_machine --target-dir target --bin intern' ] || exit 1
+words='build --release --offline --target-dir target -p string-interner-programs --bin intern'
+[ "$*" = "$words --target of_this_machine" ] || exit 1
 mkdir -p target/of_this_machine/release
-echo "echo \\"by cargo: $(cat src/lib.rs) \\$*\\"" > target/of_this_machine/release/intern
+echo "echo \\"by cargo: $(cat clients/programs/src/lib.rs) \\$*\\"" > target/of_this_machine/release/intern
 chmod +x target/of_this_machine/release/intern
 """
 # What cargo compiles, and where that is.
-COMPILED = ("clients/programs/Cargo.toml", "clients/programs/src/lib.rs", "clients/rust/src/proved/mod.rs", "clients/rust/src/rt/mod.rs",
-            "clients/rust/src/unchecked.rs", "clients/c/src/proved/json.rs", "clients/c/src/rt/str.rs", "clients/c/src/unchecked.rs")
+COMPILED = ("Cargo.toml", "clients/programs/Cargo.toml", "clients/programs/src/lib.rs", "clients/rust/Cargo.toml",
+            "clients/rust/src/lib.rs", "clients/rust/src/proved/mod.rs")
 
 
 class Start(unittest.TestCase):
@@ -220,14 +221,23 @@ class Start(unittest.TestCase):
             (out / name).chmod(0o700)
             self.write(out / f"bin-{name}.stamp", "crates.txt\n")
             os.utime(out / f"bin-{name}.stamp")
-        self.write(self.top / "crates/dictcol/dictcol.1", ".Dd\n")
+        # What is installed below share/, and where.
+        shared = {"crates/dictcol/dictcol.1": "man/man1/dictcol.1", "crates/intern/intern.1": "man/man1/intern.1",
+                  "crates/dictcol/completions/dictcol.bash": "bash-completion/completions/dictcol",
+                  "crates/dictcol/completions/_dictcol": "zsh/site-functions/_dictcol",
+                  "crates/dictcol/completions/dictcol.fish": "fish/vendor_completions.d/dictcol.fish"}
+        for name in shared:
+            (self.top / name).parent.mkdir(exist_ok=True)
+            self.write(self.top / name, f"{name}\n")
         prefix = self.top / "installed"
         for words, folder in (([str(prefix)], prefix), (["/usr"], self.top / "staged/usr")):
             environment = {"PATH": "/usr/bin:/bin"} | ({"DESTDIR": str(self.top / "staged")} if folder != prefix else {})
             subprocess.run([str(self.top / "bin/install"), *words], env=environment, check=True, capture_output=True)
             self.assertEqual(sorted(os.listdir(folder / "bin")), ["dictcol", "intern"])
             self.assertEqual((folder / "bin/intern").stat().st_mode & 0o777, 0o755)
-            self.assertEqual((folder / "share/man/man1/dictcol.1").read_text(), ".Dd\n")
+            for name, place in shared.items():
+                self.assertEqual((folder / "share" / place).read_text(), f"{name}\n")
+            self.assertEqual(len([it for it in (folder / "share").rglob("*") if it.is_file()]), len(shared))
 
 
 if __name__ == "__main__":

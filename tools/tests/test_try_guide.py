@@ -71,6 +71,15 @@ class TryGuideTest(SmallRepository):
         status, lines = self.outcome(PAGE.replace("cat made", "echo so far; cat no"))
         self.assertEqual((status, lines[:2], lines[-1]), (1, ["docs/c.md: block 2 of the commands ends with status 1", "so far"], "0 passed, 1 failed"))
 
+    def test_a_program_still_runs_when_the_page_has_another(self):
+        page = "```sh\nmkdir mains && touch mains/one\n```\n\n```sh\ncargo run {}\n```\n\n```text\none\n```\n\nInto `mains/two`:\n\n```rust\n2\n```\n"
+        self.write("tools/cargo", '#!/bin/sh\nls mains | grep "${2:-}" >found && [ "$(wc -l <found)" = 1 ] && cat found\n')
+        (self.top / "tools/cargo").chmod(0o755)
+        with mock.patch.dict("os.environ", PATH=f"{self.top}/tools:{os.environ['PATH']}"):
+            self.assertEqual(self.outcome(page.format("one")), (0, ["1 passed, 0 failed"]))
+            status, lines = self.outcome(page.format(""))
+        self.assertEqual((status, lines[0], lines[-1]), (1, "docs/c.md: block 3 of the commands ends with status 1", "0 passed, 1 failed"))
+
     def test_pages_do_not_see_each_other(self):
         self.write("docs/rust.md", "```sh\ncat crates/made\n```\n")
         self.assertEqual(self.outcome(PAGE)[1][-1], "1 passed, 1 failed")

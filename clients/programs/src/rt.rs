@@ -1,28 +1,20 @@
-//! Rattle's std as the programs use it: what the crate for Rust has of it, and of JSON, a test of UTF-8 of the library for C, and
-//! what a process has. Requests for memory are the same as there, because tests know them.
-
-#[allow(dead_code, unused_imports)]
-#[path = "../../rust/src/rt/mod.rs"]
-mod shared;
-#[path = "../../c/src/rt/str.rs"]
-pub mod str;
+//! Rattle's std as the programs use it: what the crate for Rust has of it, and of JSON, and what a process has. Requests for memory
+//! are the same as there, because tests know them.
 
 pub mod env;
 pub mod fs;
 pub mod host;
 pub mod io;
-mod lists;
+mod signals;
 
-pub use core::{iter, num};
-pub use shared::*;
+pub use core::num;
+pub use string_interner::__parts::rt::*;
 pub(crate) use {rattle_eprintln as eprintln, rattle_format as format, rattle_vec as vec};
 
 /// What each module of Rattle has without an import.
 pub mod prelude {
     pub use super::host::HostRuntime;
-    pub use super::lists::Collect;
-    pub use super::shared::prelude::*;
-    pub use super::str;
+    pub use string_interner::__parts::rt::prelude::*;
 }
 
 pub mod os {
@@ -30,7 +22,7 @@ pub mod os {
 
     pub mod unix {
         pub mod fs {
-            pub use super::super::super::fs::MetadataExt;
+            pub use super::super::super::fs::{fchown, MetadataExt, OpenOptionsExt};
         }
     }
 }

@@ -3,9 +3,9 @@
 use programs::itoa::Buffer;
 use programs::memchr::{memchr, memchr2, memmem, memrchr};
 use programs::rt::alloc::Global;
+use programs::rt::serde_json::Value;
 use programs::rt::string::String;
 use programs::rt::vec::Vec;
-use programs::serde_json::Value;
 use programs::simdutf8::from_utf8;
 use programs::tokens::{Reader, Scratch, Token};
 

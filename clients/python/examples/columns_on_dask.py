@@ -129,10 +129,10 @@ def encode_on(client: Any, encode: Callable[[Part], Column], parts: Iterable[Par
 
     The texts of all, one part after another, are the dictionary in order of first appearance, as if one process had encoded all
     parts in order. There are as many shards as workers, if you do not say how many. If a worker fails, dask has another one do
-    again what is lost.
+    again what is lost. Each call reads the parts again, because files may have changed.
     """
     run = client.submit
-    columns = client.map(encode, list(parts))
+    columns = client.map(encode, list(parts), pure=False)
     count = shards or max(1, len(client.nthreads()))
     every, each = range(len(columns)), range(count)
     split = client.map(split_by_shard, columns, shards=count)

@@ -60,7 +60,7 @@ static bool fill_schema(struct ArrowSchema *schema, int width) {
   return true;
 }
 
-static PyObject *make_schema(int width) {
+PyObject *make_schema(int width) {
   struct ArrowSchema *schema = calloc(1, sizeof *schema);
   if (!schema || !fill_schema(schema, width)) {
     free(schema);

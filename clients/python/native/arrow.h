@@ -28,4 +28,7 @@ struct ArrowArrayStream {
   void *private_data;
 };
 
+/** A capsule with the type of a column whose codes have a width: a dictionary of large_utf8. */
+PyObject *make_schema(int width);
+
 #endif

@@ -21,16 +21,46 @@ bool open_rows_in_place(PyObject *given, Rows *rows) {
 }
 
 bool are_many(PyObject *given) {
-  if (!PyUnicode_Check(given)) return true;
-  PyErr_SetString(PyExc_TypeError, "a str is one text, and no rows: write [text], or list(text) for its letters");
-  return false;
+  /* No table is an iterator, and to look for a name that is not there takes longer than a few texts do. */
+  if (PyList_CheckExact(given) || PyTuple_CheckExact(given) || PyIter_Check(given)) return true;
+  if (PyUnicode_Check(given))
+    PyErr_SetString(PyExc_TypeError, "a str is one text, and no rows: write [text], or list(text) for its letters");
+  /* A class has these, as those of pandas, polars and Arrow do. A Series may have a row with such a name. */
+  else if (PyObject_HasAttrString((PyObject *)Py_TYPE(given), "columns"))
+    raise_type("a ", given, " has columns, of which one has rows that are texts: choose it, as table[name]");
+  else if (PyObject_HasAttrString((PyObject *)Py_TYPE(given), "levels"))
+    raise_type("a ", given, " has levels, of which one has rows that are texts: choose it, as index.get_level_values(0)");
+  return !PyErr_Occurred();
+}
+
+PyObject *read_values(PyObject *walk, Py_ssize_t most) {
+  PyObject *values = PyList_New(0), *value;
+  while (values && PyList_Size(values) < most && (value = PyIter_Next(walk))) {
+    if (PyList_Append(values, value) || !heed_signals(PyList_Size(values))) Py_CLEAR(values);
+    Py_DECREF(value);
+  }
+  if (values && PyErr_Occurred()) Py_CLEAR(values);
+  return values;
+}
+
+static PyObject *read_all(PyObject *given) {
+  PyObject *walk = PyObject_GetIter(given), *values = walk ? read_values(walk, PY_SSIZE_T_MAX) : NULL;
+  Py_XDECREF(walk);
+  return values;
+}
+
+PyObject *read_tuple(PyObject *given) {
+  if (PyTuple_CheckExact(given) || PyList_CheckExact(given)) return PySequence_Tuple(given);
+  PyObject *values = read_all(given), *tuple = values ? PyList_AsTuple(values) : NULL;
+  Py_XDECREF(values);
+  return tuple;
 }
 
 bool open_rows(PyObject *given, Rows *rows) {
   PyObject *values = are_many(given) ? without_mask(given, Py_None) : NULL;
   bool is_open = values && open_rows_in_place(values, rows);
   if (values && !is_open) {
-    PyObject *list = PySequence_List(values);
+    PyObject *list = read_all(values);
     is_open = list && open_rows_in_place(list, rows);
     Py_XDECREF(list);
   }
@@ -136,10 +166,17 @@ void end_batch(Batch *batch) {
   batch->collects = false;
 }
 
+/* Lets other threads run, which is for what nobody else has: to them all else is one step. */
+static void let_others_run(void) {
+  Py_BEGIN_ALLOW_THREADS
+  Py_END_ALLOW_THREADS
+}
+
 bool resume_batch(Batch *batch) {
   note_changes(batch);
   end_batch(batch);
   PyErr_CheckSignals(); /* What it raises is found by adopt_changes. */
+  if (!batch->interner && !batch->column) let_others_run();
   begin_batch(batch);
   clear_seen(batch);
   return adopt_changes(batch);
@@ -159,6 +196,34 @@ bool put_number(Batch *batch, Py_ssize_t row, int64_t number) {
   if (batch->width == 4) ((uint32_t *)batch->out)[row] = (uint32_t)number;
   else ((int64_t *)batch->out)[row] = number;
   return true;
+}
+
+/* Interns some of the texts between ends, with room for as many ends. */
+static bool encode_ends(Batch *batch, const Bytes *joined, const size_t *ends, size_t at, size_t n, interner_symbol *numbers,
+                        size_t *room) {
+  size_t begin = at ? ends[at - 1] : 0, done;
+  /* An end that is less than the first byte becomes a great one, which the library rejects. */
+  for (size_t text = 0; text < n; text++) room[text] = ends[at + text] - begin;
+  interner_status status =
+      interner_intern_joined(batch->h, joined->at + begin, joined->length - begin, room, n, numbers + at, n, &done);
+  if (status != INTERNER_OK) raise_place(status, at + done);
+  return status == INTERNER_OK;
+}
+
+bool encode_joined(Batch *batch, const Bytes *joined, const size_t *ends, size_t n, interner_symbol *numbers) {
+  const size_t most = n < ROWS_OF_A_PART ? n : ROWS_OF_A_PART;
+  size_t *room = PyMem_Malloc(most * sizeof *room + 1);
+  if (!room) return PyErr_NoMemory(), false;
+  bool is_done = true;
+  begin_batch(batch);
+  for (size_t at = 0; is_done && at < n; at += most) {
+    if (!at || (is_done = resume_batch(batch)))
+      is_done = encode_ends(batch, joined, ends, at, n - at < most ? n - at : most, numbers, room);
+    else undo_batch(batch);
+  }
+  end_batch(batch);
+  PyMem_Free(room);
+  return is_done;
 }
 
 /* What a value is that pandas counts as missing, or null. */

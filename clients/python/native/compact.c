@@ -38,41 +38,52 @@ Block *renumber_used(const Used *used, const Block *block, Py_ssize_t n) {
   return numbered;
 }
 
+bool copy_text(Dictionary *to, const Dictionary *from, size_t code, interner_symbol *number) {
+  interner_text text;
+  interner_resolve(from->h, code, &text);
+  interner_status status = interner_get_or_intern_utf8(to->h, text.bytes, text.len, number);
+  if (status != INTERNER_OK) raise_status(status);
+  return status == INTERNER_OK;
+}
+
 /* A dictionary of the used texts of another. */
 static Dictionary *copy_used(const Dictionary *from, const Used *used) {
   Dictionary *to = new_dictionary_like(from);
-  interner_status status = INTERNER_OK;
-  size_t count = interner_len(from->h), code = next_used(used, 0, count);
-  for (; to && status == INTERNER_OK && code < count; code = next_used(used, code + 1, count)) {
-    interner_text text;
-    interner_symbol number;
-    interner_resolve(from->h, code, &text);
-    status = interner_get_or_intern_utf8(to->h, text.bytes, text.len, &number);
+  interner_symbol number;
+  size_t count = interner_len(from->h);
+  for (size_t code = next_used(used, 0, count); to && code < count; code = next_used(used, code + 1, count)) {
+    if (heed_signals(interner_len(to->h)) && copy_text(to, from, code, &number)) continue;
+    drop_dictionary(to);
+    return NULL;
   }
-  if (status == INTERNER_OK) return to;
-  raise_status(status);
-  drop_dictionary(to);
-  return NULL;
+  return to;
 }
 
-/* Gives a column the rows of another, under a dictionary of the texts that they have. */
-static bool begin_compact(Column *compact, const Column *of) {
+/* The same rows, under a dictionary of the texts that they have. */
+static bool compact_rows(const Encoded *rows, Encoded *compact) {
   Used used;
-  if (!find_used(of->dictionary, of->block, of->n, &used)) return false;
-  bool has_all = used.count == interner_len(of->dictionary->h);
-  Dictionary *dictionary = has_all ? share_dictionary(of->dictionary) : copy_used(of->dictionary, &used);
-  Block *block = !dictionary || !of->n ? NULL : has_all ? share_block(of->block) : renumber_used(&used, of->block, of->n);
+  if (!find_used(rows->dictionary, rows->block, rows->n, &used)) return false;
+  bool has_all = used.count == interner_len(rows->dictionary->h);
+  Dictionary *dictionary = has_all ? share_dictionary(rows->dictionary) : copy_used(rows->dictionary, &used);
+  Block *block = !dictionary || !rows->n ? NULL : has_all ? share_block(rows->block) : renumber_used(&used, rows->block, rows->n);
   drop_used(&used);
-  if (dictionary && (block || !of->n)) begin_column(compact, dictionary, block, of->n);
-  else drop_dictionary(dictionary);
-  return compact->dictionary != NULL;
+  *compact = (Encoded){dictionary, block, rows->n};
+  if (dictionary && (block || !rows->n)) return true;
+  drop_rows(compact);
+  return false;
 }
 
 PyObject *column_compact(Column *self, PyObject *unused) {
   (void)unused;
-  Column *compact = make_plain(self);
-  if (compact && (!is_made(self) || !begin_compact(compact, self))) Py_CLEAR(compact);
-  return (PyObject *)compact;
+  if (!is_made(self)) return NULL;
+  Encoded rows = hold_rows(self), compact;
+  Column *column = NULL;
+  if (compact_rows(&rows, &compact)) {
+    if ((column = make_plain(self))) begin_column(column, compact.dictionary, compact.block, compact.n);
+    else drop_rows(&compact);
+  }
+  drop_rows(&rows);
+  return (PyObject *)column;
 }
 
 Column *without_the_rest(Column *self) {
@@ -80,36 +91,39 @@ Column *without_the_rest(Column *self) {
   return (Column *)(self->is_part && has_few_rows(self) ? column_compact(self, NULL) : Py_NewRef((PyObject *)self));
 }
 
-/* Encodes the rows under the dictionary of a column that has none yet. */
-static bool add_in_order(const Column *self, Column *ordered, Block *block) {
-  size_t distinct = interner_len(self->dictionary->h);
+/* Encodes rows under a dictionary without texts, with codes for which there is room in a block. */
+static bool add_in_order(const Encoded *rows, Dictionary *dictionary, Block *block) {
+  size_t distinct = interner_len(rows->dictionary->h);
   interner_symbol number;
   int64_t *table = PyMem_Malloc(distinct * sizeof *table + 1);
-  interner_status status = table ? INTERNER_OK : INTERNER_NO_MEMORY;
-  for (size_t code = 0; table && code < distinct; code++) table[code] = -1;
-  for (Py_ssize_t row = 0; status == INTERNER_OK && row < self->n; row++) {
-    int64_t code = code_at(self->block, row);
-    if (code >= 0 && table[code] < 0) {
-      interner_text text;
-      interner_resolve(self->dictionary->h, code, &text);
-      status = add_text(ordered, text.bytes, text.len, &number);
+  if (!table) return PyErr_NoMemory(), false;
+  for (size_t code = 0; code < distinct; code++) table[code] = -1;
+  bool is_done = true;
+  for (Py_ssize_t row = 0; is_done && row < rows->n; row++) {
+    int64_t code = code_at(rows->block, row);
+    is_done = heed_signals(row);
+    if (is_done && code >= 0 && table[code] < 0) {
+      is_done = copy_text(dictionary, rows->dictionary, code, &number);
       table[code] = (int64_t)number;
     }
-    if (status == INTERNER_OK) set_code(block, row, code < 0 ? -1 : table[code]);
+    if (is_done) set_code(block, row, code < 0 ? -1 : table[code]);
   }
   PyMem_Free(table);
-  if (status != INTERNER_OK) raise_status(status);
-  return status == INTERNER_OK;
+  return is_done;
 }
 
 PyObject *column_in_order(Column *self, PyObject *unused) {
   (void)unused;
-  Column *ordered = make_plain(self);
-  Dictionary *dictionary = ordered && is_made(self) ? new_dictionary_like(self->dictionary) : NULL;
-  Block *block = dictionary ? new_block(self->n, width_of(interner_len(self->dictionary->h))) : NULL;
-  if (dictionary) begin_column(ordered, dictionary, NULL, 0);
-  if (!block || !add_in_order(self, ordered, block) || !add_codes(ordered, block, self->n)) Py_CLEAR(ordered);
+  if (!is_made(self)) return NULL;
+  Encoded rows = hold_rows(self);
+  Dictionary *dictionary = new_dictionary_like(rows.dictionary);
+  Block *block = dictionary ? new_block(rows.n, width_of(interner_len(rows.dictionary->h))) : NULL;
+  Column *ordered = block && add_in_order(&rows, dictionary, block) ? make_plain(self) : NULL;
+  if (ordered) begin_column(ordered, dictionary, NULL, 0);
+  else drop_dictionary(dictionary);
+  if (ordered && !add_codes(ordered, block, rows.n)) Py_CLEAR(ordered);
   drop_block(block);
+  drop_rows(&rows);
   return (PyObject *)ordered;
 }
 

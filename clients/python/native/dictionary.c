@@ -115,10 +115,23 @@ PyObject *keep_string(Dictionary *dictionary, size_t code) {
   return string;
 }
 
+bool keep_strings(Dictionary *dictionary) {
+  bool is_done = reserve_strings(dictionary);
+  const size_t count = interner_len(dictionary->h);
+  for (size_t code = 0; is_done && code < count; code++) {
+    if (!(is_done = heed_signals(code)) || kept_string(dictionary, code)) continue;
+    PyObject *string = keep_string(dictionary, code);
+    is_done = string != NULL;
+    Py_XDECREF(string);
+  }
+  return is_done;
+}
+
 PyObject *list_strings(Dictionary *dictionary) {
   PyObject *list = NULL;
-  share_dictionary(dictionary); /* so that it stays as it is while a collection runs */
-  if (reserve_strings(dictionary) && (list = PyList_New(interner_len(dictionary->h)))) {
+  share_dictionary(dictionary); /* so that it stays as it is while Python code runs */
+  /* First all strings, because no Python code may run while the list has places without one. */
+  if (keep_strings(dictionary) && (list = PyList_New(interner_len(dictionary->h)))) {
     size_t count = PyList_Size(list);
     for (size_t code = 0; list && code < count; code++) {
       PyObject *string = Py_XNewRef(kept_string(dictionary, code));

@@ -1,8 +1,7 @@
 /* Columns of a dictionary and codes, and what a column is taken apart into. */
 #include "native.h"
 
-/* Adds distinct texts to a handle that nobody else has. Raises ValueError if one repeats. */
-static bool add_distinct(interner *h, PyObject *texts) {
+bool add_distinct(interner *h, PyObject *texts) {
   Rows rows;
   if (!open_rows(texts, &rows)) return false;
   Batch *batch = new_batch(NULL, NULL, h, rows.n);
@@ -69,8 +68,8 @@ PyObject *column_from_buffers(PyTypeObject *type, PyObject *args, PyObject *keyw
   PyObject *joined, *ends = NULL, *codes = NULL, *hasher = NULL, *offsets = NULL;
   Options options = {.kind = INTERNER_STRING};
   State *state = state_of_type(type);
-  if (!state || !PyArg_ParseTupleAndKeywords(args, keywords, "O|OO$OO:from_buffers", words, &joined, &ends, &codes, &hasher, &offsets))
-    return NULL;
+  if (!state || !are_named(args)) return NULL;
+  if (!PyArg_ParseTupleAndKeywords(args, keywords, "O|$OOOO:from_buffers", words, &joined, &ends, &codes, &hasher, &offsets)) return NULL;
   if (!codes) return PyErr_SetString(PyExc_TypeError, "from_buffers wants codes"), NULL;
   Dictionary *dictionary = read_hasher(state, hasher, &options) ? new_dictionary(&options) : NULL;
   if (!dictionary) return NULL;

@@ -17,14 +17,13 @@ bool add_codes(Column *self, Block *codes, Py_ssize_t n) {
   return true;
 }
 
-static Batch *batch_of(Column *self, Py_ssize_t rows) {
+Batch *batch_of(Column *self, Py_ssize_t rows) {
   Batch *batch = is_made(self) ? new_batch(NULL, self, self->dictionary->h, rows) : NULL;
   if (batch) batch->takes_none = true, batch->missing = -1;
   return batch;
 }
 
-/* Adds the codes of a batch to its column, and ends it. */
-static PyObject *finish_batch(Batch *batch, bool is_done) {
+PyObject *finish_batch(Batch *batch, bool is_done) {
   if (is_done && !add_codes(batch->column, batch->block, batch->first)) {
     undo_batch(batch);
     is_done = false;
@@ -41,22 +40,11 @@ static PyObject *extend_in_place(Column *self, Rows *rows) {
   return finish_batch(batch, is_done);
 }
 
-/* The next values, in a list. A short one is the last. */
-static PyObject *read_values(PyObject *walk) {
-  PyObject *values = PyList_New(0), *value;
-  while (values && PyList_Size(values) < VALUES_AT_ONCE && (value = PyIter_Next(walk))) {
-    if (PyList_Append(values, value)) Py_CLEAR(values);
-    Py_DECREF(value);
-  }
-  if (values && PyErr_Occurred()) Py_CLEAR(values);
-  return values;
-}
-
 /* Encodes the next values. The iterator may use the column, too, and so may what a value runs when it is dropped. Returns whether
  * there may be more: an iterator that ended is not asked again. */
 static bool extend_by_part(Batch *batch, PyObject *walk, bool *is_done) {
   Rows rows;
-  PyObject *values = read_values(walk);
+  PyObject *values = read_values(walk, VALUES_AT_ONCE);
   *is_done = adopt_changes(batch) && values && open_rows_in_place(values, &rows);
   Py_XDECREF(values);
   if (!*is_done || !reserve_batch(batch, rows.n)) {
@@ -97,7 +85,7 @@ PyObject *column_extend(Column *self, PyObject *given) {
   if (open_rows_in_place(values, &rows)) {
     done = extend_in_place(self, &rows);
     close_rows(&rows);
-  } else done = extend_by_parts(self, values);
+  } else if (!extend_wide(self, values, &done)) done = extend_by_parts(self, values);
   Py_DECREF(values);
   return done;
 }

@@ -7,11 +7,15 @@
 
 #include <errno.h>
 
+/* How an array stores texts, as the bytes that it has of each besides those of the text. */
+typedef enum Layout { NO_TEXTS = 0, NARROW_OFFSETS = 4, WIDE_OFFSETS = 8, VIEWS = 16 } Layout;
+
 /* How an array stores its rows: as texts, or as indices of those of its dictionary. */
 typedef struct Form {
-  int offset_width; /* of where a text begins */
+  Layout layout;
   int index_width;  /* 0 if there is no dictionary */
   bool is_unsigned; /* whether indices are */
+  bool is_table;    /* whether these are of its only column */
 } Form;
 
 /* Rows that were read. */
@@ -25,8 +29,9 @@ typedef struct Taken {
 static const interner_symbol NO_TEXT = UINT32_MAX;
 
 static bool raise_format(const char *format) {
-  PyErr_Format(PyExc_TypeError, "Arrow's type '%s' is not read: utf8, large_utf8 and dictionaries of them are",
-               format ? format : "");
+  const char *advice = format && !strcmp(format, "+s") ? "a table or a record batch has several columns: take one of its columns"
+                                                       : "utf8, large_utf8, string views, nulls and dictionaries of them are";
+  PyErr_Format(PyExc_TypeError, "Arrow's type '%s' is not read: %s", format ? format : "", advice);
   return false;
 }
 
@@ -36,12 +41,23 @@ static int place_of(const char *format, const char *letters) {
   return at ? (int)(at - letters) : -1;
 }
 
+static bool read_layout(const char *format, Layout *layout) {
+  static const struct { const char *format; Layout layout; } known[] = {
+      {"u", NARROW_OFFSETS}, {"U", WIDE_OFFSETS}, {"vu", VIEWS}, {"n", NO_TEXTS}};
+  for (size_t at = 0; format && at < sizeof known / sizeof *known; at++)
+    if (!strcmp(format, known[at].format)) return *layout = known[at].layout, true;
+  return raise_format(format);
+}
+
 static bool read_form(const struct ArrowSchema *schema, Form *form) {
+  const bool has_child = schema->n_children == 1 && schema->children && schema->children[0];
+  *form = (Form){.is_table = has_child && schema->format && !strcmp(schema->format, "+s")};
+  if (form->is_table) schema = schema->children[0];
   const struct ArrowSchema *texts = schema->dictionary ? schema->dictionary : schema;
-  int text_place = place_of(texts->format, "uU"), index_place = place_of(schema->format, "cCsSiIlL");
-  if (text_place < 0 || (texts != schema && texts->dictionary)) return raise_format(texts->format);
-  *form = (Form){.offset_width = 4 << text_place};
+  if (texts != schema && texts->dictionary) return raise_format(texts->format);
+  if (!read_layout(texts->format, &form->layout)) return false;
   if (texts == schema) return true;
+  int index_place = place_of(schema->format, "cCsSiIlL");
   if (index_place < 0) return raise_format(schema->format);
   form->index_width = 1 << index_place / 2, form->is_unsigned = index_place % 2;
   return true;
@@ -53,22 +69,56 @@ static bool is_null(const struct ArrowArray *array, int64_t row) {
   return valid && !(valid[row >> 3] >> (row & 7) & 1);
 }
 
-/* What is wrong with the numbers of an array, or null. */
-static const char *fault_of(const struct ArrowArray *array, int64_t buffers, bool has_dictionary) {
-  enum { WIDEST = 8 };
-  if (array->length < 0 || array->offset < 0 || array->length > PY_SSIZE_T_MAX / (2 * WIDEST) - array->offset)
-    return "a length or an offset that cannot be";
-  if (array->n_buffers != buffers || !array->buffers) return "another number of buffers than its type";
+/* What is wrong with the length and the place of an array, or null. */
+static const char *fault_of_range(const struct ArrowArray *array) {
+  enum { WIDEST = 16 };
+  return array->length < 0 || array->offset < 0 || array->length > PY_SSIZE_T_MAX / (2 * WIDEST) - array->offset
+             ? "a length or an offset that cannot be"
+             : NULL;
+}
+
+/* What is wrong with the numbers of an array that has `least` buffers, or up to `most`; or null. */
+static const char *fault_of(const struct ArrowArray *array, int64_t least, int64_t most, bool has_dictionary) {
+  const char *fault = fault_of_range(array);
+  if (fault) return fault;
+  if (array->n_buffers < least || array->n_buffers > most || !array->buffers) return "another number of buffers than its type";
   if ((array->dictionary != NULL) != has_dictionary) return "a dictionary, and its type none, or the other way round";
-  if (array->length && !array->buffers[1]) return "rows, and no buffer for them";
+  if (array->length && least > 1 && !array->buffers[1]) return "rows, and no buffer for them";
   if (array->null_count < -1) return "a number of nulls that cannot be";
   int64_t nulls = 0;
   for (int64_t row = 0; array->buffers[0] && row < array->length; row++) nulls += is_null(array, row);
   return array->null_count >= 0 && array->null_count != nulls ? "another number of nulls than it says" : NULL;
 }
 
-static bool check_array(const struct ArrowArray *array, int64_t buffers, bool has_dictionary) {
-  const char *fault = fault_of(array, buffers, has_dictionary);
+/* How many bytes a buffer has that views are of. The last buffer tells it. */
+static int64_t size_of_buffer(const struct ArrowArray *array, int64_t index) {
+  return widen((const char *)array->buffers[array->n_buffers - 1] + index * sizeof(int64_t), sizeof(int64_t), false);
+}
+
+/* What is wrong with the buffers that views are of, or null. */
+static const char *fault_of_buffers(const struct ArrowArray *array) {
+  const int64_t count = array->n_buffers - 3;
+  if (count && !array->buffers[array->n_buffers - 1]) return "buffers of views, and no sizes of them";
+  for (int64_t index = 0; index < count; index++) {
+    const int64_t size = size_of_buffer(array, index);
+    if (size < 0 || (size && !array->buffers[index + 2])) return "a buffer of views whose size cannot be";
+  }
+  return NULL;
+}
+
+/* What is wrong with the numbers of an array of texts, or null. */
+static const char *fault_of_texts(const struct ArrowArray *array, Layout layout) {
+  const char *fault;
+  switch (layout) {
+  /* Nulls need no buffer, and some producers hand over one that has nothing. */
+  case NO_TEXTS: return array->dictionary ? "a dictionary, and its type none" : fault_of_range(array);
+  case VIEWS: return (fault = fault_of(array, 3, INT32_MAX, false)) ? fault : fault_of_buffers(array);
+  default: return fault_of(array, 3, 3, false);
+  }
+}
+
+/* Raises a fault, if there is one. Returns whether there is none. */
+static bool check_array(const char *fault) {
   if (fault) PyErr_Format(PyExc_ValueError, "an array of Arrow has %s", fault);
   return !fault;
 }
@@ -77,19 +127,53 @@ static int64_t number_at(const struct ArrowArray *array, int64_t row, int width,
   return widen((const char *)array->buffers[1] + (array->offset + row) * width, width, is_unsigned);
 }
 
-/* Finds the texts of some rows, and marks the rows that are null. Each number is read once, because others may change a buffer. */
-static bool find_texts(const struct ArrowArray *array, int width, int64_t first, size_t n, interner_text *texts, interner_symbol *symbols) {
+/* Finds the text between two offsets. */
+static bool find_between(const struct ArrowArray *array, int64_t row, int64_t begin, int64_t end, interner_text *text) {
   const char *bytes = array->buffers[2];
-  int64_t begin, end = number_at(array, first, width, false);
+  if (begin < 0 || end < begin || (end > begin && !bytes)) {
+    PyErr_Format(PyExc_ValueError, "text %lld of an array of Arrow is from byte %lld to %lld%s", (long long)row, (long long)begin,
+                 (long long)end, bytes ? "" : ", and there are no bytes");
+    return false;
+  }
+  *text = (interner_text){end > begin ? bytes + begin : "", end - begin};
+  return true;
+}
+
+/* Finds the text of a view: its length, and either the text itself, or its first bytes, a buffer, and a place there. */
+static bool find_viewed(const struct ArrowArray *array, int64_t row, interner_text *text) {
+  enum { LONGEST_WITHIN = 12, FRONT = 4 };
+  const char *view = (const char *)array->buffers[1] + (array->offset + row) * VIEWS, *bytes;
+  const int64_t length = widen(view, 4, false), index = widen(view + 8, 4, false), offset = widen(view + 12, 4, false);
+  if (length >= 0 && length <= LONGEST_WITHIN) return *text = (interner_text){view + 4, length}, true;
+  if (length < 0 || index < 0 || index >= array->n_buffers - 3 || offset < 0 || length > size_of_buffer(array, index) - offset) {
+    PyErr_Format(PyExc_ValueError,
+                 "text %lld of an array of Arrow is a view of %lld bytes from byte %lld of buffer %lld, which are not there",
+                 (long long)row, (long long)length, (long long)offset, (long long)index);
+    return false;
+  }
+  bytes = (const char *)array->buffers[index + 2] + offset;
+  if (memcmp(bytes, view + 4, FRONT)) {
+    PyErr_Format(PyExc_ValueError, "text %lld of an array of Arrow begins otherwise than its view says", (long long)row);
+    return false;
+  }
+  *text = (interner_text){bytes, length};
+  return true;
+}
+
+/* Finds the texts of some rows, and marks the rows that are null. Each number is read once, because others may change a buffer. */
+static bool find_texts(const struct ArrowArray *array, Layout layout, int64_t first, size_t n, interner_text *texts,
+                       interner_symbol *symbols) {
+  interner_text text;
+  int64_t begin, end = layout == VIEWS ? 0 : number_at(array, first, layout, false);
   for (size_t row = 0; row < n; row++) {
-    begin = end, end = number_at(array, first + row + 1, width, false);
-    if (begin < 0 || end < begin || (end > begin && !bytes)) {
-      PyErr_Format(PyExc_ValueError, "text %lld of an array of Arrow is from byte %lld to %lld%s", (long long)(first + row),
-                   (long long)begin, (long long)end, bytes ? "" : ", and there are no bytes");
-      return false;
-    }
     symbols[row] = is_null(array, first + row) ? NO_TEXT : 0;
-    if (symbols[row] != NO_TEXT) *texts++ = (interner_text){end > begin ? bytes + begin : "", end - begin};
+    if (layout == VIEWS) {
+      if (symbols[row] != NO_TEXT && !find_viewed(array, first + row, &text)) return false;
+    } else {
+      begin = end, end = number_at(array, first + row + 1, layout, false);
+      if (!find_between(array, first + row, begin, end, &text)) return false;
+    }
+    if (symbols[row] != NO_TEXT) *texts++ = text;
   }
   return true;
 }
@@ -97,11 +181,13 @@ static bool find_texts(const struct ArrowArray *array, int width, int64_t first,
 enum { AT_ONCE = 512 };
 
 /* The symbols of the texts of some rows. */
-static bool intern_some(interner *h, const struct ArrowArray *array, int width, int64_t first, size_t n, interner_symbol *symbols) {
+static bool intern_some(interner *h, const struct ArrowArray *array, Layout layout, int64_t first, size_t n,
+                        interner_symbol *symbols) {
+  if (layout == NO_TEXTS) return memset(symbols, 0xFF, n * sizeof *symbols), true; /* NO_TEXT each */
   interner_text texts[AT_ONCE];
   interner_symbol found[AT_ONCE];
   size_t places[AT_ONCE], count = 0, done;
-  if (!find_texts(array, width, first, n, texts, symbols)) return false;
+  if (!find_texts(array, layout, first, n, texts, symbols)) return false;
   for (size_t row = 0; row < n; row++)
     if (symbols[row] != NO_TEXT) places[count++] = row;
   interner_status status = interner_intern_texts(h, texts, count, found, &done);
@@ -113,13 +199,13 @@ static bool intern_some(interner *h, const struct ArrowArray *array, int width, 
 }
 
 /* The symbol of each text of an array, or of null. */
-static interner_symbol *intern_texts(interner *h, const struct ArrowArray *array, int width) {
-  if (!check_array(array, 3, false)) return NULL;
+static interner_symbol *intern_texts(interner *h, const struct ArrowArray *array, Layout layout) {
+  if (!check_array(fault_of_texts(array, layout))) return NULL;
   interner_symbol *symbols = PyMem_Malloc(array->length * sizeof *symbols + 1);
   if (!symbols) return PyErr_NoMemory(), NULL;
   for (int64_t row = 0; row < array->length; row += AT_ONCE) {
     size_t n = array->length - row < AT_ONCE ? array->length - row : AT_ONCE;
-    if ((!row || row % ROWS_OF_A_PART || !PyErr_CheckSignals()) && intern_some(h, array, width, row, n, symbols + row)) continue;
+    if ((!row || row % ROWS_OF_A_PART || !PyErr_CheckSignals()) && intern_some(h, array, layout, row, n, symbols + row)) continue;
     PyMem_Free(symbols);
     return NULL;
   }
@@ -139,11 +225,11 @@ static bool read_index(const struct ArrowArray *array, const Form *form, int64_t
 }
 
 /* Adds the rows of an array. */
-static bool add_rows(Taken *taken, const struct ArrowArray *array, const Form *form) {
-  if (form->index_width && !check_array(array, 2, true)) return false;
+static bool add_column(Taken *taken, const struct ArrowArray *array, const Form *form) {
+  if (form->index_width && !check_array(fault_of(array, 2, 2, true))) return false;
   const struct ArrowArray texts = form->index_width ? *array->dictionary : *array;
   interner *h = taken->dictionary->h;
-  interner_symbol *symbols = intern_texts(h, &texts, form->offset_width);
+  interner_symbol *symbols = intern_texts(h, &texts, form->layout);
   bool is_done = symbols && reserve_codes(&taken->block, taken->n, array->length, width_of(interner_len(h)));
   for (int64_t row = 0, index; is_done && row < array->length; row++) {
     if (!form->index_width) index = row;
@@ -153,6 +239,31 @@ static bool add_rows(Taken *taken, const struct ArrowArray *array, const Form *f
   if (is_done) taken->block->used = taken->n += array->length;
   PyMem_Free(symbols);
   return is_done;
+}
+
+/* What is wrong with the numbers of a table of one column, or null. */
+static const char *fault_of_table(const struct ArrowArray *table) {
+  const char *fault = fault_of(table, 1, 1, false);
+  if (fault) return fault;
+  if (table->n_children != 1 || !table->children || !table->children[0]) return "another number of columns than its type";
+  const struct ArrowArray *column = table->children[0];
+  return (fault = fault_of_range(column)) ? fault
+         : column->length - table->length < table->offset ? "a column with fewer rows than there are"
+                                                          : NULL;
+}
+
+/* Adds the rows of an array, or of the only column of a table. A row of a table that is null is None. */
+static bool add_rows(Taken *taken, const struct ArrowArray *array, const Form *form) {
+  if (!form->is_table) return add_column(taken, array, form);
+  if (!check_array(fault_of_table(array))) return false;
+  struct ArrowArray column = *array->children[0];
+  const Py_ssize_t first = taken->n;
+  if (column.length != array->length) column.null_count = -1; /* It counts those of other rows, too. */
+  column.offset += array->offset, column.length = array->length;
+  if (!add_column(taken, &column, form)) return false;
+  for (int64_t row = 0; array->buffers[0] && row < array->length; row++)
+    if (is_null(array, row)) set_code(taken->block, first + row, -1);
+  return true;
 }
 
 /* Whether a capsule has a struct that nobody moved out of it. */
@@ -262,6 +373,19 @@ static bool take_stream(Taken *taken, PyObject *capsule) {
   return is_done;
 }
 
+/* What a method returns that is asked for a dictionary of large_utf8, which is read fastest. Some do not know how to make one, or
+ * do not take the wish: then what it returns without. */
+static PyObject *call_for_dictionary(PyObject *method) {
+  PyObject *wish = make_schema(4), *result = wish ? PyObject_CallFunctionObjArgs(method, wish, NULL) : NULL;
+  Py_XDECREF(wish);
+  if (result || !wish) return result;
+  if (!PyErr_ExceptionMatches(PyExc_TypeError) && !PyErr_ExceptionMatches(PyExc_ValueError) &&
+      !PyErr_ExceptionMatches(PyExc_NotImplementedError))
+    return NULL;
+  PyErr_Clear();
+  return PyObject_CallNoArgs(method);
+}
+
 /* What a method returns, or null without an exception if there is none. */
 static PyObject *call_if_there(PyObject *given, const char *name) {
   PyObject *method = PyObject_GetAttrString(given, name);
@@ -269,7 +393,7 @@ static PyObject *call_if_there(PyObject *given, const char *name) {
     if (PyErr_ExceptionMatches(PyExc_AttributeError)) PyErr_Clear();
     return NULL;
   }
-  PyObject *result = PyObject_CallNoArgs(method);
+  PyObject *result = call_for_dictionary(method);
   Py_DECREF(method);
   return result;
 }

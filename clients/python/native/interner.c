@@ -40,7 +40,7 @@ static bool read_capacity(PyObject *given, size_t *capacity) {
   return false;
 }
 
-static int method_init(Interner *self, PyObject *args, PyObject *keywords) {
+static int init_interner(Interner *self, PyObject *args, PyObject *keywords) {
   static char *words[] = {"texts", "backend", "capacity", "hasher", NULL};
   PyObject *texts = NULL, *backend = NULL, *room = NULL, *hasher = NULL;
   size_t capacity;
@@ -54,9 +54,11 @@ static int method_init(Interner *self, PyObject *args, PyObject *keywords) {
   return numbers ? 0 : -1;
 }
 
-static interner_status read_json(interner **h, const Options *options, bool is_exact, const char *json, size_t length) {
-  const interner_options made_by = library_options(options, 0);
-  return interner_from_json_with(&made_by, json, length, is_exact, h);
+static int method_init(Interner *self, PyObject *args, PyObject *keywords) {
+  Words words = hold_words(keywords);
+  int status = init_interner(self, args, keywords);
+  drop_words(&words);
+  return status;
 }
 
 static PyObject *method_from_json(PyTypeObject *type, PyObject *args, PyObject *keywords) {
@@ -74,9 +76,7 @@ static PyObject *method_from_json(PyTypeObject *type, PyObject *args, PyObject *
     PyErr_SetString(PyExc_TypeError, "__new__ returned no Interner");
     json = NULL;
   }
-  interner *h = NULL;
-  interner_status status = json ? read_json(&h, &options, is_exact, json, length) : INTERNER_OK;
-  if (status != INTERNER_OK) raise_status(status);
+  interner *h = json ? read_json(&options, is_exact, json, length) : NULL;
   if (h && replace_handle(self, h, options.kind, options.hasher)) return (PyObject *)self;
   Py_XDECREF((PyObject *)self);
   return NULL;
@@ -296,8 +296,14 @@ static int method_set_parts(Interner *self, PyObject *value, void *unused) {
   return replace_handle(self, h, kind, hasher) ? 0 : -1;
 }
 
+HOLDING(method_from_json)
+HOLDING(method_intern_all)
+HOLDING(method_intern_column)
+HOLDING(method_get_all)
+HOLDING(method_resolve_all)
+
 static PyMethodDef method_methods[] = {
-    {"from_json", (PyCFunction)(void (*)(void))method_from_json, METH_VARARGS | METH_KEYWORDS | METH_CLASS,
+    {"from_json", (PyCFunction)(void (*)(void))method_from_json_holding, METH_VARARGS | METH_KEYWORDS | METH_CLASS,
      "from_json($type, /, text, *, backend='string', exact=False, hasher='seeded')\n--\n\n"
      "Makes an interner of the texts of a JSON array of strings. Does not call the `__init__` of a subclass.\n\n"
      "A repeated string adds no text; if `exact` is true, it raises ValueError. Raises ValueError for a text that is no such\n"
@@ -306,17 +312,17 @@ static PyMethodDef method_methods[] = {
      "intern($self, text, /)\n--\n\n"
      "Returns the number of a text. Appends a text that is not known.\n\n"
      "Raises OverflowError if no number is left for it, and MemoryError. The interner is then unchanged."},
-    {"intern_all", (PyCFunction)(void (*)(void))method_intern_all, METH_VARARGS | METH_KEYWORDS,
+    {"intern_all", (PyCFunction)(void (*)(void))method_intern_all_holding, METH_VARARGS | METH_KEYWORDS,
      "intern_all($self, /, texts, *, typecode='I', missing=None)\n--\n\n"
      "Returns the number of each text, in order, in an array: 4 bytes for each, or 8 if the typecode is \"Q\".\n\n"
      "With a number for `missing`, as -1, None is no error, and has this number. The array is then as that of `get_all`.\n\n"
      "It is all or nothing: if a value is no text, or has no UTF-8 form, or if no number or memory is left, nothing changes. For\n"
      "what is no text, the TypeError says which. Reads a list, a tuple and an array of objects in place. numpy reads the result\n"
      "without a copy."},
-    {"intern_column", (PyCFunction)(void (*)(void))method_intern_column, METH_VARARGS | METH_KEYWORDS,
-     "intern_column($self, /, joined, ends=None, *, typecode='I', offsets=None)\n--\n\n"
+    {"intern_column", (PyCFunction)(void (*)(void))method_intern_column_holding, METH_VARARGS | METH_KEYWORDS,
+     "intern_column($self, /, joined, *, ends=None, offsets=None, typecode='I')\n--\n\n"
      "Does the same for texts that are end to end in `joined`: text `i` ends before byte `ends[i]`. Arrow and others have offsets,\n"
-     "one number more: text `i` begins at byte `offsets[i]`, and ends before byte `offsets[i + 1]`. Pass one of the two.\n\n"
+     "one number more: text `i` begins at byte `offsets[i]`, and ends before byte `offsets[i + 1]`. Pass one of the two, by name.\n\n"
      "`joined` may be anything with a buffer; all but `bytes` is copied. `ends` is copied, too. That is fastest for a buffer of\n"
      "numbers, such as an array or what numpy and Arrow have. Raises ValueError at a text that is not UTF-8, and at an end that\n"
      "is less than the one before it or passes the bytes. The texts before it stay."},
@@ -327,7 +333,7 @@ static PyMethodDef method_methods[] = {
      "UTF-8, and says which, counted from 1; then nothing changes."},
     {"get", (PyCFunction)(void (*)(void))method_get, METH_FASTCALL | METH_KEYWORDS,
      "get($self, text, /, default=None)\n--\n\nReturns the number of a text, or the default if it is not known."},
-    {"get_all", (PyCFunction)(void (*)(void))method_get_all, METH_VARARGS | METH_KEYWORDS,
+    {"get_all", (PyCFunction)(void (*)(void))method_get_all_holding, METH_VARARGS | METH_KEYWORDS,
      "get_all($self, /, texts, missing=-1)\n--\n\n"
      "Returns the number of each text, in order, and `missing` for None and for a text that is not known. Adds no text.\n\n"
      "The array has 4 bytes for each, with a sign, or 8 if a number does not fit."},
@@ -335,7 +341,7 @@ static PyMethodDef method_methods[] = {
      "resolve($self, number, /)\n--\n\n"
      "Returns the text with a number, or None if there is none.\n\n"
      "With the backend `buffer`, a number that belongs to no text may return a piece of other texts."},
-    {"resolve_all", (PyCFunction)(void (*)(void))method_resolve_all, METH_VARARGS | METH_KEYWORDS,
+    {"resolve_all", (PyCFunction)(void (*)(void))method_resolve_all_holding, METH_VARARGS | METH_KEYWORDS,
      "resolve_all($self, numbers, /, *, missing=None)\n--\n\n"
      "Returns the text with each number, in order. Raises KeyError at a number without one.\n\n"
      "Undoes `intern_all`. With a number for `missing`, as -1, it returns None for this number, and so undoes `get_all`. With the\n"

@@ -12,12 +12,45 @@ static Py_ssize_t count_ends(const char *at, const char *end, bool any_newline) 
   return count;
 }
 
-/* Encodes a line. */
-static bool encode_line(Batch *batch, const char *at, size_t length) {
+/* Which part of a line is a row. */
+typedef struct Cut {
+  Py_ssize_t field; /* -1 if it is the whole line */
+  const char *separator;
+  Py_ssize_t length;
+} Cut;
+
+static const Cut NO_CUT = {-1, NULL, 0};
+
+static const char *find_separator(const Cut *cut, const char *at, const char *end) {
+  while (at < end && (at = memchr(at, *cut->separator, end - at))) {
+    if (end - at < cut->length) return NULL;
+    if (cut->length == 1 || !memcmp(at, cut->separator, cut->length)) return at;
+    at++;
+  }
+  return NULL;
+}
+
+/* Finds the field of a line. Returns whether there is one. */
+static bool find_field(const Cut *cut, const char **at, size_t *length) {
+  const char *end = *at + *length, *begin = *at, *stop = find_separator(cut, begin, end);
+  for (Py_ssize_t field = cut->field; field; field--) {
+    if (!stop) return false;
+    begin = stop + cut->length;
+    stop = find_separator(cut, begin, end);
+  }
+  *at = begin, *length = (stop ? stop : end) - begin;
+  return true;
+}
+
+/* Encodes a line, or a field of it. */
+static bool encode_line(Batch *batch, const Cut *cut, const char *at, size_t length) {
   interner_symbol number;
+  if (cut->field >= 0 && !find_field(cut, &at, &length))
+    return PyErr_Format(PyExc_ValueError, "line %zd has no field %zd", batch->first + 1, cut->field), false;
   interner_status status = interner_get_or_intern(batch->h, at, length, &number);
   if (status != INTERNER_OK) {
-    if (status == INTERNER_BAD_TEXT) PyErr_Format(PyExc_ValueError, "line %zd is not UTF-8", batch->first + 1);
+    if (status == INTERNER_BAD_TEXT)
+      PyErr_Format(PyExc_ValueError, "%sline %zd is not UTF-8", cut->field < 0 ? "" : "the field of ", batch->first + 1);
     else raise_status(status);
     return false;
   }
@@ -27,22 +60,22 @@ static bool encode_line(Batch *batch, const char *at, size_t length) {
 }
 
 /* Encodes lines that end before `end`; the last need not end in a newline. There is room for their numbers. */
-static bool encode_lines(Batch *batch, const char *at, const char *end) {
+static bool encode_lines(Batch *batch, const Cut *cut, const char *at, const char *end) {
   while (at < end) {
     const char *newline = memchr(at, '\n', end - at), *stop = newline ? newline : end;
-    if (!encode_line(batch, at, stop - at)) return false;
+    if (!encode_line(batch, cut, at, stop - at)) return false;
     at = stop + (stop < end);
   }
   return true;
 }
 
 /* The same for lines that "\n", "\r" or "\r\n" ends. */
-static bool encode_any_lines(Batch *batch, const char *at, const char *end) {
+static bool encode_any_lines(Batch *batch, const Cut *cut, const char *at, const char *end) {
   const char *newline = at < end ? memchr(at, '\n', end - at) : NULL;
   while (at < end) {
     if (newline && newline < at) newline = memchr(at, '\n', end - at);
     const char *stop = newline ? newline : end, *carriage = memchr(at, '\r', stop - at);
-    if (!encode_line(batch, at, (carriage ? carriage : stop) - at)) return false;
+    if (!encode_line(batch, cut, at, (carriage ? carriage : stop) - at)) return false;
     at = carriage && carriage + 1 < stop ? carriage + 1 : stop + (stop < end);
   }
   return true;
@@ -62,7 +95,7 @@ static bool encode_bytes(Batch *batch, const Bytes *bytes) {
   begin_batch(batch);
   while (is_done && at < end) {
     const char *stop = end_part(at, end);
-    is_done = (at == bytes->at || resume_batch(batch)) && encode_lines(batch, at, stop);
+    is_done = (at == bytes->at || resume_batch(batch)) && encode_lines(batch, &NO_CUT, at, stop);
     at = stop;
   }
   if (!is_done) undo_batch(batch);
@@ -101,6 +134,9 @@ typedef struct Reader {
   bool skips_mark;  /* whether a byte order mark at the front is no part of the first line */
   bool any_newline; /* whether "\r" and "\r\n" end a line, too */
   bool ended;       /* whether there is no more */
+  Cut cut;
+  PyObject *progress; /* what is told how far it is, or null */
+  size_t done;      /* bytes that were read */
   char *bytes;
   size_t used, room;
 } Reader;
@@ -155,7 +191,7 @@ static Py_ssize_t read_object(Reader *reader) {
 static Py_ssize_t read_more(Reader *reader) {
   Py_ssize_t count = reader->ended ? 0 : reader->object ? read_object(reader) : read_descriptor(reader);
   reader->ended |= !count;
-  if (count > 0) reader->used += count;
+  if (count > 0) reader->used += count, reader->done += count;
   return count;
 }
 
@@ -173,7 +209,7 @@ static bool encode_read(Batch *batch, Reader *reader, size_t count) {
   else if (whole == searched) return true;
   const char *end = reader->bytes + whole;
   if (!reserve_batch(batch, count_ends(reader->bytes, end, reader->any_newline) + 1)) return false;
-  if (!(reader->any_newline ? encode_any_lines : encode_lines)(batch, reader->bytes, end)) return false;
+  if (!(reader->any_newline ? encode_any_lines : encode_lines)(batch, &reader->cut, reader->bytes, end)) return false;
   batch->block->used = batch->first;
   drop_front(reader, whole);
   return true;
@@ -196,12 +232,20 @@ static bool explain_compression(bool is_compressed) {
   return false;
 }
 
+/* Tells how far it is, to any code: nobody else has the reader and the batch. */
+static bool tell_progress(const Batch *batch, const Reader *reader) {
+  if (!reader->progress) return true;
+  PyObject *told = PyObject_CallFunction(reader->progress, "nn", (Py_ssize_t)reader->done, batch->first);
+  Py_XDECREF(told);
+  return told != NULL;
+}
+
 static bool encode_file(Batch *batch, Reader *reader) {
   Py_ssize_t count = read_front(reader);
   bool is_compressed = count >= 2 && reader->bytes[0] == '\x1F' && reader->bytes[1] == '\x8B';
   bool is_done = count >= 0 && encode_read(batch, reader, count);
   for (bool is_last = false; is_done && !is_last; is_last = !count)
-    is_done = (count = read_more(reader)) >= 0 && encode_read(batch, reader, count);
+    is_done = (count = read_more(reader)) >= 0 && encode_read(batch, reader, count) && tell_progress(batch, reader);
   return is_done || explain_compression(is_compressed && !batch->first);
 }
 
@@ -261,29 +305,68 @@ static bool is_word(PyObject *given, const char *word) {
 static bool read_format(PyObject *encoding, PyObject *newline, Reader *reader) {
   reader->skips_mark = encoding && is_word(encoding, "utf-8-sig");
   reader->any_newline = newline == Py_None;
-  if (encoding && !reader->skips_mark && !is_word(encoding, "utf-8")) PyErr_SetString(PyExc_ValueError, "an encoding is 'utf-8' or 'utf-8-sig'");
-  else if (newline && !reader->any_newline && !is_word(newline, "\n")) PyErr_SetString(PyExc_ValueError, "a newline is '\\n' or None");
+  if (encoding && !reader->skips_mark && !is_word(encoding, "utf-8"))
+    PyErr_SetString(PyExc_ValueError, "an encoding is 'utf-8' or 'utf-8-sig'");
+  else if (newline && !reader->any_newline && !is_word(newline, "\n"))
+    PyErr_SetString(PyExc_ValueError, "a newline is '\\n' or None");
   return !PyErr_Occurred();
 }
 
-PyObject *column_from_file(PyTypeObject *type, PyObject *args, PyObject *keywords) {
-  static char *words[] = {"file", "encoding", "newline", "hasher", NULL};
-  PyObject *encoding = NULL, *newline = NULL, *hasher = NULL;
-  Options options = {.kind = INTERNER_STRING};
-  Py_ssize_t rows = 0;
-  Reader reader = {0};
-  State *state = state_of_type(type);
-  if (!state || !PyArg_ParseTupleAndKeywords(args, keywords, "O|$OOO:from_file", words, &reader.name, &encoding, &newline, &hasher)) return NULL;
-  if (!read_format(encoding, newline, &reader)) return NULL;
-  Dictionary *dictionary = read_hasher(state, hasher, &options) ? new_dictionary(&options) : NULL;
-  if (!dictionary) return NULL;
-  Block *block = encode_named(dictionary, &reader, &rows);
-  Column *column = block ? make_column(state, type) : NULL;
-  if (column) {
-    begin_column(column, dictionary, block, rows);
-    return (PyObject *)column;
+/* The separator of fields, whose bytes the caller holds. */
+static bool read_separator(PyObject *given, Bytes *separator) {
+  Py_ssize_t length;
+  if (given && !PyUnicode_Check(given)) return read_bytes(given, separator);
+  const char *bytes = given ? PyUnicode_AsUTF8AndSize(given, &length) : ",";
+  if (bytes) *separator = (Bytes){.at = bytes, .length = given ? length : 1};
+  return bytes != NULL;
+}
+
+/* Which field of each line is meant, if one is. */
+static bool read_cut(PyObject *field, PyObject *given, Bytes *separator, Reader *reader) {
+  reader->cut = NO_CUT;
+  if (!field || field == Py_None) {
+    if (given) PyErr_SetString(PyExc_TypeError, "a separator, and no field");
+    return !given;
   }
-  drop_block(block);
-  drop_dictionary(dictionary);
-  return NULL;
+  const Py_ssize_t number = PyNumber_AsSsize_t(field, PyExc_OverflowError);
+  if (PyErr_Occurred() || !read_separator(given, separator)) return false;
+  reader->cut = (Cut){number, separator->at, separator->length};
+  const bool has_newline = memchr(separator->at, '\n', separator->length);
+  if (number < 0) PyErr_SetString(PyExc_ValueError, "fields are counted from 0");
+  else if (!separator->length) PyErr_SetString(PyExc_ValueError, "a separator is empty");
+  else if (has_newline || (reader->any_newline && memchr(separator->at, '\r', separator->length)))
+    PyErr_SetString(PyExc_ValueError, "a separator has what ends a line");
+  return !PyErr_Occurred();
+}
+
+/* A column of what a reader reads. */
+static PyObject *read_column(State *state, PyTypeObject *type, const Options *options, Reader *reader) {
+  Py_ssize_t rows = 0;
+  Dictionary *dictionary = new_dictionary(options);
+  Block *block = dictionary ? encode_named(dictionary, reader, &rows) : NULL;
+  Column *column = block ? make_column(state, type) : NULL;
+  if (column) begin_column(column, dictionary, block, rows);
+  else {
+    drop_block(block);
+    drop_dictionary(dictionary);
+  }
+  return (PyObject *)column;
+}
+
+PyObject *column_from_file(PyTypeObject *type, PyObject *args, PyObject *keywords) {
+  static char *words[] = {"file", "encoding", "newline", "hasher", "field", "separator", "progress", NULL};
+  PyObject *encoding = NULL, *newline = NULL, *hasher = NULL, *field = NULL, *separator = NULL, *column = NULL;
+  Options options = {.kind = INTERNER_STRING};
+  Reader reader = {0};
+  Bytes bytes = {0};
+  State *state = state_of_type(type);
+  if (!state || !PyArg_ParseTupleAndKeywords(args, keywords, "O|$OOOOOO:from_file", words, &reader.name, &encoding, &newline,
+                                             &hasher, &field, &separator, &reader.progress))
+    return NULL;
+  if (reader.progress == Py_None) reader.progress = NULL;
+  if (read_format(encoding, newline, &reader) && read_hasher(state, hasher, &options) &&
+      read_cut(field, separator, &bytes, &reader))
+    column = read_column(state, type, &options, &reader);
+  drop_bytes(&bytes);
+  return column;
 }

@@ -28,14 +28,14 @@ static const char *read_typecode(PyObject *given) {
   return NULL;
 }
 
-/* Interns the parts of bytes, and writes their symbols. The texts before a failure stay. */
+/* Interns the parts of bytes, and writes their symbols. The texts before one that fails stay. */
 static bool intern_parts(Interner *self, const Joined *joined, interner_symbol *numbers) {
-  size_t done, n = joined->ends.n;
-  if (!is_open(self)) return false;
+  Batch *batch = is_open(self) ? new_batch(self, NULL, self->h, 0) : NULL;
+  if (!batch) return false;
   self->uses++;
-  interner_status status = interner_intern_joined(self->h, joined->bytes.at, joined->bytes.length, ends_of(joined), n, numbers, n, &done);
-  if (status != INTERNER_OK) raise_place(status, done);
-  return status == INTERNER_OK;
+  bool is_done = encode_joined(batch, &joined->bytes, ends_of(joined), joined->ends.n, numbers);
+  free_batch(batch);
+  return is_done;
 }
 
 /* The numbers in an array. */
@@ -54,7 +54,8 @@ PyObject *method_intern_column(Interner *self, PyObject *args, PyObject *keyword
   static char *words[] = {"joined", "ends", "typecode", "offsets", NULL};
   PyObject *given, *ends = NULL, *given_typecode = NULL, *offsets = NULL, *array = NULL;
   Joined joined;
-  if (!PyArg_ParseTupleAndKeywords(args, keywords, "O|O$OO:intern_column", words, &given, &ends, &given_typecode, &offsets)) return NULL;
+  if (!are_named(args)) return NULL;
+  if (!PyArg_ParseTupleAndKeywords(args, keywords, "O|$OOO:intern_column", words, &given, &ends, &given_typecode, &offsets)) return NULL;
   const char *typecode = read_typecode(given_typecode);
   if (!typecode || !read_joined(given, ends, offsets, &joined)) return NULL;
   interner_symbol *numbers = PyMem_Malloc(joined.ends.n * sizeof *numbers + 1);

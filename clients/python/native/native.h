@@ -12,8 +12,10 @@
  *   4. A text that the library lends becomes a str before anything else is called.
  *   5. Between the parts of a batch PyErr_CheckSignals runs handlers. After it all is tested again (resume_batch): the handle,
  *      the length of the list, the counts of changes. The table of seen objects is cleared, because a handler may have dropped them.
+ *      A loop that only reads lets them run, too (heed_signals). It reads rows that it holds (hold_rows), or memory of C.
  *   6. What `gc.get_objects` finds may be read or changed by others: items of a list or tuple that is being filled are null, and a
- *      list of this module's own may be emptied. So what must not change is in memory of C.
+ *      list of this module's own may be emptied, or the dict of what is passed by name. So what must not change is in memory of C,
+ *      and methods that are passed anything by name are HOLDING it.
  *
  * No variable of the module is changed after the import; what an interpreter needs is in a State. */
 #ifndef NATIVE_H
@@ -28,6 +30,7 @@
 #include <stdbool.h>
 #include <stddef.h>
 #include <stdint.h>
+#include <stdlib.h>
 #include <string.h>
 
 #include "string_interner.h"
@@ -45,9 +48,12 @@
 /** How many rows, or bytes of lines, a part of a batch has: handlers of signals run in between. */
 enum { ROWS_OF_A_PART = 1 << 16, BYTES_OF_A_PART = 1 << 20 };
 
+/** Lets handlers of signals run after each part of what a loop goes through. Returns whether none raised. */
+static inline bool heed_signals(size_t done) { return !done || done % ROWS_OF_A_PART || !PyErr_CheckSignals(); }
+
 /** What an interpreter has of the module. */
 typedef struct State {
-  PyTypeObject *interner, *walk, *column, *rows_walk, *codes, *parts;
+  PyTypeObject *interner, *walk, *column, *rows_walk, *codes, *parts, *mask;
   PyObject *array;  /* array.array */
   uint64_t keys[2][2]; /* random keys of this interpreter, for SipHash and for the seeded hasher */
 } State;
@@ -58,6 +64,33 @@ typedef struct Options {
   interner_hasher hasher;
   uint64_t keys[2];
 } Options;
+
+/** What a call was passed by name, held until it ends. */
+typedef struct Words {
+  PyObject *at[8]; /* no call takes more */
+  size_t n;
+} Words;
+
+static inline Words hold_words(PyObject *keywords) {
+  Words words = {.n = 0};
+  PyObject *word;
+  for (Py_ssize_t at = 0; keywords && words.n < sizeof words.at / sizeof *words.at && PyDict_Next(keywords, &at, NULL, &word);)
+    words.at[words.n++] = Py_NewRef(word);
+  return words;
+}
+
+static inline void drop_words(Words *words) {
+  while (words->n) Py_DECREF(words->at[--words->n]);
+}
+
+/** Defines the form of a method for a table, which holds its words. */
+#define HOLDING(method) \
+  static PyObject *method##_holding(PyObject *self, PyObject *args, PyObject *keywords) { \
+    Words words = hold_words(keywords); \
+    PyObject *result = method((void *)self, args, keywords); \
+    drop_words(&words); \
+    return result; \
+  }
 
 /* module.c */
 
@@ -98,6 +131,11 @@ bool shows_more(const Interner *self, size_t count);
 
 /** Reads the rest of each live iterator, so that what it shows stays, and lets go of it. Nothing changes if this fails. */
 bool read_walks(Interner *self);
+
+/* json.c */
+
+/** Makes a handle of the texts of a JSON array of strings, or raises. */
+interner *read_json(const Options *options, bool is_exact, const char *json, size_t length);
 
 /* many.c */
 
@@ -146,9 +184,24 @@ typedef struct Numbers {
 } Numbers;
 
 /** An integer of 1, 2, 4 or 8 bytes, which need not be aligned. One of 8 bytes without a sign is as its bytes are with one. */
-int64_t widen(const char *at, Py_ssize_t width, bool is_unsigned);
+static inline int64_t widen(const char *at, Py_ssize_t width, bool is_unsigned) {
+  union { int8_t one; int16_t two; int32_t four; int64_t eight; } number;
+  memcpy(&number, at, width);
+  switch (width) {
+  case 1: return is_unsigned ? (uint8_t)number.one : number.one;
+  case 2: return is_unsigned ? (uint16_t)number.two : number.two;
+  case 4: return is_unsigned ? (int64_t)(uint32_t)number.four : (int64_t)number.four;
+  default: return number.eight;
+  }
+}
+
+/** Opens a buffer of integers or booleans in one dimension. Returns how many bytes an item has, or 0 if it is none. */
+Py_ssize_t open_numbers(PyObject *given, Py_buffer *view);
 
 bool read_numbers(PyObject *given, Numbers *numbers);
+
+/** Raises TypeError for booleans in the place of numbers. */
+void refuse_booleans(void);
 
 /** The same, but raises TypeError for a boolean. */
 bool read_integers(PyObject *given, Numbers *numbers);
@@ -178,11 +231,24 @@ typedef struct Bytes {
 bool read_bytes(PyObject *given, Bytes *bytes);
 void drop_bytes(Bytes *bytes);
 
+/* mask.c */
+
+extern PyType_Spec mask_spec;
+
+/** Makes a mask, whose booleans the caller fills in. */
+PyObject *new_mask(State *state, Py_ssize_t n, bool **booleans);
+
+/** Reads the booleans of a mask, or of another buffer of booleans. Returns whether it is one; if not, an exception may be set. */
+bool read_mask(PyObject *given, Bytes *booleans);
+
 /* Texts end to end in bytes. */
 typedef struct Joined {
   Bytes bytes;
   Numbers ends; /* of each text; a negative end is a great one, as the library reads it */
 } Joined;
+
+/** Raises TypeError if more than the bytes is passed without a name: by their place nobody tells offsets from ends. */
+bool are_named(PyObject *args);
 
 /** Reads where texts end in bytes by `ends`, or as Arrow tells it by `offsets`: where the first begins, and where each ends. Raises
  * TypeError unless exactly one of both is given and not None, and ValueError if the first begins outside of the bytes. */
@@ -270,6 +336,9 @@ static inline PyObject *kept_string(const Dictionary *dictionary, size_t code) {
 /** The text with a code. Keeps the str if there is a place for it. */
 PyObject *keep_string(Dictionary *dictionary, size_t code);
 
+/** Has the dictionary keep a str of each text. Others may let go of them meanwhile. */
+bool keep_strings(Dictionary *dictionary);
+
 /** The texts, in a new list. */
 PyObject *list_strings(Dictionary *dictionary);
 
@@ -296,6 +365,17 @@ bool is_made(const Column *self);
 /** The bytes of a code. They may be fewer than its dictionary needs now, if texts were added without rows. */
 int column_width(const Column *self);
 
+/** Rows that are encoded. Whoever holds them refers to both parts, so they stay as they are while Python code runs. */
+typedef struct Encoded {
+  Dictionary *dictionary;
+  Block *block; /* null if there is no row */
+  Py_ssize_t n;
+} Encoded;
+
+/** The rows that a column has now. */
+Encoded hold_rows(const Column *self);
+void drop_rows(Encoded *rows);
+
 /** Has a column begin again, with a dictionary and rows, whose references it takes over. */
 void begin_column(Column *self, Dictionary *dictionary, Block *block, Py_ssize_t n);
 
@@ -310,16 +390,70 @@ interner_status add_text(Column *self, const char *bytes, size_t length, interne
 
 PyObject *column_codes(Column *self, void *unused);
 
+/** The code in this dictionary of each text of another, with -1 before the first, and -2 for a text that is not here. */
+int64_t *compare_texts(const Dictionary *here, const Dictionary *other);
+
+PyObject *column_item(Column *self, Py_ssize_t row);
+PyObject *column_slice(Column *self, PyObject *slice);
+
+/* select.c */
+
+PyObject *column_take(Column *self, PyObject *given);
+PyObject *column_subscript(Column *self, PyObject *key);
+
+/* counts.c */
+
+PyObject *column_counts(Column *self, PyObject *args, PyObject *keywords);
+
+/* values.c */
+
+PyObject *column_unique(Column *self, PyObject *unused);
+PyObject *column_value_counts(Column *self, PyObject *drops);
+
+/** Writes the rows into an array of objects of numpy. */
+PyObject *column_write(Column *self, PyObject *array);
+
+/* show.c */
+
+PyObject *column_repr(Column *self);
+
+/* distinct.c: columns of the same rows with other texts, or in another order of texts. */
+
+PyObject *column_map_texts(Column *self, PyObject *function);
+PyObject *column_sort_dictionary(Column *self, PyObject *args, PyObject *keywords);
+PyObject *column_remap(Column *self, PyObject *args, PyObject *keywords);
+PyObject *column_fillna(Column *self, PyObject *value);
+PyObject *column_dropna(Column *self, PyObject *unused);
+PyObject *column_nunique(Column *self, PyObject *args, PyObject *keywords);
+PyObject *column_concat(Column *self, PyObject *other);
+PyObject *column_inplace_concat(Column *self, PyObject *other);
+
+/* wide.c */
+
+/** Appends the rows of an array of texts of numpy. Returns whether it is one. */
+bool extend_wide(Column *self, PyObject *given, PyObject **done);
+
 /* extend.c */
+
+typedef struct Batch Batch;
 
 /** Appends codes. If there is no row yet, takes the block as it is. */
 bool add_codes(Column *self, Block *codes, Py_ssize_t n);
+
+/** A batch that adds rows to a column. */
+Batch *batch_of(Column *self, Py_ssize_t rows);
+
+/** Adds the codes of a batch to its column, and ends it. */
+PyObject *finish_batch(Batch *batch, bool is_done);
 
 PyObject *column_append(Column *self, PyObject *value);
 PyObject *column_extend(Column *self, PyObject *given);
 PyObject *column_merge(Column *self, PyObject *values);
 
 /* exchange.c */
+
+/** Adds distinct texts to a handle that nobody else has. Raises ValueError if one repeats. */
+bool add_distinct(interner *h, PyObject *texts);
 
 PyObject *column_from_parts(PyTypeObject *type, PyObject *args, PyObject *keywords);
 PyObject *column_from_buffers(PyTypeObject *type, PyObject *args, PyObject *keywords);
@@ -351,6 +485,9 @@ static inline size_t next_used(const Used *used, size_t code, size_t end) {
   return code < end ? code : end;
 }
 
+/** Adds the text with a code of one dictionary to another, and finds its number there. */
+bool copy_text(Dictionary *to, const Dictionary *from, size_t code, interner_symbol *number);
+
 /** The codes of rows in a dictionary that has only what is used. */
 Block *renumber_used(const Used *used, const Block *block, Py_ssize_t n);
 
@@ -380,8 +517,15 @@ typedef struct Rows {
   Py_ssize_t n;
 } Rows;
 
-/** Whether these may be many texts. A str is one, though Python can read it letter by letter: raises TypeError. */
+/** Whether these may be many texts. Raises TypeError for a str, which Python can read letter by letter, and for a table, whose items
+ * are the names of its columns. */
 bool are_many(PyObject *given);
+
+/** The next values of an iterator, at most so many, in a list. A shorter one is the last. */
+PyObject *read_values(PyObject *walk, Py_ssize_t most);
+
+/** All values of an iterable, in a tuple. */
+PyObject *read_tuple(PyObject *given);
 
 bool open_rows(PyObject *given, Rows *rows);
 bool open_rows_in_place(PyObject *given, Rows *rows);
@@ -394,7 +538,7 @@ typedef struct Seen {
 } Seen;
 
 /** What encodes many texts. */
-typedef struct Batch {
+struct Batch {
   /* Whose handle it is: an interner's, a column's, or one that nobody else has. */
   Interner *interner;
   Column *column;
@@ -412,7 +556,7 @@ typedef struct Batch {
   bool collects;      /* whether the collection of garbage is to be enabled */
   int most_bits, seen_bits; /* those that the table has memory for, and those of the part in use, which is empty at first */
   Seen seen[];        /* the last object at each place, which depends on its address */
-} Batch;
+};
 
 /** Makes a batch for about so many rows. */
 Batch *new_batch(Interner *owner, Column *column, interner *h, Py_ssize_t rows);
@@ -436,6 +580,9 @@ void undo_batch(Batch *batch);
 
 /** Encodes all rows, or undoes the batch. */
 bool encode_rows(Batch *batch, Rows *rows);
+
+/** Interns the texts between ends, and writes their numbers. The texts before one that fails stay; if a handler raises, none does. */
+bool encode_joined(Batch *batch, const Bytes *joined, const size_t *ends, size_t n, interner_symbol *numbers);
 
 /** Notes the number of a row, in codes that are wide enough for it. */
 bool put_number(Batch *batch, Py_ssize_t row, int64_t number);

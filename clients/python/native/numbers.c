@@ -15,17 +15,6 @@ static Py_ssize_t width_of_format(const char *format) {
   }
 }
 
-int64_t widen(const char *at, Py_ssize_t width, bool is_unsigned) {
-  union { int8_t one; int16_t two; int32_t four; int64_t eight; } number;
-  memcpy(&number, at, width);
-  switch (width) {
-  case 1: return is_unsigned ? (uint8_t)number.one : number.one;
-  case 2: return is_unsigned ? (uint16_t)number.two : number.two;
-  case 4: return is_unsigned ? (int64_t)(uint32_t)number.four : (int64_t)number.four;
-  default: return number.eight;
-  }
-}
-
 /* Reads a buffer of integers or booleans. */
 static bool copy_view(const Py_buffer *view, Numbers *numbers) {
   Py_ssize_t width = width_of_format(view->format), n = view->len / width;
@@ -72,7 +61,7 @@ static bool read_items(PyObject *items, Numbers *numbers) {
   if (!is_done) PyErr_NoMemory();
   for (Py_ssize_t row = 0; is_done && row < n; row++) {
     int overflow;
-    PyObject *number = read_item(PyTuple_GetItem(items, row), numbers);
+    PyObject *number = heed_signals(row) ? read_item(PyTuple_GetItem(items, row), numbers) : NULL;
     if (!(is_done = number != NULL)) break;
     numbers->exact[numbers->n++] = number;
     numbers->at[row] = PyLong_AsLongLongAndOverflow(number, &overflow);
@@ -83,31 +72,41 @@ static bool read_items(PyObject *items, Numbers *numbers) {
   return is_done;
 }
 
-static bool refuse_booleans(Numbers *numbers) {
-  drop_numbers(numbers);
+void refuse_booleans(void) {
   PyErr_SetString(PyExc_TypeError, "booleans, where numbers belong: numpy.flatnonzero(mask) has the numbers of a mask's rows");
+}
+
+/* The same for numbers, which it drops. */
+static bool refuse_flags(Numbers *numbers) {
+  drop_numbers(numbers);
+  refuse_booleans();
   return false;
 }
 
 bool read_integers(PyObject *given, Numbers *numbers) {
-  return read_numbers(given, numbers) && ((!numbers->booleans && !numbers->is_mask) || refuse_booleans(numbers));
+  return read_numbers(given, numbers) && ((!numbers->booleans && !numbers->is_mask) || refuse_flags(numbers));
 }
 
 bool read_indices(PyObject *given, Numbers *numbers) {
-  return read_numbers(given, numbers) && (!numbers->has_flags || refuse_booleans(numbers));
+  return read_numbers(given, numbers) && (!numbers->has_flags || refuse_flags(numbers));
+}
+
+Py_ssize_t open_numbers(PyObject *given, Py_buffer *view) {
+  if (!PyObject_CheckBuffer(given)) return 0;
+  if (PyObject_GetBuffer(given, view, PyBUF_FULL_RO)) return PyErr_Clear(), 0;
+  const Py_ssize_t width = view->ndim == 1 && !view->suboffsets ? width_of_format(view->format) : 0;
+  if (!width) PyBuffer_Release(view);
+  return width;
 }
 
 bool read_numbers(PyObject *given, Numbers *numbers) {
   Py_buffer view;
-  if (PyObject_CheckBuffer(given)) {
-    if (PyObject_GetBuffer(given, &view, PyBUF_FULL_RO)) PyErr_Clear();
-    else {
-      bool is_integers = view.ndim == 1 && width_of_format(view.format), is_done = is_integers && copy_view(&view, numbers);
-      PyBuffer_Release(&view);
-      if (is_integers) return is_done;
-    }
+  if (open_numbers(given, &view)) {
+    bool is_done = copy_view(&view, numbers);
+    PyBuffer_Release(&view);
+    return is_done;
   }
-  PyObject *items = PySequence_Tuple(given);
+  PyObject *items = read_tuple(given);
   bool is_done = items && read_items(items, numbers);
   Py_XDECREF(items);
   return is_done;
@@ -206,6 +205,13 @@ static bool take_offsets(Joined *joined) {
   for (Py_ssize_t text = 1; text < ends->n; text++) ends->at[text - 1] = (int64_t)((size_t)ends->at[text] - begin);
   ends->n--;
   return true;
+}
+
+bool are_named(PyObject *args) {
+  if (PyTuple_Size(args) <= 1) return true;
+  PyErr_SetString(PyExc_TypeError,
+                  "all but the bytes is passed by its name: ends= for where each text ends, or offsets= as Arrow has them");
+  return false;
 }
 
 bool read_joined(PyObject *given, PyObject *ends, PyObject *offsets, Joined *joined) {

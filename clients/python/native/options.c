@@ -111,7 +111,7 @@ size_t number_after(interner_kind kind, size_t number, size_t length) {
 
 PyObject *new_array(const State *state, const char *typecode, Py_ssize_t n, Py_buffer *view) {
   static const char zeros[8];
-  const Py_ssize_t width = strchr("qQ", *typecode) ? 8 : 4;
+  const Py_ssize_t width = strchr("qQd", *typecode) ? 8 : 4;
   int collects = PyGC_Disable();
   PyObject *one = PyObject_CallFunction(state->array, "sy#", typecode, zeros, width);
   PyObject *array = one ? PySequence_Repeat(one, n) : NULL;

@@ -57,14 +57,21 @@ static void raise_repeat(const interner_symbol *numbers, Py_ssize_t n) {
 }
 
 bool split_texts(interner *h, const Bytes *joined, const size_t *ends, Py_ssize_t n) {
-  size_t done = 0;
   interner_symbol *numbers = PyMem_Malloc(n * sizeof *numbers + 1);
-  interner_status status = numbers ? interner_intern_joined(h, joined->at, joined->length, ends, n, numbers, n, &done) : INTERNER_NO_MEMORY;
-  if (status != INTERNER_OK) raise_place(status, done);
-  else if (interner_len(h) < (size_t)n) raise_repeat(numbers, n);
+  Batch *batch = numbers ? new_batch(NULL, NULL, h, 0) : NULL;
+  bool is_done = batch && encode_joined(batch, joined, ends, n, numbers);
+  if (!numbers) PyErr_NoMemory();
+  if (is_done && interner_len(h) < (size_t)n) {
+    raise_repeat(numbers, n);
+    is_done = false;
+  }
+  free_batch(batch);
   PyMem_Free(numbers);
-  return !PyErr_Occurred();
+  return is_done;
 }
+
+/* A number that a pickle does not have. */
+enum { UNKNOWN = -1 };
 
 static bool is_code(int64_t code, size_t distinct) { return code >= -1 && (code < 0 || (size_t)code < distinct); }
 
@@ -103,17 +110,26 @@ static Block *read_codes(const Bytes *bytes, int width, size_t distinct, Py_ssiz
   return block;
 }
 
+/* Whether buffers hold as many as the pickle says. One out of band may have been cut short. Former releases wrote no number. */
+static bool check_count(const char *what, Py_ssize_t written, Py_ssize_t found) {
+  if (written == UNKNOWN || written == found) return true;
+  PyErr_Format(PyExc_ValueError, "the pickle is of %zd %s, and its buffers hold %zd", written, what, found);
+  return false;
+}
+
 /* Reads what `parts_reduce` wrote into parts without anything. */
-static bool fill_parts(Parts *self, const Options *options, PyObject *const *given, int width) {
+static bool fill_parts(Parts *self, const Options *options, PyObject *const *given, int width, Py_ssize_t texts, Py_ssize_t rows) {
   Bytes joined = {0}, ends = {0}, codes = {0};
   bool is_done = (self->dictionary = new_dictionary(options)) && read_bytes(given[0], &joined) && read_bytes(given[1], &ends);
   if (is_done && ends.length % sizeof(size_t)) {
     PyErr_SetString(PyExc_ValueError, "the ends have another width");
     is_done = false;
   }
-  is_done = is_done && split_texts(self->dictionary->h, &joined, (const size_t *)ends.at, ends.length / sizeof(size_t));
+  const Py_ssize_t count = ends.length / sizeof(size_t);
+  is_done = is_done && check_count("texts", texts, count) && split_texts(self->dictionary->h, &joined, (const size_t *)ends.at, count);
   if (is_done && given[2] != Py_None) {
-    is_done = read_bytes(given[2], &codes) && (self->block = read_codes(&codes, width, interner_len(self->dictionary->h), &self->n));
+    is_done = read_bytes(given[2], &codes) &&
+              (self->block = read_codes(&codes, width, interner_len(self->dictionary->h), &self->n)) && check_count("rows", rows, self->n);
     if (is_done && options->kind != INTERNER_STRING) {
       PyErr_SetString(PyExc_ValueError, "the codes have another backend");
       is_done = false;
@@ -128,13 +144,15 @@ static bool fill_parts(Parts *self, const Options *options, PyObject *const *giv
 static PyObject *parts_new(PyTypeObject *type, PyObject *args, PyObject *keywords) {
   PyObject *backend, *hasher, *given[3];
   int width;
+  Py_ssize_t texts = UNKNOWN, rows = UNKNOWN;
   Options options;
   State *state = state_of_type(type);
   (void)keywords;
-  if (!state || !PyArg_ParseTuple(args, "OOOOOi:_Parts", &backend, &hasher, &given[0], &given[1], &given[2], &width)) return NULL;
+  if (!state || !PyArg_ParseTuple(args, "OOOOOi|nn:_Parts", &backend, &hasher, &given[0], &given[1], &given[2], &width, &texts, &rows))
+    return NULL;
   if (!read_backend(backend, &options.kind) || !read_hasher(state, hasher, &options)) return NULL;
   Parts *self = (Parts *)new_parts(state, NULL, NULL, -1);
-  if (self && !fill_parts(self, &options, given, width)) Py_CLEAR(self);
+  if (self && !fill_parts(self, &options, given, width, texts, rows)) Py_CLEAR(self);
   return (PyObject *)self;
 }
 
@@ -172,9 +190,9 @@ static PyObject *reduce_as(const Parts *self, const Dictionary *dictionary, cons
   int width = self->n > 0 ? block->width : 4;
   PyObject *codes = self->n < 0 ? Py_NewRef(Py_None) : view_codes(self->state, block, self->n, width);
   if (codes && join_texts(dictionary, used, &joined, &ends))
-    reduced = Py_BuildValue("O(ssNNNi)", (PyObject *)Py_TYPE((PyObject *)self), backend_name(dictionary->kind),
-                            hasher_name(dictionary->hasher), wrap_buffer(joined, protocol),
-                            wrap_buffer(ends, protocol), wrap_buffer(codes, protocol), width);
+    reduced = Py_BuildValue("O(ssNNNinn)", (PyObject *)Py_TYPE((PyObject *)self), backend_name(dictionary->kind),
+                            hasher_name(dictionary->hasher), wrap_buffer(joined, protocol), wrap_buffer(ends, protocol),
+                            wrap_buffer(codes, protocol), width, (Py_ssize_t)(PyBytes_Size(ends) / sizeof(uint64_t)), self->n);
   Py_XDECREF(joined);
   Py_XDECREF(ends);
   Py_XDECREF(codes);

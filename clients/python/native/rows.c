@@ -28,7 +28,7 @@ PyObject *column_reversed(Column *self, PyObject *unused) {
 }
 
 static PyObject *rows_walk_next(RowsWalk *walk) {
-  if (!walk->left) return NULL;
+  if (!heed_signals(walk->left) || !walk->left) return NULL;
   int64_t code = code_at(walk->block, walk->at);
   PyObject *row = code < 0 ? Py_None : kept_string(walk->dictionary, code);
   row = row ? Py_NewRef(row) : keep_string(walk->dictionary, code);

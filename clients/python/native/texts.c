@@ -67,6 +67,7 @@ bool read_walks(Interner *self) {
 }
 
 static PyObject *walk_next(Walk *walk) {
+  if (!heed_signals(walk->index)) return NULL;
   if (walk->rest) {
     Py_ssize_t left = PyList_Size(walk->rest);
     PyObject *item = left > 0 ? Py_NewRef(PyList_GetItem(walk->rest, left - 1)) : NULL;

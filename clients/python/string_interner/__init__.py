@@ -41,13 +41,14 @@ a list for the way back: `texts[number]`          `i[number]`
 
 A call holds Python's global lock, so threads take turns, and each call is whole for the others. A call in a coroutine blocks its
 loop for as long as it takes, also by `asyncio.to_thread`; so intern many texts in parts, with `await asyncio.sleep(0)` in between.
-Between parts of a batch handlers of signals run, so Ctrl-C ends it.
+Handlers of signals run after each part of a call, so Ctrl-C ends it, and nothing has changed.
 """
 
 from __future__ import annotations
 
 from . import _native, _types
 from ._column import Column
+from ._native import Mask
 from ._pickled import Pickled
 
 TYPE_CHECKING = False
@@ -87,7 +88,7 @@ else:
         return types[name]
 
 
-__all__ = ["Backend", "Column", "Hasher", "Interner", "Typecode"]
+__all__ = ["Backend", "Column", "Hasher", "Interner", "Mask", "Typecode"]
 __version__ = "0.1.0"
 __build__ = _native._BUILD
 """How the library in this module was built: `proved by rt`, or `proved source, compiled by rustc`."""

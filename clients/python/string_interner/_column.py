@@ -81,10 +81,10 @@ class Column(Pickled, _native.Column):
     def to_plain(self, folder: _types.Path) -> None:
         """Writes the rows as lines into a folder, as `dictcol encode --plain` does: `dictcol decode` reads it, and numpy the codes.
 
-        The folder is made if it is not there, and files of these names are replaced. Raises ValueError for a row that is None, and
-        for a text of the dictionary with a newline, BlockingIOError if another run writes there, and OSError. Then the files that
-        were there stay. Only if replacing them failed, there may be no codes.npy, so that no one reads those of two runs, or the new
-        files.
+        The folder is made if it is not there. Files of these names are replaced, by ones with their mode, and their owner and group if
+        the system allows it. Raises ValueError for a row that is None, and for a text of the dictionary with a newline,
+        BlockingIOError if another run writes there, and OSError. Then the files that were there stay. Only if replacing them failed,
+        there may be no codes.npy, so that no one reads those of two runs, or the new files.
         """
         from os import fsdecode
 
@@ -96,12 +96,15 @@ class Column(Pickled, _native.Column):
     def from_pandas(cls, values: _types.Any, *, hasher: _types.Hasher = "seeded") -> _types.Self:
         """Makes a column of a Series, Index, Categorical or other array of pandas. What pandas counts as missing becomes None.
 
-        The categories of a Categorical become the dictionary, in their order. Raises TypeError for a category or a value that
-        is no text, and ImportError without pandas.
+        The categories of a Categorical become the dictionary, in their order. Whether it is ordered is lost: write
+        `column.to_pandas().as_ordered()`. Raises TypeError for a category or a value that is no text, and for a DataFrame or a
+        MultiIndex, which have several of these, and ImportError without pandas.
         """
         import numpy
         import pandas
 
+        if isinstance(values, (pandas.DataFrame, pandas.MultiIndex)):
+            return cls.from_values(values, hasher=hasher)  # It says what to choose.
         rows = getattr(values, "array", values)
         if isinstance(rows, pandas.Categorical):
             return cls.from_parts(rows.categories.tolist(), rows.codes, hasher=hasher)
@@ -133,11 +136,11 @@ class Column(Pickled, _native.Column):
         """Returns the rows in an array of objects of numpy. Raises ImportError without numpy."""
         import numpy
 
-        column = self._with_few_texts()
-        codes = numpy.asarray(column.codes)
-        # The last is the one at -1.
-        texts = numpy.array([*column.dictionary, None], dtype=object)
-        return texts[codes]
+        # As it is now, whatever others add.
+        column = self._with_few_texts()[:]
+        rows = numpy.empty(len(column), dtype=object)
+        column._write(rows)
+        return rows
 
     def __array__(self, dtype: _types.Any = None, copy: bool | None = None) -> _types.Any:
         if copy is False:
@@ -156,39 +159,47 @@ class Column(Pickled, _native.Column):
 
         Counts rows that are None only if `dropna` is false.
         """
-        # As it is now, whatever others add.
-        column = self[:]._with_few_texts()
-        counts = column.counts()
-        found: list[tuple[str | None, int]] = [(text, count) for text, count in zip(column.dictionary, counts) if count]
-        if not dropna and None in column:
-            found.append((None, column.count(None)))
-        found.sort(key=lambda row: -row[1])
-        return dict(found)
+        return self._with_few_texts()._value_counts(dropna)
 
     def unique(self) -> list[str | None]:
         """Returns the distinct values of the rows, in order of first appearance. None is one of them if a row is None."""
-        # As it is now, whatever others add.
-        column = self[:]
-        found: list[str | None] = [*column._in_order().dictionary]
-        if None in column:
-            found.insert(column[: column.index(None)]._in_order().distinct, None)
-        return found
+        return self._with_few_texts()._unique()
 
-    def isin(self, values: _types.Iterable[object]) -> memoryview:
-        """Returns for each row whether it is one of the values, of which one may be None.
+    def isin(self, values: _types.Iterable[object]) -> _native.Mask:
+        """Returns a mask of the rows that are one of the values, of which one may be None."""
+        return self._isin(values)
 
-        `numpy.asarray` reads the result as booleans without a copy, and `column[..]` as a mask.
-        """
-        return memoryview(self._isin(values)).cast("?")
-
-    def isna(self) -> memoryview:
-        """Returns for each row whether it is None, in the form that `isin` has."""
-        return self.isin([None])
+    def isna(self) -> _native.Mask:
+        """Returns a mask of the rows that are None."""
+        return self.eq(None)
 
     def to_buffers(self) -> tuple[bytes, memoryview, memoryview]:
-        """Returns the texts of the dictionary end to end in UTF-8, where each ends, and the codes. numpy reads each in place."""
+        """Returns the texts of the dictionary end to end in UTF-8, where each ends, and the codes. numpy reads each in place.
+
+        >>> joined, ends, codes = Column(["red", None]).to_buffers()
+        >>> list(Column.from_buffers(joined, ends=ends, codes=codes))
+        ['red', None]
+        """
         joined, ends, codes = self._buffers()
         return joined, memoryview(ends).cast("Q"), codes
+
+    def _repr_html_(self) -> str:
+        """The first and the last rows as a table, for notebooks: what `repr` shows."""
+        from html import escape
+
+        # As it is now, whatever others add.
+        column, most = self[:], 5
+        shows_all = len(column) <= 2 * most
+        numbers = [range(len(column))] if shows_all else [range(most), range(len(column) - most, len(column))]
+
+        def show(row: int) -> str:
+            text = column[row]
+            value = "<i>None</i>" if text is None else escape(text if len(text) <= 60 else f"{text[:60]}..")
+            return f"<tr><th>{row}</th><td>{value}</td></tr>"
+
+        parts = ["".join(map(show, each)) for each in numbers]
+        caption = f"{escape(type(self).__name__)} of {len(column)} rows, {column.distinct} distinct texts"
+        return f"<table><caption>{caption}</caption>{'<tr><th>..</th><td>..</td></tr>'.join(parts)}</table>"
 
     def __sizeof__(self) -> int:
         """About how many bytes it takes, with a guess of 64 for each distinct text, and the strings that iteration made of them.

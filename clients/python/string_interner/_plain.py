@@ -6,8 +6,9 @@ import errno
 import fcntl
 import os
 import shutil
+import stat
 from array import array
-from contextlib import contextmanager
+from contextlib import contextmanager, suppress
 
 from . import _native, _types
 
@@ -24,6 +25,8 @@ if TYPE_CHECKING:
 
 DICTIONARY, CODES, PAIR, CUT = "dict.txt", "codes.npy", "pair.txt", "no_final_newline"
 UNFINISHED = "dictcol-unfinished"
+# Behind the name of an old file that a run of `dictcol` would have put back.
+KEPT = ".old"
 HEADER = 128
 
 
@@ -124,7 +127,7 @@ def check_left(folder: str) -> None:
     """Refuses a folder that has anything but files of a run."""
     with os.scandir(folder) as entries:
         for entry in entries:
-            if entry.name not in (DICTIONARY, CODES, PAIR, CUT) or not entry.is_file(follow_symlinks=False):
+            if entry.name.removesuffix(KEPT) not in (DICTIONARY, CODES, PAIR, CUT) or not entry.is_file(follow_symlinks=False):
                 raise FileExistsError(errno.EEXIST, "not what a killed run leaves: move it away", folder)
 
 
@@ -162,9 +165,37 @@ def unfinished(folder: str) -> Iterator[str]:
         remove(path, descriptor)
 
 
-def write_file(folder: str, name: str, *parts: ReadableBuffer) -> None:
-    """Writes a new file, and waits until it is stored."""
-    with open(os.path.join(folder, name), "xb") as file:
+def look(path: str) -> os.stat_result | None:
+    """What the system says of a file, if there is one."""
+    with suppress(OSError):
+        found = os.stat(path)
+        return found if stat.S_ISREG(found.st_mode) else None
+    return None
+
+
+def make_like(descriptor: int, other: os.stat_result) -> None:
+    """Gives a file the owner, the group and the mode of another one, as far as the system allows it."""
+    mode = stat.S_IMODE(other.st_mode)
+    try:
+        os.fchown(descriptor, other.st_uid, other.st_gid)
+    except OSError:
+        try:
+            os.fchown(descriptor, -1, other.st_gid)
+        except OSError:
+            # Its group is another one, which may do what all may.
+            mode = mode & ~0o070 | (mode & 0o007) << 3
+    with suppress(OSError):
+        os.fchmod(descriptor, mode)
+
+
+def write_file(path: str, place: str, *parts: ReadableBuffer) -> None:
+    """Writes a new file for the place of an old one, and waits until it is stored. Whoever could not open the old one cannot open the
+    new one. Where none was, it is like the codes, if these were there."""
+    other = look(place) or look(os.path.join(os.path.dirname(place), CODES))
+    flags = os.O_WRONLY | os.O_CREAT | os.O_EXCL | os.O_CLOEXEC
+    with open(os.open(path, flags, 0o600 if other else 0o666), "wb") as file:
+        if other:
+            make_like(file.fileno(), other)
         for part in parts:
             file.write(part)
         file.flush()
@@ -193,10 +224,14 @@ def write(column: Column, folder: str) -> None:
     if codes.itemsize != 4:
         codes = memoryview(array("I", codes))
     os.makedirs(folder, exist_ok=True)
+    contents: dict[str, tuple[ReadableBuffer, ...]] = {
+        DICTIONARY: (lines,),
+        CODES: (format_header(len(codes)), codes),
+        PAIR: (format_pair(column.distinct, codes), format_end(False)),
+    }
     with unfinished(folder) as new:
-        write_file(new, DICTIONARY, lines)
-        write_file(new, CODES, format_header(len(codes)), codes)
-        write_file(new, PAIR, format_pair(column.distinct, codes), format_end(False))
+        for name, parts in contents.items():
+            write_file(os.path.join(new, name), os.path.join(folder, name), *parts)
         # There is no codes.npy while the other files are not those of the new one.
         for name in (CODES, CUT):
             try:

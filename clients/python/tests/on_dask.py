@@ -16,6 +16,7 @@ from collections import Counter
 from functools import partial
 from pathlib import Path
 
+import dask
 import numpy
 import pandas
 from dask.distributed import Client, LocalCluster
@@ -37,9 +38,9 @@ def wait_until(is_so, seconds=120):
 
 
 def note_and_encode(folder, last, path):
-    """Encodes a part, and notes that. Encodes the last part only once a worker was killed."""
+    """Encodes a part, and notes that. Encodes the last part only once a worker was killed or stopped."""
     if path == last:
-        wait_until((folder / "killed").exists)
+        wait_until((folder / "ended").exists)
     column = encode_lines(path)
     with open(folder / "encoded", "a") as file:
         file.write(f"{path}\n")
@@ -65,6 +66,9 @@ class OnDask(unittest.TestCase):
         cls.texts = texts.tolist()
 
     def setUp(self):
+        # After so long a worker that does not answer counts as dead.
+        settings = dask.config.set({"distributed.scheduler.worker-ttl": "10s"})
+        self.addCleanup(settings.__exit__, None, None, None)
         self.cluster = LocalCluster(n_workers=2, threads_per_worker=1, dashboard_address=None, silence_logs=logging.CRITICAL)
         self.addCleanup(self.cluster.close)
         self.client = Client(self.cluster)
@@ -86,24 +90,44 @@ class OnDask(unittest.TestCase):
         self.check(self.client.gather(encode_on(self.client, encode_lines, self.paths, shards=5)))
         self.assertEqual(len({*sum(self.client.who_has(futures).values(), ())}), 2, "one worker did all the work")
 
-    def test_a_worker_is_killed(self):
+    def end_worker(self, signal_number):
+        """Sends a signal to a worker that has encoded parts, in the middle, and has the others do its work again."""
         processes = self.client.run(os.getpid)
-        encode = partial(note_and_encode, self.folder, self.paths[-1])
-        futures = encode_on(self.client, encode, self.paths)
+        folder = Path(tempfile.mkdtemp(dir=self.folder))
+        futures = encode_on(self.client, partial(note_and_encode, folder, self.paths[-1]), self.paths)
 
         def find_worker():
             """A worker that has encoded parts, once all parts but the last are encoded."""
             held = {address: sum("note_and_encode" in key for key in keys) for address, keys in self.client.has_what().items()}
             return sum(held.values()) >= PARTS - 1 and max(held, key=held.get)
 
-        killed = wait_until(find_worker)
-        os.kill(processes[killed], signal.SIGKILL)
-        wait_until(lambda: killed not in self.client.scheduler_info()["workers"])
-        (self.folder / "killed").touch()
+        ended = wait_until(find_worker)
+        os.kill(processes[ended], signal_number)
+        if signal_number == signal.SIGSTOP:
+            self.addCleanup(os.kill, processes[ended], signal.SIGKILL)
+        wait_until(lambda: ended not in self.client.scheduler_info()["workers"])
+        (folder / "ended").touch()
         self.check(self.client.gather(futures))
-        encoded = Counter((self.folder / "encoded").read_text().splitlines())
+        encoded = Counter((folder / "encoded").read_text().splitlines())
         self.assertEqual({*encoded}, {*self.paths})
         self.assertGreater(sum(encoded.values()), PARTS, "no part had to be encoded again")
+
+    def test_a_worker_is_killed(self):
+        self.end_worker(signal.SIGKILL)
+
+    def test_a_worker_is_stopped(self):
+        self.end_worker(signal.SIGSTOP)
+
+    def test_a_file_that_has_grown(self):
+        path = self.folder / "grown"
+        path.write_text("a\nb\n")
+        first = encode_on(self.client, encode_lines, [str(path)])
+        self.assertEqual(self.client.gather(first)[0].codes.tolist(), [0, 1])
+        path.write_text("a\nb\nc\na\n")
+        # While the first futures live.
+        (part,) = self.client.gather(encode_on(self.client, encode_lines, [str(path)]))
+        self.assertEqual((part.codes.tolist(), list(part.texts)), ([0, 1, 2, 0], ["a", "b", "c"]))
+        self.assertEqual(len(first), 1)
 
     def test_the_command(self):
         words = [sys.executable, EXAMPLES / "columns_on_dask.py", *self.paths]

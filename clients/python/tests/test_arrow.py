@@ -5,6 +5,7 @@ import ctypes
 import gc
 import random
 import resource
+import struct
 import threading
 import unittest
 from array import array
@@ -203,6 +204,46 @@ class Producer:
         offsets = list(accumulate(map(len, raws), initial=0)) if offsets is None else offsets
         return self.array(rows, skip, (array("i" if form == "u" else "q", offsets), joined), **changes)
 
+    def views(self, rows, skip=0, parts=None, sizes=None, views=None, count=2, **changes):
+        """An array of string views behind others that it skips, whose long texts are in several buffers, in turn. The views that
+        are skipped or of nulls are of buffers that there are not."""
+        held, written = [bytearray(b".") for _ in range(count)], []
+        for row in [None] * skip + rows:
+            raw = b"" if row is None else row.encode()
+            if row is None:
+                written.append(struct.pack("<i4sii", 99, b"junk", 99, -5))
+            elif len(raw) <= 12:
+                written.append(struct.pack("<i12s", len(raw), raw))
+            else:
+                place = len(written) % count
+                written.append(struct.pack("<i4sii", len(raw), raw[:4], place, len(held[place])))
+                held[place] += raw
+        held = held if parts is None else parts
+        sizes = array("q", map(len, held)) if sizes is None else sizes
+        return self.array(rows, skip, (b"".join(written) if views is None else views, *held, sizes), **changes)
+
+    def nulls(self, count, **changes):
+        """An array of nulls alone, which has no buffer."""
+        return self.own(Array(**{"length": count, "null_count": count, "n_buffers": 0} | changes), release_array)
+
+    def strings(self, rows, form, skip=0, **changes):
+        """An array of texts of any type that has some."""
+        if form == "n":
+            return self.nulls(len(rows), offset=skip)
+        return self.views(rows, skip, **changes) if form == "vu" else self.texts(rows, form, skip, **changes)
+
+    def table(self, column, rows, skip=0, **changes):
+        """The array of a table of one column, of which rows may be null."""
+        children = (ctypes.c_void_p * 1)(ctypes.addressof(column))
+        self.kept += [children, column]
+        return self.array(rows, skip, (), **{"n_children": 1, "children": ctypes.addressof(children)} | changes)
+
+    def table_schema(self, columns):
+        children = (ctypes.c_void_p * len(columns))(*map(ctypes.addressof, columns))
+        self.kept += [children, columns]
+        fields = {"n_children": len(columns), "children": ctypes.addressof(children)} if columns else {}
+        return self.own(Schema(format=b"+s", name=b"", **fields), release_schema)
+
     def indices(self, rows, form, dictionary, skip=0, **changes):
         """An array of indices. Those of nulls are great."""
         numbers = array(INDICES[form], [99] * skip + [99 if row is None else row for row in rows])
@@ -273,25 +314,153 @@ class Producers(unittest.TestCase):
         source = random.Random(1)
         for _ in range(400):
             producer = self.producer = Producer()
-            texts, form, wanted, dictionary, arrays = source.choice("uU"), source.choice(("", *INDICES)), [], [], []
+            texts, form = source.choice(("u", "U", "vu", "n")), source.choice(("", *INDICES))
+            wanted, dictionary, arrays = [], [], []
             for _ in range(source.randrange(1, 4)):
-                known = [source.choice((None, "", "é", "a" * 50, str(source.random()))) for _ in range(source.randrange(1, 9))]
+                some = (None,) if texts == "n" else (None, "", "é", "a" * 12, "a" * 13, "a" * 50, str(source.random()))
+                known = [source.choice(some) for _ in range(source.randrange(1, 9))]
                 skip, changes = source.randrange(20), source.choice(({}, {"null_count": -1}, {"has_valid": True}))
                 if form:
                     rows = [source.choice((None, *range(len(known)))) for _ in range(source.randrange(40))]
-                    arrays.append(producer.indices(rows, form, producer.texts(known, texts, source.randrange(9)), skip, **changes))
+                    arrays.append(producer.indices(rows, form, producer.strings(known, texts, source.randrange(9)), skip,
+                                                   **changes))
                     wanted += [None if row is None else known[row] for row in rows]
                 else:
-                    arrays.append(producer.texts(known, texts, skip, **changes))
+                    arrays.append(producer.strings(known, texts, skip, **changes))
                     wanted += known
                 dictionary += [text for text in known if text is not None]
             schema = producer.schema(form, texts) if form else producer.schema(texts)
+            if source.random() < 0.3:
+                schema, arrays, wanted, shown = self.in_tables(source, schema, arrays, wanted)
+                dictionary = dictionary if form else shown
             given = producer.stream(schema, arrays)
             if len(arrays) == 1 and source.random() < 0.5:
                 given = producer.pair(schema, arrays[0])
             column = Column.from_arrow(given, hasher="fixed")
             self.assertEqual((list(column), column.dictionary, column.hasher), (wanted, list(dict.fromkeys(dictionary)), "fixed"))
             self.tearDown()
+
+    def in_tables(self, source, schema, arrays, wanted):
+        """The same in tables of some of their rows, of which some are null; and the texts of these rows, also of those that are
+        null."""
+        tables, left, shown = [], [], []
+        for column in arrays:
+            rows, wanted = wanted[: column.length], wanted[column.length :]
+            start, stop = sorted(source.randrange(len(rows) + 1) for _ in range(2))
+            kept = [source.choice((0, 0, None)) for _ in rows[start:stop]]
+            tables.append(self.producer.table(column, kept, start))
+            shown += [row for row in rows[start:stop] if row is not None]
+            left += [row if each is not None else None for row, each in zip(rows[start:stop], kept)]
+        return self.producer.table_schema([schema]), tables, left, shown
+
+    def test_string_views(self):
+        producer = self.producer
+        rows = ["", "twelve bytes", "thirteen byte", None, "語" * 9, "thirteen byte", "é"]
+        column = Column.from_arrow(producer.pair(producer.schema("vu"), producer.views(rows, 3)))
+        self.assertEqual((list(column), column.dictionary), (rows, list(dict.fromkeys(filter(lambda it: it is not None, rows)))))
+        given = producer.pair(producer.schema("C", "vu"), producer.indices([4, None, 3, 0], "C", producer.views(rows)))
+        self.assertEqual(list(Column.from_arrow(given)), [rows[4], None, None, ""])
+        # Without a long text there need be no buffer, and no sizes.
+        given = producer.pair(producer.schema("vu"), producer.views(["a", "twelve bytes"], parts=[]))
+        self.assertEqual(list(Column.from_arrow(given)), ["a", "twelve bytes"])
+        given = producer.array(["a"], 0, (struct.pack("<i12s", 1, b"a"), None))
+        self.assertEqual(list(Column.from_arrow(producer.pair(producer.schema("vu"), given))), ["a"])
+
+    def test_views_that_cannot_be(self):
+        producer, long = self.producer, b"0123456789abcdef"
+        for view, said in (((13, b"0123", 1, 0), "13 bytes from byte 0 of buffer 1"),
+                           ((13, b"0123", -1, 0), "13 bytes from byte 0 of buffer -1"),
+                           ((13, b"0123", 0, 4), "13 bytes from byte 4 of buffer 0"),
+                           ((17, b"0123", 0, 0), "17 bytes from byte 0 of buffer 0"),
+                           ((13, b"0123", 0, -1), "13 bytes from byte -1 of buffer 0"),
+                           ((-1, b"0123", 0, 0), "-1 bytes from byte 0 of buffer 0"),
+                           ((2**31 - 1, b"0123", 0, 2**31 - 1), "2147483647 bytes from byte 2147483647 of buffer 0")):
+            written = struct.pack("<i12s", 1, b"a") + struct.pack("<i4sii", *view)
+            for make in (lambda it: producer.pair(producer.schema("vu"), it),
+                         lambda it: producer.stream(producer.schema("vu"), [it]),
+                         lambda it: producer.pair(producer.schema("i", "vu"), producer.indices([0], "i", it))):
+                given = make(producer.views(["a", "b"], parts=[long], views=written))
+                self.refuse(ValueError, f"^text 1 of an array of Arrow is a view of {said}, which are not there$", given)
+        for sizes, said in ((array("q", [-1]), "a buffer of views whose size cannot be"),
+                            (None, "buffers of views, and no sizes of them")):
+            given = producer.array(["a"], 0, (struct.pack("<i12s", 1, b"a"), long, sizes))
+            self.refuse(ValueError, f"^an array of Arrow has {said}$", producer.pair(producer.schema("vu"), given))
+        given = producer.array(["a"], 0, (struct.pack("<i12s", 1, b"a"), None, array("q", [1])))
+        self.refuse(ValueError, "whose size cannot be$", producer.pair(producer.schema("vu"), given))
+        given = producer.views(["a"], parts=[long], views=struct.pack("<i4sii", 13, b"0124", 0, 0))
+        self.refuse(ValueError, "^text 0 of an array of Arrow begins otherwise than its view says$",
+                    producer.pair(producer.schema("vu"), given))
+        given = producer.views(["a", "b"], parts=[], views=struct.pack("<i12si12s", 1, b"a", 1, b"\xff"))
+        self.refuse(ValueError, "^text 1 of an array of Arrow is not UTF-8$", producer.pair(producer.schema("vu"), given))
+        for changes in ({"length": -1}, {"offset": 2**63 - 1}, {"n_buffers": 2}, {"buffers": None}, {"null_count": 2},
+                        {"n_buffers": 2**62}):
+            self.refuse(ValueError, "^an array of Arrow has ",
+                        producer.pair(producer.schema("vu"), producer.views(["a", None], **changes)))
+        given = producer.array(["a"], 0, (None, array("q", [])))
+        self.refuse(ValueError, "rows, and no buffer for them", producer.pair(producer.schema("vu"), given))
+
+    def test_nulls_alone(self):
+        producer = self.producer
+        for changes in ({}, {"null_count": -1}, {"offset": 7}, {"n_buffers": 1, "buffers": producer.buffers(None)}):
+            column = Column.from_arrow(producer.pair(producer.schema("n"), producer.nulls(3, **changes)))
+            self.assertEqual((list(column), column.dictionary), ([None] * 3, []))
+        given = producer.pair(producer.schema("i", "n"), producer.indices([0, None, 1], "i", producer.nulls(2)))
+        self.assertEqual(list(Column.from_arrow(given)), [None] * 3)
+        for changes in ({"length": -1}, {"offset": -1}, {"length": 2**62}, {"dictionary": ctypes.pointer(producer.nulls(1))}):
+            self.refuse(ValueError, "^an array of Arrow has ", producer.pair(producer.schema("n"), producer.nulls(1, **changes)))
+
+    def test_tables(self):
+        producer = self.producer
+
+        def pair(column, *rows, **changes):
+            return producer.pair(producer.table_schema([producer.schema("u")]), producer.table(column, *rows, **changes))
+
+        self.assertEqual(list(Column.from_arrow(pair(producer.texts(["a", "b", None, "a"]), [0, None, 0], 1))), ["b", None, "a"])
+        columns = [producer.schema("u"), producer.schema("u")]
+        for schema in (producer.table_schema(columns), producer.table_schema([]),
+                       producer.table_schema([producer.table_schema([columns[0]])])):
+            given = producer.pair(schema, producer.texts(["a"]))
+            said = "(a table or a record batch has several columns: take one of its columns|utf8)"
+            self.refuse(TypeError, rf"^Arrow's type '\+s' is not read: {said}", given)
+        nothing = (ctypes.c_void_p * 1)()
+        schema = producer.own(Schema(format=b"+s", name=b"", n_children=1, children=ctypes.addressof(nothing)), release_schema)
+        self.refuse(TypeError, r"^Arrow's type '\+s' is not read: ", producer.pair(schema, producer.texts(["a"])))
+        for rows, changes, said in (
+            ([0, 0], {}, "a column with fewer rows than there are"),
+            ([0], {"offset": 1}, "a column with fewer rows than there are"),
+            ([0], {"n_children": 2}, "another number of columns than its type"),
+            ([0], {"children": None}, "another number of columns than its type"),
+            ([0], {"n_buffers": 2}, "another number of buffers than its type"), ([0], {"length": -1}, "a length or an offset"),
+            ([0], {"offset": 2**63 - 1}, "a length or an offset"), ([0], {"null_count": 1}, "another number of nulls"),
+            ([], {"offset": 2}, "a column with fewer rows than there are"),
+        ):
+            self.refuse(ValueError, f"^an array of Arrow has {said}", pair(producer.texts(["a"]), rows, **changes))
+        for changes in ({"length": -1}, {"offset": 2**63 - 1}, {"n_buffers": 2}, {"null_count": 1}):
+            self.refuse(ValueError, "^an array of Arrow has ", pair(producer.texts(["a"], **changes), [0]))
+
+    def test_it_asks_for_a_dictionary(self):
+        """As producers do that cannot cast, do not know the wish, or follow it."""
+        producer, asked = self.producer, []
+
+        def follow(self, requested_schema=None):
+            asked.append(requested_schema and check_schema(requested_schema))
+            rows = producer.indices([1, 0], "i", producer.texts(["a", "b"], "U"))
+            return producer.capsule(producer.schema("i", "U")), producer.capsule(rows)
+
+        def refuse_with(error):
+            def refuse(self, requested_schema=None):
+                if requested_schema is not None:
+                    raise error
+                return follow(self)
+            return refuse
+
+        for method, wishes in ((follow, [b"i"]), (refuse_with(NotImplementedError), [None]),
+                               (refuse_with(ValueError("no")), [None]),
+                               (refuse_with(TypeError), [None]), (lambda self: follow(self), [None])):
+            asked.clear()
+            self.assertEqual(list(Column.from_arrow(type("Has", (), {"__arrow_c_array__": method})())), ["b", "a"])
+            self.assertEqual(asked, wishes)
+        self.refuse(ZeroDivisionError, "", type("Has", (), {"__arrow_c_array__": refuse_with(ZeroDivisionError)})())
 
     def test_there_and_back(self):
         class HasStream:
@@ -314,7 +483,8 @@ class Producers(unittest.TestCase):
     def test_other_types(self):
         producer = self.producer
         for form, texts, said in (("i", None, "i"), ("z", None, "z"), ("", None, ""), ("uu", None, "uu"), ("+s", None, r"\+s"),
-                                  ("tdD", None, "tdD"), ("vu", None, "vu"), ("i", "z", "z"), ("i", "+l", r"\+l"), ("f", "u", "f"),
+                                  ("tdD", None, "tdD"), ("vz", None, "vz"), ("i", "z", "z"), ("n", "vu", "n"), ("i", "nn", "nn"),
+                                  ("i", "+l", r"\+l"), ("f", "u", "f"),
                                   ("u", "u", "u"), ("", "u", ""), ("ii", "U", "ii")):
             for give in (lambda schema: producer.pair(schema, producer.texts(["a"])), lambda schema: producer.stream(schema, [])):
                 self.refuse(TypeError, f"^Arrow's type '{said}' is not read: ", give(producer.schema(form, texts)))
@@ -391,14 +561,14 @@ class Producers(unittest.TestCase):
         producer = self.producer
         schema, other = producer.capsule(producer.schema("u")), producer.capsule(producer.texts(["a"]))
         for result in (None, (), (schema,), (schema, other, other), [schema, other]):
-            Has.__arrow_c_array__ = lambda _, result=result: result
+            Has.__arrow_c_array__ = lambda _, wish=None, result=result: result
             self.refuse(TypeError, "^__arrow_c_array__ returns a tuple of two, not ", Has())
         for result in ((1, 2), (other, schema), (schema, None), (None, other)):
-            Has.__arrow_c_array__ = lambda _, result=result: result
+            Has.__arrow_c_array__ = lambda _, wish=None, result=result: result
             self.refuse((TypeError, ValueError), "PyCapsule_GetPointer called with|was released", Has())
         del Has.__arrow_c_array__
         for result in (None, schema):
-            Has.__arrow_c_stream__ = lambda _, result=result: result
+            Has.__arrow_c_stream__ = lambda _, wish=None, result=result: result
             self.refuse((TypeError, ValueError), "PyCapsule_GetPointer called with", Has())
         for name, error in (("__arrow_c_array__", ZeroDivisionError), ("__arrow_c_stream__", KeyError)):
             Has.__arrow_c_array__ = property(lambda _: 1 // 0) if name == "__arrow_c_array__" else lambda _: {}[1]
@@ -528,8 +698,21 @@ class Offsets(unittest.TestCase):
         for words in ({"offsets": [0, 1]}, {"ends": [1]}):
             with self.assertRaisesRegex(TypeError, "^from_buffers wants codes$"):
                 Column.from_buffers(b"a", **words)
+
+    def test_numbers_are_passed_by_name(self):
+        """Offsets in the place of ends are the ends of other texts."""
+        interner = Interner()
+        for call in (lambda: Column.from_buffers(b"redgreen", [0, 3, 8], [0, 1, 0]), lambda: Column.from_buffers(b"redgreen", [3, 8], codes=[0, 1]),
+                     lambda: Column.from_buffers(*Column(["a"]).to_buffers()), lambda: Column.from_buffers(b"a", None, [], offsets=[0, 1]),
+                     lambda: interner.intern_column(b"redgreen", [0, 3, 8]), lambda: interner.intern_column(b"redgreen", array("Q", [3, 8]))):
+            with self.assertRaisesRegex(TypeError, "^all but the bytes is passed by its name: ends= .* offsets= "):
+                call()
+        self.assertEqual(len(interner), 0)
         with self.assertRaises(TypeError):
-            Column.from_buffers(b"a", [0], [0], "fixed")
+            Column.from_buffers()
+        joined, ends, codes = Column(["", "red", None]).to_buffers()
+        self.assertEqual(list(Column.from_buffers(joined, ends=ends, codes=codes)), ["", "red", None])
+        self.assertEqual(list(Column.from_buffers(joined, offsets=[0, *ends], codes=codes)), ["", "red", None])
 
     def test_no_text(self):
         for offsets in ([], [0], [2], array("q"), array("i", [2])):

@@ -151,7 +151,7 @@ class Calls:
         self.assertEqual(list(interner), distinct)
         self.assertEqual(interner.intern_all([]).tolist(), [])
         self.assertEqual(interner.intern_all(["b", "", "ab"]).tolist(), [numbers[text] for text in ("b", "", "ab")])
-        self.assertEqual(interner.intern_column(b"abb", [1, 3, 3]).tolist()[::2], [numbers["a"], numbers[""]])
+        self.assertEqual(interner.intern_column(b"abb", ends=[1, 3, 3]).tolist()[::2], [numbers["a"], numbers[""]])
 
     def test_a_column_with_a_fault_stops_there(self):
         rows = [
@@ -163,7 +163,7 @@ class Calls:
         for joined, ends, kept in rows:
             interner = self.make()
             with self.assertRaises(ValueError):
-                interner.intern_column(joined, array("Q", ends))
+                interner.intern_column(joined, ends=array("Q", ends))
             self.assertEqual(list(interner), kept)
 
     def test_texts_without_utf8_are_refused(self):

@@ -8,6 +8,7 @@ import copy
 import doctest
 import os
 import pickle
+import random
 import signal
 import sys
 import tempfile
@@ -15,6 +16,7 @@ import threading
 import tracemalloc
 import unittest
 from array import array
+from html.parser import HTMLParser
 from unittest import mock
 
 from hypothesis import settings, strategies
@@ -152,7 +154,8 @@ class BesideAList(RuleBasedStateMachine):
         before.extend(["only there", None])
 
     @rule(make=strategies.sampled_from((
-        lambda it: Column.from_buffers(*it.to_buffers()), lambda it: Column.from_parts(it.dictionary, it.codes), Column.from_arrow,
+        lambda it: Column.from_buffers(**dict(zip(("joined", "ends", "codes"), it.to_buffers()))),
+        lambda it: Column.from_parts(it.dictionary, it.codes),
         lambda it: Column.from_buffers(it.to_buffers()[0], offsets=[0, *it.to_buffers()[1]], codes=it.codes),
         lambda it: Column.from_parts(Interner(it.dictionary), iter(it.codes)),
     )))
@@ -180,6 +183,62 @@ class BesideAList(RuleBasedStateMachine):
         assert (list(part), part.dictionary, part.hasher) == (self.rows, texts, self.column.hasher)
         assert part == self.column and part.compact().dictionary == texts
         part.append("only there")
+
+    @rule(function=strategies.sampled_from((str.upper, str.strip, lambda text: text[:1], lambda text: text or None,
+                                            {"a": "b"}.get)))
+    def map_texts(self, function):
+        seen = []
+        mapped = self.column.map_texts(lambda text: (seen.append(text), function(text))[1])
+        assert seen == self.texts and mapped.hasher == self.column.hasher
+        assert list(mapped) == [None if row is None else function(row) for row in self.rows]
+        assert mapped.dictionary == first_appearances(map(function, self.texts))
+        mapped.append("only there")
+
+    @rule(key=strategies.sampled_from((None, len, lambda text: text[::-1], lambda text: 0)))
+    def sort_dictionary(self, key):
+        in_order = self.column.sort_dictionary(key=key)
+        assert (list(in_order), in_order.dictionary) == (self.rows, sorted(self.texts, key=key))
+        in_order.append("only there")
+
+    @rule(categories=DICTIONARIES, unknown=strategies.integers(0, 6), form=strategies.sampled_from((list, iter, Column)))
+    def remap(self, categories, unknown, form):
+        unknown = categories[unknown] if unknown < len(categories) else None
+        encoded = self.column.remap(form(categories), unknown)
+        assert list(encoded) == [row if row in categories or row is None else unknown for row in self.rows]
+        assert encoded.dictionary == categories
+        encoded.append("only there")
+
+    @rule(value=TEXTS)
+    def fill_and_drop(self, value):
+        filled, dropped = self.column.fillna(value), self.column.dropna()
+        assert list(filled) == [value if row is None else row for row in self.rows]
+        assert filled.dictionary == first_appearances(self.texts + [value] * (None in self.rows))
+        assert (list(dropped), dropped.dictionary) == ([row for row in self.rows if row is not None], self.texts)
+        filled.append("only there")
+        dropped.append("only there")
+
+    @rule(value=TEXTS)
+    def go_on_without_none(self, value):
+        if None in self.rows:
+            self.column, self.rows = self.column.fillna(value), [value if row is None else row for row in self.rows]
+            self.texts = first_appearances([*self.texts, value])
+
+    @rule(rows=ROWS)
+    def add_a_column(self, rows):
+        whole = self.column + Column(rows)
+        assert (list(whole), whole.dictionary) == (self.rows + rows, first_appearances([*self.texts, *rows]))
+        before = self.column
+        self.column += Column(rows)
+        assert self.column is before
+        self.add(rows)
+
+    @rule(weights=strategies.lists(strategies.integers(-8, 8), min_size=12, max_size=12),
+          form=strategies.sampled_from((list, iter, lambda it: array("d", it), lambda it: array("f", it),
+                                        lambda it: array("b", it))))
+    def sum_weights(self, weights, form):
+        weights = (weights * len(self.rows))[: len(self.rows)]
+        sums = self.column.counts(form(weights))
+        assert sums == array("d", [sum(it for it, row in zip(weights, self.rows) if row == text) for text in self.texts])
 
     @rule()
     def shrink(self):
@@ -216,12 +275,19 @@ class BesideAList(RuleBasedStateMachine):
         missing = [(None, rows.count(None))] if None in rows else []
         assert list(column.value_counts(dropna=False).items()) == sorted(counted + missing, key=lambda row: -row[1])
         assert column.unique() == list(dict.fromkeys(rows))
+        assert (column.nunique(), column.nunique(dropna=False)) == (len({*rows} - {None}), len({*rows}))
         assert column.isna().tolist() == [row is None for row in rows]
         for values in ([], [None], self.texts[:2], [*self.texts[1:], "not there", None, 1]):
             assert column.isin(values).tolist() == [row in values for row in rows]
         assert column.__dask_tokenize__() == Column(rows, hasher="fixed").__dask_tokenize__()
         assert [column.code(text) for text in self.texts] == [*range(len(self.texts))] and column.code("not there") is None
+        reversed_rows = Column(rows[::-1])
+        same = column.eq(reversed_rows)
+        assert same.tolist() == [row == other for row, other in zip(rows, rows[::-1])]
+        assert (~same & column.isna() | same).tolist() == [row == other or row is None for row, other in zip(rows, rows[::-1])]
+        assert list(column[~same]) == [row for row, other in zip(rows, rows[::-1]) if row != other]
         for value in (*self.texts, None, "not there"):
+            assert column.eq(value).tolist() == [row == value for row in rows]
             assert (value in column, column.count(value)) == (value in rows, rows.count(value))
             assert value not in rows or column.index(value) == rows.index(value)
         for place in (len(rows), -len(rows) - 1, 2**70):
@@ -350,7 +416,7 @@ class Refusals(unittest.TestCase):
         for wrong in (1.5, "1", None, [1.5], (1, 0)):
             with self.assertRaises(TypeError):
                 column[wrong]
-        self.assertEqual([column[True], column[Number(-2)]], [None, "a"])
+        self.assertEqual(column[Number(-2)], "a")
 
     def test_what_is_no_hasher(self):
         def make_of_parts(texts, hasher):
@@ -448,11 +514,49 @@ class Calls(unittest.TestCase):
             names.truncate(0)
             self.assertEqual((list(column), column.dictionary), (["c", None, "b"], ["b", "a" * 200, "c"]))
 
+    def test_what_it_shows(self):
+        for rows, shown in (
+            ([], ""), ([None], ": None"), (["it's", "\n\0\x85"], ": \"it's\", '\\n\\x00\\x85'"),
+            (map(str, range(10)), ": '0', '1', '2', '3', '4', '5', '6', '7', '8', '9'"),
+            (map(str, range(11)), ": '0', '1', '2', '3', '4', .., '6', '7', '8', '9', '10'"),
+            (["a" * 60, "b" * 61], f": '{'a' * 60}', '{'b' * 60}'.."),
+            (["語" * 99, "a" + "語" * 99], f": '{'語' * 20}'.., 'a{'語' * 19}'.."),
+        ):
+            column = Column(rows)
+            self.assertEqual(repr(column), f"<Column of {len(column)} rows, {column.distinct} distinct texts{shown}>")
+        self.assertEqual(repr(Named("n", ["a"])), "<Named of 1 rows, 1 distinct texts: 'a'>")
+
+    def test_what_a_notebook_shows(self):
+        class Cells(HTMLParser):
+            def __init__(self, html):
+                super().__init__()
+                self.cells, self.tags = [], []
+                self.feed(html)
+
+            def handle_starttag(self, tag, attrs):
+                self.tags.append(tag)
+                if tag in ("caption", "th", "td"):
+                    self.cells.append("")
+
+            def handle_data(self, data):
+                self.cells[-1] += data
+
+        for rows in ([], [None], ["<b>&amp;", "'\"", "a" * 60], [str(number) for number in range(10)],
+                     [str(number) for number in range(11)]):
+            column = Column(rows)
+            shown = Cells(column._repr_html_())
+            numbered = [(str(row), str(value)) for row, value in enumerate(rows)]
+            wanted = numbered if len(rows) <= 10 else [*numbered[:5], ("..", ".."), *numbered[-5:]]
+            self.assertEqual(shown.cells, [f"Column of {len(rows)} rows, {column.distinct} distinct texts",
+                                           *(it for pair in wanted for it in pair)])
+            self.assertLessEqual({*shown.tags}, {"table", "caption", "tr", "th", "td", "i"})
+        self.assertEqual(Cells(Column(["a" * 61])._repr_html_()).cells[-1], "a" * 60 + "..")
+
     def test_a_sequence(self):
         column = Column(["a", None, "b", "a"])
         self.assertTrue("b" in column and None in column and "c" not in column and 7 not in column)
         self.assertEqual((column.index("b"), column.count("a"), list(reversed(column))), (2, 2, ["a", "b", None, "a"]))
-        self.assertEqual(repr(column), "<Column of 4 rows, 2 distinct texts>")
+        self.assertEqual(repr(column), "<Column of 4 rows, 2 distinct texts: 'a', None, 'b', 'a'>")
         self.assertFalse(Column())
         self.assertNotEqual(column, ["a", None, "b", "a"])
         with self.assertRaises(TypeError):
@@ -819,6 +923,36 @@ class Copies(unittest.TestCase):
                 other = pickle.loads(written, buffers=[make(it.raw()) for it in buffers])
                 self.assertEqual((other, other.hasher, other.codes), (column, hasher, column.codes))
 
+    def test_buffers_that_were_cut_short(self):
+        for it in (Column(["red", "green", None, "red"]), Column(["a", "b", "c"])[1:2], Interner(["red", "green"]), Interner(["a"], backend="buffer"),
+                   Column([None, None])):
+            buffers = []
+            written = pickle.dumps(it, 5, buffer_callback=buffers.append)
+            raws = [bytes(buffer.raw()) for buffer in buffers]
+            self.assertEqual(pickle.loads(written, buffers=raws), it)
+            for place, raw in enumerate(raws):
+                for length in range(len(raw)):
+                    with self.assertRaises(ValueError):
+                        pickle.loads(written, buffers=[*raws[:place], raw[:length], *raws[place + 1 :]])
+            with self.assertRaisesRegex(ValueError, "^the pickle is of . (texts|rows), and its buffers hold 0$"):
+                pickle.loads(written, buffers=[b""] * len(raws))
+
+    def test_pickles_of_the_release_before(self):
+        """They do not say how many texts and rows there are."""
+        column = (
+            b"\x80\x04\x95\xa8\x00\x00\x00\x00\x00\x00\x00\x8c\x17string_interner._column\x94\x8c\x06Column\x94\x93\x94)\x81\x94N}\x94\x8c\x06_parts\x94"
+            b"\x8c\x17string_interner._native\x94\x8c\x06_Parts\x94\x93\x94(\x8c\x06string\x94\x8c\x06seeded\x94C\x08redgreen\x94C\x10\x03\x00\x00\x00\x00"
+            b"\x00\x00\x00\x08\x00\x00\x00\x00\x00\x00\x00\x94C\x10\x00\x00\x00\x00\xff\xff\xff\xff\x01\x00\x00\x00\x00\x00\x00\x00\x94K\x04t\x94R"
+            b"\x94s\x86\x94b."
+        )
+        interner = (
+            b"\x80\x05\x95\x90\x00\x00\x00\x00\x00\x00\x00\x8c\x0fstring_interner\x94\x8c\x08Interner\x94\x93\x94)\x81\x94N}\x94\x8c\x06_parts\x94"
+            b"\x8c\x17string_interner._native\x94\x8c\x06_Parts\x94\x93\x94(\x8c\x06buffer\x94\x8c\x06seeded\x94C\x08redgreen\x94C\x10\x03\x00\x00\x00\x00"
+            b"\x00\x00\x00\x08\x00\x00\x00\x00\x00\x00\x00\x94NK\x04t\x94R\x94s\x86\x94b."
+        )
+        self.assertEqual(list(pickle.loads(column)), ["red", None, "green", "red"])
+        self.assertEqual(list(pickle.loads(interner).items()), [(0, "red"), (4, "green")])
+
     def test_dask_names_equal_columns_alike(self):
         try:
             from dask.base import tokenize
@@ -867,7 +1001,7 @@ class Copies(unittest.TestCase):
             """), (0, "True", ""))
 
     def test_changed_parts(self):
-        _, (name, hasher, joined, ends, codes, width) = Column(["red", None, "green", "red"])._parts.__reduce_ex__(2)
+        _, (name, hasher, joined, ends, codes, width, *_) = Column(["red", None, "green", "red"])._parts.__reduce_ex__(2)
         for changes, said in (
             ({"joined": b"redgreex"[:-1]}, "an end"), ({"joined": b"\xff" * 8}, "text 0 is not UTF-8"), ({"ends": ends[:-1]}, "the ends have another width"),
             ({"ends": ends[::-1]}, "an end"), ({"codes": codes[:-1]}, "the codes have another width"), ({"codes": b"\2" * 16}, "row 0 has code 33686018, "),
@@ -923,7 +1057,7 @@ class Copies(unittest.TestCase):
 class Buffers(unittest.TestCase):
     def test_from_buffers(self):
         for ends in ([3, 8], array("i", [3, 8]), array("Q", [3, 8]), iter([3, 8])):
-            column = Column.from_buffers(bytearray(b"redgreen"), ends, [1, -1, 0], hasher="fixed")
+            column = Column.from_buffers(bytearray(b"redgreen"), ends=ends, codes=[1, -1, 0], hasher="fixed")
             self.assertEqual((list(column), column.dictionary, column.hasher), (["green", None, "red"], ["red", "green"], "fixed"))
         for joined, ends, codes, said in (
             (b"redred", [3, 6], [0], "a text repeats an earlier one: text 1 is text 0 again$"), (b"ab", [1, 3], [0], "an end .* bytes: end 1$"),
@@ -932,7 +1066,7 @@ class Buffers(unittest.TestCase):
             (b"ab", [1, 2], array("Q", [0, 2**64 - 1]), f"row 1 has code {2**64 - 1}, "),
         ):
             with self.assertRaisesRegex(ValueError, f"^{said}"):
-                Column.from_buffers(joined, ends, codes)
+                Column.from_buffers(joined, ends=ends, codes=codes)
         joined, ends, codes = Column(["a", None, "ß"]).to_buffers()
         self.assertEqual((joined, ends.tolist(), ends.format, codes.tolist()), ("aß".encode(), [1, 3], "Q", [0, -1, 1]))
 
@@ -1026,6 +1160,58 @@ class Buffers(unittest.TestCase):
         self.assertEqual(numpy.asarray(Column(["b", "a"]), dtype="U1").tolist(), ["b", "a"])
 
     @unittest.skipUnless(numpy, "no numpy")
+    def test_arrays_of_texts_of_numpy(self):
+        chance = random.Random(1)
+        for _ in range(200):
+            rows = ["".join(chance.choices("ab\0éß語\uffff𝄞\U0010ffff", k=chance.randrange(5))) for _ in range(chance.randrange(20))]
+            for kind in ("U", "<U5", ">U5", ">U4"):
+                array = numpy.array(rows, kind)
+                for given in (array, array[::-1], array[1::2],
+                              numpy.array([*zip(range(len(rows)), rows)], [("n", "i1"), ("text", "U4")])["text"]):
+                    # As numpy makes a str of each, without the zeros at its end.
+                    column = Column(["b", *given[:1].tolist()])
+                    column.extend(given)
+                    self.assertEqual(list(column), ["b", *given[:1].tolist(), *given.tolist()])
+                    self.assertEqual(column.dictionary, list(dict.fromkeys(column)))
+        masked = numpy.ma.array(["a", "b"], mask=[False, True])
+        self.assertEqual(list(Column(masked)), ["a", None])
+        self.assertEqual(list(Column(numpy.array(["a", "b"]).reshape(2, 1)[:, 0])), ["a", "b"])
+
+    @unittest.skipUnless(numpy, "no numpy")
+    def test_what_is_no_text_in_an_array_of_numpy(self):
+        column = Column(["a"])
+        shared = column[:]
+        for rows in (["b", "c\ud800"], ["b", "\udfffc", "d"]):
+            for kind in ("U", ">U2"):
+                self.assertRaises(UnicodeEncodeError, column.extend, numpy.array(rows, kind))
+        self.assertRaises(UnicodeDecodeError, column.extend, numpy.array([98, 0x110000], "u4").view("U1"))
+        self.assertEqual((list(column), column.dictionary, shared.dictionary), (["a"], ["a"], ["a"]))
+        for wrong in (numpy.array([b"a"]), numpy.array([1]), numpy.array(["2026-01-01"], "M8[D]"), numpy.array([["a"]])):
+            self.assertRaises(TypeError, column.extend, wrong)
+
+    @unittest.skipUnless(numpy, "no numpy")
+    def test_a_handler_that_uses_the_column_while_an_array_is_read(self):
+        array = numpy.array([f"text {number}" for number in range(300_000)])
+        for change, wanted in ((lambda it: it.append("handler"), None), (lambda it: it.__init__(["other"]), RuntimeError)):
+            column, handled = Column(["first"]), []
+
+            def handle(*_):
+                handled or handled.append(change(column))
+
+            before = signal.signal(signal.SIGVTALRM, handle)
+            signal.setitimer(signal.ITIMER_VIRTUAL, 0.012, 0.001)
+            try:
+                if wanted:
+                    self.assertRaises(wanted, column.extend, array)
+                else:
+                    column.extend(array)
+            finally:
+                signal.setitimer(signal.ITIMER_VIRTUAL, 0)
+                signal.signal(signal.SIGVTALRM, before)
+            self.assertTrue(handled)
+            self.assertEqual(list(column), ["other"] if wanted else ["first", "handler", *array.tolist()])
+
+    @unittest.skipUnless(numpy, "no numpy")
     def test_numpy_reads_what_isin_finds_as_booleans(self):
         column = Column(["a", None, "b", "a"])
         for found, wanted in ((column.isin({"a", "c"}), [True, False, False, True]), (column.isna(), [False, True, False, False]), (Column().isna(), [])):
@@ -1110,6 +1296,22 @@ class Pandas(unittest.TestCase):
         column = Column.from_pandas(given)
         self.assertEqual((column.dictionary, column.codes.tolist()), (["z", "b", "a"], [1, -1]))
         self.assertEqual(column.counts().tolist(), [0, 1, 0])
+        self.assertTrue(column.to_pandas().as_ordered().equals(given))
+
+    def test_a_table_and_an_index_of_levels(self):
+        frame = pandas.DataFrame({"a": ["x", "y"], "b": ["y", None]})
+        for call in (Column, Column.from_values, Column.from_pandas, Column().extend, Column(["a"]).isin, Interner, Interner().intern_all,
+                     lambda it: Column.from_parts(it, [])):
+            for given in (frame, frame[:0]):
+                with self.assertRaisesRegex(TypeError, r"^a DataFrame has columns, of which one .*: choose it, as table\[name\]$"):
+                    call(given)
+            with self.assertRaisesRegex(TypeError, r"^a MultiIndex has levels, of which one .*: choose it, as index\.get_level_values\(0\)$"):
+                call(pandas.MultiIndex.from_frame(frame))
+        self.assertEqual(list(Column(frame["b"])), ["y", None])
+        self.assertEqual(list(Column.from_pandas(pandas.MultiIndex.from_frame(frame).get_level_values(0))), ["x", "y"])
+        self.assertEqual(list(Column(pandas.Series(["x", "y"], index=["columns", "levels"]))), ["x", "y"])
+        # Items of a dict are its keys, as for list.
+        self.assertEqual(list(Column({"a": 1, "b": 2})), ["a", "b"])
 
     def test_what_are_no_texts(self):
         for wrong in (pandas.Series([1, 2]), pandas.Series(["a", 1]), pandas.Categorical([1, 2]), pandas.Series([True]),

@@ -1,6 +1,7 @@
 """Tests of lines: of bytes, and of files, without a str of each."""
 
 import bz2
+import csv
 import gzip
 import io
 import os
@@ -11,6 +12,8 @@ import signal
 import tempfile
 import threading
 import unittest
+
+from test_safety import take_back
 
 from string_interner import Column, Interner
 
@@ -83,6 +86,128 @@ class OfBytes(unittest.TestCase):
         closed = Interner()
         closed.close()
         self.assertRaises(ValueError, closed.intern_lines, b"a")
+
+
+class Fields(unittest.TestCase):
+    def test_a_field_of_each_line(self):
+        chance = random.Random(1)
+        for _ in range(300):
+            separator = chance.choice([",", "\t", ";;", "é", "aab", ", ", "\0"])
+            rows = [["".join(chance.choices("ab,é;", k=chance.randrange(4))) for _ in range(3)] for _ in range(chance.randrange(9))]
+            lines = [separator.join(row) for row in rows]
+            for newline, end in (("\n", "\n"), (None, "\r\n"), (None, "\r")):
+                raw = end.join(lines).encode() + (b"" if not lines or chance.random() < 0.5 and lines[-1] else end.encode())
+                for field in range(3):
+                    wanted = [line.split(separator)[field] for line in lines]
+                    for given in (separator, separator.encode(), bytearray(separator.encode())):
+                        column = Column.from_file(io.BytesIO(raw), field=field, separator=given, newline=newline)
+                        self.assertEqual((list(column), column.dictionary), (wanted, list(dict.fromkeys(wanted))))
+
+    def test_the_fields_that_csv_reads(self):
+        chance = random.Random(2)
+        rows = [[str(chance.randrange(99)), chance.choice(["", "ß", "b c"]), "x" * chance.randrange(300)] for _ in range(20_000)]
+        text = io.StringIO()
+        csv.writer(text, lineterminator="\n").writerows(rows)
+        raw = text.getvalue().encode()
+        for field in range(3):
+            column = Column.from_file(io.BytesIO(raw), field=field)
+            self.assertEqual(list(column), [row[field] for row in csv.reader(io.StringIO(raw.decode()))])
+        for given in (Few(b"a,b\nc,d"), io.BytesIO(b"\xef\xbb\xbfa,b\r\nc,d")):
+            column = Column.from_file(given, field=1, encoding="utf-8-sig", newline=None)
+            self.assertEqual(list(column), ["b", "d"])
+
+    def test_a_header(self):
+        with tempfile.TemporaryFile() as file:
+            file.write(b"name,city\nann,Oslo\nbob,Rome\n")
+            file.seek(0)
+            names = file.readline().decode().rstrip().split(",")
+            self.assertEqual(list(Column.from_file(file, field=names.index("city"))), ["Oslo", "Rome"])
+
+    def test_lines_without_the_field(self):
+        for raw, line in ((b"a", 1), (b"a,b\na\n", 2), (b"a,b\n\na,b", 2)):
+            with self.assertRaisesRegex(ValueError, f"^line {line} has no field 1$"):
+                Column.from_file(io.BytesIO(raw), field=1)
+        self.assertEqual(list(Column.from_file(io.BytesIO(b"\n,a"), field=0)), ["", ""])
+        with self.assertRaisesRegex(ValueError, "^line 1 has no field 9223372036854775807$"):
+            Column.from_file(io.BytesIO(b"a,b"), field=2**63 - 1)
+
+    def test_fields_that_are_not_utf8(self):
+        # What is in other fields is not looked at.
+        raw = b"a,\xff\nb,c\n"
+        self.assertEqual(list(Column.from_file(io.BytesIO(raw), field=0)), ["a", "b"])
+        with self.assertRaisesRegex(ValueError, "^the field of line 1 is not UTF-8$"):
+            Column.from_file(io.BytesIO(raw), field=1)
+
+    def test_what_is_no_field_or_separator(self):
+        for words, error, said in (
+            ({"field": -1}, ValueError, "fields are counted from 0"),
+            ({"field": 0, "separator": b""}, ValueError, "a separator is empty"),
+            ({"field": 0, "separator": ""}, ValueError, "a separator is empty"),
+            ({"separator": b","}, TypeError, "a separator, and no field"),
+            ({"field": 0, "separator": "a\n"}, ValueError, "a separator has what ends a line"),
+            ({"field": 0, "separator": b"\r", "newline": None}, ValueError, "a separator has what ends a line"),
+            ({"field": 2**70}, OverflowError, ""), ({"field": "1"}, TypeError, ""), ({"field": 1.5}, TypeError, ""),
+            ({"field": 0, "separator": 1}, TypeError, ""), ({"field": 0, "separator": None}, TypeError, ""),
+            ({"field": 0, "separator": "\ud800"}, UnicodeEncodeError, ""),
+        ):
+            with self.assertRaisesRegex(error, f"^{said}"):
+                Column.from_file(io.BytesIO(b"a,b"), **words)
+        self.assertEqual(list(Column.from_file(io.BytesIO(b"a\rb"), field=1, separator="\r")), ["b"])
+
+
+class Progress(unittest.TestCase):
+    def test_it_is_told_how_far_a_file_is_read(self):
+        raw = b"".join(b"%d\n" % number for number in range(600_000))
+        for given in (io.BytesIO(raw), io.BufferedReader(io.BytesIO(raw))):
+            told = []
+            column = Column.from_file(given, progress=lambda *it: told.append(it))
+            self.assertEqual(told[-1], (len(raw), len(column)))
+            self.assertEqual(told, sorted(told))
+            self.assertGreater(len(told), len(raw) >> 20)
+            for count, rows in told:
+                self.assertIn(rows - raw[:count].count(b"\n"), (0, -1))
+        told = []
+        with tempfile.TemporaryFile() as file:
+            file.write(raw)
+            file.seek(0)
+            Column.from_file(file.fileno(), field=0, progress=lambda *it: told.append(it))
+        self.assertEqual(told[-1], (len(raw), 600_000))
+        told = []
+        Column.from_file(io.BytesIO(b""), progress=lambda *it: told.append(it))
+        self.assertEqual(told, [(0, 0)])
+
+    def test_what_it_raises_ends_the_call(self):
+        def fail(count, rows):
+            raise ZeroDivisionError
+
+        self.assertRaises(ZeroDivisionError, Column.from_file, io.BytesIO(b"a"), progress=fail)
+        self.assertRaises(TypeError, Column.from_file, io.BytesIO(b"a"), progress=1)
+        self.assertEqual(list(Column.from_file(io.BytesIO(b"a"), progress=None)), ["a"])
+
+    def test_it_may_use_the_file(self):
+        file = io.BytesIO(b"a\n" * 2_000_000)
+
+        def close(count, rows):
+            file.close()
+
+        self.assertRaises(ValueError, Column.from_file, file, progress=close)
+
+    def test_what_is_passed_by_its_name_stays(self):
+        ends = []
+
+        class Progress:
+            calls = 0
+
+            def __call__(self, count, rows):
+                Progress.calls += 1
+                take_back(self)
+
+            def __del__(self):
+                ends.append(Progress.calls)
+
+        column = Column.from_file(io.BytesIO(b"a;b\n" * 1_000_000), **{"field": 1, "separator": b";", "progress": Progress()})
+        self.assertEqual((len(column), column.dictionary, ends), (1_000_000, ["b"], [Progress.calls]))
+        self.assertGreater(Progress.calls, 1)
 
 
 class OfFiles(unittest.TestCase):

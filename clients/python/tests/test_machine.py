@@ -49,7 +49,7 @@ class BesideAList(RuleBasedStateMachine):
     @rule(column=COLUMNS, typecode=TYPECODES, form=ENDS)
     def intern_column(self, column, typecode, form):
         raws = [text.encode() for text in column]
-        codes = self.interner.intern_column(b"".join(raws), form(list(accumulate(map(len, raws)))), typecode=typecode)
+        codes = self.interner.intern_column(b"".join(raws), ends=form(list(accumulate(map(len, raws)))), typecode=typecode)
         assert codes == array(typecode, self.numbers_of(column))
 
     @rule(column=COLUMNS, text=TEXTS, typecode=TYPECODES, form=ENDS)
@@ -66,7 +66,7 @@ class BesideAList(RuleBasedStateMachine):
         kept = change % (len(ends) + 1)
         ends.insert(kept, wrong)
         try:
-            self.interner.intern_column(b"".join(raws), ends)
+            self.interner.intern_column(b"".join(raws), ends=ends)
         except ValueError:
             self.numbers_of(column[:kept])
         else:

@@ -54,7 +54,7 @@ class Metadata(unittest.TestCase):
         for target in re.findall(r"\]\(([^)]*)\)", page):
             self.assertRegex(target, "^(https://|#)")
         self.assertNotRegex(page, r"\.\./|no download|PYTHONPATH")
-        for words in ("pip install", "STRING_INTERNER_LIB", "archive for C of the same release"):
+        for words in ("pip install", "pip install --no-build-isolation string?interner-*.tar.gz", "STRING_INTERNER_LIB", "archive for C of the same release"):
             self.assertIn(words, page)
         programs = re.findall(r"^```python\n(.*?)^```$", page, re.M | re.S)
         self.assertTrue(programs)
@@ -68,17 +68,46 @@ class Metadata(unittest.TestCase):
         self.assertIn(f"no {folder}/libstring_interner.a: run clients/build, or name its folder in STRING_INTERNER_LIB", ended.stderr)
         self.assertIn("The archive for C of each release has it", ended.stderr)
 
-    def test_a_build_without_cargo_says_what_is_missing(self):
-        """In the archive of the sources, where no library is found."""
-        with tempfile.TemporaryDirectory() as folder:
-            self.assertEqual(self.run_setup("sdist", "--formats=tar", "-d", folder).returncode, 0)
-            (packed,) = Path(folder).glob("*.tar")
-            shutil.unpack_archive(packed, folder)
-            kept = {name: value for name, value in os.environ.items() if name != "STRING_INTERNER_LIB"}
-            ended = subprocess.run([sys.executable, "-B", "-W", "ignore", "setup.py", "--quiet", "build_ext"], cwd=packed.with_suffix(""),
-                                   env=kept | {"PATH": folder}, capture_output=True, text=True, timeout=HANGS)
+    def build_sources(self, folder, *words):
+        """Builds what the archive of the sources has, where no library is found, with commands of a folder alone."""
+        self.assertEqual(self.run_setup("sdist", "--formats=tar", "-d", folder).returncode, 0)
+        (packed,) = Path(folder).glob("*.tar")
+        shutil.unpack_archive(packed, folder)
+        kept = {name: value for name, value in os.environ.items() if name != "STRING_INTERNER_LIB"}
+        ended = subprocess.run([sys.executable, "-B", "-W", "ignore", "setup.py", *words, "build_ext"], cwd=packed.with_suffix(""),
+                               env=kept | {"PATH": folder}, capture_output=True, text=True, timeout=HANGS)
         self.assertNotEqual(ended.returncode, 0)
+        return ended
+
+    def test_a_build_without_cargo_says_what_is_missing(self):
+        with tempfile.TemporaryDirectory() as folder:
+            ended = self.build_sources(folder, "--quiet")
         self.assertIn("no cargo, which compiles the library: install Rust 1.85 or later, or name the folder", ended.stderr)
+
+    def test_a_build_says_what_it_does(self):
+        for words in ((), ("--quiet",)):
+            with tempfile.TemporaryDirectory() as folder:
+                cargo = Path(folder, "cargo")
+                cargo.write_text('#!/bin/sh\n[ "$1" = -vV ] && echo "host: this-machine" && exit\n/bin/sleep 6\nexit 1\n')
+                cargo.chmod(0o755)
+                ended = self.build_sources(folder, *words)
+            self.assertIn("setup.py: cargo did not compile the library", ended.stderr)
+            said = [line for line in ended.stdout.splitlines() if line.startswith("setup.py: ")]
+            self.assertEqual(said, [] if words else ["setup.py: compiling the library by cargo, in a minute", "setup.py: still compiling, 5 s"])
+
+    def test_a_python_without_wheel(self):
+        try:
+            import setuptools.command.bdist_wheel  # noqa: F401
+        except ImportError:
+            pass
+        else:
+            self.skipTest("setuptools makes wheels by itself")
+        with tempfile.TemporaryDirectory() as folder:
+            Path(folder, "wheel.py").write_text("raise ImportError\n")
+            paths = os.pathsep.join(filter(None, [folder, os.environ.get("PYTHONPATH")]))
+            ended = self.run_setup("egg_info", "--egg-base", folder, PYTHONPATH=paths)
+        self.assertEqual((ended.returncode, ended.stdout), (1, ""))
+        self.assertRegex(ended.stderr, r"^setup\.py: this Python has no wheel: install that \(Debian's python3-wheel\), or setuptools 70\.1 or later\n$")
 
 
 class Imports(unittest.TestCase):

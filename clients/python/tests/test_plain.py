@@ -52,6 +52,33 @@ class Plain(unittest.TestCase):
     def files(self):
         return {path.name: path.read_bytes() for path in self.folder.iterdir()}
 
+    def modes(self):
+        return {path.name: path.stat().st_mode & 0o7777 for path in self.folder.iterdir()}
+
+    def test_keeps_who_may_read(self):
+        self.addCleanup(os.umask, os.umask(0o022))
+        for mode in (0o600, 0o640, 0o444, 0o666):
+            shutil.rmtree(self.folder, ignore_errors=True)
+            Column(["old"]).to_plain(self.folder)
+            self.assertEqual({*self.modes().values()}, {0o644})
+            for path in self.folder.iterdir():
+                path.chmod(mode)
+            (self.folder / "dict.txt").chmod(0o604)
+            (self.folder / "pair.txt").unlink()
+            Column(["new"]).to_plain(self.folder)
+            # A file that was not there is as open as the codes.
+            self.assertEqual(self.modes(), {"codes.npy": mode, "dict.txt": 0o604, "pair.txt": mode})
+
+    def test_another_group_may_what_all_may(self):
+        self.addCleanup(os.umask, os.umask(0o022))
+        for mode, wanted in ((0o640, 0o600), (0o664, 0o644), (0o600, 0o600)):
+            Column(["old"]).to_plain(self.folder)
+            for path in self.folder.iterdir():
+                path.chmod(mode)
+            with mock.patch("os.fchown", side_effect=PermissionError):
+                Column(["new"]).to_plain(self.folder)
+            self.assertEqual({*self.modes().values()}, {wanted})
+
     def test_reads_what_the_page_says(self):
         for lines, codes in (([], []), (["red", "", "ß\r"], [0, 2, 1, 0]), (["a"] + [str(number) for number in range(1000)], [7, 999] * 500)):
             for cut in (False, True):
@@ -153,7 +180,8 @@ class Plain(unittest.TestCase):
         (self.folder / "notes").write_text("stays")
         # What a killed run left has no lock.
         (self.folder / "dictcol-unfinished").mkdir()
-        (self.folder / "dictcol-unfinished" / "dict.txt").touch()
+        for name in ("dict.txt", "codes.npy.old"):
+            (self.folder / "dictcol-unfinished" / name).touch()
         Column(["new"]).to_plain(self.folder)
         self.assertEqual((list(Column.from_plain(self.folder)), (self.folder / "notes").read_text()), (["new"], "stays"))
         self.assertFalse({"dictcol-unfinished", "no_final_newline"} & {*self.files()})

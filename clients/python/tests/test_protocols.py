@@ -74,14 +74,14 @@ class WrongArguments(unittest.TestCase):
         interner = Interner(["a", "b"])
         for wrong in WRONG_NUMBERS:
             for call in (interner.resolve, interner.__getitem__, interner.truncate, lambda it: Interner(capacity=it),
-                         lambda it: interner.resolve_all([0, it]), lambda it: interner.intern_column(b"ab", [1, it])):
+                         lambda it: interner.resolve_all([0, it]), lambda it: interner.intern_column(b"ab", ends=[1, it])):
                 with self.assertRaises(TypeError):
                     call(wrong)
         for right in (1, True, Number(1)):
             self.assertEqual(interner.resolve(right), "b")
             self.assertEqual(interner[right], "b")
             self.assertEqual(interner.resolve_all([right]), ["b"])
-            self.assertEqual(interner.intern_column(b"b", [right]).tolist(), [1])
+            self.assertEqual(interner.intern_column(b"b", ends=[right]).tolist(), [1])
             self.assertEqual(len(Interner(capacity=right)), 0)
         interner.truncate(Number(1))
         self.assertEqual(list(interner), ["a"])
@@ -90,7 +90,7 @@ class WrongArguments(unittest.TestCase):
         for call in (lambda: Interner(backend="tree"), lambda: Interner(backend=None), lambda: Interner(capacity=-1),
                      lambda: Interner(capacity=2**64), lambda: Interner.from_json("[]", backend="tree"),
                      lambda: Interner().truncate(-1), lambda: Interner().intern_all(["a"], typecode="d"),
-                     lambda: Interner().intern_column(b"a", [1], typecode="i")):
+                     lambda: Interner().intern_column(b"a", ends=[1], typecode="i")):
             with self.assertRaises(ValueError):
                 call()
         with self.assertRaises(TypeError):
@@ -121,10 +121,10 @@ class Ends(unittest.TestCase):
     def test_ends_in_each_form(self):
         for given in self.ends_of(1, 1, 3, 4):
             interner = Interner()
-            self.assertEqual(interner.intern_column(b"abca", given).tolist(), [0, 1, 2, 0])
+            self.assertEqual(interner.intern_column(b"abca", ends=given).tolist(), [0, 1, 2, 0])
             self.assertEqual(list(interner), ["a", "", "bc"])
         for given in ([], (), array("Q"), array("I"), b"", memoryview(b"")):
-            self.assertEqual(Interner().intern_column(b"abca", given).tolist(), [])
+            self.assertEqual(Interner().intern_column(b"abca", ends=given).tolist(), [])
 
     def test_a_bad_end_is_a_value_error_and_texts_before_it_stay(self):
         for bad in (-1, 0, 5, -(2**31), -(2**63), 2**31, 2**32 - 1, 2**63, 2**64 - 1, 2**64, 2**64 + 2, -(2**64) + 2, 10**30):
@@ -133,14 +133,14 @@ class Ends(unittest.TestCase):
                     continue
                 interner = Interner()
                 with self.assertRaisesRegex(ValueError, r"an end is less than the one before, or passes the bytes: end \d$"):
-                    interner.intern_column(b"abcd", given)
+                    interner.intern_column(b"abcd", ends=given)
                 self.assertEqual(list(interner), ["a"], (bad, given))
 
     def test_what_is_no_row_of_integers(self):
         for wrong in (None, 1, 1.5, [1.5], ["1"], array("d", [1]), memoryview(array("f", [1])), memoryview(b"ab").cast("c"),
                       memoryview(array("Q", [1, 2])).cast("B").cast("Q", (1, 2)), [[1]]):
             with self.assertRaises((TypeError, NotImplementedError)):
-                Interner().intern_column(b"ab", wrong)
+                Interner().intern_column(b"ab", ends=wrong)
 
     def test_ends_of_numpy(self):
         try:
@@ -150,16 +150,16 @@ class Ends(unittest.TestCase):
         for kind in ("u1", "i2", "i4", "u4", "i8", "u8", ">i4", ">u8"):
             ends = numpy.array([1, 3, 4], dtype=kind)
             interner = Interner()
-            codes = interner.intern_column(numpy.frombuffer(b"abca", numpy.uint8), ends)
+            codes = interner.intern_column(numpy.frombuffer(b"abca", numpy.uint8), ends=ends)
             self.assertEqual(codes.tolist(), [0, 1, 0])
             self.assertEqual(interner.resolve_all(numpy.asarray(codes)), ["a", "bc", "a"])
             self.assertEqual(interner.resolve_all(ends[:1]), ["bc"])
         with self.assertRaises(TypeError):
-            Interner().intern_column(b"ab", numpy.array([1.0, 2.0]))
+            Interner().intern_column(b"ab", ends=numpy.array([1.0, 2.0]))
         with self.assertRaises(TypeError):
-            Interner().intern_column(b"ab", numpy.array([[1, 2]]))
+            Interner().intern_column(b"ab", ends=numpy.array([[1, 2]]))
         with self.assertRaises(ValueError):
-            Interner().intern_column(b"ab", numpy.array([1, -1], dtype="i4"))
+            Interner().intern_column(b"ab", ends=numpy.array([1, -1], dtype="i4"))
 
 
 class Codes(unittest.TestCase):
@@ -175,7 +175,7 @@ class Codes(unittest.TestCase):
             self.assertEqual(Interner().intern_all([], typecode="I"), array("I"))
             interner = Interner(backend=backend)
             for options in ({}, {"typecode": "I"}, {"typecode": "Q"}):
-                codes = interner.intern_column(b"aba", [1, 2, 3], **options)
+                codes = interner.intern_column(b"aba", ends=[1, 2, 3], **options)
                 self.assertEqual((codes, codes.typecode), (interner.intern_all(["a", "b", "a"], **options), options.get("typecode", "I")))
 
     def test_resolves_columns(self):
@@ -245,7 +245,7 @@ class Closing(unittest.TestCase):
         interner.close()
         calls = [
             lambda: interner.intern("a"), lambda: interner.intern_all(["a"]), lambda: interner.intern_all([]),
-            lambda: interner.intern_column(b"a", [1]), lambda: interner.get("a"), lambda: interner.get("\ud800"),
+            lambda: interner.intern_column(b"a", ends=[1]), lambda: interner.get("a"), lambda: interner.get("\ud800"),
             lambda: interner.resolve(0), lambda: interner.resolve(-1), lambda: interner[0], lambda: interner.resolve_all([0]),
             lambda: list(interner), lambda: list(reversed(interner)), lambda: interner.entries(), lambda: interner.items(),
             lambda: interner.truncate(0), lambda: interner.shrink(), lambda: interner.to_json(), lambda: len(interner),

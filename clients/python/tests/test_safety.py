@@ -13,6 +13,7 @@ import time
 import unittest
 from array import array
 from contextlib import contextmanager
+from itertools import accumulate
 
 from string_interner import Column, Interner
 
@@ -159,7 +160,7 @@ class LyingArguments(unittest.TestCase):
             interner = Interner()
             for end in (4, 100, 4000):
                 with self.assertRaises(ValueError):
-                    interner.intern_column(given, [3, end])
+                    interner.intern_column(given, ends=[3, end])
             self.assertEqual(list(interner), ["abc"])
 
     def test_ends_are_those_of_the_array(self):
@@ -174,7 +175,7 @@ class LyingArguments(unittest.TestCase):
                 def __iter__(self):
                     return iter([1])
             interner = Interner()
-            print(interner.intern_column(b"abbc", Lying("Q", [1, 3, 4])).tolist(), list(interner))
+            print(interner.intern_column(b"abbc", ends=Lying("Q", [1, 3, 4])).tolist(), list(interner))
             """), (0, "[0, 1, 2] ['a', 'bb', 'c']", ""))
 
     def test_anything_with_a_buffer_is_bytes(self):
@@ -182,11 +183,11 @@ class LyingArguments(unittest.TestCase):
             mapped[:] = b"aba"
             for given in (b"aba", LyingBytes(b"aba"), bytearray(b"aba"), memoryview(b"aba"), array("B", b"aba"), mapped):
                 interner = Interner()
-                self.assertEqual(interner.intern_column(given, [1, 2, 3]).tolist(), [0, 1, 0])
+                self.assertEqual(interner.intern_column(given, ends=[1, 2, 3]).tolist(), [0, 1, 0])
                 self.assertEqual(list(interner), ["a", "b"])
         for wrong in ("aba", None, 3, [97, 98, 97]):
             with self.assertRaises(TypeError):
-                Interner().intern_column(wrong, [1, 2, 3])
+                Interner().intern_column(wrong, ends=[1, 2, 3])
 
     def test_a_list_is_read_once(self):
         interner = Interner()
@@ -208,7 +209,7 @@ class LyingArguments(unittest.TestCase):
         ends += map(End, (1, 2, 3))
         interner = Interner()
         try:
-            interner.intern_column(joined, ends)
+            interner.intern_column(joined, ends=ends)
         except (IndexError, ValueError):
             pass
         self.assertLessEqual({*interner}, {"a", "b", "c"})
@@ -234,7 +235,7 @@ class Threads(unittest.TestCase):
             mover.start()
             interner, codes = Interner(), set()
             for _ in range(20):
-                codes.update(interner.intern_column(joined, ends))
+                codes.update(interner.intern_column(joined, ends=ends))
             ended.set()
             mover.join()
             print(codes <= {0, 1}, {*interner} <= {"ab", ""})
@@ -253,7 +254,7 @@ class Threads(unittest.TestCase):
         interner = Interner()
         with running(change):
             for _ in range(30):
-                interner.intern_column(joined, ends)
+                interner.intern_column(joined, ends=ends)
         self.assertLessEqual({*interner}, {"ab", "ab" * rows, ""})
 
     def test_texts_that_another_thread_changes(self):
@@ -281,6 +282,131 @@ class Threads(unittest.TestCase):
         for thread in threads:
             thread.join(HANGS)
         self.assertEqual(results, [True, True])
+
+
+def take_back(value):
+    """Empties the dict in which a call was passed a value by its name, as any code may. For `call(**words)` nobody else has it."""
+    for found in gc.get_objects():
+        if type(found) is dict and any(each is value for each in found.values()):
+            found.clear()
+
+
+class Words(unittest.TestCase):
+    """What is passed by its name stays until the call ends, whoever empties the dict that has it."""
+
+    def setUp(self):
+        ends = self.ends = []
+        ends_then = self.ends_then = []
+
+        class Kept(str):
+            def __del__(self):
+                ends.append("kept")
+
+        class KeptRows:
+            def __init__(self, rows):
+                self.rows = rows
+
+            def __iter__(self):
+                return iter(self.rows)
+
+            def __del__(self):
+                ends.append("kept")
+
+        class Taking(KeptRows):
+            def take(self):
+                take_back(self)
+                ends_then.extend(ends)
+
+            def __iter__(self):
+                self.take()
+                return iter(self.rows)
+
+            def __index__(self):
+                self.take()
+                return 0
+
+            def __del__(self):
+                pass
+
+        self.kinds = Kept, KeptRows, Taking
+
+    def test_calls_that_use_it_late(self):
+        text, kept, taking = self.kinds
+        for name, call in (
+            ("from_parts", lambda: Column.from_parts(**{"dictionary": taking(["a"]), "codes": kept([0])})),
+            ("from_buffers", lambda: Column.from_buffers(b"a", **{"ends": taking([1]), "codes": kept([0])})),
+            ("index", lambda: Column(["a"]).index(**{"value": text("a"), "start": taking([])})),
+            ("Interner", lambda: Interner(**{"texts": kept(["a"]), "capacity": taking([])})),
+            ("get_all", lambda: Interner().get_all(**{"texts": kept(["a"]), "missing": taking([])})),
+            ("intern_all", lambda: Interner().intern_all(**{"texts": kept(["a"]), "missing": taking([])})),
+        ):
+            with self.subTest(name):
+                call()
+                self.assertEqual((self.ends_then, self.ends), ([], ["kept"]))
+            self.ends.clear()
+
+    def test_an_array_of_arrow(self):
+        ends = []
+
+        class Array:
+            @property
+            def __arrow_c_array__(self):
+                take_back(self)
+                raise AttributeError
+
+            def __arrow_c_stream__(self):
+                self.is_read = True
+                return Column(["a"]).__arrow_c_stream__()
+
+            def __del__(self):
+                ends.append(self.is_read)
+
+        self.assertEqual(list(Column.from_arrow(**{"values": Array()})), ["a"])
+        self.assertEqual(ends, [True])
+
+
+class Parts(unittest.TestCase):
+    """Calls that make a column or an interner of much, which nobody else has yet, let other threads run after each part."""
+
+    @contextmanager
+    def watching(self):
+        """Has another thread note how much processor time this one has taken, each time that it took more."""
+        clock, seen, may_run = time.pthread_getcpuclockid(threading.get_ident()), [0.0], [True]
+
+        def watch():
+            while may_run:
+                if (now := time.clock_gettime(clock)) > seen[-1] + 0.001:
+                    seen.append(now)
+
+        thread = threading.Thread(target=watch)
+        thread.start()
+        try:
+            yield seen
+        finally:
+            may_run.clear()
+            thread.join()
+
+    def count_stops(self, call):
+        """How often another thread ran in the middle of a call."""
+        with self.watching() as seen:
+            start = time.thread_time()
+            call()
+            end = time.thread_time()
+        margin = (end - start) / 8
+        return sum(start + margin < each < end - margin for each in seen)
+
+    def test_other_threads_run_in_between(self):
+        count = 1_000_000
+        texts = [f"text {number}" for number in range(count)]
+        raws = [text.encode() for text in texts]
+        joined, offsets = b"".join(raws), array("q", accumulate(map(len, raws), initial=0))
+        codes = array("i", range(count))
+        for name, call in (("from_buffers", lambda: Column.from_buffers(joined, offsets=offsets, codes=codes)),
+                           ("from_parts", lambda: Column.from_parts(texts, codes))):
+            with self.subTest(name):
+                self.assertGreaterEqual(max(self.count_stops(call) for _ in range(3)), 3)
+        # To another thread this is one step.
+        self.assertLessEqual(min(self.count_stops(lambda: Interner().intern_all(texts)) for _ in range(3)), 1)
 
 
 class Forks(unittest.TestCase):
@@ -444,7 +570,7 @@ class CallsBetweenSteps(unittest.TestCase):
 
         with collecting(grow):
             for _ in range(300):
-                self.assertEqual({*interner.intern_column(joined, ends)}, {0})
+                self.assertEqual({*interner.intern_column(joined, ends=ends)}, {0})
         self.assertEqual((list(interner), failed), (["ab"], []))
 
     def test_a_list_that_changes_is_read_once(self):
@@ -538,7 +664,7 @@ class Finalizers(unittest.TestCase):
             joined, ends = b"".join(b"%07d" % row for row in range(rows)), array("Q", range(7, 7 * rows + 1, 7))
             def call(interner):
                 has_begun.set()
-                found.append((interner.intern_column(joined, ends)[-1], len(interner)))
+                found.append((interner.intern_column(joined, ends=ends)[-1], len(interner)))
             def use(interner):
                 threads.append(threading.Thread(target=call, args=(interner,)))
                 threads[0].start()

@@ -66,13 +66,15 @@ class Selections(unittest.TestCase):
         self.assertEqual(column[column.codes[:2]], Column(["b", "a"]))
 
     def test_a_number_without_a_row(self):
-        for key, said in (([0, 5], 5), ([-6], -6), (array("q", [2**40]), 2**40), (array("Q", [2**64 - 1]), 2**64 - 1), ([2**70], 2**70)):
+        for key, said in (([0, 5], 5), ([-6], -6), (array("q", [2**40]), 2**40), (array("Q", [2**64 - 1]), 2**64 - 1),
+                          ([2**70], 2**70),
+                          (array("q", [0] * 99 + [2**62]), 2**62), (array("q", [0] * 99 + [-(2**63)]), -(2**63))):
             with self.assertRaisesRegex(IndexError, f"^there is no row {said}$"):
                 Column(ROWS)[key]
 
     def test_one_row_is_no_column(self):
         column = Column(ROWS)
-        self.assertEqual([column[key] for key in (0, -1, True, Flag(2), 2**2)], ["b", "c", "a", None, "c"])
+        self.assertEqual([column[key] for key in (0, -1, Flag(2), 2**2)], ["b", "c", None, "c"])
         if numpy:
             self.assertEqual([column[key] for key in (numpy.int64(0), numpy.array(-1), numpy.uint8(2))], ["b", "c", None])
 
@@ -93,9 +95,16 @@ class Selections(unittest.TestCase):
     def test_a_mask_is_not_taken_for_numbers(self):
         for make in (*(lambda mask=mask: mask for mask in masks()), lambda: iter(MASK), lambda: tuple(MASK), lambda: [1, True],
                      lambda: memoryview(b"").cast("?")):
-            for call in (Column(ROWS).take, lambda it: Column.from_parts(["no", "yes"], it), lambda it: Column.from_buffers(b"noyes", [2, 5], it)):
+            for call in (Column(ROWS).take, lambda it: Column.from_parts(["no", "yes"], it), lambda it: Column.from_buffers(b"noyes", ends=[2, 5], codes=it)):
                 with self.assertRaisesRegex(TypeError, r"^booleans, where numbers belong: numpy\.flatnonzero\(mask\) "):
                     call(make())
+
+    def test_a_comparison_is_no_mask(self):
+        column = Column(ROWS)
+        for key in (column == "a", column != "a", column == ROWS, column == column[:], True):
+            with self.assertRaisesRegex(TypeError, r"^rows are chosen by .* not by bool: column\.isin\(\[value\]\) makes a mask$"):
+                column[key]
+        self.assertEqual(list(column[column.isin(["b"])]), ["b", "b"])
 
     @unittest.skipUnless(numpy, "no numpy")
     def test_one_boolean_of_numpy_is_no_number_of_a_row(self):
@@ -105,7 +114,7 @@ class Selections(unittest.TestCase):
 
     def test_a_mask_of_an_array_is_nowhere_taken_for_numbers(self):
         for mask in (memoryview(bytes(MASK)).cast("?"), *(() if numpy is None else (numpy.array(MASK), [numpy.bool_(True)]))):
-            for call in (Interner(["no", "yes"]).resolve_all, lambda it: Interner().intern_column(b"a", it),
+            for call in (Interner(["no", "yes"]).resolve_all, lambda it: Interner().intern_column(b"a", ends=it),
                          lambda it: Interner().intern_column(b"a", offsets=it)):
                 with self.assertRaisesRegex(TypeError, r"^booleans, where numbers belong: numpy\.flatnonzero\(mask\) "):
                     call(mask)

@@ -7,5 +7,6 @@ fn main() {
     let horse = names.get_or_intern("Horse");
     let again = names.get_or_intern("Tiger");
     assert!(again == tiger && horse != tiger);
-    println!("{} names, and one is {}", names.len(), names.resolve(horse).unwrap());
+    let name = names.resolve(horse).unwrap();
+    println!("{} names, and one is {name}", names.len());
 }

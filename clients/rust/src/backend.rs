@@ -15,13 +15,15 @@ mod iter;
 use crate::error::{expect, InternError};
 use crate::interner::StringInterner;
 use crate::proved::backend as proved;
-use crate::proved::backend::Backend as _;
+use crate::proved::backend::{Backend as _, Store as _};
+use crate::proved::dedup::TextIndex;
 use crate::rt::alloc::{AllocError, Global};
 use crate::sealed::Ours;
 use crate::symbol::{DefaultSymbol, Sym, Symbol};
 use crate::unchecked::{find_joined, joined_at};
 use alloc::vec::Vec;
 use core::fmt;
+use core::hash::BuildHasher;
 use core::marker::PhantomData;
 
 /// The backend of an interner whose type names none.
@@ -34,6 +36,65 @@ pub type DefaultBackend = StringBackend<DefaultSymbol>;
 /// Whatever an implementation returns, an interner over it stays sound, except for what `resolve_unchecked` is trusted with.
 ///
 /// The backends of this crate panic if they fail to allocate, and stay as they were.
+///
+/// # A backend of your own
+///
+/// This one stores each text in a block of its own. An iterator whose type has a name is faster than one in a box.
+///
+/// ```
+/// use string_interner::{backend::Backend, symbol::SymbolU16, InternError, StringInterner, Symbol};
+///
+/// #[derive(Default)]
+/// struct Boxes(Vec<Box<str>>);
+///
+/// impl Backend for Boxes {
+///     type Symbol = SymbolU16;
+///     type Iter<'a> = Box<dyn Iterator<Item = (SymbolU16, &'a str)> + 'a>;
+///
+///     fn with_capacity(cap: usize) -> Self {
+///         Boxes(Vec::with_capacity(cap))
+///     }
+///
+///     fn intern(&mut self, string: &str) -> SymbolU16 {
+///         self.try_intern(string).unwrap()
+///     }
+///
+///     // With these two calls an interner returns an error when no symbol is left. Without them it panics, as `intern` does.
+///     fn try_intern(&mut self, string: &str) -> Result<SymbolU16, InternError> {
+///         let symbol = SymbolU16::try_from_usize(self.0.len()).ok_or(InternError::NoSymbol)?;
+///         self.0.push(string.into());
+///         Ok(symbol)
+///     }
+///
+///     fn try_intern_static(&mut self, string: &'static str) -> Result<SymbolU16, InternError> {
+///         self.try_intern(string)
+///     }
+///
+///     fn shrink_to_fit(&mut self) {
+///         self.0.shrink_to_fit();
+///     }
+///
+///     fn resolve(&self, symbol: SymbolU16) -> Option<&str> {
+///         Some(self.0.get(symbol.to_usize())?)
+///     }
+///
+///     unsafe fn resolve_unchecked(&self, symbol: SymbolU16) -> &str {
+///         &self.0[symbol.to_usize()]
+///     }
+///
+///     fn iter(&self) -> Self::Iter<'_> {
+///         let symbols = (0..).map_while(SymbolU16::try_from_usize);
+///         Box::new(symbols.zip(self.0.iter().map(|text| &**text)))
+///     }
+/// }
+///
+/// let mut names = StringInterner::<Boxes>::new();
+/// let tiger = names.get_or_intern("Tiger");
+/// assert!(names.iter().eq([(tiger, "Tiger")]));
+///
+/// names.extend((1..65_535).map(|number| number.to_string()));
+/// assert_eq!(names.try_get_or_intern("Horse"), Err(InternError::NoSymbol));
+/// ```
 pub trait Backend: Default {
     /// The symbol that stands for a text.
     type Symbol: Symbol;
@@ -66,6 +127,31 @@ pub trait Backend: Default {
         self.intern(string)
     }
 
+    /// The same as [`intern`](Self::intern), but returns an error instead of a panic. Interners call this one.
+    ///
+    /// What is provided calls `intern`, and panics if that does. A backend that may be full, or that stores its texts in another
+    /// backend, has a `try_intern` and a `try_intern_static` of its own.
+    ///
+    /// # Errors
+    ///
+    /// Returns an error if no symbol is left for the text, or an allocation fails. The texts are then as they were.
+    #[inline(always)]
+    #[track_caller]
+    fn try_intern(&mut self, string: &str) -> Result<Self::Symbol, InternError> {
+        Ok(self.intern(string))
+    }
+
+    /// The same for a static text: what is provided calls [`intern_static`](Self::intern_static).
+    ///
+    /// # Errors
+    ///
+    /// As [`try_intern`](Self::try_intern).
+    #[inline(always)]
+    #[track_caller]
+    fn try_intern_static(&mut self, string: &'static str) -> Result<Self::Symbol, InternError> {
+        Ok(self.intern_static(string))
+    }
+
     /// Releases memory that no text needs, if it can.
     fn shrink_to_fit(&mut self);
 
@@ -83,24 +169,6 @@ pub trait Backend: Default {
     /// Iterates over all texts with their symbols, in the order in which they came.
     fn iter(&self) -> Self::Iter<'_>;
 
-    /// Stores a text, or says why it can't. A backend of a program's own panics instead.
-    #[doc(hidden)]
-    #[inline(always)]
-    fn __try_intern(&mut self, string: &str, _: Ours) -> Result<Self::Symbol, InternError> {
-        Ok(self.intern(string))
-    }
-
-    /// The same for a static text.
-    #[doc(hidden)]
-    #[inline(always)]
-    fn __try_intern_static(
-        &mut self,
-        string: &'static str,
-        _: Ours,
-    ) -> Result<Self::Symbol, InternError> {
-        Ok(self.intern_static(string))
-    }
-
     /// Reports whether no symbol is left, if that is known before the next text is stored.
     #[doc(hidden)]
     #[inline(always)]
@@ -108,35 +176,30 @@ pub trait Backend: Default {
         false
     }
 
-    /// Makes room for about so many texts at once if there is none, and if memory for them is granted.
-    #[doc(hidden)]
-    fn __make_room(&mut self, _texts: usize, _: Ours) {}
-
-    /// Reports whether `__truncate` keeps the first texts. A backend of a program's own has no such call.
+    /// Makes room for about so many texts in an interner that never had room, if memory for them is granted. Does nothing over a
+    /// backend of a program's own.
     #[doc(hidden)]
     #[inline(always)]
-    fn __truncates(_: Ours) -> bool {
-        false
-    }
+    fn __make_room<H: BuildHasher>(_: &mut StringInterner<Self, H>, _texts: usize, _: Ours) {}
 
-    /// Keeps the first `len` texts.
+    /// Keeps the first `len` texts of an interner, which has more. A backend of a program's own is made anew of them.
     #[doc(hidden)]
-    fn __truncate(&mut self, _len: usize, _: Ours) {}
+    #[track_caller]
+    fn __truncate<H: BuildHasher>(interner: &mut StringInterner<Self, H>, len: usize, _: Ours) {
+        let backend = As(Self::with_capacity(len));
+        let index = expect(TextIndex::with_capacity(Global, len));
+        let As(old) = interner.proved.restart(backend, index);
+        for (_, text) in old.iter().take(len) {
+            interner.get_or_intern(text);
+        }
+    }
 }
 
 /// A backend as the proved code takes it. It derives nothing, so that no impl of a program's own runs there but these calls.
 pub(crate) struct As<B>(pub B);
 
-impl<B: Backend> proved::Backend for As<B> {
+impl<B: Backend> proved::Store for As<B> {
     type Symbol = Sym<B::Symbol>;
-
-    fn new(_alloc: Global) -> Self {
-        As(B::default())
-    }
-
-    fn with_capacity(_alloc: Global, capacity: usize) -> Result<Self, AllocError> {
-        Ok(As(B::with_capacity(capacity)))
-    }
 
     #[inline(always)]
     fn is_full(&self) -> bool {
@@ -145,12 +208,12 @@ impl<B: Backend> proved::Backend for As<B> {
 
     #[inline(always)]
     fn intern(&mut self, text: &str) -> Result<Self::Symbol, proved::InternError> {
-        Ok(Sym(self.0.__try_intern(text, Ours(()))?))
+        Ok(Sym(self.0.try_intern(text)?))
     }
 
     #[inline(always)]
     fn intern_static(&mut self, text: &'static str) -> Result<Self::Symbol, proved::InternError> {
-        Ok(Sym(self.0.__try_intern_static(text, Ours(()))?))
+        Ok(Sym(self.0.try_intern_static(text)?))
     }
 
     #[inline(always)]
@@ -160,8 +223,11 @@ impl<B: Backend> proved::Backend for As<B> {
 
     #[inline(always)]
     fn resolve_unchecked(&self, symbol: Self::Symbol) -> &str {
-        // SAFETY: the index alone calls this, with a symbol that it was given, and `StringInterner` gives it only what this
-        // backend returned. It copies symbols by their bits. A clone of an interner has a clone of the backend.
+        // SAFETY: the index alone calls this, with a symbol that it was given, and the proved interner gives it only what `intern`
+        // of this backend returned, or `entry_at` of one of this crate, in which a text begins at each place that it is asked for.
+        // It copies symbols by their bits. A clone of an interner has a clone of the backend. Before `truncate` drops a text, its
+        // symbol is out of the index, or else all are before the next is looked at. The crate does not call what would hand on any
+        // other symbol: the proved `resolve_unchecked`, `get_by_guess`, `intern_slice`, `intern_all` and `touch`.
         unsafe { self.0.resolve_unchecked(symbol.0) }
     }
 
@@ -169,22 +235,11 @@ impl<B: Backend> proved::Backend for As<B> {
     fn shrink_to_fit(&mut self) {
         self.0.shrink_to_fit();
     }
+}
 
-    // `Backend` has no such calls, and what this crate calls of the index and of `intern_coded` asks for none.
-    fn count(&self) -> usize {
-        unreachable!()
-    }
-
-    fn next_symbol(&self) -> Option<Self::Symbol> {
-        unreachable!()
-    }
-
-    fn entry_at(&self, _at: usize) -> (Self::Symbol, &str, usize) {
-        unreachable!()
-    }
-
-    fn truncate(&mut self, _len: usize) {
-        unreachable!()
+impl<B: Backend + Clone> proved::CopyBackend for As<B> {
+    fn try_copy(&self) -> Result<Self, AllocError> {
+        Ok(As(self.0.clone()))
     }
 }
 
@@ -200,7 +255,7 @@ impl<B: Backend, H> StringInterner<B, H> {
     #[inline]
     pub unsafe fn resolve_unchecked(&self, symbol: B::Symbol) -> &str {
         // SAFETY: the caller promises the same.
-        unsafe { self.backend.0.resolve_unchecked(symbol) }
+        unsafe { self.backend().resolve_unchecked(symbol) }
     }
 }
 
@@ -243,12 +298,26 @@ macro_rules! backend {
 
             #[inline]
             fn intern(&mut self, string: &str) -> S {
-                expect(self.__try_intern(string, Ours(())))
+                expect(self.try_intern(string))
             }
 
             #[inline]
             fn intern_static(&mut self, string: &'static str) -> S {
-                expect(self.__try_intern_static(string, Ours(())))
+                expect(self.try_intern_static(string))
+            }
+
+            #[inline(always)]
+            fn try_intern(&mut self, string: &str) -> Result<S, InternError> {
+                let symbol = self.next_symbol().ok_or(InternError::NoSymbol)?;
+                self.texts.intern(string)?;
+                Ok(symbol)
+            }
+
+            #[inline(always)]
+            fn try_intern_static(&mut self, string: &'static str) -> Result<S, InternError> {
+                let symbol = self.next_symbol().ok_or(InternError::NoSymbol)?;
+                self.texts.intern_static(string)?;
+                Ok(symbol)
             }
 
             fn shrink_to_fit(&mut self) {
@@ -277,39 +346,63 @@ macro_rules! backend {
             }
 
             #[inline(always)]
-            fn __try_intern(&mut self, string: &str, _: Ours) -> Result<S, InternError> {
-                let symbol = self.next_symbol().ok_or(InternError::NoSymbol)?;
-                self.texts.intern(string)?;
-                Ok(symbol)
-            }
-
-            #[inline(always)]
-            fn __try_intern_static(&mut self, string: &'static str, _: Ours) -> Result<S, InternError> {
-                let symbol = self.next_symbol().ok_or(InternError::NoSymbol)?;
-                self.texts.intern_static(string)?;
-                Ok(symbol)
-            }
-
-            #[inline(always)]
             fn __is_full(&self, _: Ours) -> bool {
                 self.next_symbol().is_none()
             }
 
-            fn __make_room(&mut self, texts: usize, _: Ours) {
-                if self.texts.count() == 0 {
-                    if let Ok(empty) = proved::$name::with_capacity(Global, texts) {
-                        self.texts = empty;
-                    }
+            fn __make_room<H: BuildHasher>(
+                interner: &mut StringInterner<Self, H>,
+                texts: usize,
+                _: Ours,
+            ) {
+                // If there is no memory for all at once, there may be some for one text after another.
+                let Ok(index) = TextIndex::with_capacity(Global, texts) else {
+                    return;
+                };
+                if let Ok(empty) = proved::$name::with_capacity(Global, texts) {
+                    interner.proved.restart(As(Self::of(empty)), index);
                 }
             }
 
-            #[inline(always)]
-            fn __truncates(_: Ours) -> bool {
-                true
+            fn __truncate<H: BuildHasher>(
+                interner: &mut StringInterner<Self, H>,
+                len: usize,
+                _: Ours,
+            ) {
+                interner.proved.truncate(len);
+            }
+        }
+
+        impl<S: Symbol> proved::Backend for As<$name<S>> {
+            fn new(_alloc: Global) -> Self {
+                As($name::default())
             }
 
-            fn __truncate(&mut self, len: usize, _: Ours) {
-                self.texts.truncate(len);
+            fn with_capacity(alloc: Global, capacity: usize) -> Result<Self, AllocError> {
+                Ok(As($name::of(proved::$name::with_capacity(alloc, capacity)?)))
+            }
+
+            #[inline(always)]
+            fn count(&self) -> usize {
+                self.0.texts.count()
+            }
+
+            fn next_symbol(&self) -> Option<Sym<S>> {
+                self.0.next_symbol().map(Sym)
+            }
+
+            #[inline(always)]
+            fn entry_at(&self, at: usize) -> (Sym<S>, &str, usize) {
+                let (number, text, next) = self.0.texts.entry_at(at);
+                (Sym(iter::symbol_of(number)), text, next)
+            }
+
+            fn place_of(&self, index: usize) -> usize {
+                self.0.texts.place_of(index)
+            }
+
+            fn truncate(&mut self, len: usize) {
+                self.0.texts.truncate(len);
             }
         }
 
@@ -361,11 +454,11 @@ backend! {
 }
 backend! {
     /// Texts in blocks that never move. Symbols number 0, 1, 2, ..
-    BucketBackend, BucketIter, proved::Backend::resolve, proved::Backend::resolve_unchecked, true
+    BucketBackend, BucketIter, proved::Store::resolve, proved::Store::resolve_unchecked, true
 }
 backend! {
     /// Texts in one buffer of bytes. The number of a symbol is where its entry begins.
     ///
     /// A symbol of another backend or interner may read some part of the buffer.
-    BufferBackend, BufferIter, proved::Backend::resolve, proved::Backend::resolve_unchecked, false
+    BufferBackend, BufferIter, proved::Store::resolve, proved::Store::resolve_unchecked, false
 }

@@ -18,13 +18,12 @@
 //! Look-ups work under every builder, even one whose hashes are all equal. What an interner returns does not depend on its hasher,
 //! as long as that gives equal texts equal hashes.
 
-use crate::proved::hash::{SeededHash, SeededState, TextHasher};
+use crate::proved::hash::{CopyHasher, SeededHash, SeededState, TextHasher};
 use crate::rt::hash::{keyed_hasher, DefaultHasher, FoldHasher};
 use core::fmt;
 use core::hash::{BuildHasher, Hash, Hasher};
 
 /// A builder of hashers as the proved code takes it.
-#[derive(Clone)]
 pub(crate) struct By<H>(pub H);
 
 impl<H: BuildHasher> TextHasher for By<H> {
@@ -38,6 +37,12 @@ impl<H: BuildHasher> TextHasher for By<H> {
         text.hash(&mut hasher);
         let code = hasher.finish();
         code ^ (code >> 32)
+    }
+}
+
+impl<H: Clone> CopyHasher for By<H> {
+    fn same(&self) -> Self {
+        By(self.0.clone())
     }
 }
 

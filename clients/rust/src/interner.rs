@@ -1,33 +1,23 @@
-use crate::backend::{As, Backend, DefaultBackend};
+mod many;
+mod traits;
+
+use crate::backend::{As, Backend};
 use crate::error::{expect, InternError};
 use crate::hasher::{By, DefaultHashBuilder};
-use crate::json::{self, JsonError};
-use crate::proved::dedup::{CopyIndex as _, Entry, TaggedIndex, TextIndex};
-use crate::proved::hash::TextHasher as _;
-use crate::proved::interner::new_text::intern_coded;
-use crate::proved::interner::given::Given;
-use crate::rt::alloc::{AllocError, Global};
-use crate::rt::serde_json::Value;
-use crate::rt::string::String as Copied;
+use crate::keywords::{check_keyword, Keywords};
+use crate::proved::dedup::{TaggedIndex, TextIndex};
+use crate::proved::interner as proved;
+use crate::rt::alloc::Global;
 use crate::sealed::Ours;
-use crate::symbol::{Sym, Symbol as _};
-use alloc::string::String;
-use alloc::vec::Vec;
-use core::fmt;
+use crate::symbol::Sym;
 use core::hash::BuildHasher;
-use core::ops::RangeBounds;
+use core::ops::{Bound, RangeBounds};
+
+#[cfg(feature = "std")]
+pub(crate) use many::reserve;
 
 /// The index of an interner's texts.
 type Index<B> = TaggedIndex<Sym<<B as Backend>::Symbol>>;
-
-/// For more texts than these `extend` and `intern_all` make no room because of what an iterator says of itself.
-const MOST_RESERVED: usize = 1 << 12;
-
-/// Makes room for more symbols.
-#[inline(always)]
-fn reserve<S>(symbols: &mut Vec<S>, more: usize) -> Result<(), InternError> {
-    symbols.try_reserve(more).map_err(|_| InternError::Memory)
-}
 
 /// A list of distinct texts, each with a symbol.
 ///
@@ -37,9 +27,7 @@ pub struct StringInterner<B, H = DefaultHashBuilder>
 where
     B: Backend,
 {
-    pub(crate) backend: As<B>,
-    hasher: By<H>,
-    index: Index<B>,
+    pub(crate) proved: proved::StringInterner<As<B>, By<H>, Index<B>>,
 }
 
 impl<B: Backend, H: BuildHasher + Default> StringInterner<B, H> {
@@ -57,22 +45,6 @@ impl<B: Backend, H: BuildHasher + Default> StringInterner<B, H> {
     pub fn with_capacity(cap: usize) -> Self {
         Self::with_capacity_and_hasher(cap, H::default())
     }
-
-    /// Returns an interner of the texts of a JSON array of strings. Repeats add no text.
-    ///
-    /// # Errors
-    ///
-    /// Returns an error if the text is not such an array, no symbol is left for a text, or an allocation fails.
-    pub fn from_json(json: &str) -> Result<Self, JsonError> {
-        let value = Value::from_str(Global, json)?;
-        let elements = value.as_array().ok_or(JsonError::NotAList)?;
-        let mut interner = Self::new();
-        for element in elements.iter() {
-            let text = element.as_str().ok_or(JsonError::NotAText)?;
-            interner.try_get_or_intern(text)?;
-        }
-        Ok(interner)
-    }
 }
 
 impl<B: Backend, H: BuildHasher> StringInterner<B, H> {
@@ -81,46 +53,36 @@ impl<B: Backend, H: BuildHasher> StringInterner<B, H> {
     #[must_use]
     #[track_caller]
     pub fn with_hasher(hash_builder: H) -> Self {
-        StringInterner {
-            backend: As(B::default()),
-            hasher: By(hash_builder),
-            index: TextIndex::new(Global),
-        }
+        Self::over(B::default(), hash_builder, TextIndex::new(Global))
     }
 
     /// The same, with spare capacity for about `cap` texts.
     #[must_use]
     #[track_caller]
     pub fn with_capacity_and_hasher(cap: usize, hash_builder: H) -> Self {
+        let backend = B::with_capacity(cap);
+        let index = expect(TextIndex::with_capacity(Global, cap));
+        Self::over(backend, hash_builder, index)
+    }
+
+    /// Returns an interner over a backend and an index without texts.
+    #[inline(always)]
+    fn over(backend: B, hash_builder: H, index: Index<B>) -> Self {
         StringInterner {
-            backend: As(B::with_capacity(cap)),
-            hasher: By(hash_builder),
-            index: expect(TextIndex::with_capacity(Global, cap)),
+            proved: proved::StringInterner::from_parts(As(backend), By(hash_builder), index),
         }
     }
 
     /// Returns the symbol of a text, if it is known.
     #[inline]
     pub fn get<T: AsRef<str>>(&self, string: T) -> Option<B::Symbol> {
-        self.find(string.as_ref())
+        self.proved.get(string.as_ref()).map(|Sym(symbol)| symbol)
     }
 
     /// Reports whether a text is known.
     #[inline]
     pub fn contains<T: AsRef<str>>(&self, string: T) -> bool {
-        self.find(string.as_ref()).is_some()
-    }
-
-    #[inline(always)]
-    fn find(&self, text: &str) -> Option<B::Symbol> {
-        self.find_coded(self.hasher.hash_text(text), text)
-    }
-
-    /// Looks for a text with this code.
-    #[inline(always)]
-    fn find_coded(&self, code: u64, text: &str) -> Option<B::Symbol> {
-        let Sym(symbol) = TextIndex::find(&self.index, code, &self.backend, text)?;
-        Some(symbol)
+        self.proved.contains(string.as_ref())
     }
 
     /// Returns the symbol of a text. Appends a text that is not known.
@@ -131,7 +93,7 @@ impl<B: Backend, H: BuildHasher> StringInterner<B, H> {
     #[inline]
     #[track_caller]
     pub fn get_or_intern<T: AsRef<str>>(&mut self, string: T) -> B::Symbol {
-        expect(self.intern(Given::Copied(string.as_ref())))
+        expect(self.proved.get_or_intern(string.as_ref())).0
     }
 
     /// The same for a static text, which [`BucketBackend`](crate::backend::BucketBackend) does not copy.
@@ -142,11 +104,11 @@ impl<B: Backend, H: BuildHasher> StringInterner<B, H> {
     #[inline]
     #[track_caller]
     pub fn get_or_intern_static(&mut self, string: &'static str) -> B::Symbol {
-        expect(self.intern(Given::Static(string)))
+        expect(self.proved.get_or_intern_static(string)).0
     }
 
     /// The same as [`get_or_intern`](Self::get_or_intern), but returns an error instead of a panic. A backend of a program's own
-    /// may panic all the same.
+    /// panics all the same, unless it has a [`try_intern`](Backend::try_intern) of its own.
     ///
     /// # Errors
     ///
@@ -156,7 +118,7 @@ impl<B: Backend, H: BuildHasher> StringInterner<B, H> {
         &mut self,
         string: T,
     ) -> Result<B::Symbol, InternError> {
-        self.intern(Given::Copied(string.as_ref()))
+        Ok(self.proved.get_or_intern(string.as_ref())?.0)
     }
 
     /// The same as [`get_or_intern_static`](Self::get_or_intern_static), but returns an error instead of a panic.
@@ -169,27 +131,7 @@ impl<B: Backend, H: BuildHasher> StringInterner<B, H> {
         &mut self,
         string: &'static str,
     ) -> Result<B::Symbol, InternError> {
-        self.intern(Given::Static(string))
-    }
-
-    #[inline(always)]
-    fn intern(&mut self, given: Given<'_>) -> Result<B::Symbol, InternError> {
-        let code = self.hasher.hash_text(given.text());
-        self.intern_with(code, given)
-    }
-
-    /// Interns a text with this code.
-    #[inline(always)]
-    fn intern_with(&mut self, code: u64, given: Given<'_>) -> Result<B::Symbol, InternError> {
-        let Sym(symbol) = intern_coded(
-            &mut self.backend,
-            &self.hasher,
-            &mut self.index,
-            given,
-            code,
-            None,
-        )?;
-        Ok(symbol)
+        Ok(self.proved.get_or_intern_static(string)?.0)
     }
 
     /// Interns a part of a text, which you then need not copy first. Returns `None` if no text has this symbol, or `range` is not a
@@ -211,124 +153,93 @@ impl<B: Backend, H: BuildHasher> StringInterner<B, H> {
         symbol: B::Symbol,
         range: impl RangeBounds<usize>,
     ) -> Option<B::Symbol> {
-        let text = self.resolve(symbol)?;
-        let part = text.get((range.start_bound().cloned(), range.end_bound().cloned()))?;
-        let code = self.hasher.hash_text(part);
-        if let Some(known) = self.find_coded(code, part) {
-            return Some(known);
-        }
-        let copy = expect(Copied::from_str(Global, part));
-        Some(expect(self.intern_with(code, Given::Copied(copy.as_str()))))
+        let start = match range.start_bound() {
+            Bound::Included(&start) => start,
+            Bound::Excluded(&before) => before.checked_add(1)?,
+            Bound::Unbounded => 0,
+        };
+        let end = match range.end_bound() {
+            Bound::Included(&last) => Some(last.checked_add(1)?),
+            Bound::Excluded(&end) => Some(end),
+            Bound::Unbounded => None,
+        };
+        let interned = self
+            .proved
+            .get_or_intern_part(Global, Sym(symbol), start, end);
+        expect(interned).map(|Sym(part)| part)
     }
 
-    /// Interns many texts, and returns the symbol of each.
+    /// Interns [keywords](crate::keywords), so that each has the symbol of its constant. Nothing changes if all have it.
     ///
     /// # Panics
     ///
-    /// If no symbol is left for a new text. The texts before it stay.
+    /// If a keyword gets another symbol, because the interner had other texts, or because the symbols of its backend do not number
+    /// 0, 1, 2, .., as those of a [`BufferBackend`](crate::backend::BufferBackend); or as [`get_or_intern`](Self::get_or_intern).
+    /// What was interned stays.
     #[track_caller]
-    pub fn intern_all<I>(&mut self, strings: I) -> Vec<B::Symbol>
-    where
-        I: IntoIterator,
-        I::Item: AsRef<str>,
-    {
-        let strings = strings.into_iter();
-        let mut symbols = Vec::new();
-        expect(reserve(&mut symbols, strings.size_hint().0));
-        self.make_first_room(strings.size_hint().0);
-        // A closure would hide from the panic who called.
-        for string in strings {
-            expect(reserve(&mut symbols, 1));
-            symbols.push(self.get_or_intern(string));
-        }
-        symbols
-    }
-
-    /// Makes room for about so many texts at once, if no room was ever made. Then nothing grows later.
-    fn make_first_room(&mut self, texts: usize) {
-        let texts = texts.min(MOST_RESERVED);
-        if self.index.slots() > 0 || texts == 0 {
-            return;
-        }
-        // If there is no memory for all at once, there may be some for one text after another.
-        if let Ok(index) = TextIndex::with_capacity(Global, texts) {
-            self.index = index;
-            self.backend.0.__make_room(texts, Ours(()));
+    pub fn intern_keywords(&mut self, keywords: Keywords<B::Symbol>) {
+        for (number, text) in keywords.texts().iter().enumerate() {
+            let symbol = self.get_or_intern_static(text);
+            check_keyword(number, text, symbol);
         }
     }
 
-    /// Keeps the first `len` texts with their symbols, and drops the others. Hashes each text that stays, and allocates an index
-    /// for them.
+    /// Keeps the first `len` texts with their symbols, and drops the others. Over a backend of this crate it allocates nothing, and
+    /// hashes the texts that go, if at least eight times as many stay, and otherwise those that stay.
     ///
     /// A backend of a program's own is made anew of the texts that stay, which then have the symbols that it gives them. A
     /// [`BucketBackend`](crate::backend::BucketBackend) keeps the bytes of dropped texts until it is cloned.
     ///
     /// A symbol of a dropped text is one of another interner from now on: see [`resolve_unchecked`](Self::resolve_unchecked).
+    ///
+    /// # Panics
+    ///
+    /// If a hasher, symbol type or backend of a program's own does. Over a backend of this crate either no text is dropped then or
+    /// those above are, but some texts are not found and may not be counted by [`len`](Self::len), and are appended once more if they
+    /// are interned. Over another backend the interner may have fewer of its texts, from the first on.
     #[track_caller]
     pub fn truncate(&mut self, len: usize) {
-        if len >= self.len() {
-            return;
+        if len < self.len() {
+            B::__truncate(self, len, Ours(()));
         }
-        if B::__truncates(Ours(())) {
-            self.index = expect(self.index_of(len));
-            self.backend.0.__truncate(len, Ours(()));
-        } else {
-            let (backend, index) = expect(self.first_texts(len));
-            // In this order: the old backend may panic as it is dropped, and then the index is of the new one.
-            self.index = index;
-            self.backend = backend;
-        }
-    }
-
-    /// Returns a backend of the first `len` texts, with an index of them.
-    fn first_texts(&self, len: usize) -> Result<(As<B>, Index<B>), InternError> {
-        let mut backend = As(B::with_capacity(len));
-        let mut index: Index<B> = TextIndex::with_capacity(Global, len)?;
-        for (_, text) in self.backend.0.iter().take(len) {
-            let code = self.hasher.hash_text(text);
-            intern_coded(
-                &mut backend,
-                &self.hasher,
-                &mut index,
-                Given::Copied(text),
-                code,
-                None,
-            )?;
-        }
-        Ok((backend, index))
-    }
-
-    /// Returns an index of the first `len` texts of a backend of this crate.
-    fn index_of(&self, len: usize) -> Result<Index<B>, AllocError> {
-        let mut index: Index<B> = TextIndex::with_capacity(Global, len)?;
-        for (symbol, text) in self.backend.0.iter().take(len) {
-            let code = self.hasher.hash_text(text);
-            if let Entry::Vacant(vacancy) = TextIndex::entry(&index, code, &self.backend, text) {
-                TextIndex::reserve_one(&mut index, &self.hasher, &self.backend)?;
-                TextIndex::insert_at(&mut index, vacancy, Sym(symbol));
-            }
-        }
-        Ok(index)
     }
 }
 
 impl<B: Backend, H> StringInterner<B, H> {
+    /// Returns what builds the hashers of this interner.
+    ///
+    /// ```
+    /// use string_interner::{DefaultBackend, StringInterner};
+    /// use std::hash::{BuildHasher, RandomState};
+    ///
+    /// let mut names = StringInterner::<DefaultBackend, RandomState>::new();
+    /// names.get_or_intern("Tiger");
+    /// // Another interner with the same keys.
+    /// let more = StringInterner::<DefaultBackend, _>::with_hasher(names.hasher().clone());
+    /// assert_eq!(more.hasher().hash_one("Tiger"), names.hasher().hash_one("Tiger"));
+    /// ```
+    #[inline]
+    #[must_use]
+    pub fn hasher(&self) -> &H {
+        &self.proved.hasher().0
+    }
+
     /// Returns the number of texts.
     #[inline]
     pub fn len(&self) -> usize {
-        self.index.len()
+        self.proved.len()
     }
 
     /// Reports whether there are no texts.
     #[inline]
     pub fn is_empty(&self) -> bool {
-        self.len() == 0
+        self.proved.is_empty()
     }
 
     /// Releases memory of the backend that no text needs. The index keeps its room, and a bucket its spare bytes. For a moment this
     /// takes the memory of the texts twice.
     pub fn shrink_to_fit(&mut self) {
-        self.backend.0.shrink_to_fit();
+        self.proved.shrink_to_fit();
     }
 
     /// Returns the text of a symbol, or `None` if no text has its number.
@@ -346,98 +257,17 @@ impl<B: Backend, H> StringInterner<B, H> {
     /// ```
     #[inline]
     pub fn resolve(&self, symbol: B::Symbol) -> Option<&str> {
-        self.backend.0.resolve(symbol)
+        self.proved.resolve(Sym(symbol))
     }
 
     /// Iterates over all texts with their symbols, in insertion order.
     #[inline]
     pub fn iter(&self) -> B::Iter<'_> {
-        self.backend.0.iter()
+        self.backend().iter()
     }
 
-    /// Returns the JSON array of the texts.
-    pub fn to_json(&self) -> String {
-        json::write(self.iter().map(|(_, text)| text))
-    }
-}
-
-impl Default for StringInterner<DefaultBackend> {
-    #[inline]
-    fn default() -> Self {
-        Self::new()
-    }
-}
-
-impl<B: Backend + Clone, H: Clone> Clone for StringInterner<B, H> {
-    /// Returns an interner with the same texts under the same symbols.
-    fn clone(&self) -> Self {
-        StringInterner {
-            backend: As(self.backend.0.clone()),
-            hasher: self.hasher.clone(),
-            index: expect(self.index.try_copy()),
-        }
-    }
-}
-
-impl<B: Backend + PartialEq, H> PartialEq for StringInterner<B, H> {
-    /// Reports whether both have the same texts in the same order.
-    fn eq(&self, other: &Self) -> bool {
-        self.len() == other.len() && self.backend.0 == other.backend.0
-    }
-}
-
-impl<B: Backend + Eq, H> Eq for StringInterner<B, H> {}
-
-impl<B: Backend + fmt::Debug, H> fmt::Debug for StringInterner<B, H> {
-    fn fmt(&self, f: &mut fmt::Formatter<'_>) -> fmt::Result {
-        f.debug_struct("StringInterner")
-            .field("dedup", &Numbers(&self.backend.0))
-            .field("backend", &self.backend.0)
-            .finish()
-    }
-}
-
-/// Shows the numbers of all symbols as the keys of a map.
-struct Numbers<'a, B>(&'a B);
-
-impl<B: Backend> fmt::Debug for Numbers<'_, B> {
-    fn fmt(&self, f: &mut fmt::Formatter<'_>) -> fmt::Result {
-        let numbers = self.0.iter().map(|(symbol, _)| (symbol.to_usize(), ()));
-        f.debug_map().entries(numbers).finish()
-    }
-}
-
-impl<B: Backend, H: BuildHasher + Default, T: AsRef<str>> FromIterator<T> for StringInterner<B, H> {
-    fn from_iter<I: IntoIterator<Item = T>>(iter: I) -> Self {
-        let iter = iter.into_iter();
-        let mut interner = Self::with_capacity(iter.size_hint().0);
-        interner.extend(iter);
-        interner
-    }
-}
-
-impl<B: Backend, H: BuildHasher, T: AsRef<str>> Extend<T> for StringInterner<B, H> {
-    /// Interns all texts. A new interner first makes room for as many as the iterator says that there are at least, up to 4,096.
-    ///
-    /// # Panics
-    ///
-    /// If no symbol is left for a new text. The texts before it stay.
-    #[track_caller]
-    fn extend<I: IntoIterator<Item = T>>(&mut self, iter: I) {
-        let strings = iter.into_iter();
-        self.make_first_room(strings.size_hint().0);
-        for string in strings {
-            self.get_or_intern(string);
-        }
-    }
-}
-
-impl<'a, B: Backend, H> IntoIterator for &'a StringInterner<B, H> {
-    type Item = (B::Symbol, &'a str);
-    type IntoIter = B::Iter<'a>;
-
-    #[inline]
-    fn into_iter(self) -> Self::IntoIter {
-        self.iter()
+    #[inline(always)]
+    pub(crate) fn backend(&self) -> &B {
+        &self.proved.backend().0
     }
 }

@@ -25,7 +25,8 @@
 //! - With serde the original reads each symbol as the next one, see below.
 //! - If memory is refused, the backends of this crate panic, and stay as they were. The original aborts the process; here only what
 //!   makes a `String` or a new [`sync::Interner`], and `Debug`, do.
-//! - `extend` of a new interner makes room at once for as many texts as the iterator says, up to 4,096, and the original's for none.
+//! - `extend` of a new interner over a backend of this crate makes room at once for as many texts as the iterator says, up to 4,096,
+//!   and the original's for none.
 //! - `shrink_to_fit` moves the texts to a smaller block, for which there must be memory beside them.
 //! - `resolve`, and looking up a text, of a [`BufferBackend`](backend::BufferBackend) whose symbol type is the program's own checks
 //!   that the bytes are UTF-8: a look-up takes two to three times as long as by a symbol type of this crate.
@@ -35,8 +36,9 @@
 //! - If a symbol's own `Clone`, `PartialEq` or `to_usize` does not tell what is so, answers are wrong or a call panics, and nothing
 //!   else.
 //!
-//! New are the modules [`hasher`] and [`sync`], the types [`InternError`] and [`JsonError`], that iterators have a known length and can
-//! be cloned, and of [`StringInterner`] the calls
+//! New are the modules [`hasher`] and [`sync`], the types [`InternError`] and [`JsonError`], [`keywords!`](keywords), that iterators
+//! have a known length and can be cloned, `names[symbol]` for the text of a symbol, `from_number` of each symbol type, and of
+//! [`StringInterner`] the calls [`hasher`](StringInterner::hasher), [`intern_keywords`](StringInterner::intern_keywords),
 //! [`try_get_or_intern`](StringInterner::try_get_or_intern),
 //! [`try_get_or_intern_static`](StringInterner::try_get_or_intern_static),
 //! [`get_or_intern_part`](StringInterner::get_or_intern_part), [`intern_all`](StringInterner::intern_all),
@@ -50,10 +52,10 @@
 //! | `Rodeo` | [`StringInterner`] |
 //! | `ThreadedRodeo` | [`sync::Interner`], whose `get_or_intern` takes `&self`, too |
 //! | `RodeoReader`, `RodeoResolver` | no types of their own: share a `&StringInterner`, which threads read at the same time without a lock, or a `&StringBackend` |
-//! | `into_reader`, `into_resolver` of a `ThreadedRodeo` | [`into_interner`](sync::Interner::into_interner), [`into_backend`](sync::Interner::into_backend) |
+//! | `into_reader`, `into_resolver` of a `ThreadedRodeo` | [`into_interner`], [`into_backend`] |
 //! | `Spur`, `MiniSpur`, `LargeSpur` | [`SymbolU32`](symbol::SymbolU32), [`SymbolU16`](symbol::SymbolU16), [`SymbolUsize`](symbol::SymbolUsize); there is none of one byte |
 //! | the trait `Key` | [`Symbol`], which is safe to implement |
-//! | `resolve(&key)`, which panics if the key is of another | [`resolve(symbol)`](StringInterner::resolve), which returns an `Option` |
+//! | `rodeo[key]`, and `resolve(&key)`, which panics if the key is of another | `names[symbol]`, and [`resolve(symbol)`](StringInterner::resolve), which returns an `Option` |
 //! | `try_get_or_intern` | the [same](StringInterner::try_get_or_intern); but a memory limit can't be set |
 //! | `contains`, `contains_key` | [`contains`](StringInterner::contains), and `resolve(symbol).is_some()` |
 //!
@@ -80,6 +82,7 @@
 //! | `std`, by default | random keys for [`DefaultHashBuilder`], and the module [`sync`]. Without it the crate needs `alloc` alone |
 //! | `inline-more`, `backends`, by default | nothing: short calls may always be inlined, and the backends are always there |
 //! | `serde` | serde's traits for an interner and the three symbol types, in the forms of the original |
+//! | `parts` | nothing for users: it opens to the library for C and the programs of the repository what may change at any time |
 //!
 //! An interner is a sequence of its texts. A symbol is its number plus one, because that is how it is stored, and is read as such:
 //! what either crate wrote is read as it was meant. The original reads a symbol as the number that is written, so each symbol that
@@ -89,9 +92,27 @@
 //!
 //! The module `proved` is the library of the repository, whose every function is proved to keep its contract. A tool, `tools/erase`,
 //! made it of the proved source: it made comments of the contracts, and left the code as it was, token by token but for a few that
-//! its page names. You trust that tool, the stand-ins for the prover's standard library and JSON in the module `rt`, the rest of this crate,
-//! which gives the library its interface, and rustc. All of these are tested, and not proved. The contracts speak of symbols,
-//! hashers and backends that keep theirs; what is not unsafe holds whatever these do.
+//! its page names.
+//!
+//! A [`StringInterner`] has one field, which is the proved interner. Each call that finds, interns, resolves, counts, truncates or
+//! copies is a call of that, or a loop of such calls. By hand are the panics in the place of errors, iterators, `==`, `Debug`, JSON,
+//! serde, keywords, how a [`StringBackend`](backend::StringBackend) finds a text, what makes room for many texts at once, and what
+//! truncates a backend of your own. A [`sync::Interner`] is by hand, too: it interns by the proved index.
+//!
+//! What the proof says of these calls holds for your own backend, symbol and hasher, too, if they keep their laws:
+//!
+//! - A backend is made without texts. It returns the text that it was given for each symbol that it returned for one, a symbol with a
+//!   greater number each time, and yields them in this order; so does its clone. An error changes nothing.
+//! - A symbol's number is the one that it was made of.
+//! - A hasher gives a text the same hash each time, and its clone gives that hash, too.
+//!
+//! Only of a full backend of your own the index may have grown before an interner returns `NoSymbol`.
+//!
+//! Memory is safe whatever they do. The backends of this crate are such types: by hand, over the proved ones, of whose numbers they make
+//! symbols.
+//!
+//! You trust the tool, the stand-ins for the prover's standard library and JSON in the module `rt`, what is by hand, and rustc. All of
+//! these are tested, and not proved.
 //!
 //! # Why it is safe
 //!
@@ -100,16 +121,30 @@
 //!
 //! | Where | Rests on |
 //! |---|---|
-//! | `backend.rs`: symbols of the index are resolved unchecked | an index has only symbols that its backend returned, copied by their bits |
+//! | `backend.rs`: symbols of the index are resolved unchecked | an index has only symbols that its backend returned for a text, copied by their bits |
 //! | `unchecked.rs`: slots are read without checks of bounds | what it says of the tagged table, whatever a program's own types do |
 //! | `unchecked.rs`: texts are cut unchecked out of a joined one, and out of buckets | ends and entries are those of whole texts; a text's number is checked before |
 //! | `unchecked.rs`: a short text is appended by words | there is room, which is tested before |
+//! | `unchecked.rs`: bytes are taken for a text | they are ASCII, which is tested before |
 //! | `unchecked.rs`: vectors | the target has them |
 //! | `sync/memory.rs`: texts are lent without a lock | blocks of bytes do not move, and no text is dropped |
 //! | `sync/memory.rs`: what threads read while it grows | it is published by a release, and freed by `&mut` alone |
 //! | `proved`, of a buffer and of buckets: bytes are a text | they are those of a text that was interned: what a number of a program's own symbol type leads to is checked instead |
 //! | `proved`, of static texts: their bytes are read at their address | the address is made of a `&'static str`, in one place |
-
+//!
+// Without `std` there is no module `sync`, and links to it lead to where that is said.
+#![cfg_attr(
+    feature = "std",
+    doc = "[`into_backend`]: sync::Interner::into_backend"
+)]
+#![cfg_attr(
+    feature = "std",
+    doc = "[`into_interner`]: sync::Interner::into_interner"
+)]
+#![cfg_attr(not(feature = "std"), doc = "[`into_backend`]: #features")]
+#![cfg_attr(not(feature = "std"), doc = "[`into_interner`]: #features")]
+#![cfg_attr(not(feature = "std"), doc = "[`sync`]: #features")]
+#![cfg_attr(not(feature = "std"), doc = "[`sync::Interner`]: #features")]
 #![no_std]
 #![deny(unsafe_code)]
 #![warn(
@@ -132,19 +167,27 @@ mod error;
 pub mod hasher;
 mod interner;
 mod json;
+mod keywords;
 // The linter and the compiler warn of what the source's language asks for.
 #[allow(clippy::all, clippy::undocumented_unsafe_blocks, dead_code, missing_docs, rustdoc::all, unsafe_code, unstable_name_collisions, unused)]
 #[rustfmt::skip]
 mod proved;
 #[cfg(doctest)]
 mod refused;
-#[allow(dead_code)]
+// The stand-ins have the names of what they stand for.
+#[allow(
+    clippy::new_without_default,
+    clippy::should_implement_trait,
+    dead_code,
+    missing_docs
+)]
 mod rt;
 #[cfg(feature = "serde")]
 mod serde;
 pub mod symbol;
 #[cfg(feature = "std")]
 pub mod sync;
+#[allow(missing_docs)]
 mod unchecked;
 
 pub use backend::DefaultBackend;
@@ -156,6 +199,22 @@ pub use symbol::{DefaultSymbol, Symbol};
 
 /// An interner over the backend for most cases.
 pub type DefaultStringInterner<B = DefaultBackend, H = DefaultHashBuilder> = StringInterner<B, H>;
+
+/// What the library for C and the programs of the repository are built on. It is not for users: it may change at any time, and some
+/// of its functions ask what only a proof can promise.
+#[cfg(feature = "parts")]
+#[doc(hidden)]
+pub mod __parts {
+    pub mod proved {
+        pub use crate::proved::*;
+    }
+    pub mod rt {
+        pub use crate::rt::*;
+    }
+    pub mod unchecked {
+        pub use crate::unchecked::*;
+    }
+}
 
 /// A value that only this crate has, so that only it can call the methods of its traits that take one.
 mod sealed {

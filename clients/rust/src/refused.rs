@@ -134,3 +134,40 @@
 //!     }
 //! }
 //! ```
+//!
+//! Keywords are distinct, each has a symbol, and they are of the interner's symbol type:
+//!
+//! ```compile_fail,E0080
+//! string_interner::keywords! { FIRST = "a", SECOND = "b", THIRD = "a" }
+//! fn main() {}
+//! ```
+//!
+//! ```compile_fail,E0080
+//! #[derive(Clone, Copy, PartialEq, Eq)]
+//! pub struct Only;
+//! impl Only {
+//!     const fn from_number(number: usize) -> Option<Only> {
+//!         if number == 0 { Some(Only) } else { None }
+//!     }
+//! }
+//! string_interner::keywords! { Only; FIRST = "a", SECOND = "b" }
+//! fn main() {}
+//! ```
+//!
+//! ```compile_fail,E0308
+//! use string_interner::{symbol::SymbolU16, DefaultStringInterner};
+//! mod kw {
+//!     string_interner::keywords! { super::SymbolU16; IF = "if" }
+//! }
+//! fn main() {
+//!     DefaultStringInterner::default().intern_keywords(kw::KEYWORDS);
+//! }
+//! ```
+
+/// What the library for C and the programs are built on is there by its feature alone:
+///
+/// ```compile_fail,E0432
+/// use string_interner::__parts::proved;
+/// ```
+#[cfg(not(feature = "parts"))]
+mod parts {}

@@ -1,12 +1,13 @@
 //! The traits of serde, in the forms in which string-interner 0.19 writes.
 
 use crate::backend::Backend;
+use crate::error::InternError;
 use crate::interner::StringInterner;
 use crate::symbol::{SymbolU16, SymbolU32, SymbolUsize};
 use core::fmt;
 use core::hash::BuildHasher;
 use core::marker::PhantomData;
-use serde::de::{DeserializeSeed, Deserializer, Error, SeqAccess, Visitor};
+use serde::de::{DeserializeSeed, Deserializer, Error, SeqAccess, Unexpected, Visitor};
 use serde::ser::{SerializeSeq, Serializer};
 use serde::{Deserialize, Serialize};
 
@@ -25,7 +26,7 @@ impl<B: Backend, H> Serialize for StringInterner<B, H> {
 }
 
 impl<'de, B: Backend, H: BuildHasher + Default> Deserialize<'de> for StringInterner<B, H> {
-    /// Reads a sequence of texts. Repeats add no text.
+    /// Reads a sequence of texts, or of bytes that are UTF-8. Repeats add no text.
     fn deserialize<D: Deserializer<'de>>(deserializer: D) -> Result<Self, D::Error> {
         deserializer.deserialize_seq(OfTexts(PhantomData))
     }
@@ -44,15 +45,16 @@ impl<'de, B: Backend, H: BuildHasher + Default> Visitor<'de> for OfTexts<B, H> {
     fn visit_seq<A: SeqAccess<'de>>(self, mut texts: A) -> Result<Self::Value, A::Error> {
         let capacity = texts.size_hint().unwrap_or(0).min(MOST_RESERVED);
         let mut interner = StringInterner::with_capacity(capacity);
-        while texts.next_element_seed(OneText(&mut interner))?.is_some() {}
+        let mut intern = |text: &str| interner.try_get_or_intern(text).map(drop);
+        while texts.next_element_seed(OneText(&mut intern))?.is_some() {}
         Ok(interner)
     }
 }
 
-/// Reads a text into an interner.
-struct OneText<'a, B: Backend, H>(&'a mut StringInterner<B, H>);
+/// Reads a text, and hands it to what interns it.
+pub(crate) struct OneText<F>(pub F);
 
-impl<'de, B: Backend, H: BuildHasher> DeserializeSeed<'de> for OneText<'_, B, H> {
+impl<'de, F: FnOnce(&str) -> Result<(), InternError>> DeserializeSeed<'de> for OneText<F> {
     type Value = ();
 
     fn deserialize<D: Deserializer<'de>>(self, deserializer: D) -> Result<(), D::Error> {
@@ -60,7 +62,7 @@ impl<'de, B: Backend, H: BuildHasher> DeserializeSeed<'de> for OneText<'_, B, H>
     }
 }
 
-impl<B: Backend, H: BuildHasher> Visitor<'_> for OneText<'_, B, H> {
+impl<F: FnOnce(&str) -> Result<(), InternError>> Visitor<'_> for OneText<F> {
     type Value = ();
 
     fn expecting(&self, f: &mut fmt::Formatter<'_>) -> fmt::Result {
@@ -68,7 +70,15 @@ impl<B: Backend, H: BuildHasher> Visitor<'_> for OneText<'_, B, H> {
     }
 
     fn visit_str<E: Error>(self, text: &str) -> Result<(), E> {
-        self.0.try_get_or_intern(text).map(drop).map_err(E::custom)
+        (self.0)(text).map_err(E::custom)
+    }
+
+    /// Some formats have no type for texts. A `String` is read of bytes, too.
+    fn visit_bytes<E: Error>(self, bytes: &[u8]) -> Result<(), E> {
+        match core::str::from_utf8(bytes) {
+            Ok(text) => self.visit_str(text),
+            Err(_) => Err(E::invalid_value(Unexpected::Bytes(bytes), &self)),
+        }
     }
 }
 

@@ -4,10 +4,36 @@ use crate::proved;
 use crate::sealed::Ours;
 use core::num::{NonZeroU16, NonZeroU32, NonZeroUsize};
 
+pub use crate::keywords::Keywords;
+
 /// A type whose values stand for texts, each by a number.
 ///
 /// Whatever an implementation returns, an interner stays sound. What it answers is right if `try_from_usize` and `to_usize` are
 /// each other's inverse.
+///
+/// A symbol of one byte, for up to 256 texts:
+///
+/// ```
+/// use string_interner::{backend::StringBackend, InternError, StringInterner, Symbol};
+///
+/// #[derive(Clone, Copy, Debug, PartialEq, Eq)]
+/// struct Byte(u8);
+///
+/// impl Symbol for Byte {
+///     fn try_from_usize(index: usize) -> Option<Self> {
+///         u8::try_from(index).ok().map(Byte)
+///     }
+///
+///     fn to_usize(self) -> usize {
+///         self.0.into()
+///     }
+/// }
+///
+/// let mut names = StringInterner::<StringBackend<Byte>>::new();
+/// names.extend((0..256).map(|number| number.to_string()));
+/// assert_eq!(names.get("255"), Some(Byte(255)));
+/// assert_eq!(names.try_get_or_intern("Tiger"), Err(InternError::NoSymbol));
+/// ```
 pub trait Symbol: Copy + Eq {
     /// Returns the symbol with this number, or `None` if the type has no such symbol.
     fn try_from_usize(index: usize) -> Option<Self>;
@@ -52,14 +78,26 @@ macro_rules! symbol {
             pub(crate) value: $non_zero,
         }
 
+        impl $name {
+            /// The same as [`Symbol::try_from_usize`], for constants, too.
+            #[inline]
+            #[must_use]
+            pub const fn from_number(number: usize) -> Option<Self> {
+                // The compiler sees that a second question after this one has the same answer.
+                if number >= <$number>::MAX as usize {
+                    return None;
+                }
+                match <$non_zero>::new(number as $number + 1) {
+                    Some(value) => Some(Self { value }),
+                    None => None,
+                }
+            }
+        }
+
         impl Symbol for $name {
             #[inline]
             fn try_from_usize(index: usize) -> Option<Self> {
-                // The compiler sees that a second question after this one has the same answer.
-                if index >= <$number>::MAX as usize {
-                    return None;
-                }
-                <$non_zero>::new(index as $number + 1).map(|value| Self { value })
+                Self::from_number(index)
             }
 
             #[inline]
@@ -86,6 +124,24 @@ symbol! {
 symbol! {
     /// A symbol as large as a `usize`, with all numbers but the last.
     SymbolUsize, NonZeroUsize, usize
+}
+
+#[cold]
+#[inline(never)]
+#[track_caller]
+fn panic_for(number: usize) -> ! {
+    panic!("no text has the symbol with the number {number}")
+}
+
+/// Returns the text of a symbol. Panics if there is none.
+#[inline(always)]
+#[track_caller]
+pub(crate) fn expect_text<S: Symbol>(text: Option<&str>, symbol: S) -> &str {
+    // A closure would hide from the panic who called.
+    match text {
+        Some(text) => text,
+        None => panic_for(symbol.to_usize()),
+    }
 }
 
 /// A symbol as the proved code takes it.

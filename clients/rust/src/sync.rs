@@ -17,9 +17,9 @@
 //!
 //! # What a call costs
 //!
-//! [`resolve`](Interner::resolve) takes no lock. A known text and [`get`](Interner::get) mostly take none, and then write nothing that
-//! another thread reads: by processor time four threads do four times the work of one. There are 32 locks, and a text's hash code
-//! chooses one. It is taken for
+//! [`resolve`](Interner::resolve) takes no lock, unless it waits long for a text that is just being added. A known text and
+//! [`get`](Interner::get) mostly take none, and then write nothing that another thread reads: by processor time four threads do four
+//! times the work of one. There are 32 locks, and a text's hash code chooses one. It is taken for
 //!
 //! - a new text;
 //! - a text that its index may not show, because all 64 slots for it are taken, or because there are 300 times as many texts as in its
@@ -35,7 +35,8 @@
 //! | of resolving | 1.5 | 1.6 |
 //! | memory of a text | 2.0 | 1.75 |
 //!
-//! Once all texts are known, [`into_interner`](Interner::into_interner) makes a plain one.
+//! A new interner takes 12 KB, and one of 100 texts 26 KB, which is nine times as much as a plain one: have one for all threads, and
+//! not one for each file or request. Once all texts are known, [`into_interner`](Interner::into_interner) makes a plain one.
 //!
 //! # How it works
 //!
@@ -67,19 +68,33 @@ mod traits;
 
 use crate::error::{expect, InternError};
 use crate::hasher::DefaultHashBuilder;
+use crate::interner::reserve;
+use crate::keywords::{check_keyword, Keywords};
 use crate::proved::interner::given::Given;
 use crate::symbol::{DefaultSymbol, Symbol};
 use core::hash::BuildHasher;
 use index::Look;
 pub use iter::Iter;
 use memory::Memory;
-use shared::{shard_of, Shared};
+use shard::Shard;
+use shared::{shard_of, Shared, SHARDS};
+use std::vec::Vec;
 
 /// A list of distinct texts, each with a symbol, that many threads may read and extend at the same time.
 ///
 /// Symbols number 0, 1, 2, .. in the order in which texts come, so that a `Vec` may have something for each of them. There are at
 /// most 2³² − 1, and no more than the symbol type has. Texts stay until the interner is dropped. Hold it in an
-/// [`Arc`](std::sync::Arc), in a `static` or on the stack of a [scope](std::thread::scope).
+/// [`Arc`](std::sync::Arc), in a `static` or on the stack of a [scope](std::thread::scope):
+///
+/// ```
+/// use std::sync::LazyLock;
+/// use string_interner::sync::Interner;
+///
+/// static NAMES: LazyLock<Interner> = LazyLock::new(Interner::new);
+///
+/// let tiger = NAMES.get_or_intern("Tiger");
+/// assert_eq!(&NAMES[tiger], "Tiger");
+/// ```
 ///
 /// If a hasher or a symbol type of a program's own panics, that call does, and the interner has the texts that it had before. A hasher
 /// must not call the same interner while it hashes a text, nor a symbol type while it converts a number: such a call may wait for
@@ -94,6 +109,22 @@ impl Interner {
     #[must_use]
     pub fn new() -> Self {
         Self::with_hasher(DefaultHashBuilder)
+    }
+
+    /// The same, with spare capacity for about `cap` texts.
+    ///
+    /// ```
+    /// let names = string_interner::sync::Interner::with_capacity(10_000);
+    /// assert!(names.is_empty());
+    /// ```
+    ///
+    /// # Panics
+    ///
+    /// As [`with_capacity_and_hasher`](Self::with_capacity_and_hasher).
+    #[must_use]
+    #[track_caller]
+    pub fn with_capacity(cap: usize) -> Self {
+        Self::with_capacity_and_hasher(cap, DefaultHashBuilder)
     }
 }
 
@@ -112,6 +143,43 @@ impl<S: Symbol, H: BuildHasher> Interner<S, H> {
             shared: Shared::new(hash_builder),
             memory: Memory::new(),
         }
+    }
+
+    /// The same, with spare capacity for about `cap` texts: no index grows until there are so many. Only the bytes of texts then
+    /// need more memory.
+    ///
+    /// ```
+    /// use string_interner::{hasher::FixedHashBuilder, symbol::SymbolU16, sync::Interner};
+    ///
+    /// let names = Interner::<SymbolU16, _>::with_capacity_and_hasher(1_000, FixedHashBuilder);
+    /// assert!(names.is_empty());
+    /// ```
+    ///
+    /// # Panics
+    ///
+    /// If `cap` is more than 2³² − 1, or an allocation fails.
+    #[must_use]
+    #[track_caller]
+    pub fn with_capacity_and_hasher(cap: usize, hash_builder: H) -> Self {
+        let mut interner = Self::with_hasher(hash_builder);
+        expect(interner.make_first_room(cap));
+        interner
+    }
+
+    /// Makes room for about so many texts, before the first one comes.
+    fn make_first_room(&mut self, texts: usize) -> Result<(), InternError> {
+        let count = u32::try_from(texts).map_err(|_| InternError::NoSymbol)?;
+        let Some(last) = count.checked_sub(1) else {
+            return Ok(());
+        };
+        // Chance spreads texts over shards. Few have this much more than their part.
+        let part = texts.div_ceil(SHARDS);
+        let most = part + 4 * part.isqrt();
+        for shard in 0..SHARDS {
+            *self.memory.hold(shard).0 = Shard::with_capacity(most)?;
+            self.shared.indexes[shard].make_first_room(most)?;
+        }
+        self.memory.texts().make_room_up_to(last)
     }
 
     /// Returns the symbol of a text, if it is known. Takes a lock only for the few texts that [an index may not
@@ -196,6 +264,63 @@ impl<S: Symbol, H: BuildHasher> Interner<S, H> {
         }
     }
 
+    /// Interns many texts, and returns the symbol of each. Takes the locks that [`get_or_intern`](Self::get_or_intern) of each
+    /// takes, one at a time.
+    ///
+    /// ```
+    /// let names = string_interner::sync::Interner::new();
+    /// let words = names.intern_all("to be or not to be".split(' '));
+    /// assert_eq!((words.len(), names.len()), (6, 4));
+    /// assert_eq!(words[0], words[4]);
+    /// ```
+    ///
+    /// # Panics
+    ///
+    /// If no symbol is left for a new text, or an allocation fails. The texts before it stay.
+    #[track_caller]
+    pub fn intern_all<I>(&self, strings: I) -> Vec<S>
+    where
+        I: IntoIterator,
+        I::Item: AsRef<str>,
+    {
+        let strings = strings.into_iter();
+        let mut symbols = Vec::new();
+        expect(reserve(&mut symbols, strings.size_hint().0));
+        // A closure would hide from the panic who called.
+        for string in strings {
+            expect(reserve(&mut symbols, 1));
+            symbols.push(self.get_or_intern(string));
+        }
+        symbols
+    }
+
+    /// Interns [keywords](crate::keywords), so that each has the symbol of its constant. Nothing changes if all have it.
+    ///
+    /// ```
+    /// use string_interner::sync::Interner;
+    ///
+    /// mod kw {
+    ///     string_interner::keywords! { LET = "let", IF = "if" }
+    /// }
+    ///
+    /// let names = Interner::new();
+    /// names.intern_keywords(kw::KEYWORDS);
+    /// let is_if = |word| matches!(names.get_or_intern(word), kw::IF);
+    /// assert!(is_if("if") && !is_if("iffy"));
+    /// ```
+    ///
+    /// # Panics
+    ///
+    /// If a keyword gets another symbol, because the interner had other texts; or as [`get_or_intern`](Self::get_or_intern). What
+    /// was interned stays.
+    #[track_caller]
+    pub fn intern_keywords(&self, keywords: Keywords<S>) {
+        for (number, text) in keywords.texts().iter().enumerate() {
+            let symbol = self.get_or_intern_static(text);
+            check_keyword(number, text, symbol);
+        }
+    }
+
     /// Interns a text with this code that the index does not show at once.
     #[inline(never)]
     fn intern(&self, code: u64, text: &str) -> Result<S, InternError> {
@@ -231,7 +356,25 @@ impl<S: Symbol, H: BuildHasher> Interner<S, H> {
 }
 
 impl<S, H> Interner<S, H> {
-    /// Returns the number of texts. Other threads may add some in the meantime.
+    /// Returns what builds the hashers of this interner.
+    ///
+    /// ```
+    /// use string_interner::{hasher::KeyedHashBuilder, DefaultSymbol, sync::Interner};
+    /// use std::hash::BuildHasher;
+    ///
+    /// let names = Interner::<DefaultSymbol, _>::with_hasher(KeyedHashBuilder::new(1, 2));
+    /// // Another interner with the same keys.
+    /// let more = Interner::<DefaultSymbol, _>::with_hasher(*names.hasher());
+    /// assert_eq!(more.hasher().hash_one("Tiger"), names.hasher().hash_one("Tiger"));
+    /// ```
+    #[inline]
+    #[must_use]
+    pub fn hasher(&self) -> &H {
+        &self.shared.hasher.0
+    }
+
+    /// Returns the number of texts. Each number below has one, which [`resolve`](Self::resolve) returns. Other threads may add some in the
+    /// meantime.
     #[inline]
     pub fn len(&self) -> usize {
         self.shared.count() as usize
@@ -251,18 +394,43 @@ impl<S, H> Interner<S, H> {
 }
 
 impl<S: Symbol, H> Interner<S, H> {
-    /// Returns the text of a symbol, or `None` if no text has its number. Takes no lock. The text may be kept as long as the
-    /// interner is borrowed, while other threads intern.
+    /// Returns the text of a symbol, or `None` if no text has its number. The text may be kept as long as the interner is borrowed, while
+    /// other threads intern. Waits while another thread is just adding the text, and takes locks only if that takes long.
+    ///
+    /// A symbol from another thread has its text here if it came by what synchronizes threads: a channel, a lock, a join, or a store that
+    /// releases and a load that acquires. One that came by a relaxed atomic alone may not.
     #[inline]
     pub fn resolve(&self, symbol: S) -> Option<&str> {
         let number = u32::try_from(symbol.to_usize()).ok()?;
-        self.memory.texts().get(number)
+        match self.memory.texts().get(number) {
+            Some(text) => Some(text),
+            None => self.resolve_taken(number),
+        }
+    }
+
+    /// Returns the text of a number that a thread has taken, and whose text it may be about to publish.
+    #[cold]
+    fn resolve_taken(&self, number: u32) -> Option<&str> {
+        (number < self.shared.count()).then(|| self.memory.wait_for(number))
     }
 
     /// Iterates over the texts that there are now with their symbols, in the order of the symbols' numbers. What threads intern in
     /// the meantime is left out.
     #[inline]
     pub fn iter(&self) -> Iter<'_, S> {
-        Iter::new(self.memory.texts(), self.shared.count())
+        self.iter_from(0)
+    }
+
+    /// The same from the text with a number on, none if there are not so many. It takes the same time for each number.
+    ///
+    /// ```
+    /// let names = string_interner::sync::Interner::from_iter(["Tiger", "Horse"]);
+    /// let seen = names.len();
+    /// names.get_or_intern("Zebra");
+    /// assert!(names.iter_from(seen).map(|(_, text)| text).eq(["Zebra"]));
+    /// ```
+    #[inline]
+    pub fn iter_from(&self, number: usize) -> Iter<'_, S> {
+        Iter::new(&self.memory, number, self.shared.count())
     }
 }

@@ -1,13 +1,18 @@
 //! All that is unsafe of what one thread does, but for calls of `resolve_unchecked` (`backend.rs`) and what is in proved source:
 //! looking a text up in the tagged table without checks of bounds, cutting texts out of a joined one and out of buckets, appending a
-//! short text without a call, and comparing sixteen bytes at once.
+//! short text without a call, comparing sixteen bytes at once, and taking bytes for a text.
 //!
 //! # Looking up
 //!
 //! The proof of the table assumes that a program's own symbols, hashers and backends keep their contracts. Memory must not depend on
-//! that. So `item_with` and `lanes_with`, which read slots and tags in a look-up, and `interned_text`, which cuts a text out of a
-//! bucket, are the only functions of proved code out of which the eraser takes a check, and what they rest on holds whatever such types
-//! do. Whatever writes a slot, or moves one, checks.
+//! that. So the eraser takes a check out of these functions of proved code alone, and what they rest on holds whatever such types do:
+//!
+//! - `item_with` and `lanes_with`, which read slots and tags in a look-up;
+//! - `interned_text`, which cuts a text out of a bucket;
+//! - `text_at` and `narrow_text`, and in the library for C `text_by_narrow_ends` and `string_entries`, which cut one out of the joined
+//!   texts.
+//!
+//! Whatever writes a slot, or moves one, checks.
 //!
 //! Of `TaggedSlots`, whose fields only `proved/dedup/tagged.rs` writes:
 //!
@@ -38,7 +43,8 @@
 //! | `Symbol::try_from_usize`, `to_usize` | the backend, in `is_full`, `intern` and each look | nothing |
 //! | `Backend::intern`, `intern_static` | `intern_coded`, before `insert_at` | there is room for one more slot; all slots are in the table |
 //! | `Hasher`, `Backend::resolve_unchecked` | `rehash` above 2^32 slots | the new slots, which are dropped |
-//! | `Drop` of a backend | `truncate`, which replaces it | nothing: the index of the new backend is in place |
+//! | `Hasher`, `Symbol::try_from_usize`, `to_usize` | `truncate` over a backend of this crate, which empties slots of texts that go, or empties all and fills them anew | some texts have no slot; the table counts at least as many as have one |
+//! | `Backend::iter`, `Drop` of a backend | `truncate` over another backend, which replaces it first | nothing: the new backend has an index of its texts |
 //!
 //! Symbols are copied by their bits (`Sym`), so no `Clone` runs while `items` is filled or copied. `try_copy` copies a list whole or
 //! fails.
@@ -54,10 +60,15 @@
 //! Both hold whatever a program's own symbols, hashers and backends do, since none of their code runs between a change of the bytes and
 //! that of ends or entries, and the proved backends number texts by symbols of the library. What such a type returns is the number of
 //! a text at most: that is checked before its ends or its entry are read. What then says where to cut is no number that it returned.
+//! `string_entries` reads ends without that check: it tests that there are as many before its loop.
 //!
 //! # Appending
 //!
 //! `append` tests for itself that there is room. It rests on nothing else.
+//!
+//! # Bytes as a text
+//!
+//! `short_text` tests that all are ASCII. `String::from_utf8_unchecked` is for the programs, which test before.
 //!
 //! # Vectors
 //!
@@ -70,12 +81,6 @@ use crate::proved::backend::StringBackend;
 use alloc::string::String;
 use core::ops::Range;
 use core::slice;
-
-/// Returns a part of a text, which begins and ends with a character. It is checked, because a program's own types may say where.
-#[inline(always)]
-pub fn cut(text: &str, part: Range<usize>) -> &str {
-    &text[part]
-}
 
 /// Returns a part of a text without a check. With `--cfg string_interner_checks` there is one.
 ///
@@ -164,6 +169,48 @@ unsafe fn append_ends<const N: usize>(text: &mut String, more: &str) {
         to.cast::<[u8; N]>().write(first);
         to.add(len - N).cast::<[u8; N]>().write(last);
         bytes.set_len(at + len);
+    }
+}
+
+/// The high bit of each byte of a word, which no ASCII byte has.
+const HIGH_BITS: u64 = 0x8080_8080_8080_8080;
+
+/// Longer texts take Rust's own way at once, which is made for them.
+const MOST_SHORT: usize = 64;
+
+/// Reports whether 8 to 64 bytes are ASCII. The last word may overlap the one before.
+#[inline(always)]
+fn is_short_ascii(bytes: &[u8]) -> bool {
+    let Some(last) = bytes.last_chunk() else {
+        return false;
+    };
+    let words = bytes.chunks_exact(8).map(|word| word.first_chunk());
+    let all = words
+        .flatten()
+        .fold(u64::from_le_bytes(*last), |all, word| {
+            all | u64::from_le_bytes(*word)
+        });
+    all & HIGH_BITS == 0
+}
+
+/// Returns 8 to 64 bytes as a text if they are ASCII.
+#[inline(always)]
+pub fn short_text(bytes: &[u8]) -> Option<&str> {
+    let is_text = bytes.len() <= MOST_SHORT && is_short_ascii(bytes);
+    // SAFETY: ASCII is UTF-8.
+    is_text.then(|| unsafe { core::str::from_utf8_unchecked(bytes) })
+}
+
+#[cfg(feature = "parts")]
+impl crate::rt::string::String {
+    /// Makes a text of bytes.
+    ///
+    /// # Safety
+    ///
+    /// They are UTF-8.
+    pub unsafe fn from_utf8_unchecked(bytes: crate::rt::vec::Vec<u8>) -> Self {
+        // SAFETY: the caller promises the same.
+        Self(unsafe { String::from_utf8_unchecked(bytes.0) })
     }
 }
 

@@ -1,12 +1,14 @@
-//! Calls that ask the allocator for nothing.
+//! Calls that ask the allocator for nothing, and how much more than its texts a shared interner holds.
 
 mod allocator;
 mod common;
 
-use allocator::REQUESTS;
+use allocator::{HELD, REQUESTS};
 use common::Backend;
 use string_interner::backend::{BucketBackend, BufferBackend, StringBackend};
-use string_interner::StringInterner;
+use string_interner::hasher::FixedHashBuilder;
+use string_interner::sync::Interner;
+use string_interner::{DefaultSymbol, StringInterner};
 
 /// Returns how often the call asked for memory, with what it returned.
 fn count_requests<T>(call: impl FnOnce() -> T) -> (usize, T) {
@@ -52,6 +54,38 @@ fn look_up_over_each_backend() {
     look_up::<StringBackend>();
     look_up::<BucketBackend>();
     look_up::<BufferBackend>();
+}
+
+/// Of the blocks in which a shared interner stores texts little is spare, whatever their length.
+#[test]
+fn blocks_of_a_shared_interner() {
+    for len in [1_000, 2_000, 2_050, 5_500, 8_200, 16_000, 40_000] {
+        let (before, names) = (HELD.get(), Interner::new());
+        let (count, end) = (20_000_000 / len, "x".repeat(len - 9));
+        for number in 0..count {
+            names.get_or_intern(format!("{number:09}{end}"));
+        }
+        let held = (HELD.get() - before) as f64 / (len * count) as f64;
+        assert!(held < 1.25, "{held} bytes for each byte of texts of {len}");
+    }
+}
+
+/// For texts that are not copied, an interner with capacity asks for nothing more until there are so many.
+#[test]
+fn capacity_of_a_shared_interner() {
+    let texts: Vec<&'static str> = (0..40_000).map(|i| &*i.to_string().leak()).collect();
+    for capacity in [1, 63, 1_000, 9_999, 40_000] {
+        let names =
+            Interner::<DefaultSymbol, _>::with_capacity_and_hasher(capacity, FixedHashBuilder);
+        let (requests, ()) = count_requests(|| {
+            texts[..capacity].iter().for_each(|text| {
+                names.get_or_intern_static(text);
+            })
+        });
+        assert_eq!((requests, names.len()), (0, capacity));
+    }
+    let (of_none, _) = count_requests(|| Interner::with_capacity(0));
+    assert_eq!(of_none, count_requests(Interner::new).0);
 }
 
 #[test]

@@ -11,7 +11,8 @@ use string_interner::backend::{Backend, BucketBackend, BufferBackend, StringBack
 use string_interner::hasher::{FixedHashBuilder, KeyedHashBuilder};
 use string_interner::symbol::{SymbolU16, SymbolU32, SymbolUsize};
 use string_interner::{
-    DefaultBackend, DefaultHashBuilder, DefaultStringInterner, StringInterner, Symbol,
+    DefaultBackend, DefaultHashBuilder, DefaultStringInterner, InternError, JsonError,
+    StringInterner, Symbol,
 };
 
 /// A backend of a program's own, which shares its texts.
@@ -99,6 +100,152 @@ fn a_backend_of_the_program_drops_texts() {
     assert_eq!(names.get_or_intern("d").to_usize(), 2);
     let read = StringInterner::<Shared>::from_json(&names.to_json()).unwrap();
     assert_eq!(read, names);
+}
+
+/// A symbol of one byte.
+#[derive(Clone, Copy, Debug, PartialEq, Eq)]
+struct Byte(u8);
+
+impl Symbol for Byte {
+    fn try_from_usize(index: usize) -> Option<Self> {
+        u8::try_from(index).ok().map(Byte)
+    }
+
+    fn to_usize(self) -> usize {
+        self.0.into()
+    }
+}
+
+/// A backend of a program's own that has symbols for 256 texts.
+#[derive(Default)]
+struct Small(Vec<Box<str>>);
+
+impl Backend for Small {
+    type Symbol = Byte;
+    type Iter<'a> = Box<dyn Iterator<Item = (Byte, &'a str)> + 'a>;
+
+    fn with_capacity(_: usize) -> Self {
+        Self::default()
+    }
+
+    fn intern(&mut self, text: &str) -> Byte {
+        self.try_intern(text).expect("a symbol is left")
+    }
+
+    fn try_intern(&mut self, text: &str) -> Result<Byte, InternError> {
+        let symbol = Byte::try_from_usize(self.0.len()).ok_or(InternError::NoSymbol)?;
+        self.0.push(text.into());
+        Ok(symbol)
+    }
+
+    fn try_intern_static(&mut self, text: &'static str) -> Result<Byte, InternError> {
+        self.try_intern(text)
+    }
+
+    fn shrink_to_fit(&mut self) {}
+
+    fn resolve(&self, Byte(number): Byte) -> Option<&str> {
+        self.0.get(usize::from(number)).map(|text| &**text)
+    }
+
+    unsafe fn resolve_unchecked(&self, symbol: Byte) -> &str {
+        self.resolve(symbol).expect("a symbol of this backend")
+    }
+
+    fn iter(&self) -> Self::Iter<'_> {
+        Box::new((0..=255).map(Byte).zip(self.0.iter().map(|text| &**text)))
+    }
+}
+
+/// A backend of a program's own that counts what another one stores, and what of that is static.
+#[derive(Default)]
+struct Counted<B> {
+    texts: B,
+    counts: [usize; 2],
+}
+
+impl<B: Backend> Backend for Counted<B> {
+    type Symbol = B::Symbol;
+    type Iter<'a>
+        = B::Iter<'a>
+    where
+        Self: 'a;
+
+    fn with_capacity(cap: usize) -> Self {
+        let (texts, counts) = (B::with_capacity(cap), [0, 0]);
+        Counted { texts, counts }
+    }
+
+    fn intern(&mut self, text: &str) -> B::Symbol {
+        self.try_intern(text).expect("a symbol is left")
+    }
+
+    fn try_intern(&mut self, text: &str) -> Result<B::Symbol, InternError> {
+        let symbol = self.texts.try_intern(text)?;
+        self.counts[0] += 1;
+        Ok(symbol)
+    }
+
+    fn try_intern_static(&mut self, text: &'static str) -> Result<B::Symbol, InternError> {
+        let symbol = self.texts.try_intern_static(text)?;
+        self.counts[1] += 1;
+        Ok(symbol)
+    }
+
+    fn shrink_to_fit(&mut self) {
+        self.texts.shrink_to_fit();
+    }
+
+    fn resolve(&self, symbol: B::Symbol) -> Option<&str> {
+        self.texts.resolve(symbol)
+    }
+
+    unsafe fn resolve_unchecked(&self, symbol: B::Symbol) -> &str {
+        // SAFETY: owed by the caller.
+        unsafe { self.texts.resolve_unchecked(symbol) }
+    }
+
+    fn iter(&self) -> Self::Iter<'_> {
+        self.texts.iter()
+    }
+}
+
+/// Fills an interner over a backend with symbols for 256 texts. All of them stay when no symbol is left, and none joins them.
+fn fill<B: Backend<Symbol = Byte>>() -> StringInterner<B> {
+    let mut names = StringInterner::<B>::new();
+    for number in 0..=255 {
+        let symbol = names.try_get_or_intern(number.to_string());
+        assert_eq!(symbol, Ok(Byte(number)));
+    }
+    let no_symbol = Err(InternError::NoSymbol);
+    assert_eq!(names.try_get_or_intern("256"), no_symbol);
+    assert_eq!(names.try_get_or_intern_static("256"), no_symbol);
+    assert_eq!(names.try_get_or_intern("7"), Ok(Byte(7)));
+    assert_eq!((names.get("256"), names.len()), (None, 256));
+    let json = names.to_json().replace(']', ",\"256\"]");
+    let read = StringInterner::<B>::from_json(&json);
+    assert_eq!(read.err(), Some(JsonError::NoSymbol));
+    names
+}
+
+#[test]
+fn a_full_backend_of_the_program_is_an_error() {
+    let mut names = fill::<Small>();
+    names.truncate(255);
+    assert_eq!(names.try_get_or_intern_static("256"), Ok(Byte(255)));
+    assert!(names.iter().last() == Some((Byte(255), "256")));
+}
+
+#[test]
+fn a_backend_around_another_one_hands_its_errors_on() {
+    fill::<Counted<Small>>();
+    fill::<Counted<StringBackend<Byte>>>();
+    let mut texts = Counted::<BucketBackend<Byte>>::default();
+    texts.intern("Tiger");
+    assert_eq!(texts.intern_static("Horse"), Byte(1));
+    assert_eq!(texts.counts, [2, 0]);
+    assert_eq!(texts.try_intern_static("Zebra"), Ok(Byte(2)));
+    assert_eq!(texts.counts, [2, 1]);
 }
 
 /// A hash whose lower half says little, such as those that multiply and shift nothing down.

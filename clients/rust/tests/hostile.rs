@@ -25,6 +25,12 @@ fn spell(number: usize) -> String {
 #[derive(Clone, Copy)]
 struct Liar(usize);
 
+impl Liar {
+    const fn from_number(number: usize) -> Option<Self> {
+        Some(Liar(number + 1))
+    }
+}
+
 impl PartialEq for Liar {
     fn eq(&self, _: &Self) -> bool {
         false
@@ -44,8 +50,14 @@ impl Symbol for Liar {
     }
 }
 
+mod of_liar {
+    string_interner::keywords! { super::Liar; ZERO = "text 0", ONE = "text 1" }
+}
+
 fn symbols_that_lie<B: Backend<Symbol = Liar>>() {
     let mut interner = StringInterner::<B>::new();
+    assert!(panics(|| interner.intern_keywords(of_liar::KEYWORDS)));
+    assert!(panics(|| interner[of_liar::ONE].len()));
     for number in 0..300 {
         let _ = catch_unwind(AssertUnwindSafe(|| interner.get_or_intern(spell(number))));
         let _ = catch_unwind(AssertUnwindSafe(|| {
@@ -58,10 +70,37 @@ fn symbols_that_lie<B: Backend<Symbol = Liar>>() {
         ] {
             assert!(interner
                 .resolve(liar)
-                .map_or(true, |text| text.chars().count() <= 8));
+                .is_none_or(|text| text.chars().count() <= 8));
             let _ = interner.get_or_intern_part(liar, 1..3);
+            assert!(panics(|| interner[liar].len()) || interner[liar].chars().count() <= 8);
         }
     }
+}
+
+/// The same over a shared interner.
+fn shared_symbols_that_lie() {
+    let names = Interner::<Liar, Careless>::default();
+    assert!(panics(|| names.intern_keywords(of_liar::KEYWORDS)));
+    let is_whole = |text: &str| text.chars().count() <= 8;
+    for number in 0..300 {
+        let _ = catch_unwind(AssertUnwindSafe(|| names.get_or_intern(spell(number))));
+        for liar in [Liar(number), Liar(usize::MAX - number)] {
+            assert!(panics(|| names[liar].len()) || is_whole(&names[liar]));
+        }
+        let walk = || names.iter_from(number).all(|(_, text)| is_whole(text));
+        assert!(catch_unwind(AssertUnwindSafe(walk)).unwrap_or(true));
+        assert!(panics(|| names.iter().nth(3 + number).unwrap().1.len()));
+    }
+    assert!(panics(|| Interner::<Liar, Careless>::from_iter(
+        (0..9).map(spell)
+    )));
+    assert_eq!(names.len(), 3);
+    let mut plain = StringInterner::<BucketBackend<Liar>, Careless>::new();
+    for number in 0..9 {
+        let _ = catch_unwind(AssertUnwindSafe(|| plain.get_or_intern(spell(number))));
+    }
+    let count = plain.len();
+    assert_eq!(Interner::from(plain).len(), count);
 }
 
 /// Keys that are all alike, or a panic.
@@ -87,12 +126,20 @@ impl BuildHasher for Careless {
     }
 }
 
+mod kw {
+    string_interner::keywords! { ZERO = "text 0", ONE = "text 1" }
+}
+
 fn hashers_that_panic_or_are_constant() {
     type Careful = StringInterner<StringBackend, Careless>;
     assert!(panics(
         || Careful::with_hasher(Careless(true)).get_or_intern("a")
     ));
+    assert!(panics(
+        || Careful::with_hasher(Careless(true)).intern_keywords(kw::KEYWORDS)
+    ));
     let mut interner = Careful::with_hasher(Careless(false));
+    interner.intern_keywords(kw::KEYWORDS);
     interner.extend((0..500).map(spell));
     assert!((0..500).all(|number| interner.get(spell(number)).is_some()));
     assert!(interner.clone() == interner && interner.len() == 500);
@@ -186,6 +233,10 @@ fn more_than_there_is() {
         DefaultStringInterner::<BufferBackend>::with_capacity(usize::MAX / 2)
     }));
     assert!(panics(|| interner.intern_all(Boasts(["b"].into_iter()))));
+    let shared = Interner::new();
+    assert!(panics(|| shared.intern_all(Boasts(["b"].into_iter()))));
+    assert!(panics(|| Interner::with_capacity(usize::MAX / 2)));
+    assert!(shared.is_empty());
     assert_eq!(interner.len(), 300);
 }
 
@@ -280,12 +331,13 @@ fn a_symbol_type_that_wraps() {
 
 #[test]
 fn programs() {
-    let programs: [fn(); 10] = [
+    let programs: [fn(); 11] = [
         || {
             symbols_that_lie::<StringBackend<Liar>>();
             symbols_that_lie::<BucketBackend<Liar>>();
             symbols_that_lie::<BufferBackend<Liar>>();
         },
+        shared_symbols_that_lie,
         hashers_that_panic_or_are_constant,
         threads_that_read_and_leave,
         || {

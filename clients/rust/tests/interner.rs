@@ -11,6 +11,7 @@ use string_interner::{
 
 use std::cell::Cell;
 use std::collections::HashMap;
+use std::hash::{BuildHasher, DefaultHasher};
 use std::ops::Bound;
 use std::panic::{catch_unwind, AssertUnwindSafe};
 use std::thread;
@@ -170,17 +171,24 @@ fn json<B: Backend>() {
     check_texts(&StringInterner::<B>::from_json(&json).unwrap());
     let repeated = StringInterner::<B>::from_json(r#" ["a", "\u0061", "b"] "#).unwrap();
     assert_eq!(texts(&repeated), ["a", "b"]);
+    let not_json = |line, column| JsonError::NotJson { line, column };
     let rows = [
-        ("[\"a\"", JsonError::NotJson),
+        ("[\"a\"", not_json(1, 4)),
+        ("", not_json(1, 0)),
+        ("[\"a\",\n\n \"ß\" b]", not_json(3, 7)),
+        ("[\"a\"]\n ]", not_json(2, 2)),
+        ("[}\n 1]", not_json(2, 2)),
         ("{}", JsonError::NotAList),
-        ("[\"a\",1]", JsonError::NotAText),
-        ("[1e308]", JsonError::NotAText),
-        ("[-1e309]", JsonError::NotJson),
+        ("[\"a\",1]", JsonError::NotAText { index: 1 }),
+        ("[1e308]", JsonError::NotAText { index: 0 }),
+        ("[-1e309]", not_json(1, 8)),
     ];
     for (json, error) in rows {
         assert_eq!(StringInterner::<B>::from_json(json).err(), Some(error));
     }
-    for (nested, error) in [(127, JsonError::NotAText), (128, JsonError::NotJson)] {
+    // The token behind the last bracket that opens.
+    let too_deep = not_json(1, 129);
+    for (nested, error) in [(127, JsonError::NotAText { index: 0 }), (128, too_deep)] {
         let json = "[".repeat(nested) + &"]".repeat(nested);
         assert_eq!(StringInterner::<B>::from_json(&json).err(), Some(error));
     }
@@ -254,7 +262,7 @@ fn intern_parts<B: Backend>() {
             let len = interner.len();
             let known = text
                 .get(from..to)
-                .map_or(true, |part| interner.contains(part));
+                .is_none_or(|part| interner.contains(part));
             let part = interner.get_or_intern_part(whole, from..to);
             assert_eq!(
                 part.and_then(|part| interner.resolve(part)),
@@ -479,6 +487,57 @@ fn a_known_text_keeps_its_symbol() {
     assert!(panics(|| interner.get_or_intern("d")));
     LIMIT.set(9);
     assert_eq!(texts(&interner), ["a", "b", "c"]);
+}
+
+/// `names[symbol]` is the text, and panics for the symbol of a text that is not there.
+fn indexed<B: Backend>() {
+    let mut names: StringInterner<B> = TEXTS.into_iter().collect();
+    for (symbol, text) in &names {
+        assert_eq!(&names[symbol], text);
+        assert_eq!(names[symbol].len(), text.len());
+    }
+    let dropped = names.get_or_intern("dropped");
+    assert_eq!(&names[dropped], "dropped");
+    names.truncate(TEXTS.len());
+    assert!(panics(|| names[dropped].len()));
+    assert!(panics(|| StringInterner::<B>::new()[dropped].len()));
+}
+
+#[test]
+fn indexed_over_each_backend() {
+    indexed::<StringBackend<SymbolU16>>();
+    indexed::<BucketBackend>();
+    indexed::<BufferBackend<usize>>();
+}
+
+#[test]
+fn an_index_that_is_wrong_names_the_number() {
+    let names: DefaultStringInterner = ["a"].into_iter().collect();
+    let panicked = catch_unwind(|| names[SymbolU32::try_from_usize(7).unwrap()].len());
+    let message = panicked.unwrap_err();
+    let message = message.downcast_ref::<String>().unwrap();
+    assert_eq!(message, "no text has the symbol with the number 7");
+}
+
+/// A hasher of the program's own that an interner lends again.
+#[derive(Clone, Debug, PartialEq)]
+struct Named(&'static str);
+
+impl BuildHasher for Named {
+    type Hasher = DefaultHasher;
+
+    fn build_hasher(&self) -> DefaultHasher {
+        DefaultHasher::new()
+    }
+}
+
+#[test]
+fn the_hasher_is_lent() {
+    let mut names = StringInterner::<BucketBackend, _>::with_hasher(Named("one"));
+    names.get_or_intern("a");
+    assert_eq!(names.hasher(), &Named("one"));
+    let copy = StringInterner::<StringBackend, _>::with_hasher(names.hasher().clone());
+    assert_eq!(copy.hasher(), names.clone().hasher());
 }
 
 #[test]

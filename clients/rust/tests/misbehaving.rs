@@ -10,6 +10,7 @@ use std::str;
 use std::thread;
 
 use string_interner::backend::{Backend, BucketBackend, BufferBackend, StringBackend};
+use string_interner::hasher::FixedHashBuilder;
 use string_interner::{DefaultBackend, DefaultStringInterner, StringInterner, Symbol};
 
 thread_local! {
@@ -61,7 +62,7 @@ fn make_all_calls<B: Backend + Clone + PartialEq, H: BuildHasher + Clone>(
         symbols.extend(attempt(|| interner.get(&text)).flatten());
         let _ = attempt(|| interner.extend([&text, "a", "b"]));
         if let Some(symbol) = symbols.get(random() % (symbols.len() + 1)).copied() {
-            let found = attempt(|| interner.resolve(symbol).map_or(true, is_text));
+            let found = attempt(|| interner.resolve(symbol).is_none_or(is_text));
             assert!(found != Some(false));
             let _ = attempt(|| interner.get_or_intern_part(symbol, 1..));
         }
@@ -74,6 +75,10 @@ fn make_all_calls<B: Backend + Clone + PartialEq, H: BuildHasher + Clone>(
             }
             let _ = attempt(|| interner.truncate(random() % 100));
             interner.shrink_to_fit();
+        } else if round % 4 == 0 {
+            // So few that their symbols are removed from the index.
+            let len = interner.len();
+            let _ = attempt(|| interner.truncate(len - len / 10));
         }
         LEFT.set(0);
         let _ = attempt(|| interner.get("static").map(|symbol| symbol.to_usize()));
@@ -341,6 +346,97 @@ fn a_backend_that_panics_as_it_is_dropped() {
     assert!((1..100).all(|number| interner.get(spell(number)).is_none()));
 }
 
+/// A hasher that hashes well until it panics.
+#[derive(Default)]
+struct Stops;
+
+impl BuildHasher for Stops {
+    type Hasher = <FixedHashBuilder as BuildHasher>::Hasher;
+
+    fn build_hasher(&self) -> Self::Hasher {
+        tick();
+        FixedHashBuilder.build_hasher()
+    }
+}
+
+/// The texts that stay keep their symbols, and those that the hasher came to are found.
+fn stop_while_texts_are_dropped<B: Backend>() {
+    for stop in 1..=50 {
+        let mut interner = StringInterner::<B, Stops>::new();
+        let symbols = interner.intern_all((0..100).map(spell));
+        LEFT.set(stop);
+        assert!(attempt(|| interner.truncate(50)).is_none());
+        LEFT.set(0);
+        assert_eq!((interner.len(), interner.iter().count()), (50, 50));
+        for (number, &symbol) in symbols.iter().enumerate() {
+            let kept = (number < 50).then(|| spell(number));
+            assert_eq!(interner.resolve(symbol), kept.as_deref());
+            let is_found = interner.get(spell(number)) == Some(symbol);
+            assert_eq!(is_found, number + 1 < stop);
+        }
+        interner.extend((0..100).map(spell));
+        assert_eq!(interner.len(), 101 + 50 - stop);
+        truncate_well(interner);
+    }
+}
+
+/// The same where so few texts go that each of them is hashed.
+fn stop_while_few_are_dropped<B: Backend>() {
+    for stop in 1..=10 {
+        let mut interner = StringInterner::<B, Stops>::new();
+        let symbols = interner.intern_all((0..100).map(spell));
+        LEFT.set(stop);
+        assert!(attempt(|| interner.truncate(90)).is_none());
+        LEFT.set(0);
+        assert_eq!((interner.len(), interner.iter().count()), (101 - stop, 100));
+        for (number, &symbol) in symbols.iter().enumerate() {
+            assert_eq!(interner.resolve(symbol), Some(&*spell(number)));
+            let is_found = interner.get(spell(number)) == Some(symbol);
+            assert_eq!(is_found, !(90..89 + stop).contains(&number));
+        }
+        truncate_well(interner);
+    }
+}
+
+/// What was not found is dropped, or is found again.
+fn truncate_well<B: Backend>(mut interner: StringInterner<B, Stops>) {
+    interner.truncate(50);
+    assert_eq!((interner.len(), interner.iter().count()), (50, 50));
+    assert!(interner
+        .iter()
+        .all(|(symbol, text)| interner.get(text) == Some(symbol)));
+}
+
+#[test]
+fn hashers_that_panic_while_texts_are_dropped() {
+    stop_while_texts_are_dropped::<StringBackend>();
+    stop_while_texts_are_dropped::<BucketBackend>();
+    stop_while_texts_are_dropped::<BufferBackend>();
+    stop_while_few_are_dropped::<StringBackend>();
+    stop_while_few_are_dropped::<BucketBackend>();
+    stop_while_few_are_dropped::<BufferBackend>();
+}
+
+/// A backend of a program's own has the first texts then.
+#[test]
+fn hashers_that_panic_while_a_backend_is_made_anew() {
+    for stop in 1..=50 {
+        let mut interner = StringInterner::<Trusting, Stops>::new();
+        interner.extend((0..100).map(spell));
+        LEFT.set(stop);
+        assert!(attempt(|| interner.truncate(50)).is_none());
+        LEFT.set(0);
+        assert_eq!(interner.len(), stop - 1);
+        assert!(interner
+            .iter()
+            .map(|(_, text)| text)
+            .eq((0..stop - 1).map(spell)));
+        assert!(interner
+            .iter()
+            .all(|(symbol, text)| interner.get(text) == Some(symbol)));
+    }
+}
+
 /// A value that is another text each time, or panics.
 struct Turns(Cell<usize>);
 
@@ -455,6 +551,7 @@ impl Symbol for Stays {
 fn what_is_forgotten_swapped_or_leaked() {
     let mut interner = StringInterner::<BucketBackend<Stays>>::new();
     let first = interner.get_or_intern("first");
+    #[allow(clippy::forget_non_drop)]
     mem::forget(interner.iter());
     let mut other = interner.clone();
     mem::swap(&mut interner, &mut other);
@@ -483,7 +580,7 @@ fn symbols_of_others() {
         let long: StringInterner<B> = (0..900).map(spell).collect();
         let short: StringInterner<B> = (0..9).map(|number| "語".repeat(number)).collect();
         for (symbol, _) in &long {
-            assert!(short.resolve(symbol).map_or(true, is_text));
+            assert!(short.resolve(symbol).is_none_or(is_text));
         }
     }
     over::<StringBackend>();

@@ -3,8 +3,10 @@
 use std::cell::RefCell;
 use std::panic::{catch_unwind, set_hook, take_hook, AssertUnwindSafe};
 
-use string_interner::backend::{Backend, StringBackend};
-use string_interner::{StringInterner, Symbol};
+use string_interner::backend::{Backend, BufferBackend, StringBackend};
+use string_interner::hasher::FixedHashBuilder;
+use string_interner::sync::Interner;
+use string_interner::{DefaultSymbol, StringInterner, Symbol};
 
 /// A symbol that stands for no text.
 #[derive(Clone, Copy, Debug, PartialEq, Eq)]
@@ -18,6 +20,10 @@ impl Symbol for Never {
     fn to_usize(self) -> usize {
         match self {}
     }
+}
+
+mod kw {
+    string_interner::keywords! { A = "a", B = "b" }
 }
 
 thread_local! {
@@ -55,12 +61,20 @@ fn panics_name_the_caller() {
     keep_places();
     let mut interner = StringInterner::<StringBackend<Never>>::new();
     let mut backend = StringBackend::<Never>::default();
+    let unknown = DefaultSymbol::try_from_usize(0).unwrap();
     let places = [
         places_of!(interner.get_or_intern("a")),
         places_of!(interner.get_or_intern_static("a")),
         places_of!(interner.extend(["a"])),
         places_of!(interner.intern_all(["a"])),
         places_of!(StringInterner::<StringBackend>::with_capacity(usize::MAX)),
+        places_of!(Interner::with_capacity(usize::MAX)),
+        places_of!(StringInterner::default()[unknown].len()),
+        places_of!(Interner::new()[unknown].len()),
+        places_of!(Interner::<Never, FixedHashBuilder>::from_iter(["a"])),
+        places_of!(Interner::<Never, FixedHashBuilder>::default().intern_all(["a"])),
+        places_of!(StringInterner::<BufferBackend>::new().intern_keywords(kw::KEYWORDS)),
+        places_of!(Interner::from_iter(["b"]).intern_keywords(kw::KEYWORDS)),
         places_of!(backend.intern("a")),
         places_of!(backend.intern_static("a")),
         places_of!(StringBackend::<Never>::with_capacity(usize::MAX)),

@@ -111,7 +111,7 @@ impl<B: Backend> Beside<B> {
         } else {
             self.interner.get_or_intern(&text)
         };
-        assert!(known.map_or(true, |known| known == symbol));
+        assert!(known.is_none_or(|known| known == symbol));
         if known.is_none() {
             self.texts.push(text);
             self.symbols.push(symbol);
@@ -142,7 +142,7 @@ impl<B: Backend> Beside<B> {
 
     fn resolve_any_number(&mut self) {
         if let Some(symbol) = B::Symbol::try_from_usize(self.random.number()) {
-            assert!(self.interner.resolve(symbol).map_or(true, is_text));
+            assert!(self.interner.resolve(symbol).is_none_or(is_text));
         }
     }
 
@@ -276,7 +276,7 @@ fn lie<B: Backend<Symbol = Liar>>(mut random: Random, calls: usize) {
         let _ = catch_unwind(|| interner.iter().all(|(_, text)| is_text(text)));
         let _ = catch_unwind(|| StringInterner::<B>::from_json("[\"a\",\"b\"]").is_ok());
         let any = symbols.get(random.below(symbols.len() + 1));
-        let _ = catch_unwind(|| any.map(|symbol| interner.resolve(*symbol).map_or(true, is_text)));
+        let _ = catch_unwind(|| any.map(|symbol| interner.resolve(*symbol).is_none_or(is_text)));
         LIE.set(0);
         for (_, text) in &interner {
             assert!(is_text(text));
@@ -305,7 +305,7 @@ pub fn make_chosen_calls(bytes: &[u8]) {
         }
     }
     let mut random = Random {
-        chosen: bytes.to_vec().into_iter(),
+        chosen: Vec::from(bytes).into_iter(),
         ..Random::new(1)
     };
     match random.below(9) {

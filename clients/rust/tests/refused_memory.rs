@@ -13,7 +13,8 @@ use string_interner::{InternError, JsonError, StringInterner};
 
 /// Makes a call over and over, of which each time a later request is refused, until none is. Returns how many were.
 fn refuse_each<T>(mut call: impl FnMut() -> T, mut check: impl FnMut(T)) -> usize {
-    for number in 1.. {
+    let mut number = 1;
+    loop {
         REFUSED.set(number);
         let returned = call();
         let was_refused = REFUSED.replace(0) == 0;
@@ -21,8 +22,8 @@ fn refuse_each<T>(mut call: impl FnMut() -> T, mut check: impl FnMut(T)) -> usiz
         if !was_refused {
             return number - 1;
         }
+        number += 1;
     }
-    unreachable!()
 }
 
 fn spell(number: usize) -> String {
@@ -89,13 +90,13 @@ fn other_calls<B: Backend>() {
                 interner.get_or_intern_part(symbol, 1..31)
             }))
         },
-        |part| drop(part),
+        drop,
     );
     let truncated = refuse_each(
         || catch_unwind(AssertUnwindSafe(|| interner.truncate(100))),
-        |returned| drop(returned),
+        drop,
     );
-    assert!(copied > 1 && part > 0 && truncated > 0);
+    assert!(copied > 1 && part > 0 && truncated == 0);
     holds(&interner, 100);
     refuse_each(|| interner.shrink_to_fit(), |()| ());
     holds(&interner, 100);

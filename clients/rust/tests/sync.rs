@@ -145,6 +145,30 @@ fn threads_race_for_each_text() {
     assert_eq!(interner.len(), 300);
 }
 
+/// Whoever is told how many texts there are finds each of them, also one that another thread is just adding.
+#[test]
+fn each_number_below_the_length_has_a_text() {
+    const TEXTS: usize = 100_000;
+    let interner = Interner::new();
+    thread::scope(|scope| {
+        for thread in 0..3 {
+            let names = &interner;
+            scope.spawn(move || {
+                (0..TEXTS).for_each(|number| {
+                    names.get_or_intern(format!("{thread} {number}"));
+                })
+            });
+        }
+        while interner.len() < 3 * TEXTS {
+            let Some(last) = interner.len().checked_sub(1) else {
+                continue;
+            };
+            let symbol = DefaultSymbol::try_from_usize(last).unwrap();
+            assert!(interner.resolve(symbol).is_some(), "{last} has no text");
+        }
+    });
+}
+
 /// A text is read while so many others come that its shard moves all that it may move.
 #[test]
 fn a_text_is_lent_while_others_come() {

@@ -1,10 +1,12 @@
 //! What a shared interner has beside that threads share it: symbols in order, types of symbols and hashers, long and static texts,
 //! iterating, and making a plain interner of it.
 
+use std::cell::Cell;
 use std::hash::{BuildHasher, BuildHasherDefault, Hasher, RandomState};
+use std::panic::catch_unwind;
 use std::thread;
 
-use string_interner::backend::{Backend, StringBackend};
+use string_interner::backend::{Backend, BucketBackend, StringBackend};
 use string_interner::hasher::FixedHashBuilder;
 use string_interner::symbol::{SymbolU16, SymbolUsize};
 use string_interner::sync::Interner;
@@ -171,6 +173,172 @@ fn iterating_over_a_snapshot() {
     assert!(before
         .map(|(_, text)| text.to_owned())
         .eq((0..100).map(|number| number.to_string())));
+}
+
+/// What is new since a number, however many texts came before.
+#[test]
+fn iterating_from_a_number() {
+    let names: Interner = (0..1_000).map(|number| number.to_string()).collect();
+    for from in [0, 1, 63, 64, 999, 1_000, 1_001, 1 << 32, usize::MAX] {
+        let walk = names.iter_from(from);
+        let numbers = from.min(1_000)..1_000;
+        assert_eq!(walk.len(), numbers.len());
+        assert!(walk.clone().eq(names.iter().skip(from)));
+        assert!(walk
+            .map(|(symbol, text)| (symbol.to_usize(), text.to_owned()))
+            .eq(numbers.map(|number| (number, number.to_string()))));
+    }
+    let mut walk = names.iter_from(10);
+    assert_eq!(walk.nth(5).map(|(_, text)| text), Some("15"));
+    assert_eq!((walk.len(), walk.next().unwrap().1), (984, "16"));
+    assert!(walk.nth(983).is_none() && walk.next().is_none());
+}
+
+/// Neither a number nor `skip` makes a symbol of each text before.
+#[test]
+fn iterating_passes_no_text() {
+    thread_local! {
+        static MADE: Cell<usize> = const { Cell::new(0) };
+    }
+
+    #[derive(Clone, Copy, Debug, PartialEq, Eq)]
+    struct Counted(usize);
+
+    impl Symbol for Counted {
+        fn try_from_usize(index: usize) -> Option<Self> {
+            MADE.set(MADE.get() + 1);
+            Some(Counted(index))
+        }
+
+        fn to_usize(self) -> usize {
+            self.0
+        }
+    }
+
+    let texts = (0..1_000).map(|number| number.to_string());
+    let names: Interner<Counted, FixedHashBuilder> = texts.collect();
+    MADE.set(0);
+    assert_eq!(names.iter_from(998).last(), Some((Counted(999), "999")));
+    assert_eq!(MADE.replace(0), 2);
+    assert_eq!(names.iter().nth(998), Some((Counted(998), "998")));
+    assert_eq!(names.iter().skip(999).count(), 1);
+    assert!(MADE.get() <= 3);
+}
+
+#[test]
+fn texts_by_index() {
+    let names = Interner::from_iter(["Tiger", ""]);
+    for (symbol, text) in &names {
+        assert_eq!(&names[symbol], text);
+    }
+    let lent: &str = &names[names.get("Tiger").unwrap()];
+    names.get_or_intern("Horse");
+    assert_eq!(lent, "Tiger");
+    let unknown = DefaultSymbol::try_from_usize(3).unwrap();
+    let panicked = catch_unwind(|| names[unknown].len()).unwrap_err();
+    let message = panicked.downcast_ref::<String>().unwrap();
+    assert_eq!(message, "no text has the symbol with the number 3");
+}
+
+/// A struct that derives, over types of symbols and hashers that are not the default ones.
+#[derive(Debug, Default)]
+struct Parser {
+    names: Interner<SymbolU16, FixedHashBuilder>,
+    keyed: Interner<usize, RandomState>,
+}
+
+#[test]
+fn default_and_collected() {
+    let parser = Parser::default();
+    assert!(parser.names.is_empty() && parser.keyed.is_empty());
+    assert_eq!(parser.keyed.get_or_intern("a"), 0);
+    let of_two: Interner<SymbolU16, RandomState> = ["b", "a", "b"].into_iter().collect();
+    let by_name = Interner::<usize, FixedHashBuilder>::from_iter(["b", "a", "b"]);
+    // Without an annotation the types are the default ones.
+    let (usual, empty) = (Interner::from_iter(["b", "a", "b"]), Interner::default());
+    // The type that it takes is that of the texts, as of the trait's call.
+    assert_eq!(Interner::from_iter::<Vec<&str>>(vec!["b", "a"]).len(), 2);
+    let symbols: [DefaultSymbol; 2] = ["a", "b"].map(|text| usual.get(text).unwrap());
+    assert_eq!(symbols.map(Symbol::to_usize), [1, 0]);
+    let numbers = [
+        of_two.get("a").unwrap().to_usize(),
+        by_name.get("a").unwrap(),
+    ];
+    assert_eq!(
+        (numbers, of_two.len(), by_name.len(), empty.len()),
+        ([1, 1], 2, 2, 0)
+    );
+}
+
+#[test]
+fn the_hasher_is_lent() {
+    let keys = RandomState::new();
+    let names = Interner::<DefaultSymbol, _>::with_hasher(keys.clone());
+    names.get_or_intern("Tiger");
+    assert_eq!(names.hasher().hash_one("Tiger"), keys.hash_one("Tiger"));
+}
+
+/// Many texts at once get the symbols that a plain interner gives them, also while other threads intern them.
+#[test]
+fn many_texts_at_once() {
+    let texts: Vec<String> = (0..4_000).map(spell).collect();
+    let mut plain = StringInterner::<StringBackend>::new();
+    let wanted = plain.intern_all(&texts);
+    let names = Interner::new();
+    assert_eq!(names.intern_all(&texts), wanted);
+    assert_eq!(names.intern_all(&texts[3_000..]), wanted[3_000..]);
+    assert!(names.intern_all([""; 0]).is_empty() && names.len() == plain.len());
+    let shared = Interner::new();
+    let all = thread::scope(|scope| {
+        let intern = || shared.intern_all(&texts);
+        [scope.spawn(intern), scope.spawn(intern)].map(|thread| thread.join().unwrap())
+    });
+    assert_eq!(all[0], all[1]);
+    assert!(all[0]
+        .iter()
+        .zip(&texts)
+        .all(|(symbol, text)| shared[*symbol] == **text));
+}
+
+/// A shared interner that is made of a plain one has its texts under its symbols, and goes on counting.
+fn made_of_plain<B, S, H>()
+where
+    B: Backend<Symbol = S>,
+    S: Symbol + std::fmt::Debug,
+    H: BuildHasher + Clone + Default,
+    StringInterner<B, H>: Clone,
+    Interner<S, H>: From<StringInterner<B, H>>,
+{
+    let mut plain = StringInterner::<B, H>::new();
+    plain.get_or_intern_static("static");
+    plain.extend((0..3_000).map(spell));
+    let shared = Interner::from(plain.clone());
+    assert!(shared.iter().eq(plain.iter()) && shared.len() == plain.len());
+    assert!(plain
+        .iter()
+        .all(|(symbol, text)| shared.get(text) == Some(symbol) && &shared[symbol] == text));
+    assert_eq!(shared.get_or_intern("a new text").to_usize(), plain.len());
+    let again = shared.into_interner();
+    assert!(again.iter().take(plain.len()).eq(plain.iter()));
+    let none: Interner<S, H> = StringInterner::<B, H>::new().into();
+    assert!(none.is_empty());
+}
+
+#[test]
+fn plain_interners_are_shared() {
+    made_of_plain::<StringBackend, DefaultSymbol, DefaultHashBuilder>();
+    made_of_plain::<StringBackend<SymbolU16>, _, FixedHashBuilder>();
+    made_of_plain::<BucketBackend<SymbolUsize>, _, RandomState>();
+    made_of_plain::<BucketBackend<usize>, _, BuildHasherDefault<Constant>>();
+}
+
+/// It has the hasher of the plain interner, and with it the keys.
+#[test]
+fn the_hasher_goes_along() {
+    let keys = RandomState::new();
+    let plain = StringInterner::<StringBackend, _>::with_hasher(keys.clone());
+    let shared = Interner::from(plain);
+    assert_eq!(shared.hasher().hash_one("Tiger"), keys.hash_one("Tiger"));
 }
 
 /// A plain interner that was made of a shared one goes on counting.

@@ -5,11 +5,13 @@ mod allocator;
 
 use std::cell::Cell;
 use std::hash::{BuildHasher, BuildHasherDefault, Hasher};
-use std::panic::{catch_unwind, AssertUnwindSafe};
+use std::panic::{catch_unwind, resume_unwind, AssertUnwindSafe};
 use std::sync::atomic::{AtomicUsize, Ordering};
+use std::sync::Barrier;
 use std::thread;
 
-use allocator::REFUSED;
+use allocator::{ALONE, HELD, REFUSED, REQUESTS, REQUESTS_ALONE};
+use string_interner::hasher::FixedHashBuilder;
 use string_interner::symbol::SymbolU16;
 use string_interner::sync::Interner;
 use string_interner::{DefaultHashBuilder, DefaultSymbol, InternError, Symbol};
@@ -72,6 +74,127 @@ fn memory_is_refused() {
     holds(&names, 2_000);
     // Each of 32 shards grew several times, and so did the table.
     assert!(refusals > 300, "{refusals}");
+}
+
+/// Each request for capacity is refused once, behind those of a new interner, which end the process.
+#[test]
+fn capacity_is_refused() {
+    let before = REQUESTS.get();
+    drop(Interner::new());
+    let of_new = REQUESTS.get() - before;
+    let mut refusals = 0;
+    let names = loop {
+        REFUSED.set(of_new + refusals + 1);
+        let made = catch_unwind(|| Interner::with_capacity(1_000));
+        if REFUSED.replace(0) > 0 {
+            break made.unwrap();
+        }
+        let message = made.err().unwrap();
+        assert_eq!(message.downcast_ref::<String>().unwrap(), "out of memory");
+        refusals += 1;
+    };
+    // Each of 32 shards asks for two indexes and a list.
+    assert!(refusals > 96, "{refusals}");
+    (&names).extend((0..1_000).map(spell));
+    holds(&names, 1_000);
+}
+
+/// Threads need more of the table of texts at the same time, and there is memory for that once. One of them asks for it.
+#[test]
+fn a_part_of_the_table_is_made_once() {
+    const THREADS: usize = 4;
+    let names: Interner = (0..64).map(spell).collect();
+    let start = Barrier::new(THREADS);
+    let interned = thread::scope(|scope| {
+        let threads = [0, 1, 2, 3].map(|thread| {
+            let (names, start) = (&names, &start);
+            scope.spawn(move || {
+                let text = spell(64 + thread);
+                start.wait();
+                // The table has eight bytes for each of 64 texts, and then of 128 more.
+                ALONE.set(8 * 128);
+                let returned = names.try_get_or_intern(&text);
+                ALONE.set(0);
+                returned
+            })
+        });
+        threads.map(|thread| thread.join().unwrap())
+    });
+    assert!(interned.iter().all(Result::is_ok), "{interned:?}");
+    assert_eq!(REQUESTS_ALONE.load(Ordering::SeqCst), 1);
+    assert_eq!(names.iter().count(), 64 + THREADS);
+}
+
+/// A symbol type that has no symbol when its time has come, or panics then without a message.
+#[derive(Clone, Copy, Debug, PartialEq, Eq)]
+struct Fails<const BY_PANIC: bool>(u32);
+
+impl<const BY_PANIC: bool> Symbol for Fails<BY_PANIC> {
+    fn try_from_usize(index: usize) -> Option<Self> {
+        let fails = is_due(&PANICS);
+        if fails && BY_PANIC {
+            resume_unwind(Box::new(()));
+        }
+        (!fails).then_some(Fails(index as u32))
+    }
+
+    fn to_usize(self) -> usize {
+        self.0 as usize
+    }
+}
+
+/// Makes a call that fails over and over. Once all has room that it needs beside the text, it leaves no memory behind.
+fn leaves_nothing(call: impl Fn() -> bool) {
+    assert!((0..10).all(|_| !call()));
+    let held = HELD.get();
+    for _ in 0..300 {
+        assert!(!call());
+        assert_eq!(HELD.get(), held);
+    }
+}
+
+/// The symbol fails once the text is copied, or stands in the list of long texts.
+fn symbols_fail<const BY_PANIC: bool>() {
+    const LENS: [usize; 6] = [9, 90, 900, 9_000, 90_000, 3];
+    let names = Interner::<Fails<BY_PANIC>, _>::with_hasher(FixedHashBuilder);
+    for (number, len) in LENS.into_iter().enumerate() {
+        let text: &'static str = "x".repeat(len).leak();
+        let fails = |intern: &dyn Fn() -> Option<Fails<BY_PANIC>>| {
+            // The first call asks whether there is a symbol, and the second for that of the number which is taken.
+            PANICS.set(2);
+            let returned = catch_unwind(AssertUnwindSafe(intern));
+            assert_eq!(PANICS.replace(0), 0);
+            returned.is_ok_and(|symbol| symbol.is_some())
+        };
+        leaves_nothing(|| fails(&|| names.try_get_or_intern(text).ok()));
+        leaves_nothing(|| fails(&|| names.try_get_or_intern_static(text).ok()));
+        assert_eq!(names.get_or_intern(text).to_usize(), number);
+    }
+    assert!(names.iter().map(|(_, text)| text.len()).eq(LENS));
+}
+
+#[test]
+fn a_call_that_fails_gives_its_memory_back() {
+    symbols_fail::<false>();
+    symbols_fail::<true>();
+}
+
+/// A long text is copied, and then the list of long texts is refused memory: the last of the requests of this call.
+#[test]
+fn a_long_text_that_is_refused_gives_its_memory_back() {
+    let names = Interner::<DefaultSymbol, _>::with_hasher(FixedHashBuilder);
+    (&names).extend((0..98).map(spell));
+    let long = "long ".repeat(20_000);
+    leaves_nothing(|| {
+        REFUSED.set(2);
+        let returned = names.try_get_or_intern(&long);
+        assert_eq!(REFUSED.replace(0), 0);
+        returned.is_ok()
+    });
+    REFUSED.set(3);
+    assert_eq!(names.get_or_intern(&long).to_usize(), 98);
+    assert_eq!(REFUSED.replace(0), 1);
+    assert_eq!(names.iter().last().unwrap().1, long);
 }
 
 /// A known text needs no memory.

@@ -28,3 +28,4 @@ pub mod LineBounds
 pub mod AreRows
 pub mod Sharded
 pub mod ShardCounts
+pub mod LetterBegin

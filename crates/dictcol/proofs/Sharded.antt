@@ -4,10 +4,10 @@ use Rattle.std.proofs.lemmas.Bool.{true≢false}
 use Rattle.std.specs.Prelude.{decimal, slice_set, IsSome, IfSome, OnOk}
 use Rattle.std.specs.List.{All, AllByRecursion}
 use Rattle.std.specs.Io.KnownBytes.{append_known, Keeps}
-use Rattle.std.proofs.lemmas.List.{append-nil, append_assoc, length-set, get_or-set_same, get_or-set_other}
+use Rattle.std.proofs.lemmas.List.{append-nil, append_assoc, length-set, get_or-set_same, get_or-set_other, nil_from_length}
 use Rattle.std.proofs.lemmas.List.Elements.{filter-append, recursion_from_All}
 use Rattle.string_interner.specs.Text.{Text}
-use Rattle.dictcol.specs.Shards.{ended_text, shard_of, shard_lines, order_lines, AreShards, IsKnown, held_by, HasSharded, HoldShards, IsWritten}
+use Rattle.dictcol.specs.Shards.{ended_text, shard_of, shard_lines, order_lines, AreShards, IsKnown, held_by, HasSharded, HoldShards, IsWritten, WaitsAtMost}
 use Rattle.dictcol.specs.Blocks.{IsTextOf}
 use Rattle.dictcol.specs.Lines.{lines_of}
 use Rattle.dictcol.specs.declared.fault.Fault.{Fault}
@@ -121,14 +121,17 @@ module _ {W : Type 0} (contents : W → Option Text) where
       → AreShards code (map (held_by contents) shards) (held_by contents order) lines → AreShards code (map (λ shard. contents shard.output) shards) (contents order.output) lines
   written-all code shards order lines none order_none are = rw (← all-none shards (recursion_from_All _ shards none), ← held-none order order_none) are
 
+at-most-none : {W : Type 0} (shard : Shard W) → WaitsAtMost 0 shard → IsWritten shard
+at-most-none shard few = nil_from_length shard.waiting.items (omega (arith, few))
+
 -- the lines that were read from an input, and the rest, are those of all that it yields
 pub written-input : {H W : Type 0} (code : H → Text → ℕ) (contents : W → Option Text) (input : Option Text) (result : Result (Unit {0}) Fault) (old new : Shards H W) (seen : List Text) (rest : Text)
     → IsTextOf input seen rest → HasSharded code contents old (seen ++ lines_of rest)
-    → OnOk result ((lines : List Text) → HasSharded code contents old lines → HasSharded code contents new lines) → OnOk result (All IsWritten new.shards.items × IsWritten new.order)
+    → OnOk result ((lines : List Text) → HasSharded code contents old lines → HasSharded code contents new lines) → OnOk result (All (WaitsAtMost 0) new.shards.items × WaitsAtMost 0 new.order)
     → OnOk result (IfSome input (λ all. HoldShards code contents new (lines_of all)))
 written-input code contents input (Err fault) old new seen rest is taken same none = tt
 written-input code contents None (Ok done) old new seen rest is taken same none = tt
 written-input code contents (Some all) (Ok done) old new seen rest is taken same none =
-    λ known. written-all contents (code new.hasher) new.shards.items new.order (lines_of all) none.0 none.1
+    λ known. written-all contents (code new.hasher) new.shards.items new.order (lines_of all) (λ i d within. at-most-none (get_or new.shards.items i d) (none.0 i d within)) (at-most-none new.order none.1)
     (subst (AreShards (code new.hasher) (map (held_by contents) new.shards.items) (held_by contents new.order)) (sym (ap lines_of is.whole ∙ ended-first seen rest is.plain))
     ((same (seen ++ lines_of rest) taken).held_are known))

@@ -23,7 +23,7 @@ use Rattle.serde_json.proofs.OnLiterals.{serde_json_on_literals}
 use Rattle.string_interner.specs.Text.{Text, IsDistinct}
 use Rattle.string_interner.specs.Json.{json_of_number}
 use Rattle.string_column.specs.Column.{AreCodes, rows_of}
-use Rattle.dictcol.specs.File.{column_file, FileHolds}
+use Rattle.dictcol.specs.File.{column_file, FileHolds, HasDictionary}
 use Rattle.dictcol.specs.Lines.{has_newline}
 use Rattle.dictcol.specs.StreamTokens.{AreIndexes, stream}
 use Rattle.dictcol.proofs.HoldsLines.{indexed_texts-numbers}
@@ -139,6 +139,12 @@ stream-holds text dictionary is_ended numbers indexes is are distinct plain with
   },
   stream-read text dictionary is_ended numbers indexes is are,
 )
+
+-- and its dictionary has the texts
+pub stream-dictionary : (text : Text) (dictionary : List Text) (is_ended : Bool) (numbers : List Text) (indexes : List ℕ) → tokens text ≡ stream dictionary is_ended numbers → AreIndexes numbers indexes
+    → HasDictionary text dictionary
+unfolding serde_json_on_literals
+stream-dictionary text dictionary is_ended numbers indexes is are = (column_file dictionary indexes is_ended, stream-read text dictionary is_ended numbers indexes is are, refl)
 
 -- the parts of a numeral without a point and an exponent
 abbrev whole : Text → Numeral

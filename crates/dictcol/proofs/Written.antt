@@ -9,6 +9,7 @@ use Rattle.dictcol.specs.File.{IsFileFault}
 use Rattle.dictcol.specs.Lines.{lines_of}
 use Rattle.dictcol.specs.TooMany.{HasRefused}
 use Rattle.dictcol.specs.declared.fault.Fault.{Fault}
+use Rattle.dictcol.proofs.ParseFault.{parse-weaker}
 use Rattle.dictcol.proofs.TooMany.{take-weaker}
 
 -- a line of what an input yields is refused
@@ -25,7 +26,12 @@ input-written None (Err fault) Is Written is written = tt
 input-written (Some text) result Is Written is written = written text is
 
 -- the bytes that are a bad file are those that an input yields
-pub file-fault : (input : Option Text) (bytes : Text) (fault : Fault) → IfSome input (λ all. bytes ≡ all) → IsFileFault (λ file. ⊤) (Some bytes) fault → IsFileFault (λ file. ⊤) input fault
-file-fault None bytes fault whole (inl (line, is, bad)) = inl (line, is, tt)
-file-fault None bytes fault whole (inr (text, is, parse)) = inr (text, tt, parse)
-file-fault (Some all) bytes fault whole why = subst (λ known. IsFileFault (λ file. ⊤) (Some known) fault) whole why
+pub file-fault : (Crowds : Text → Type 0) (input : Option Text) (bytes : Text) (fault : Fault) → IfSome input (λ all. bytes ≡ all) → IsFileFault Crowds (Some bytes) fault → IsFileFault Crowds input fault
+file-fault Crowds None bytes fault whole (inl (line, is, bad)) = inl (line, is, tt)
+file-fault Crowds None bytes fault whole (inr (text, is, parse)) = inr (text, tt, parse)
+file-fault Crowds (Some all) bytes fault whole why = subst (λ known. IsFileFault Crowds (Some known) fault) whole why
+
+-- one reason for too many texts has another one behind it
+pub file-weaker : (Crowds Crowds' : Text → Type 0) (input : Option Text) (fault : Fault) → ((text : Text) → Crowds text → Crowds' text) → IsFileFault Crowds input fault → IsFileFault Crowds' input fault
+file-weaker Crowds Crowds' input fault more (inl bad) = inl bad
+file-weaker Crowds Crowds' input fault more (inr (text, is, parse)) = inr (text, is, parse-weaker fault (more text) (λ damage. damage) parse)

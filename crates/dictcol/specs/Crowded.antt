@@ -1,5 +1,5 @@
 -- When the dictionary of a file has too many texts, and how decoding may fail.
--- Cited by `stream`, `file` and `decode`.
+-- Cited by `stream`, `file`, `decode` and `merge`.
 use Rattle.std.specs.Prelude.{◌≡◌, ℕ, ◌-◌, ◌^◌, Option, List, [], ◌∷◌, ◌++◌, map, codes, ◌⊎◌, Some}
 use Rattle.json.specs.Lex.{tokens}
 use Rattle.json.specs.Token.{Token, begin_object, begin_array, key, string as string_token}
@@ -12,8 +12,10 @@ use Rattle.string_interner.specs.Numbering.{Numbering}
 use Rattle.string_interner.specs.StringBackend.{string_numbering}
 use Rattle.string_interner.specs.Symbol.{number_below}
 use Rattle.string_column.specs.Entries.{LacksSymbol}
+use Rattle.string_column.specs.Parts.{IsEntryFault}
+use Rattle.string_column.specs.declared.rows.parts.PartsError.TheVariants.{NoSymbol}
 use Rattle.dictcol.specs.Fault.{IsReadFault, IsWriteFault}
-use Rattle.dictcol.specs.File.{IsFileFault}
+use Rattle.dictcol.specs.File.{HasDictionary, IsFileFault}
 use Rattle.dictcol.specs.declared.fault.Fault.{Fault}
 
 module _ {S : Type 0} (numbering : Numbering S) where
@@ -33,6 +35,10 @@ module _ {S : Type 0} (numbering : Numbering S) where
   -- the same of bytes, by their tokens, or by the value that they read as
   abbrev pub CrowdsFile : Text → Type 0
   CrowdsFile bytes = LacksEntry (tokens bytes) ⊎ ((value : Data) × (read bytes ≡ Some value) × LacksElement value)
+
+  -- A column of the file's lines lacks a symbol: there are too many texts, or they would be in the order in which the lines have them.
+  abbrev pub CrowdsColumn : Text → Type 0
+  CrowdsColumn bytes = CrowdsFile bytes ⊎ ((texts : List Text) × HasDictionary bytes texts × IsEntryFault numbering texts NoSymbol)
 
 -- how the default backend numbers texts: numbers below 2 ^ 32 - 1 have a symbol, which is that number
 abbrev pub default_numbering : Numbering ℕ

@@ -10,7 +10,7 @@ use Rattle.string_interner.specs.declared.backend.InternError.{InternError}
 use Rattle.string_interner.specs.declared.backend.InternError.TheVariants.{NoSymbol, Memory as InternMemory}
 use Rattle.dictcol.specs.Lines.{is_newline}
 use Rattle.dictcol.specs.declared.fault.Fault.{Fault}
-use Rattle.dictcol.specs.declared.fault.Fault.TheVariants.{Argument, Input, NotUtf8, NotJson, ByteOrderMark, NoDictionary, NotAText, Repeated, HasNewline, NoLines, NotAnIndex, NoFinalNewline, DictionaryNotUtf8, NotNpy, OtherType, OtherOrder, OtherShape, OtherLength, DictionaryFile, NumbersFile, PairFile, CutFile, Folder, NotLeft, NoKeys, TooMany, Memory, Output, ClosedOutput}
+use Rattle.dictcol.specs.declared.fault.Fault.TheVariants.{Argument, Input, NotUtf8, Compressed, NotJson, ByteOrderMark, NoDictionary, NotAText, Repeated, HasNewline, NoLines, NotAnIndex, NoFinalNewline, DictionaryNotUtf8, NotNpy, OtherType, OtherOrder, OtherShape, OtherLength, DictionaryFile, NumbersFile, PairFile, CutFile, Folder, NotLeft, TooManyShards, NoKeys, TooMany, Memory, Output, ClosedOutput}
 
 -- 2 if the arguments or the input are wrong, 1 if the system failed or there is too much, 141 if the output is closed
 abbrev pub status_of : Fault → ℕ
@@ -21,6 +21,7 @@ status_of (PairFile _) = 1
 status_of (CutFile _) = 1
 status_of (Folder _) = 1
 status_of (NotLeft _) = 1
+status_of (TooManyShards _) = 1
 status_of (NoKeys _) = 1
 status_of TooMany = 1
 status_of Memory = 1
@@ -110,6 +111,7 @@ abbrev pub IsDamage : Fault → Type 0
 IsDamage Argument = ⊥
 IsDamage (Input _) = ⊥
 IsDamage (NotUtf8 _) = ⊥
+IsDamage (Compressed _ _) = ⊥
 IsDamage (DictionaryNotUtf8 _) = ⊥
 IsDamage (DictionaryFile _) = ⊥
 IsDamage (NumbersFile _) = ⊥
@@ -117,6 +119,7 @@ IsDamage (PairFile _) = ⊥
 IsDamage (CutFile _) = ⊥
 IsDamage (Folder _) = ⊥
 IsDamage (NotLeft _) = ⊥
+IsDamage (TooManyShards _) = ⊥
 IsDamage (NoKeys _) = ⊥
 IsDamage TooMany = ⊥
 IsDamage Memory = ⊥

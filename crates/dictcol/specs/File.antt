@@ -76,6 +76,10 @@ FileHolds bytes lines is_ended = (value : Data) × HoldsLines value lines is_end
 abbrev pub DecodesFile : Text → Text → Type 0
 DecodesFile bytes text = (value : Data) × HoldsText value text × (read bytes ≡ Some value)
 
+-- the bytes are JSON whose dictionary has these texts
+abbrev pub HasDictionary : Text → List Text → Type 0
+HasDictionary bytes texts = (value : Data) × (read bytes ≡ Some value) × (get (codes "dictionary") value ≡ Some (json_of_texts texts))
+
 -- each of the inputs is a file, and the text is what they hold, one behind the other
 abbrev pub HoldTogether : List (Option Text) → Text → Type 0
 HoldTogether [] text = text ≡ []

@@ -1,6 +1,6 @@
 -- Which of several files a line is of.
--- Cited by `inputs`.
-use Rattle.std.specs.Prelude.{◌≡◌, ℕ, ◌+◌, ◌-◌, ◌^◌, ◌<◌, ◌≤◌, Bool, not, List, [], ◌∷◌, ◌++◌, All, length, min, count_by, nat_lt, slice_get, slice_index_or, if◌then◌else◌, ◌⊎◌}
+-- Cited by `inputs` and `job`.
+use Rattle.std.specs.Prelude.{◌≡◌, ℕ, ◌+◌, ◌-◌, ◌^◌, ◌<◌, ◌≤◌, Bool, not, List, [], ◌∷◌, ◌++◌, All, length, min, count_by, nat_lt, slice_get, slice_index_or, if◌then◌else◌, ◌⊎◌, Option, Some, None}
 use Rattle.std.specs.Option.{option_map_or}
 use Rattle.string_interner.specs.Text.{Text}
 use Rattle.dictcol.specs.Lines.{is_newline}
@@ -14,6 +14,11 @@ use Rattle.dictcol.specs.declared.input.inputs.Begin.{Begin}
 abbrev pub source_at : List Source → ℕ → Source
 source_at (source ∷ []) at = source
 source_at sources at = slice_index_or sources at StandardInput
+
+-- the file with this index; standard input, which has no name to tell, for none
+abbrev pub named_at : List Source → Option ℕ → Source
+named_at files (Some at) = slice_index_or files at StandardInput
+named_at files None = StandardInput
 
 -- if there are several files, one more begins
 abbrev pub noted : List Source → List Begin → Begin → List Begin

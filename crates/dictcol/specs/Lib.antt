@@ -1,5 +1,7 @@
 pub mod Answer
+pub mod Arguments
 pub mod Blocks
+pub mod Compression
 pub mod Counts
 pub mod Crowded
 pub mod Fault

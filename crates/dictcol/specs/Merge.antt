@@ -1,20 +1,29 @@
 -- How merging files may fail, and which of them a fault is told of.
 -- Cited by `merge`.
-use Rattle.std.specs.Prelude.{⊤, ◌≡◌, ℕ, ◌⊎◌, List, Option, Some, None, slice_get}
+use Rattle.std.specs.Prelude.{◌≡◌, ℕ, ◌⊎◌, List, ◌++◌, take, Option, Some, None, slice_get}
 use Rattle.string_interner.specs.Text.{Text}
 use Rattle.string_interner.specs.Numbering.{Numbering}
+use Rattle.dictcol.specs.Crowded.{CrowdsColumn}
 use Rattle.dictcol.specs.Fault.{IsLinesWriteFault, IsReadFault}
-use Rattle.dictcol.specs.File.{HoldTogether, IsFileFault}
+use Rattle.dictcol.specs.File.{DecodesFile, HoldTogether, IsFileFault}
 use Rattle.dictcol.specs.Lines.{lines_of}
 use Rattle.dictcol.specs.TooMany.{HasRefused, LacksLine}
 use Rattle.dictcol.specs.declared.fault.Fault.{Fault}
 
--- The faults of appending the text that an input holds. It is called damaged only if it holds none, and not UTF-8 only if it is not.
-abbrev pub IsInputFault : Option Text → Fault → Type 0
-IsInputFault input fault = IsReadFault fault ⊎ IsFileFault (λ file. ⊤) input fault
+module _ {S : Type 0} (numbering : Numbering S) where
+  -- There are too many texts in a file, or too many lines in a text and that of the file behind it.
+  abbrev pub CrowdsBehind : Text → Text → Type 0
+  CrowdsBehind before file = CrowdsColumn numbering file ⊎ ((more : Text) × DecodesFile file more × HasRefused (LacksLine numbering) (lines_of (before ++ more)))
 
--- a fault of the input with this index, or of writing what all of them hold
-abbrev pub IsMergeFault : {S : Type 0} → Numbering S → List (Option Text) → Option ℕ × Fault → Type 0
-IsMergeFault numbering inputs (Some index, fault) = (input : Option Text) × (slice_get inputs index ≡ Some input) × IsInputFault input fault
-IsMergeFault numbering inputs (None, fault) =
-    IsLinesWriteFault ((text : Text) × HoldTogether inputs text × HasRefused (LacksLine numbering) (lines_of text)) fault
+  -- The faults of appending the text that an input holds to another. It is called damaged only if it holds none, and not UTF-8 only if
+  -- it is not.
+  abbrev pub IsInputFault : Text → Option Text → Fault → Type 0
+  IsInputFault before input fault = IsReadFault fault ⊎ IsFileFault (CrowdsBehind before) input fault
+
+  -- a fault of the input with this index, behind what those before it hold, or of writing what all of them hold
+  abbrev pub IsMergeFault : List (Option Text) → Option ℕ × Fault → Type 0
+  IsMergeFault inputs (Some index, fault) =
+      (input : Option Text) × (slice_get inputs index ≡ Some input)
+      × ((before : Text) × HoldTogether (take index inputs) before × IsInputFault before input fault)
+  IsMergeFault inputs (None, fault) =
+      IsLinesWriteFault ((text : Text) × HoldTogether inputs text × HasRefused (LacksLine numbering) (lines_of text)) fault

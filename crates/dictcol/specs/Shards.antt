@@ -1,6 +1,6 @@
 -- Lines in shards: what the output of each shard gets, and what says how they were mixed.
 -- Cited by `shards`.
-use Rattle.std.specs.Prelude.{◌≡◌, ◌%◌, ℕ, ◌==◌, ◌<◌, List, [], ◌∷◌, ◌++◌, length, map, decimal, slice_index_or, Option, Some, None, IsSome}
+use Rattle.std.specs.Prelude.{◌≡◌, ◌%◌, ℕ, ◌==◌, ◌<◌, ◌≤◌, List, [], ◌∷◌, ◌++◌, length, map, decimal, slice_index_or, Option, Some, None, IsSome}
 use Rattle.std.specs.Io.KnownBytes.{append_known}
 use Rattle.std.specs.List.{filter, flat_map}
 use Rattle.string_interner.specs.Text.{Text}
@@ -31,6 +31,10 @@ pub record AreShards (code : Text → ℕ) (outputs : List (Option Text)) (order
 -- the bytes that a writer of this type holds are always known
 abbrev pub IsKnown : {W : Type 0} → (W → Option Text) → Type 0
 IsKnown {W} contents = (writer : W) → IsSome (contents writer)
+
+-- no more than so many bytes wait for an output
+abbrev pub WaitsAtMost : {W : Type 0} → ℕ → Shard W → Type 0
+WaitsAtMost most shard = length shard.waiting.items ≤ most
 
 -- nothing waits for an output
 abbrev pub IsWritten : {W : Type 0} → Shard W → Type 0

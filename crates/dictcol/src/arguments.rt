@@ -1,5 +1,8 @@
 //! The arguments.
 
+ghost use Rattle.std.specs.Prelude.{IfOk};
+ghost use Rattle.dictcol.specs.Arguments.{AreFiles, IsAction, IsRequest};
+
 use crate::input::mend::Mending;
 use crate::request::{
     Action, Answer, Choice, Columns, Files, INPUT_TWICE, Onto, Reading, Request, ShardFolder,
@@ -37,6 +40,8 @@ pub enum Misuse<'a> {
     FileBesideList(ShownWord<'a>),
     #[error("option '{0}' excludes option '{1}'")]
     Excluded(&'static str, &'static str),
+    #[error("option '{0}' is given twice")]
+    Repeated(&'static str),
     #[error("merge needs a FILE")]
     NoFile,
     #[error("shard needs a number and a DIR")]
@@ -179,6 +184,8 @@ struct Given<'a> {
     folder: Option<&'a str>,
     /// What `--onto` or `--onto-dictionary` says.
     onto: Option<Onto<'a>>,
+    /// What is wrong with the first folder that is given beside another one.
+    repeat: Option<Misuse<'a>>,
     /// What `--files0-from` says.
     list: Option<&'a str>,
     /// How many shards `shard` writes.
@@ -202,6 +209,7 @@ impl<'a> Given<'a> {
             is_encoded: false,
             folder: None,
             onto: None,
+            repeat: None,
             list: None,
             count: None,
             shards: None,
@@ -230,7 +238,44 @@ impl<'a> Given<'a> {
         Ok(())
     }
 
-    /// Takes an option of this name, with its value if it has one. Of several the last decides.
+    /// Notes a folder beside an earlier one, which would be left out in silence.
+    fn note_repeat(&mut self, misuse: Misuse<'a>) {
+        if self.repeat.is_none() {
+            self.repeat = Some(misuse);
+        }
+    }
+
+    /// Takes the folder that columns are written into.
+    fn take_folder(&mut self, name: &'static str, value: &'a str) -> Result<(), Misuse<'a>> {
+        if self.folder.is_some() {
+            self.note_repeat(Misuse::Repeated(name));
+        }
+        self.folder = Some(check_value(name, value)?);
+        Ok(())
+    }
+
+    /// Takes the folder whose dictionary columns begin with.
+    fn take_onto(
+        &mut self,
+        name: &'static str,
+        value: &'a str,
+        is_dictionary: bool,
+    ) -> Result<(), Misuse<'a>> {
+        match self.onto {
+            Some(onto) if onto.is_dictionary == is_dictionary => {
+                self.note_repeat(Misuse::Repeated(name));
+            }
+            Some(_) => self.note_repeat(Misuse::Excluded("--onto", "--onto-dictionary")),
+            None => {}
+        }
+        self.onto = Some(Onto {
+            folder: check_value(name, value)?,
+            is_dictionary,
+        });
+        Ok(())
+    }
+
+    /// Takes an option of this name, with its value if it has one. Of several the last decides, but of folders there may be one.
     fn take_option(
         &mut self,
         name: &'static str,
@@ -238,13 +283,9 @@ impl<'a> Given<'a> {
         value: &'a str,
     ) -> Result<(), Misuse<'a>> {
         match option {
-            Setting::Plain => self.folder = Some(check_value(name, value)?),
-            Setting::Onto | Setting::OntoDictionary => {
-                self.onto = Some(Onto {
-                    folder: check_value(name, value)?,
-                    is_dictionary: matches!(option, Setting::OntoDictionary),
-                });
-            }
+            Setting::Plain => self.take_folder(name, value)?,
+            Setting::Onto => self.take_onto(name, value, false)?,
+            Setting::OntoDictionary => self.take_onto(name, value, true)?,
             Setting::List => self.list = Some(check_value(name, value)?),
             Setting::Sorted => self.is_sorted = true,
             Setting::Backend => self.take_backend(value)?,
@@ -368,11 +409,16 @@ impl<'a> Given<'a> {
                 return Err(Misuse::NeedsOption(name, "--plain"));
             }
         }
-        Ok(())
+        match self.repeat {
+            Some(misuse) => Err(misuse),
+            None => Ok(()),
+        }
     }
 
     /// Returns what the command does with the files.
-    fn action(&self, command: Command) -> Result<Action<'a>, Misuse<'a>> {
+    fn action(&self, command: Command) -> Result<Action<'a>, Misuse<'a>>
+        ensures { IfOk result (IsAction self.now command) }
+    {
         let (onto, is_sorted) = (self.onto, self.is_sorted);
         let reading = Reading {
             mending: self.mending.flatten(),
@@ -395,7 +441,9 @@ impl<'a> Given<'a> {
     }
 
     /// Returns where the files are named.
-    fn files(self) -> Result<Files<'a>, Misuse<'a>> {
+    fn files(self) -> Result<Files<'a>, Misuse<'a>>
+        ensures { IfOk result (AreFiles self.entry) }
+    {
         match (self.list, self.files.first()) {
             (None, _) => Ok(Files::Named(self.files)),
             (Some(path), None) => Ok(Files::Listed(Source::of_word(path))),
@@ -405,7 +453,9 @@ impl<'a> Given<'a> {
     }
 
     /// Returns what all the words ask for.
-    fn decide(self) -> Result<Request<'a>, Misuse<'a>> {
+    fn decide(self) -> Result<Request<'a>, Misuse<'a>>
+        ensures { IfOk result (IsRequest self.entry) }
+    {
         let command = self.command.ok_or(Misuse::NoCommand)?;
         self.check_options(command)?;
         let action = self.action(command)?;

@@ -14,9 +14,10 @@ fn read_before<B: Backend + Drop>(
     rt: &HostRuntime,
     hasher: LineHasher,
     onto: Option<Onto<'_>>,
+    place: &Place<'_>,
 ) -> Result<Plain<B>, Fault> {
     match onto {
-        Some(onto) => folder::read_dictionary(rt, hasher, onto),
+        Some(onto) => folder::read_dictionary(rt, hasher, onto, place),
         None => Plain::<B>::begin(rt.alloc(), hasher, &mut io::empty()),
     }
 }
@@ -28,7 +29,8 @@ fn write_into<'a, B: Backend + Drop>(
     place: &Place<'_>,
 ) -> (Source<'a>, Result<(), Fault>) {
     let (rt, hasher) = (job.rt, job.hasher);
-    let mut plain = match (read_before::<B>(rt, hasher, columns.onto), columns.onto) {
+    let before = read_before::<B>(rt, hasher, columns.onto, place);
+    let mut plain = match (before, columns.onto) {
         (Ok(plain), _) => plain,
         (Err(fault), Some(onto)) => return (Source::File(onto.folder), Err(fault)),
         (Err(fault), None) => return (Source::StandardInput, Err(fault)),

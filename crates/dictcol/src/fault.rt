@@ -5,6 +5,7 @@ ghost use Rattle.std.specs.IoError.{error_kind};
 ghost use Rattle.string_interner.specs.declared.backend.InternError.TheVariants.{NoSymbol};
 ghost use Rattle.dictcol.specs.Fault.{arguments_fault, dictionary_fault, intern_fault, numbers_fault, pair_fault, read_fault, write_fault, status_of, IsNoDamage, IsReadFault, IsTakeFault, IsWriteFault};
 
+use crate::input::compression::Compression;
 use std::io;
 use std::io::ErrorKind;
 use string_interner::backend::InternError;
@@ -20,6 +21,9 @@ pub enum Fault {
     /// The first line that is not UTF-8.
     #[error("line {0} is not UTF-8")]
     NotUtf8(usize),
+    /// This line, in input that looks compressed.
+    #[error("line {0} is not UTF-8: it looks compressed ({1} FILE | dictcol ..)")]
+    Compressed(usize, Compression),
     /// The file is no JSON, nests deeper than 127, or has a number too large for a float.
     #[error("{0}")]
     NotJson(serde_json::Error),
@@ -84,6 +88,9 @@ pub enum Fault {
     /// The character behind DIR in the name of the unfinished folder.
     #[error("cannot write files: DIR{0}dictcol-unfinished is not what a killed run leaves: move it away")]
     NotLeft(char),
+    /// So many shards can be open at once.
+    #[error("cannot write files: the limit of open files allows {0} shards (see ulimit -n)")]
+    TooManyShards(usize),
     #[error("cannot draw random keys: {0}")]
     NoKeys(io::Error),
     /// If the backend has no symbol for one more, or the count is full.
@@ -189,6 +196,7 @@ impl Fault {
             | Fault::CutFile(_)
             | Fault::Folder(_)
             | Fault::NotLeft(_)
+            | Fault::TooManyShards(_)
             | Fault::NoKeys(_)
             | Fault::TooMany
             | Fault::Memory

@@ -24,8 +24,8 @@ shard   writes DIR/0 to DIR/N-1, equal lines into one file, and DIR/order
   --invalid HOW    lines that are not UTF-8: error, replace or skip
   --backend NAME   how texts are stored meanwhile: string, bucket or buffer
   -h, --help; --version; and -- if no word after it is an option
-Exit status: 0 on success; 1 if the system fails or there are too many distinct
-lines; 2 if arguments or input are wrong; 141, silently, if output is closed.
+Exit status 1: the system fails, or too many distinct lines; 2: wrong arguments
+or input; 141: closed output. Manual: crates/dictcol/dictcol.1, by bin/install
 ";
 
 /// What follows a message about arguments.

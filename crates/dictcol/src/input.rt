@@ -2,6 +2,7 @@
 
 pub mod block;
 pub mod blocks;
+pub mod compression;
 pub mod inputs;
 pub mod mend;
 pub mod split;

@@ -1,5 +1,10 @@
 //! A task over files: what reads their lines, and what is written of them.
 
+ghost use Rattle.std.specs.Prelude.{◌≡◌, [], ◌∷◌, map, None, Ok, Err, IfErr, IfOk, OnOk};
+ghost use Rattle.dictcol.specs.Inputs.{named_at};
+ghost use Rattle.dictcol.specs.declared.fault.Fault.TheVariants.{Memory};
+ghost use Rattle.dictcol.specs.declared.request.Source.TheVariants.{StandardInput};
+
 use crate::answer::write_answer;
 use crate::columns;
 use crate::fault::Fault;
@@ -10,7 +15,7 @@ use crate::input::zero::Exchanged;
 use crate::merge::{count_encoded, merge};
 use crate::request::{Answer, Reading, Source, Task};
 use crate::shown::ShownPath;
-use std::io::BufWriter;
+use std::io::{BufWriter, Stdout};
 use string_interner::backend::Backend;
 
 /// How many bytes are written at once.
@@ -18,6 +23,16 @@ pub const BUFFER: usize = 1 << 16;
 
 /// What is said of lines that look like what `encode` writes.
 const LOOKS_ENCODED: &str = "lines were read from what encode wrote (see decode, count --encoded)";
+
+/// Returns standard output, to which much is written at once, with newlines and zero bytes exchanged or not.
+pub fn open_output(
+    rt: &HostRuntime,
+    is_exchanged: bool,
+) -> Result<BufWriter<Exchanged<Stdout>>, Fault> {
+    let alloc = rt.alloc();
+    let output = Exchanged::new(alloc, rt.stdout(), is_exchanged).map_err(|_| Fault::Memory)?;
+    BufWriter::with_capacity(alloc, BUFFER, output).map_err(|_| Fault::Memory)
+}
 
 /// Files whose lines are read, and what hashes these.
 #[derive(Drop)]
@@ -78,8 +93,39 @@ impl<'a, H> Job<'a, H> {
 
     /// Returns the file that a fault of reading is about, and the fault as one of this file.
     pub fn locate(&self, fault: Fault) -> (Source<'a>, Result<(), Fault>) {
-        let (source, fault) = self.input.get_ref().locate(fault);
-        (source, Err(fault))
+        let inputs = self.input.get_ref();
+        let (source, fault) = inputs.locate(fault);
+        (source, Err(inputs.explain(fault)))
+    }
+
+    /// Returns each file as an input of its own.
+    fn split(&self) -> Result<Vec<Inputs<'a>>, (Option<usize>, Fault)>
+        ensures each { IfOk result (λ inputs. map (λ input. input.sources.now) inputs.items
+            ≡ map (λ file. file ∷ []) self.now.files.now) }
+        ensures fault { IfErr result (λ ended. ended ≡ (None, Memory)) }
+    {
+        let mut inputs = Vec::new(self.rt.alloc());
+        for at in 0..self.files.len() {
+            let input = Inputs::new(self.rt, &self.files[at..=at], false);
+            inputs.push(input).map_err(|_| (None, Fault::Memory))?;
+        }
+        Ok(inputs)
+    }
+
+    /// Returns how a merge ended, and the file where it ended, if it was at one: standard output has no name to tell.
+    fn end_merge(
+        &self,
+        outcome: Result<(), (Option<usize>, Fault)>,
+    ) -> (Source<'a>, Result<(), Fault>)
+        ensures ok { OnOk outcome (result ≡ (StandardInput, Ok tt)) }
+        ensures err { IfErr outcome (λ ended.
+            result ≡ (named_at self.now.files.now ended.0, Err ended.1)) }
+    {
+        match outcome {
+            Ok(()) => (Source::StandardInput, Ok(())),
+            Err((Some(at), fault)) if at < self.files.len() => (self.files[at], Err(fault)),
+            Err((_, fault)) => (Source::StandardInput, Err(fault)),
+        }
     }
 }
 
@@ -105,30 +151,18 @@ impl<'a> Job<'a, LineHasher> {
         (Source::StandardInput, Ok(()))
     }
 
-    /// Writes an answer to standard output, much of it at once.
+    /// Writes an answer to standard output.
     fn answer<B: Backend + Drop>(&mut self, answer: Answer) -> Result<(), Fault> {
-        let (alloc, stdout) = (self.rt.alloc(), self.rt.stdout());
-        let output = Exchanged::new(alloc, stdout, self.is_zero_ended).map_err(|_| Fault::Memory)?;
-        let mut output = BufWriter::with_capacity(alloc, BUFFER, output).map_err(
-            |_| Fault::Memory,
-        )?;
-        write_answer::<B, _, _>(alloc, self.hasher, answer, &mut self.input, &mut output)
-    }
-
-    /// Returns each file as an input of its own.
-    fn split(&self) -> Result<Vec<Inputs<'a>>, (Option<usize>, Fault)> {
-        let mut inputs = Vec::new(self.rt.alloc());
-        for at in 0..self.files.len() {
-            let input = Inputs::new(self.rt, &self.files[at..=at], false);
-            inputs.push(input).map_err(|_| (None, Fault::Memory))?;
-        }
-        Ok(inputs)
+        let mut output = open_output(self.rt, self.is_zero_ended)?;
+        let (alloc, hasher) = (self.rt.alloc(), self.hasher);
+        write_answer::<B, _, _>(alloc, hasher, answer, &mut self.input, &mut output)
     }
 
     fn merge<B: Backend + Drop>(&self) -> Result<(), (Option<usize>, Fault)> {
         let mut inputs = self.split()?;
-        let output = &mut self.rt.stdout();
-        merge::<B, _, _>(self.rt.alloc(), self.hasher, &mut inputs, output)
+        let mut output = open_output(self.rt, false).map_err(|fault| (None, fault))?;
+        let outcome = merge::<B, _, _>(self.rt.alloc(), self.hasher, &mut inputs, &mut output);
+        explain(&inputs, outcome)
     }
 
     fn count_encoded<B: Backend + Drop>(
@@ -136,20 +170,20 @@ impl<'a> Job<'a, LineHasher> {
         is_sorted: bool,
     ) -> Result<(), (Option<usize>, Fault)> {
         let mut inputs = self.split()?;
-        let output = &mut self.rt.stdout();
+        let mut output = open_output(self.rt, false).map_err(|fault| (None, fault))?;
         let (alloc, hasher) = (self.rt.alloc(), self.hasher);
-        count_encoded::<B, _, _>(alloc, hasher, is_sorted, &mut inputs, output)
+        let outcome = count_encoded::<B, _, _>(alloc, hasher, is_sorted, &mut inputs, &mut output);
+        explain(&inputs, outcome)
     }
+}
 
-    /// Returns how a merge ended, and the file where it ended, if it was at one: standard output has no name to tell.
-    fn end_merge(
-        &self,
-        outcome: Result<(), (Option<usize>, Fault)>,
-    ) -> (Source<'a>, Result<(), Fault>) {
-        match outcome {
-            Ok(()) => (Source::StandardInput, Ok(())),
-            Err((Some(at), fault)) if at < self.files.len() => (self.files[at], Err(fault)),
-            Err((_, fault)) => (Source::StandardInput, Err(fault)),
-        }
+/// Returns how a merge of these inputs ended, with a fault of a compressed one told as that.
+fn explain(
+    inputs: &[Inputs<'_>],
+    outcome: Result<(), (Option<usize>, Fault)>,
+) -> Result<(), (Option<usize>, Fault)> {
+    match outcome {
+        Err((Some(at), fault)) if at < inputs.len() => Err((Some(at), inputs[at].explain(fault))),
+        outcome => outcome,
     }
 }

@@ -31,14 +31,14 @@ use help::{HELP, USAGE};
 use input::inputs::Inputs;
 use input::streams;
 use input::whole::read_whole;
-use job::{BUFFER, Job};
+use job::{Job, open_output};
 use names::NameFault;
 use plain::folder;
 use request::{Action, Answer, Choice, Files, NAME_ADVICE, Reading, Request, Source, Task};
 use shown::ShownPath;
 use std::env;
 use std::env::{Env, FillError};
-use std::io::{BufWriter, ErrorKind, Write};
+use std::io::{ErrorKind, Write};
 use std::process::ExitCode;
 use string_interner::backend::{BucketBackend, BufferBackend, StringBackend};
 
@@ -47,6 +47,9 @@ const MISUSED: u8 = 2;
 
 /// What `--version` prints.
 const VERSION: &str = "dictcol 0.1.0\n";
+
+/// What is said if a list with newlines and no zero byte names a file that cannot be read.
+const UNENDED: &str = " (no zero byte ends a name in the list: see --files0-from)";
 
 /// What is said of a folder in the place of a file.
 const IS_FOLDER: &str = "a folder that encode --plain wrote; decode writes its text";
@@ -83,10 +86,7 @@ fn end_arguments(rt: &HostRuntime, fault: Fault) -> ExitCode {
 
 /// Writes the text of a folder of plain columns.
 fn decode_folder(rt: &HostRuntime, path: &str) -> Result<(), Fault> {
-    let mut output = BufWriter::with_capacity(rt.alloc(), BUFFER, rt.stdout()).map_err(
-        |_| Fault::Memory,
-    )?;
-    folder::decode(rt, path, &mut output)
+    folder::decode(rt, path, &mut open_output(rt, false)?)
 }
 
 /// Does a task on the files, whose lines are stored in the backend of this name. Returns how it ended, and the file where it ended,
@@ -142,8 +142,8 @@ fn end(rt: &HostRuntime, advice: &str, source: Source<'_>, outcome: Result<(), F
     let _ = match (source, &fault) {
         // A reader that closed the output, as `head` does, needs no message.
         (_, Fault::ClosedOutput) => Ok(()),
-        // The file has no part in these.
-        (Source::StandardInput, _) | (_, Fault::NoKeys(_) | Fault::Output(_)) => {
+        // The file has no part in what is written.
+        (Source::StandardInput, _) | (_, Fault::Output(_)) => {
             eprintln!(rt; "dictcol: {fault}{advice}")
         }
         (Source::File(path), Fault::Input(_)) if folder::has_columns(rt, path) => {
@@ -158,8 +158,18 @@ fn end(rt: &HostRuntime, advice: &str, source: Source<'_>, outcome: Result<(), F
     ExitCode::from(fault.status())
 }
 
-/// Does what is asked for with files, prints what failed, and returns the status.
-fn act<'a>(rt: &'a HostRuntime, action: Action<'a>, files: &'a [Source<'a>]) -> ExitCode {
+/// Returns whether newlines end the names in a list, as it looks.
+fn is_unended(list: &[u8]) -> bool {
+    list.contains(&b'\n') && !list.contains(&0)
+}
+
+/// Does what is asked for with files, prints what failed, and returns the status. `list` has what named the files, if a list did.
+fn act<'a>(
+    rt: &'a HostRuntime,
+    action: Action<'a>,
+    files: &'a [Source<'a>],
+    list: &[u8],
+) -> ExitCode {
     let (reads_lines, (source, outcome)) = match action {
         Action::Do(task, choice, reading) => {
             (
@@ -171,10 +181,10 @@ fn act<'a>(rt: &'a HostRuntime, action: Action<'a>, files: &'a [Source<'a>]) -> 
             (true, shards::folder::write(rt, place, reading, files))
         }
     };
-    let advice = if reads_lines {
-        advice_on_lines(&outcome)
-    } else {
-        ""
+    let advice = match outcome {
+        Err(Fault::Input(_)) if is_unended(list) => UNENDED,
+        _ if reads_lines => advice_on_lines(&outcome),
+        _ => "",
     };
     end(rt, advice, source, outcome)
 }
@@ -200,7 +210,7 @@ fn act_on_listed(rt: &HostRuntime, action: Action<'_>, list: Source<'_>) -> Exit
     };
     let has_input = matches!(list, Source::StandardInput);
     match names::find_files(rt.alloc(), &bytes, has_input) {
-        Ok(files) => act(rt, action, &files),
+        Ok(files) => act(rt, action, &files, &bytes),
         Err(NameFault::Memory) => end(rt, "", list, Err(Fault::Memory)),
         Err(fault) => end_list(rt, list, fault),
     }
@@ -216,9 +226,9 @@ fn main(rt: HostRuntime) -> ExitCode {
         Ok(Request::Help) => end(&rt, "", Source::StandardInput, print(&rt, HELP)),
         Ok(Request::Version) => end(&rt, "", Source::StandardInput, print(&rt, VERSION)),
         Ok(Request::Act(action, Files::Named(files))) if files.is_empty() => {
-            act(&rt, action, &[Source::StandardInput])
+            act(&rt, action, &[Source::StandardInput], &[])
         }
-        Ok(Request::Act(action, Files::Named(files))) => act(&rt, action, &files),
+        Ok(Request::Act(action, Files::Named(files))) => act(&rt, action, &files, &[]),
         Ok(Request::Act(action, Files::Listed(list))) => act_on_listed(&rt, action, list),
         Err(Misuse::Memory) => end(&rt, "", Source::StandardInput, Err(Fault::Memory)),
         Err(misuse) => {

@@ -1,13 +1,13 @@
 //! `merge`: the files that `encode` wrote for some texts become that of the joined text, or its counts.
 
-ghost use Rattle.std.specs.Prelude.{⊤, ◌≡◌, ◌⊎◌, [], ◌∷◌, ◌++◌, drop, false, Some, IfErr, IfOk, IfSome, IsErrAnd, IsOk, OnOk, map};
+ghost use Rattle.std.specs.Prelude.{◌≡◌, ◌⊎◌, [], ◌∷◌, ◌++◌, drop, false, Some, IfErr, IfOk, IfSome, IsErrAnd, IsOk, OnOk, map};
 ghost use Rattle.std.specs.List.{flat_map, join_with_byte, list_any};
 ghost use Rattle.string_interner.specs.Text.{Text};
 ghost use Rattle.dictcol.specs.Counts.{IsCountsText};
 ghost use Rattle.dictcol.specs.Fault.{IsTakeFault, IsWriteFault};
 ghost use Rattle.dictcol.specs.File.{DecodesFile, HoldTogether, IsColumnFile, IsFileFault};
 ghost use Rattle.dictcol.specs.Lines.{behind_newline, has_newline, lines_of, text_of_lines, AreLines};
-ghost use Rattle.dictcol.specs.Merge.{IsInputFault, IsMergeFault};
+ghost use Rattle.dictcol.specs.Merge.{CrowdsBehind, IsInputFault, IsMergeFault};
 ghost use Rattle.dictcol.specs.TooMany.{HasRefused, LacksLine};
 ghost use Rattle.dictcol.specs.Writes.{Writes};
 ghost use Rattle.dictcol.specs.declared.fault.Fault.TheVariants.{Memory};
@@ -146,7 +146,8 @@ impl<B: Backend + Drop> TextLines<B> {
             × (self.new ≡ self.old ++ text)) }
 
         // A file is called damaged only if it holds no text, and not UTF-8 only if it is not.
-        ensures err { IfErr result (IsFileFault (λ file. ⊤) (Some bytes.items)) }
+        ensures err { IfErr result
+            (IsFileFault (CrowdsBehind B.numbering self.old) (Some bytes.items)) }
     {
         let (lines, is_ended) = file::read_column(alloc, hasher, bytes)?;
         // The empty text takes ended lines as they are, so that none is hashed again.
@@ -167,7 +168,7 @@ fn append_input<B: Backend + Drop, R: Read>(
 ) -> Result<(), Fault>
     ensures ok { OnOk result ((more : Text) × (text.new ≡ text.old ++ more)
         × IfSome (R.remaining input.old) (λ file. DecodesFile file more)) }
-    ensures fault { IfErr result (IsInputFault (R.remaining input.old)) }
+    ensures fault { IfErr result (IsInputFault B.numbering text.old (R.remaining input.old)) }
 {
     let bytes = read_whole(alloc, input)?;
     text.append_file(alloc, hasher, bytes)

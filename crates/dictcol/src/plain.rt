@@ -2,13 +2,15 @@
 //! which two of them belong together.
 
 mod dictionary;
+mod exchange;
 pub mod folder;
 mod npy;
 mod pair;
 mod rows;
 
-ghost use Rattle.std.specs.Prelude.{⊤, ◌≡◌, ◌≤◌, ◌++◌, ◌⊎◌, List, length, IfOk, IfErr, IfSome, OnOk};
+ghost use Rattle.std.specs.Prelude.{◌≡◌, ◌^◌, ◌<◌, ◌≤◌, ◌++◌, ◌⊎◌, List, length, IfOk, IfErr, IfSome, OnOk};
 ghost use Rattle.string_interner.specs.Text.{Text};
+ghost use Rattle.string_column.specs.Column.{dictionary_of};
 ghost use Rattle.dictcol.specs.Blocks.{IsLinesFault};
 ghost use Rattle.dictcol.specs.Fault.{IsLinesWriteFault, WritesLast};
 ghost use Rattle.dictcol.specs.Lines.{AreLines};
@@ -24,6 +26,9 @@ use std::alloc::Global;
 use std::io::{Read, Write};
 use string_column::Column;
 use string_interner::backend::Backend;
+
+/// So many distinct lines have numbers of four bytes.
+const MOST: usize = 1 << 32;
 
 /// The lines of a dictionary from before, and those of a text behind them.
 #[derive(Drop)]
@@ -132,11 +137,17 @@ impl<B: Backend + Drop> Plain<B> {
             (D.contents dictionary.old) (D.contents dictionary.new)
             (N.contents numbers.old) (N.contents numbers.new)) }
         ensures silent { WritesLast result dictionary.old dictionary.new }
-        ensures fault { IfErr result (IsLinesWriteFault ⊤) }
+        ensures fault { IfErr result
+            (IsLinesWriteFault (2 ^ 32 < length (dictionary_of self.now.lines))) }
     {
+        let texts = self.lines.dictionary();
+        if texts.len() > MOST {
+            return Err(Fault::TooMany);
+        }
         let (narrow, wide) = self.lines.codes().as_slices();
         if !wide.is_empty() {
-            return Err(Fault::TooMany);
+            // The codes of so few lines take four bytes each, which no contract says.
+            return Err(Fault::Memory);
         }
         let (_, codes) = narrow.split_at(self.known);
         let Ok(header) = npy::format_header(alloc, codes.len()) else {
@@ -145,7 +156,6 @@ impl<B: Backend + Drop> Plain<B> {
         let Ok(mut block) = BlockWriter::new(alloc) else {
             return Err(Fault::Memory);
         };
-        let texts = self.lines.dictionary();
         dictionary::write_file(&mut block, dictionary, texts).map_err(Fault::of_write)?;
         npy::write_file(&mut block, numbers, &header, codes).map_err(Fault::of_write)?;
         Ok(())

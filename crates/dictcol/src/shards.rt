@@ -23,6 +23,9 @@ use std::io;
 use std::io::{ErrorKind, Read, Write};
 use string_interner::dedup::TextHasher;
 
+/// So many bytes wait for an output at most when a block has been read.
+const FULL: usize = 1 << 16;
+
 /// An output, and what is still to be written to it.
 #[derive(Drop)]
 pub struct Shard<W> {
@@ -31,7 +34,7 @@ pub struct Shard<W> {
 }
 
 impl<W: Write> Shard<W> {
-    ghost use Rattle.dictcol.specs.Shards.{held_by, IsWritten};
+    ghost use Rattle.dictcol.specs.Shards.{held_by, IsWritten, WaitsAtMost};
 
     /// Makes the shard of an output.
     pub fn new(alloc: Global, output: W) -> Self
@@ -67,16 +70,24 @@ impl<W: Write> Shard<W> {
         }
     }
 
-    fn write(&mut self) -> Result<(), Fault>
+    /// Writes what waits, if it is more than so many bytes.
+    fn write_above(&mut self, most: usize) -> Result<(), Fault>
         ensures same { OnOk result
             (Keeps (held_by W.contents self.old) (held_by W.contents self.new)) }
-        ensures none { OnOk result (IsWritten self.new) }
+        ensures few { OnOk result (WaitsAtMost most self.new) }
         ensures fault { IfErr result IsWriteFault }
     {
+        if self.waiting.len() <= most {
+            return Ok(());
+        }
         self.output
             .write_all(&self.waiting)
             .map_err(Fault::of_write)?;
         self.waiting.clear();
+        if self.waiting.capacity() > 2 * FULL {
+            // A long line was here, or most of a block: the next one may go elsewhere.
+            self.waiting.shrink_to_fit();
+        }
         Ok(())
     }
 }
@@ -93,7 +104,7 @@ pub struct Shards<H, W> {
 }
 
 impl<H: TextHasher, W: Write> Shards<H, W> {
-    ghost use Rattle.dictcol.specs.Shards.{HasSharded, HoldShards, IsWritten};
+    ghost use Rattle.dictcol.specs.Shards.{HasSharded, HoldShards, IsWritten, WaitsAtMost};
 
     /// Makes shards of these outputs, by the hash codes of this hasher.
     pub fn new(hasher: H, shards: Vec<Shard<W>>, order: Shard<W>) -> Self
@@ -137,21 +148,22 @@ impl<H: TextHasher, W: Write> Shards<H, W> {
         Ok(())
     }
 
-    fn write(&mut self) -> Result<(), Fault>
+    /// Writes what waits for each output, if it is more than so many bytes.
+    fn write_above(&mut self, most: usize) -> Result<(), Fault>
         ensures same { OnOk result ((lines : List Text)
             → HasSharded H.code W.contents self.old lines
             → HasSharded H.code W.contents self.new lines) }
-        ensures none { OnOk result
-            (All IsWritten self.new.shards.items × IsWritten self.new.order) }
+        ensures few { OnOk result
+            (All (WaitsAtMost most) self.new.shards.items × WaitsAtMost most self.new.order) }
         ensures fault { IfErr result IsWriteFault }
     {
         for shard in 0..self.shards.len() {
-            self.shards[shard].write()?;
+            self.shards[shard].write_above(most)?;
         }
-        self.order.write()
+        self.order.write_above(most)
     }
 
-    /// Reads an input, and writes the lines that a newline ends. Returns what is behind the last newline.
+    /// Reads an input, and takes the lines that a newline ends, of which few wait. Returns what is behind the last newline.
     fn write_whole_lines<R: Read>(&mut self, alloc: Global, input: &mut R) -> Result<String, Fault>
         requires { HasSharded H.code W.contents self.old [] }
         ensures ok { IfOk result (λ rest. (seen : List Text)
@@ -164,12 +176,12 @@ impl<H: TextHasher, W: Write> Shards<H, W> {
             if blocks::read_block(&mut block, input, self)? {
                 return blocks::end_block(block, self.count_lines());
             }
-            self.write()?;
+            self.write_above(FULL)?;
         }
         Err(Fault::of_read(io::Error::from(ErrorKind::Interrupted)))
     }
 
-    /// Writes the lines that are all that an input yields. However long it is, no more of it waits than a block.
+    /// Writes the lines that are all that an input yields. However long it is, no more of it waits than 64 KiB an output, and a block.
     pub fn write_lines<R: Read>(&mut self, alloc: Global, input: &mut R) -> Result<(), Fault>
         requires { HasSharded H.code W.contents self.old [] }
         ensures written { OnOk result (IfSome (R.remaining input.old)
@@ -180,7 +192,7 @@ impl<H: TextHasher, W: Write> Shards<H, W> {
         if !rest.is_empty() {
             self.add(&rest)?;
         }
-        self.write()
+        self.write_above(0)
     }
 }
 

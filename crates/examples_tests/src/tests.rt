@@ -8,7 +8,9 @@ use examples::same_text::same_text;
 use examples::tokens::{is_keyword, lex};
 use std::alloc::Global;
 use std::test::Fail;
-use string_interner::backend::{Backend, BucketBackend, BufferBackend, InternError, StringBackend};
+use string_interner::backend::{
+    Backend, BucketBackend, BufferBackend, InternError, Store, StringBackend,
+};
 use string_interner::dedup::{SeededHasher, SeededState, TextHasher};
 use string_interner::symbol::Symbol;
 use string_interner::{DefaultStringInterner, StringInterner};

@@ -37,13 +37,15 @@ use crate::text::Text;
 use serde_json::Value;
 use std::alloc::{AllocError, Global};
 use string_interner::StringInterner;
-use string_interner::backend::{Backend, BucketBackend, BufferBackend, InternError, StringBackend};
+use string_interner::backend::{
+    Backend, BucketBackend, BufferBackend, InternError, Store, StringBackend,
+};
 use string_interner::dedup::TaggedIndex;
 use string_interner::json::JsonError;
 use string_interner::symbol::{Symbol, SymbolU32};
 
 /// A `FastStringInterner` over a backend, except that its hasher is chosen at run time.
-type HashedInterner<B> = StringInterner<B, ChosenHasher, TaggedIndex<<B as Backend>::Symbol>>;
+type HashedInterner<B> = StringInterner<B, ChosenHasher, TaggedIndex<<B as Store>::Symbol>>;
 
 /// An interner of one of the kinds.
 #[derive(Drop)]

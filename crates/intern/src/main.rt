@@ -2,6 +2,7 @@
 #![tactic(auto)]
 
 mod fault;
+mod help;
 mod line;
 mod serve;
 mod split;
@@ -9,12 +10,22 @@ mod split;
 mod tests;
 
 use fault::Fault;
+use help::{HELP, VERSION};
 use std::env;
-use std::io::BufWriter;
+use std::io::{BufWriter, Write};
 use std::process::ExitCode;
 
-/// Runs `serve` on standard input and output. If the output buffer cannot be allocated, lines are written one by one: whether
-/// the run fails is for `serve` alone to find.
+/// Returns what is asked for by the one word that asks for a text of the program.
+fn find_text(arguments: &[String]) -> Option<&'static str> {
+    match arguments {
+        [word] if word.as_str() == "--help" => Some(HELP),
+        [word] if word.as_str() == "--version" => Some(VERSION),
+        _ => None,
+    }
+}
+
+/// Prints what is asked for, or runs `serve` on standard input and output. If the output buffer cannot be allocated, lines are
+/// written one by one: whether the run fails is for `serve` alone to find.
 fn run(rt: &HostRuntime) -> Result<(), Fault> {
     let alloc = rt.alloc();
     let arguments: Vec<String> = env::args(rt)
@@ -22,6 +33,12 @@ fn run(rt: &HostRuntime) -> Result<(), Fault> {
         .skip(1)
         .collect(alloc)
         .map_err(|_| Fault::Usage)?;
+    if let Some(text) = find_text(&arguments) {
+        return rt
+            .stdout()
+            .write_all(text.as_bytes())
+            .map_err(|_| Fault::Output);
+    }
     match BufWriter::new(alloc, rt.stdout()) {
         Ok(mut output) => serve::serve(alloc, &arguments, &mut rt.stdin(), &mut output),
         Err(_) => serve::serve(alloc, &arguments, &mut rt.stdin(), &mut rt.stdout()),

@@ -10,7 +10,7 @@ use crate::code_list::Codes;
 use crate::symbols::SymbolList;
 use std::alloc::{AllocError, Global};
 use std::marker::Model;
-use string_interner::backend::{Backend, DefaultBackend, InternError};
+use string_interner::backend::{Backend, DefaultBackend, InternError, Store};
 use string_interner::dedup::{FoldState, TaggedIndex, TextHasher, TextIndex};
 use string_interner::{Stopped, StringInterner, Symbol};
 
@@ -61,7 +61,7 @@ impl<'a, 't> TextList for &'a [&'t str] {
 pub struct Dictionary<
     B: Backend = DefaultBackend,
     H: TextHasher = FoldState,
-    I: TextIndex<B::Symbol> = TaggedIndex<<B as Backend>::Symbol>,
+    I: TextIndex<B::Symbol> = TaggedIndex<<B as Store>::Symbol>,
 > {
     interner: StringInterner<B, H, I>,
     /// The symbol of each entry.

@@ -17,7 +17,7 @@ pub use parts::PartsError;
 use std::alloc::{AllocError, Global};
 use std::marker::Model;
 use string_interner::StringInterner;
-use string_interner::backend::{Backend, DefaultBackend, InternError};
+use string_interner::backend::{Backend, DefaultBackend, InternError, Store};
 use string_interner::dedup::{FoldState, TaggedIndex, TextHasher, TextIndex};
 
 /// A dictionary of fewer texts is taken to fit the processor's cache. There a block takes longer than its texts one by one. These are
@@ -40,7 +40,7 @@ const FEWEST_FOR_BLOCKS: usize = 1 << 16;
 pub struct Column<
     B: Backend = DefaultBackend,
     H: TextHasher = FoldState,
-    I: TextIndex<B::Symbol> = TaggedIndex<<B as Backend>::Symbol>,
+    I: TextIndex<B::Symbol> = TaggedIndex<<B as Store>::Symbol>,
 > {
     dictionary: Dictionary<B, H, I>,
     codes: Codes,

@@ -33,6 +33,11 @@ module _ {S : Type 0} (entry : S → Option Text) where
   AddsPair old new symbol =
       (text : Text) → look_up new text ≡ (if bytes_eq text (text_of symbol) then Some symbol else look_up old text)
 
+  -- the new map is the old one without this symbol's text
+  abbrev pub RemovesPair : List (Option S) → List (Option S) → S → Type 0
+  RemovesPair old new symbol =
+      (text : Text) → look_up new text ≡ (if bytes_eq text (text_of symbol) then None else look_up old text)
+
   -- the symbol is an entry's, and its text is not in the map
   pub record IsAbsent (slots : List (Option S)) (symbol : S) : Type 0 where
     pub is_entry : IsSome (entry symbol)

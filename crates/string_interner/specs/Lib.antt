@@ -34,6 +34,7 @@ pub mod Table
 pub mod Interner
 pub mod Extend
 pub mod InternAll
+pub mod Part
 pub mod Json
 pub mod Scopes
 pub mod Run

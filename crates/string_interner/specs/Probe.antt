@@ -30,6 +30,10 @@ pub record Follows (count at next : ℕ) : Type 0 where
   pub within : next < count
   pub one_on : (next ≡ at + 1) ⊎ ((next ≡ 0) × (at + 1 ≡ count))
 
+-- A probe from `home` to `at`, round the end to the first, meets the slot `between`.
+abbrev pub IsBetween : ℕ → ℕ → ℕ → Type 0
+IsBetween home between at = ((home ≤ at) × (home ≤ between) × (between ≤ at)) ⊎ ((at < home) × ((home ≤ between) ⊎ (between ≤ at)))
+
 -- the slot is filled, and its symbol fails the test
 pub record Misses {S : Type 0} (test : S → Bool) (slots : List (Option S)) (at : ℕ) : Type 0 where
   pub symbol : S

@@ -5,7 +5,7 @@ use Rattle.std.specs.Prelude.{◌≡◌, ℕ, ◌+◌, ◌*◌, ◌≤◌, ◌%�
 use Rattle.string_interner.specs.Text.{Text}
 use Rattle.string_interner.specs.LoadFactor.{GrowsTo, IsSlotCount}
 use Rattle.string_interner.specs.Slots.{LooksContents, IsProbeCluster, symbols}
-use Rattle.string_interner.specs.Index.{AddsPair, IsAbsent, look_up, text_of}
+use Rattle.string_interner.specs.Index.{AddsPair, IsAbsent, RemovesPair, look_up, text_of}
 use Rattle.string_interner.specs.Layout.{IsTable, SlotLayout}
 
 -- what contracts see of a table
@@ -75,6 +75,15 @@ module _ {S L : Type 0} (layout : SlotLayout S L) where
       pub slots : slot_count new ≡ slot_count old
       pub put_back : new.put_back ≡ old.put_back
       pub greatest : new.greatest ≡ max old.greatest (entry_count new)
+
+    -- the symbol is removed, and nothing else changes but the count of entries
+    pub record Removes (old new : TableContents L) (symbol : S) : Type 0 where
+      pub fits : layout.fits entry code new.slots
+      pub pair : RemovesPair entry (layout.slots old.slots) (layout.slots new.slots) symbol
+      pub count : entry_count old ≡ entry_count new + 1
+      pub slots : slot_count new ≡ slot_count old
+      pub put_back : new.put_back ≡ old.put_back
+      pub greatest : new.greatest ≡ old.greatest
 
     -- The table is filled anew: the slots map each entry's text to its symbol and hold nothing else, `count` entries.
     -- The slot count is unchanged.

@@ -21,7 +21,8 @@ mod tagged;
 mod text_index;
 
 pub use crate::hash::{
-    DefaultHashBuilder, FixedState, FoldState, SeededHasher, SeededState, StdHasher, TextHasher,
+    CopyHasher, DefaultHashBuilder, FixedState, FoldState, SeededHasher, SeededState, StdHasher,
+    TextHasher,
 };
 pub use index::{DefaultIndex, Index, TaggedIndex};
 pub use slots::Looks;

@@ -34,6 +34,19 @@ pub trait TextHasher {
         ensures { result ≡ code self.now text.now };
 }
 
+/// A hasher of which another can be made that gives the same codes.
+pub trait CopyHasher: TextHasher {
+    /// Returns a hasher that gives each text the same code.
+    fn same(&self) -> Self
+        ensures { (text : Text) → Self.code result text ≡ Self.code self.now text };
+}
+
+impl<H: TextHasher + Copy> CopyHasher for H {
+    fn same(&self) -> Self {
+        *self
+    }
+}
+
 /// 64-bit FNV-1a over the bytes of the text: fast on short texts, with the same codes in each run.
 ///
 /// Not resistant to collisions: texts can be chosen to have one code. Where they come from someone who may do so, take

@@ -6,28 +6,30 @@ mod intern_all;
 mod intern_slice;
 mod look_ahead;
 mod new_text;
+mod part;
 mod touch;
 
-ghost use Rattle.std.specs.Prelude.{◌≡◌, ◌≤◌, ◌&&◌, ◌↔◌, List, [], ◌∷◌, length, take, IsTrue, IsSome, IfOk, IfSome, Some};
+ghost use Rattle.std.specs.Prelude.{◌≡◌, ℕ, ◌≤◌, ◌&&◌, ◌↔◌, List, [], ◌∷◌, length, take, IsTrue, IsSome, IfOk, IfSome, Some, None};
 ghost use Rattle.std.specs.Option.{option_copied};
 ghost use Rattle.std.specs.Cmp.{partial_equiv_from_equiv, on_equiv};
 ghost use Rattle.string_interner.specs.Text.{Text, first, texts_eq, texts_eq-IsEquivalence};
 ghost use Rattle.string_interner.specs.Iter.{iter_over};
 ghost use Rattle.string_interner.specs.Backend.{IsPlace};
-ghost use Rattle.string_interner.specs.Interner.{IsInternerList, Finds, HasLeastSlots, HoldsOfEvery, InternerContents, InternsInto, IsCopyOf, IsMadeFor, IsNew, KeepsMemory, Resolves};
+ghost use Rattle.string_interner.specs.Interner.{IsInternerList, contents_of, Finds, HasLeastSlots, HoldsOfEvery, InternerContents, InternsInto, IsCopyOf, IsMadeFor, IsNew, KeepsMemory, Resolves};
 ghost use Rattle.string_interner.specs.StandsFor.{StandsFor};
 ghost use Rattle.string_interner.specs.Given.{given_text};
 
-use crate::backend::{Backend, CopyBackend, InternError, Iter};
+use crate::backend::{Backend, CopyBackend, InternError, Iter, Store};
 use crate::dedup::{CopyIndex, DefaultIndex, Entry, TextIndex};
 use crate::equal_texts::texts_are_equal;
-use crate::hash::{DefaultHashBuilder, TextHasher};
+use crate::hash::{CopyHasher, DefaultHashBuilder, TextHasher};
 use crate::symbol::Symbol;
 use given::Given;
 pub use intern_slice::Stopped;
 use new_text::intern_coded;
 use std::alloc::{AllocError, Global};
 use std::marker::Model;
+use std::mem::replace;
 
 /// A list of distinct texts over a backend, each found by its text and by its symbol.
 ///
@@ -43,9 +45,9 @@ use std::marker::Model;
 /// ```
 #[derive(Drop)]
 pub struct StringInterner<
-    B: Backend,
+    B: Store,
     H: TextHasher = DefaultHashBuilder,
-    I: TextIndex<B::Symbol> = DefaultIndex<<B as Backend>::Symbol>,
+    I: TextIndex<B::Symbol> = DefaultIndex<<B as Store>::Symbol>,
 > {
     backend: B,
     hasher: H,
@@ -53,7 +55,7 @@ pub struct StringInterner<
 }
 
 /// Contracts see the texts, the buckets and the room of the backend, and the count of slots.
-impl<B: Backend, H: TextHasher, I: TextIndex<B::Symbol>> Model for StringInterner<B, H, I> {
+impl<B: Store, H: TextHasher, I: TextIndex<B::Symbol>> Model for StringInterner<B, H, I> {
     ghost use Rattle.string_interner.specs.Interner.{InternerContents, IsSoundInterner};
 
     ghost Value = { InternerContents };
@@ -126,24 +128,21 @@ impl<B: Backend, H: TextHasher, I: TextIndex<B::Symbol>> StringInterner<B, H, I>
             index: I::new(alloc),
         }
     }
+}
 
-    /// Returns the number of texts.
-    ///
-    /// Its clause `holds` is what holds of every interner: the texts are distinct, symbols that stand for texts are
-    /// equal exactly if the texts are, a later entry has a greater number, and the slots are within the load factor. A
-    /// proof that needs it calls `let _ = interner.len();`.
-    pub fn len(&self) -> usize
-        ensures value { result ≡ length self.now.texts }
-        ensures holds { HoldsOfEvery B.numbering B.Symbol.eq I.rule self.now }
+impl<B: Store, H: TextHasher, I: TextIndex<B::Symbol>> StringInterner<B, H, I> {
+    /// Makes an interner over a store and an index that have no texts, under this hasher.
+    pub fn from_parts(backend: B, hasher: H, index: I) -> Self
+        requires texts { B.texts backend ≡ [] }
+        requires count { I.entries index ≡ 0 }
+        requires empty { (code : Text → ℕ) → I.indexes index (λ _. None) code }
+        ensures { result ≡ contents_of [] (B.buckets backend) (B.room backend) (I.slots index) }
     {
-        self.index.len()
-    }
-
-    /// Reports whether there is no text.
-    pub fn is_empty(&self) -> bool
-        ensures { IsTrue result ↔ (self.now.texts ≡ []) }
-    {
-        self.len() == 0
+        StringInterner {
+            backend,
+            hasher,
+            index,
+        }
     }
 
     /// Returns the symbol of a text: `Some` exactly if the text is known. Allocates nothing.
@@ -189,14 +188,6 @@ impl<B: Backend, H: TextHasher, I: TextIndex<B::Symbol>> StringInterner<B, H, I>
         self.get(text).is_some()
     }
 
-    /// Returns the symbol that the next new text gets: `None` exactly if the symbol type has no symbol for the next
-    /// place, and interning a new text then returns `NoSymbol`.
-    pub fn next_symbol(&self) -> Option<B::Symbol>
-        ensures { result ≡ B.numbering.symbol_of (B.numbering.place self.now.texts) }
-    {
-        self.backend.next_symbol()
-    }
-
     /// Returns the symbol of a text. A new text is appended.
     ///
     /// A known text allocates nothing and changes nothing. A new one returns `NoSymbol` exactly if the symbol type has
@@ -233,6 +224,27 @@ impl<B: Backend, H: TextHasher, I: TextIndex<B::Symbol>> StringInterner<B, H, I>
             None,
         )
     }
+}
+
+impl<B: Store, H: TextHasher, I: TextIndex<B::Symbol>> StringInterner<B, H, I> {
+    /// Returns the number of texts.
+    ///
+    /// Its clause `holds` is what holds of every interner: the texts are distinct, symbols that stand for texts are
+    /// equal exactly if the texts are, a later entry has a greater number, and the slots are within the load factor. A
+    /// proof that needs it calls `let _ = interner.len();`.
+    pub fn len(&self) -> usize
+        ensures value { result ≡ length self.now.texts }
+        ensures holds { HoldsOfEvery B.numbering B.Symbol.eq I.rule self.now }
+    {
+        self.index.len()
+    }
+
+    /// Reports whether there is no text.
+    pub fn is_empty(&self) -> bool
+        ensures { IsTrue result ↔ (self.now.texts ≡ []) }
+    {
+        self.len() == 0
+    }
 
     /// Releases memory of the backend that no text needs, if it can. Texts, symbols, buckets and slot count are
     /// unchanged.
@@ -242,21 +254,6 @@ impl<B: Backend, H: TextHasher, I: TextIndex<B::Symbol>> StringInterner<B, H, I>
         ensures slots { self.new.slot_count ≡ self.old.slot_count }
     {
         self.backend.shrink_to_fit();
-    }
-
-    /// Keeps the first `len` texts with their symbols, and drops the rest, which are then new again. Does nothing if
-    /// there are at most `len`.
-    ///
-    /// Allocates and releases nothing. Costs rehashing each kept text.
-    pub fn truncate(&mut self, len: usize)
-        ensures texts { self.new.texts ≡ take len self.old.texts }
-        ensures same { length self.old.texts ≤ len → self.new ≡ self.old }
-        ensures memory { KeepsMemory self.old self.new }
-    {
-        if len < self.index.len() {
-            self.backend.truncate(len);
-            self.index.refill(&self.hasher, &self.backend);
-        }
     }
 
     /// Returns what the backend reads at a symbol's number, for any symbol. For the symbol of an entry this is its
@@ -275,6 +272,18 @@ impl<B: Backend, H: TextHasher, I: TextIndex<B::Symbol>> StringInterner<B, H, I>
         self.backend.resolve_unchecked(symbol)
     }
 
+    /// Returns the hasher.
+    pub fn hasher(&self) -> &H {
+        &self.hasher
+    }
+
+    /// Returns the index, to read what only an index of its kind has.
+    pub fn index(&self) -> &I
+        ensures { I.slots result.now ≡ self.now.slot_count }
+    {
+        &self.index
+    }
+
     /// Returns the backend, which has the texts, to read what only a backend of its kind has.
     pub fn backend(&self) -> &B
         ensures texts { B.texts result.now ≡ self.now.texts }
@@ -282,6 +291,36 @@ impl<B: Backend, H: TextHasher, I: TextIndex<B::Symbol>> StringInterner<B, H, I>
         ensures room { B.room result.now ≡ self.now.room }
     {
         &self.backend
+    }
+}
+
+impl<B: Backend, H: TextHasher, I: TextIndex<B::Symbol>> StringInterner<B, H, I> {
+    /// Returns the symbol that the next new text gets: `None` exactly if the symbol type has no symbol for the next
+    /// place, and interning a new text then returns `NoSymbol`.
+    pub fn next_symbol(&self) -> Option<B::Symbol>
+        ensures { result ≡ B.numbering.symbol_of (B.numbering.place self.now.texts) }
+    {
+        self.backend.next_symbol()
+    }
+
+    /// Keeps the first `len` texts with their symbols, and drops the rest, which are then new again. Does nothing if
+    /// there are at most `len`.
+    ///
+    /// Allocates and releases nothing. If at least eight times as many texts stay as go, each that goes costs about a look-up.
+    /// Otherwise, or if the index is your own and has no `remove_from`, each that stays is hashed again. A `BufferBackend` also
+    /// reads the length of each that stays.
+    pub fn truncate(&mut self, len: usize)
+        ensures texts { self.new.texts ≡ take len self.old.texts }
+        ensures same { length self.old.texts ≤ len → self.new ≡ self.old }
+        ensures memory { KeepsMemory self.old self.new }
+    {
+        if len < self.index.len() {
+            let removed = self.index.remove_from(&self.hasher, &self.backend, len);
+            self.backend.truncate(len);
+            if !removed {
+                self.index.refill(&self.hasher, &self.backend);
+            }
+        }
     }
 
     /// Iterates over the entries in insertion order, each with its symbol.
@@ -292,7 +331,34 @@ impl<B: Backend, H: TextHasher, I: TextIndex<B::Symbol>> StringInterner<B, H, I>
     }
 }
 
-impl<B: Backend + Drop, H: TextHasher + Drop, I: TextIndex<B::Symbol> + Drop> StringInterner<
+impl<B: Store, H: TextHasher, I: TextIndex<B::Symbol> + Drop> StringInterner<B, H, I> {
+    /// Forgets all texts: takes another store and another index, which have none, and returns the store that it had.
+    pub fn restart(&mut self, backend: B, index: I) -> B
+        requires texts { B.texts backend ≡ [] }
+        requires count { I.entries index ≡ 0 }
+        requires empty { (code : Text → ℕ) → I.indexes index (λ _. None) code }
+        ensures new { self.new
+            ≡ contents_of [] (B.buckets backend) (B.room backend) (I.slots index) }
+        ensures texts { B.texts result ≡ self.old.texts }
+        ensures buckets { B.buckets result ≡ self.old.buckets }
+        ensures room { B.room result ≡ self.old.room }
+    {
+        self.index = index;
+        replace(&mut self.backend, backend)
+    }
+
+    /// Returns the backend, as `into_backend` does, and the hasher. Drops the index alone.
+    pub fn into_parts(self) -> (B, H)
+        ensures texts { B.texts result.0 ≡ self.texts }
+        ensures buckets { B.buckets result.0 ≡ self.buckets }
+        ensures room { B.room result.0 ≡ self.room }
+        ensures distinct { IsInternerList B.numbering (B.texts result.0) }
+    {
+        (self.backend, self.hasher)
+    }
+}
+
+impl<B: Store + Drop, H: TextHasher + Drop, I: TextIndex<B::Symbol> + Drop> StringInterner<
     B,
     H,
     I,
@@ -312,7 +378,7 @@ impl<B: Backend + Drop, H: TextHasher + Drop, I: TextIndex<B::Symbol> + Drop> St
 }
 
 impl<
-    B: CopyBackend + Drop,
+    B: Backend + CopyBackend + Drop,
     H: TextHasher + Clone + Drop,
     I: TextIndex<B::Symbol> + Drop,
 > StringInterner<B, H, I> {
@@ -320,7 +386,7 @@ impl<
     /// hasher, whatever codes that gives, with the least slots for its texts. Its buckets are those of a copy of the
     /// backend, where static texts stay references.
     ///
-    /// Hashes each text once. Where the hasher is `Copy` and the index a `CopyIndex`,
+    /// Hashes each text once. Where the hasher is a `CopyHasher` and the index a `CopyIndex`,
     /// [`try_copy`](StringInterner::try_copy) hashes none. Returns `Err` only if an allocation fails or a size does not
     /// fit a `usize`.
     pub fn clone(&self) -> Result<Self, AllocError>
@@ -339,11 +405,7 @@ impl<
     }
 }
 
-impl<B: CopyBackend + Drop, H: TextHasher + Copy, I: CopyIndex<B::Symbol> + Drop> StringInterner<
-    B,
-    H,
-    I,
-> {
+impl<B: CopyBackend + Drop, H: CopyHasher, I: CopyIndex<B::Symbol> + Drop> StringInterner<B, H, I> {
     /// Makes an interner with an equal list, and so with the same symbols, under the same hasher. Its index is a copy,
     /// with as many slots. Its buckets are those of a copy of the backend, where static texts stay references.
     ///
@@ -356,7 +418,7 @@ impl<B: CopyBackend + Drop, H: TextHasher + Copy, I: CopyIndex<B::Symbol> + Drop
         let index = self.index.try_copy()?;
         Ok(StringInterner {
             backend: self.backend.try_copy()?,
-            hasher: self.hasher,
+            hasher: self.hasher.same(),
             index,
         })
     }

@@ -87,8 +87,8 @@ pub mod run;
 pub mod scope;
 pub mod symbol;
 
-use backend::Backend;
 pub use backend::DefaultBackend;
+use backend::Store;
 pub use dedup::DefaultIndex;
 use dedup::TaggedIndex;
 pub use hash::DefaultHashBuilder;
@@ -106,5 +106,5 @@ pub type DefaultStringInterner<B = DefaultBackend, H = DefaultHashBuilder> = Str
 pub type FastStringInterner<B = DefaultBackend> = StringInterner<
     B,
     FoldState,
-    TaggedIndex<<B as Backend>::Symbol>,
+    TaggedIndex<<B as Store>::Symbol>,
 >;

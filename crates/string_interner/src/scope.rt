@@ -11,7 +11,7 @@ ghost use Rattle.string_interner.specs.Interner.{IsInternerList, Finds, InternsI
 ghost use Rattle.string_interner.specs.StandsFor.{KeepsSymbols};
 ghost use Rattle.string_interner.specs.Scopes.{layers, joined_layers, as_interner, Leaves, LayerStep, LeavingGivesBack};
 
-use crate::backend::{Backend, InternError, Iter};
+use crate::backend::{Backend, InternError, Iter, Store};
 use crate::dedup::{DefaultIndex, TextIndex};
 use crate::hash::{DefaultHashBuilder, TextHasher};
 use crate::interner::StringInterner;
@@ -27,7 +27,7 @@ use std::marker::Model;
 pub struct Scopes<
     B: Backend,
     H: TextHasher = DefaultHashBuilder,
-    I: TextIndex<B::Symbol> = DefaultIndex<<B as Backend>::Symbol>,
+    I: TextIndex<B::Symbol> = DefaultIndex<<B as Store>::Symbol>,
 > {
     interner: StringInterner<B, H, I>,
     /// The number of texts when each open scope was entered, the outermost scope first.

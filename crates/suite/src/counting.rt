@@ -16,7 +16,7 @@ use crate::own::SuiteBackend;
 use crate::texts::Texts;
 use std::alloc::{AllocError, Global};
 use std::cell::Cell;
-use string_interner::backend::{Backend, CopyBackend, InternError, StringBackend};
+use string_interner::backend::{Backend, CopyBackend, InternError, Store, StringBackend};
 use string_interner::symbol::{Symbol, SymbolU32};
 
 /// The number of the last `SymbolU32`.
@@ -71,7 +71,7 @@ impl Counting {
     }
 }
 
-impl Backend for Counting {
+impl Store for Counting {
     type Symbol = SymbolU32;
 
     ghost texts = { λ b. b.inner.texts };
@@ -80,28 +80,14 @@ impl Backend for Counting {
 
     ghost room = { λ _. 0 };
 
-    ghost grant = { λ _. 0 };
-
-    fn new(alloc: Global) -> Self {
-        Counting::with_inner(StringBackend::new(alloc))
-    }
-
-    fn with_capacity(alloc: Global, capacity: usize) -> Result<Self, AllocError> {
-        Ok(Counting::with_inner(StringBackend::with_capacity(alloc, capacity)?))
-    }
-
-    fn count(&self) -> usize {
-        self.inner.count()
-    }
-
-    fn next_symbol(&self) -> Option<SymbolU32> {
-        self.inner.next_symbol()
+    fn is_full(&self) -> bool {
+        self.inner.is_full()
     }
 
     fn intern(&mut self, text: &str) -> Result<SymbolU32, InternError> {
         // Its clauses tell a proof what the list keeps to.
         let _ = self.inner.count();
-        if self.inner.next_symbol().is_some() && self.owes() {
+        if !self.inner.is_full() && self.owes() {
             return Err(InternError::Memory(AllocError));
         }
         self.inner.intern(text)
@@ -121,17 +107,8 @@ impl Backend for Counting {
         self.inner.resolve_unchecked(symbol)
     }
 
-    fn entry_at(&self, at: usize) -> (SymbolU32, &str, usize) {
-        self.count_one();
-        self.inner.entry_at(at)
-    }
-
     fn shrink_to_fit(&mut self) {
         self.inner.shrink_to_fit();
-    }
-
-    fn truncate(&mut self, len: usize) {
-        self.inner.truncate(len);
     }
 
     ghost symbols = { (refl, refl) };
@@ -143,6 +120,35 @@ impl Backend for Counting {
     ghost costs = { λ text. Prim.search rules };
 
     ghost reads = { λ texts i kept within. reads_at_length texts i within };
+}
+
+impl Backend for Counting {
+    ghost grant = { λ _. 0 };
+
+    fn new(alloc: Global) -> Self {
+        Counting::with_inner(StringBackend::new(alloc))
+    }
+
+    fn with_capacity(alloc: Global, capacity: usize) -> Result<Self, AllocError> {
+        Ok(Counting::with_inner(StringBackend::with_capacity(alloc, capacity)?))
+    }
+
+    fn count(&self) -> usize {
+        self.inner.count()
+    }
+
+    fn next_symbol(&self) -> Option<SymbolU32> {
+        self.inner.next_symbol()
+    }
+
+    fn entry_at(&self, at: usize) -> (SymbolU32, &str, usize) {
+        self.count_one();
+        self.inner.entry_at(at)
+    }
+
+    fn truncate(&mut self, len: usize) {
+        self.inner.truncate(len);
+    }
 }
 
 impl CopyBackend for Counting {

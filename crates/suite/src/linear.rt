@@ -7,7 +7,7 @@ ghost use Rattle.suite.specs.LinearIndex.{IsListed};
 
 use std::alloc::{AllocError, Global};
 use std::marker::Model;
-use string_interner::backend::Backend;
+use string_interner::backend::{Backend, Store};
 use string_interner::dedup::{CopyIndex, Entry, TextHasher, TextIndex};
 use string_interner::symbol::Symbol;
 
@@ -29,7 +29,7 @@ impl<S: Symbol> Model for LinearIndex<S> {
 }
 
 /// The first symbol whose text this is.
-fn find<S: Symbol, B: Backend<Symbol = S>>(symbols: &[S], backend: &B, text: &str) -> Option<S>
+fn find<S: Symbol, B: Store<Symbol = S>>(symbols: &[S], backend: &B, text: &str) -> Option<S>
     requires { IsListed (entry_text B.numbering (B.texts backend.now)) symbols.now }
     ensures some { IfSome result
         (λ symbol. entry_text B.numbering (B.texts backend.now) symbol ≡ Some text.now) }
@@ -105,14 +105,14 @@ impl<S: Symbol> TextIndex<S> for LinearIndex<S> {
         self.symbols.len()
     }
 
-    fn entry<B: Backend<Symbol = S>>(&self, _code: u64, backend: &B, text: &str) -> Entry<S, ()> {
+    fn entry<B: Store<Symbol = S>>(&self, _code: u64, backend: &B, text: &str) -> Entry<S, ()> {
         match find(&self.symbols, backend, text) {
             Some(symbol) => Entry::Occupied(symbol),
             None => Entry::Vacant(()),
         }
     }
 
-    fn reserve_one<H: TextHasher, B: Backend<Symbol = S>>(
+    fn reserve_one<H: TextHasher, B: Store<Symbol = S>>(
         &mut self,
         _hasher: &H,
         _backend: &B,

@@ -5,12 +5,12 @@ use crate::fault::{Failure, Mistake};
 use crate::odd::Salted;
 use std::alloc::AllocError;
 use string_interner::StringInterner;
-use string_interner::backend::{BucketBackend, BufferBackend, CopyBackend, StringBackend};
+use string_interner::backend::{Backend, BucketBackend, BufferBackend, CopyBackend, StringBackend};
 use string_interner::dedup::{CopyIndex, TextHasher};
 use string_interner::symbol::Symbol;
 
 /// A backend of the scenarios.
-pub trait SuiteBackend: CopyBackend + PartialEq + Drop {
+pub trait SuiteBackend: Backend + CopyBackend + PartialEq + Drop {
     /// Counts the texts that it was asked for since this was last called, if it counts them at all.
     fn count_asked(&self) -> Option<usize> {
         None

@@ -216,7 +216,9 @@ fn choose_interner(rt: &HostRuntime, scenario: Scenario<'_>) -> Result<(), Fault
 fn choose_hasher(rt: &HostRuntime, scenario: Scenario<'_>) -> Result<(), Fault> {
     match scenario.first {
         "interner string SymbolU32 constant" => run_under::<StringBackend, Constant>(rt, scenario),
+        "interner string SymbolU32 length" => run_under::<StringBackend, ByteCount>(rt, scenario),
         "interner string SymbolU32 salted" => run_under::<StringBackend, Salted>(rt, scenario),
+        "interner string SymbolU32 fold" => run_under::<StringBackend, FoldState>(rt, scenario),
         "interner string SymbolU32 sip" => run_under::<StringBackend, SipState>(rt, scenario),
         "interner string SymbolU32 counting" => run_interners::<StringBackend, _, Index<SymbolU32>>(
             rt,
@@ -352,7 +354,9 @@ fn choose_index(rt: &HostRuntime, scenario: Scenario<'_>) -> Result<(), Fault> {
         "index string SymbolU32 default" => run_filled::<StringBackend, FixedState>(rt, scenario),
         "index string SymbolU32 constant" => run_filled::<StringBackend, Constant>(rt, scenario),
         "index string SymbolU32 length" => run_filled::<StringBackend, ByteCount>(rt, scenario),
+        "index string SymbolU32 salted" => run_filled::<StringBackend, Salted>(rt, scenario),
         "index counting SymbolU32 default" => run_filled::<Counting, FixedState>(rt, scenario),
+        "index counting SymbolU32 constant" => run_filled::<Counting, Constant>(rt, scenario),
         "index counting SymbolU32 length" => run_filled::<Counting, ByteCount>(rt, scenario),
         "index counting SymbolU32 salted" => run_filled::<Counting, Salted>(rt, scenario),
         "linear string SymbolU32 default" => run_interners::<StringBackend, _, Linear>(

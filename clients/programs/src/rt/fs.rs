@@ -3,6 +3,7 @@
 
 use super::host::HostRuntime;
 use super::io::{Error, ErrorKind, Read, Result, Write};
+use super::signals;
 use core::ffi::{c_char, c_int, c_long, CStr};
 use std::fs;
 use std::io::{Read as _, Write as _};
@@ -12,9 +13,13 @@ use std::os::unix::fs::MetadataExt as _;
 unsafe extern "C" {
     fn open(path: *const c_char, flags: c_int, ...) -> c_int;
     fn openat(folder: c_int, name: *const c_char, flags: c_int, ...) -> c_int;
+    #[link_name = "fchown"]
+    fn change_owner(file: c_int, owner: u32, group: u32) -> c_int;
+    fn fchmod(file: c_int, mode: u32) -> c_int;
     fn flock(file: c_int, how: c_int) -> c_int;
     fn mkdir(path: *const c_char, mode: u32) -> c_int;
     fn rmdir(path: *const c_char) -> c_int;
+    fn link(from: *const c_char, to: *const c_char) -> c_int;
     fn unlink(path: *const c_char) -> c_int;
     fn unlinkat(folder: c_int, name: *const c_char, flags: c_int) -> c_int;
     #[link_name = "rename"]
@@ -45,8 +50,10 @@ const NO_FOLLOW: c_int = 0o100_000;
 const FILE_MODE: u32 = 0o666;
 const FOLDER_MODE: u32 = 0o777;
 
-/// Of `flock`: for this file alone, and without waiting.
-const LOCK: c_int = 2 | 4;
+/// Of `flock`: beside others that do the same, alone, and without waiting.
+const SHARED: c_int = 1;
+const ALONE: c_int = 2;
+const AT_ONCE: c_int = 4;
 /// Of `unlinkat`: a folder.
 const FOLDER: c_int = 0x200;
 
@@ -69,7 +76,7 @@ const ENTRY_NAME: usize = 19;
 const ENTRIES: usize = 4096;
 
 /// The most bytes of a path, with the zero byte at its end.
-const LONGEST_PATH: usize = 4096;
+pub(super) const LONGEST_PATH: usize = 4096;
 
 /// A path as C has it.
 struct Path([u8; LONGEST_PATH]);
@@ -102,6 +109,16 @@ fn check(returned: c_int) -> Result<c_int> {
     }
 }
 
+/// Makes a call of the system until it is not interrupted.
+fn retry(call: impl Fn() -> c_int) -> Result<()> {
+    loop {
+        match check(call()) {
+            Err(error) if error.kind() == ErrorKind::Interrupted => {}
+            outcome => return outcome.map(drop),
+        }
+    }
+}
+
 /// Opens a file by a call, which is made again if it was interrupted.
 fn open_by(call: impl Fn() -> c_int) -> Result<File> {
     loop {
@@ -129,9 +146,13 @@ pub enum TryLockError {
 
 impl File {
     fn of(path: &str, flags: c_int) -> Result<Self> {
+        File::with_mode(path, flags, FILE_MODE)
+    }
+
+    fn with_mode(path: &str, flags: c_int, mode: u32) -> Result<Self> {
         let path = Path::new(path)?;
         // SAFETY: the path ends with a zero byte.
-        open_by(|| unsafe { open(path.as_ptr(), flags | ALWAYS, FILE_MODE) })
+        open_by(|| unsafe { open(path.as_ptr(), flags | ALWAYS, mode) })
     }
 
     /// Opens a file or folder to be read.
@@ -149,6 +170,8 @@ impl File {
         OpenOptions {
             is_read: false,
             is_written: false,
+            is_new: false,
+            mode: FILE_MODE,
         }
     }
 
@@ -161,11 +184,40 @@ impl File {
         Ok(self.0.sync_all()?)
     }
 
+    /// Gives it to those who may do so much.
+    pub fn set_permissions(&self, permissions: Permissions) -> Result<()> {
+        // SAFETY: the file is open.
+        retry(|| unsafe { fchmod(self.0.as_raw_fd(), permissions.0) })
+    }
+
+    /// Locks it until it is closed. Waits while another has it.
+    pub fn lock(&self) -> Result<()> {
+        self.lock_as(ALONE)
+    }
+
+    /// Locks it until it is closed, beside others that do the same. Waits while another has it alone.
+    pub fn lock_shared(&self) -> Result<()> {
+        self.lock_as(SHARED)
+    }
+
     /// Locks it until it is closed, unless another has.
     pub fn try_lock(&self) -> core::result::Result<(), TryLockError> {
+        self.try_to(ALONE)
+    }
+
+    /// Locks it until it is closed, beside others that do the same, unless another has it alone.
+    pub fn try_lock_shared(&self) -> core::result::Result<(), TryLockError> {
+        self.try_to(SHARED)
+    }
+
+    fn lock_as(&self, how: c_int) -> Result<()> {
         // SAFETY: the file is open.
-        match check(unsafe { flock(self.0.as_raw_fd(), LOCK) }) {
-            Ok(_) => Ok(()),
+        retry(|| unsafe { flock(self.0.as_raw_fd(), how) })
+    }
+
+    fn try_to(&self, how: c_int) -> core::result::Result<(), TryLockError> {
+        match self.lock_as(how | AT_ONCE) {
+            Ok(()) => Ok(()),
             Err(error) if error.kind() == ErrorKind::WouldBlock => Err(TryLockError::WouldBlock),
             Err(error) => Err(TryLockError::Error(error)),
         }
@@ -188,6 +240,8 @@ impl IntoRawFd for File {
 pub struct OpenOptions {
     is_read: bool,
     is_written: bool,
+    is_new: bool,
+    mode: u32,
 }
 
 impl OpenOptions {
@@ -201,13 +255,33 @@ impl OpenOptions {
         self
     }
 
+    pub fn create_new(&mut self, is_new: bool) -> &mut Self {
+        self.is_new = is_new;
+        self
+    }
+
     pub fn open(&self, _: &HostRuntime, path: &str) -> Result<File> {
-        match (self.is_read, self.is_written) {
-            (true, true) => File::of(path, READ_AND_WRITE),
-            (true, false) => File::of(path, READ),
-            (false, true) => File::of(path, WRITE),
-            (false, false) => Err(ErrorKind::InvalidInput.into()),
-        }
+        let flags = match (self.is_read, self.is_written) {
+            (true, true) => READ_AND_WRITE,
+            (true, false) if !self.is_new => READ,
+            (false, true) => WRITE,
+            _ => return Err(ErrorKind::InvalidInput.into()),
+        };
+        let made = if self.is_new { CREATE | EXCLUSIVE } else { 0 };
+        File::with_mode(path, flags | made, self.mode)
+    }
+}
+
+/// What only Unix has of it.
+pub trait OpenOptionsExt {
+    /// Sets who may use a file that is made, before the mask of the process.
+    fn mode(&mut self, mode: u32) -> &mut Self;
+}
+
+impl OpenOptionsExt for OpenOptions {
+    fn mode(&mut self, mode: u32) -> &mut Self {
+        self.mode = mode;
+        self
     }
 }
 
@@ -232,16 +306,30 @@ impl Metadata {
         self.0.is_dir()
     }
 
+    pub fn is_file(&self) -> bool {
+        self.0.is_file()
+    }
+
     #[allow(clippy::len_without_is_empty)]
     pub fn len(&self) -> u64 {
         self.0.len()
     }
+
+    pub fn permissions(&self) -> Permissions {
+        Permissions(self.0.mode())
+    }
 }
 
-/// What tells whether two are of one file.
+/// Who may use a file, and how.
+#[derive(Clone, PartialEq, Eq)]
+pub struct Permissions(u32);
+
+/// What tells whether two are of one file, and whose it is.
 pub trait MetadataExt {
     fn dev(&self) -> u64;
     fn ino(&self) -> u64;
+    fn uid(&self) -> u32;
+    fn gid(&self) -> u32;
 }
 
 impl MetadataExt for Metadata {
@@ -252,6 +340,21 @@ impl MetadataExt for Metadata {
     fn ino(&self) -> u64 {
         self.0.ino()
     }
+
+    fn uid(&self) -> u32 {
+        self.0.uid()
+    }
+
+    fn gid(&self) -> u32 {
+        self.0.gid()
+    }
+}
+
+/// Gives a file to this owner and this group, or leaves it theirs.
+pub fn fchown(file: &File, owner: Option<u32>, group: Option<u32>) -> Result<()> {
+    let (owner, group) = (owner.unwrap_or(u32::MAX), group.unwrap_or(u32::MAX));
+    // SAFETY: the file is open.
+    check(unsafe { change_owner(file.0.as_raw_fd(), owner, group) }).map(drop)
 }
 
 pub fn metadata(_: &HostRuntime, path: &str) -> Result<Metadata> {
@@ -260,6 +363,11 @@ pub fn metadata(_: &HostRuntime, path: &str) -> Result<Metadata> {
 
 /// Of a link itself.
 pub fn symlink_metadata(_: &HostRuntime, path: &str) -> Result<Metadata> {
+    look(path)
+}
+
+/// Does what `symlink_metadata` does.
+pub(super) fn look(path: &str) -> Result<Metadata> {
     File::of(path, PATH | NO_FOLLOW)?.metadata()
 }
 
@@ -274,9 +382,11 @@ pub fn exists(rt: &HostRuntime, path: &str) -> Result<bool> {
 
 /// Makes a folder.
 pub fn create_dir(_: &HostRuntime, path: &str) -> Result<()> {
-    let path = Path::new(path)?;
-    // SAFETY: the path ends with a zero byte.
-    check(unsafe { mkdir(path.as_ptr(), FOLDER_MODE) }).map(drop)
+    let made = Path::new(path)?;
+    signals::make(path, || {
+        // SAFETY: the path ends with a zero byte.
+        check(unsafe { mkdir(made.as_ptr(), FOLDER_MODE) }).map(drop)
+    })
 }
 
 /// Makes a folder and those that it lies in, as far as they are not there.
@@ -305,6 +415,11 @@ fn allow_folder(rt: &HostRuntime, path: &str, error: Error) -> Result<()> {
 
 /// Removes a folder that is empty.
 pub fn remove_dir(_: &HostRuntime, path: &str) -> Result<()> {
+    remove_empty(path)
+}
+
+/// Does what `remove_dir` does.
+pub(super) fn remove_empty(path: &str) -> Result<()> {
     let path = Path::new(path)?;
     // SAFETY: the path ends with a zero byte.
     check(unsafe { rmdir(path.as_ptr()) }).map(drop)
@@ -317,17 +432,34 @@ pub fn remove_file(_: &HostRuntime, path: &str) -> Result<()> {
     check(unsafe { unlink(path.as_ptr()) }).map(drop)
 }
 
-/// Gives a file or folder another name, which may be that of another one.
-pub fn rename(_: &HostRuntime, from: &str, to: &str) -> Result<()> {
+/// Gives a file a further name.
+pub fn hard_link(_: &HostRuntime, from: &str, to: &str) -> Result<()> {
     let (from, to) = (Path::new(from)?, Path::new(to)?);
     // SAFETY: both paths end with a zero byte.
-    check(unsafe { rename_path(from.as_ptr(), to.as_ptr()) }).map(drop)
+    check(unsafe { link(from.as_ptr(), to.as_ptr()) }).map(drop)
+}
+
+/// Gives a file or folder another name, which may be that of another one.
+pub fn rename(_: &HostRuntime, from: &str, to: &str) -> Result<()> {
+    signals::note_renaming(from, to);
+    let (old, new) = (Path::new(from)?, Path::new(to)?);
+    // SAFETY: both paths end with a zero byte.
+    check(unsafe { rename_path(old.as_ptr(), new.as_ptr()) })?;
+    signals::note_gone(from);
+    Ok(())
 }
 
 /// Removes a folder with all that is in it. A link is not followed.
-pub fn remove_dir_all(rt: &HostRuntime, path: &str) -> Result<()> {
+pub fn remove_dir_all(_: &HostRuntime, path: &str) -> Result<()> {
+    let outcome = remove_all(path);
+    signals::note_gone(path);
+    outcome
+}
+
+/// Does what `remove_dir_all` does.
+pub(super) fn remove_all(path: &str) -> Result<()> {
     empty_folder(File::of(path, READ | NO_FOLLOW)?)?;
-    remove_dir(rt, path)
+    remove_empty(path)
 }
 
 /// Removes all that is in a folder.

@@ -75,6 +75,11 @@ pub enum Error {
 }
 
 impl Error {
+    /// Returns an error with a message of its own.
+    pub fn new(kind: ErrorKind, text: &'static str) -> Self {
+        Error::Told(kind, text)
+    }
+
     /// Returns why the last call of the system failed.
     pub(super) fn last() -> Self {
         std::io::Error::last_os_error().into()
@@ -82,6 +87,14 @@ impl Error {
 
     pub fn from_raw_os_error(number: i32) -> Self {
         Error::System(number)
+    }
+
+    /// Returns the number by which the system said so.
+    pub fn raw_os_error(&self) -> Option<i32> {
+        match *self {
+            Error::System(number) => Some(number),
+            Error::Kind(_) | Error::Told(..) => None,
+        }
     }
 
     pub fn kind(&self) -> ErrorKind {
@@ -301,6 +314,9 @@ unsafe extern "C" {
 /// A standard stream. In contrast to Rust's own it has no buffer, and using a closed one fails.
 #[derive(Clone, Copy)]
 pub struct Stream(c_int);
+
+/// Standard output, by the name that Rattle has for it alone.
+pub type Stdout = Stream;
 
 impl Stream {
     pub(super) const INPUT: Self = Stream(0);

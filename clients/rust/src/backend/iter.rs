@@ -1,7 +1,7 @@
 //! Iterators over the texts of the three backends. Each is a plain struct, so that its lifetime may shrink.
 
 use crate::proved::backend as proved;
-use crate::proved::backend::Backend as _;
+use crate::proved::backend::{Backend as _, Store as _};
 use crate::symbol::Symbol;
 use crate::unchecked::Parts;
 use core::fmt;
@@ -10,7 +10,7 @@ use core::marker::PhantomData;
 
 /// Returns the symbol of a text that is there.
 #[inline(always)]
-fn symbol_of<S: Symbol>(number: usize) -> S {
+pub(super) fn symbol_of<S: Symbol>(number: usize) -> S {
     S::try_from_usize(number).expect("each text has a symbol")
 }
 

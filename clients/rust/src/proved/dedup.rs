@@ -11,17 +11,18 @@
 //!
 //! [`TextHasher`] says which hasher to take, and which for texts from strangers.
 
-use crate::rt::prelude::*; pub(crate) mod count;
-pub(crate) mod index;
-pub(crate) mod layout;
-pub(crate) mod probe;
-pub(crate) mod slots;
-pub(crate) mod table;
-pub(crate) mod tagged;
-pub(crate) mod text_index;
+use crate::rt::prelude::*; pub mod count;
+pub mod index;
+pub mod layout;
+pub mod probe;
+pub mod slots;
+pub mod table;
+pub mod tagged;
+pub mod text_index;
 
 pub use crate::proved::hash::{
-    DefaultHashBuilder, FixedState, FoldState, SeededHasher, SeededState, StdHasher, TextHasher,
+    CopyHasher, DefaultHashBuilder, FixedState, FoldState, SeededHasher, SeededState, StdHasher,
+    TextHasher,
 };
 pub use index::{DefaultIndex, Index, TaggedIndex};
 pub use slots::Looks;

@@ -7,7 +7,7 @@
 //~ ghost use Rattle.string_interner.specs.Text.{Text};
 //~ ghost use Rattle.string_interner.specs.Hasher.{fnv_1a, one_write};
 
-use crate::rt::prelude::*; pub(crate) mod seeded;
+use crate::rt::prelude::*; pub mod seeded;
 
 pub use seeded::{SeededHash, SeededState};
 use crate::rt::hash::{BuildHasher, BuildHasherDefault, FoldHasher, Hasher};
@@ -32,6 +32,19 @@ pub trait TextHasher: Sized {
     /// Returns the code of a text.
     fn hash_text(&self, text: &str) -> u64;
         //~ ensures { result ≡ code self.now text.now };
+}
+
+/// A hasher of which another can be made that gives the same codes.
+pub trait CopyHasher: Sized {
+    /// Returns a hasher that gives each text the same code.
+    fn same(&self) -> Self;
+        //~ ensures { (text : Text) → Self.code result text ≡ Self.code self.now text };
+}
+
+impl<H: TextHasher + Copy> CopyHasher for H {
+    fn same(&self) -> Self {
+        *self
+    }
 }
 
 /// 64-bit FNV-1a over the bytes of the text: fast on short texts, with the same codes in each run.

@@ -76,19 +76,19 @@
 
 use crate::rt::prelude::*; pub mod backend;
 pub mod dedup;
-pub(crate) mod equal_texts;
-pub(crate) mod hash;
-pub(crate) mod interner;
-//~ pub mod json;
+pub mod equal_texts;
+pub mod hash;
+pub mod interner;
+#[cfg(feature = "parts")] pub mod json;
 // Public, because the codes of columns are such a list, and hidden, because no call of an interner takes one.
 #[doc(hidden)]
 pub mod number_list;
-//~ pub mod run;
-//~ pub mod scope;
+#[cfg(feature = "parts")] pub mod run;
+#[cfg(feature = "parts")] pub mod scope;
 pub mod symbol;
 
-use backend::Backend;
 pub use backend::DefaultBackend;
+use backend::Store;
 pub use dedup::DefaultIndex;
 use dedup::TaggedIndex;
 pub use hash::DefaultHashBuilder;
@@ -106,5 +106,5 @@ pub type DefaultStringInterner<B = DefaultBackend, H = DefaultHashBuilder> = Str
 pub type FastStringInterner<B = DefaultBackend> = StringInterner<
     B,
     FoldState,
-    TaggedIndex<<B as Backend>::Symbol>,
+    TaggedIndex<<B as Store>::Symbol>,
 >;

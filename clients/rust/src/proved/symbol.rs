@@ -3,7 +3,7 @@
 //! Choose the type by how many texts there may be, or write your own by the trait [`Symbol`]. The types here have all
 //! numbers below a limit, and check it before they cast: 70,000 has a symbol in [`SymbolU32`], and none in [`SymbolU16`].
 
-use crate::rt::prelude::*; pub(crate) mod law;
+use crate::rt::prelude::*; pub mod law;
 
 //~ ghost use Rattle.std.specs.Prelude.{◌≡◌, ℕ, ◌^◌, ◌<◌, ◌-◌, ◌↔◌, Option, Some, IsTrue};
 //~ ghost use Rattle.std.proofs.Common.{rules, lit≤};

@@ -7,10 +7,13 @@
 
 pub mod alloc;
 pub mod hash;
+#[cfg(feature = "parts")]
+mod lists;
 pub mod memchr;
 pub mod numbers;
 pub mod serde_json;
 pub mod simd;
+pub mod str;
 pub mod string;
 #[cfg(test)]
 mod tests;
@@ -18,7 +21,7 @@ pub mod tokens;
 pub mod vec;
 
 // What these have means the same in both.
-pub use core::{fmt, iter, mem, slice, str};
+pub use core::{fmt, iter, mem, slice};
 
 pub mod marker {
     pub use core::marker::{PhantomData, Send, Sync};
@@ -30,6 +33,8 @@ pub mod marker {
 /// What each module of Rattle has without an import.
 pub mod prelude {
     pub use super::alloc::AllocError;
+    #[cfg(feature = "parts")]
+    pub use super::lists::Collect;
     pub use super::numbers::{Chunks, Product};
     // The calls of the type itself are younger than the oldest compiler.
     pub use super::str;

@@ -106,7 +106,7 @@ impl Index<Range<usize>> for String {
 
     #[inline(always)]
     fn index(&self, part: Range<usize>) -> &str {
-        crate::unchecked::cut(&self.0, part)
+        &self.0[part]
     }
 }
 

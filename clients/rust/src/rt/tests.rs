@@ -118,6 +118,7 @@ fn shrinking_keeps_the_larger_block_if_memory_is_refused() {
 fn items_are_copied_by_their_bits() {
     #[derive(Copy, Debug, PartialEq)]
     struct Item(u8);
+    #[allow(clippy::non_canonical_clone_impl)]
     impl Clone for Item {
         fn clone(&self) -> Self {
             panic!("cloned")

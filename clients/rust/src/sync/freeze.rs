@@ -1,12 +1,23 @@
-//! Making something smaller and faster of a shared interner, once all texts are known.
+//! Making a shared interner of a plain one, and something smaller and faster of a shared one, once all texts are known.
 
 use super::Interner;
-use crate::backend::{Backend, StringBackend};
+use crate::backend::{As, Backend, BucketBackend, StringBackend};
+use crate::hasher::By;
 use crate::interner::StringInterner;
 use crate::symbol::Symbol;
 use core::hash::BuildHasher;
 
 impl<S: Symbol, H: BuildHasher> Interner<S, H> {
+    /// Returns an interner of the texts of a plain one whose symbols number 0, 1, 2, ..
+    #[track_caller]
+    fn of_plain<B: Backend<Symbol = S>>(plain: StringInterner<B, H>) -> Self {
+        let count = plain.len();
+        let (As(texts), By(hasher)) = plain.proved.into_parts();
+        let mut interner = Self::with_capacity_and_hasher(count, hasher);
+        interner.extend(texts.iter().map(|(_, text)| text));
+        interner
+    }
+
     /// Returns a plain interner with the same texts under the same symbols. Threads may read it at the same time through a `&`, and
     /// a call takes less time and memory there. It interns each text once more.
     ///
@@ -30,9 +41,38 @@ impl<S: Symbol, H: BuildHasher> Interner<S, H> {
         let hasher = self.shared.hasher.0;
         let mut interner = StringInterner::with_capacity_and_hasher(count as usize, hasher);
         for number in 0..count {
-            interner.get_or_intern(self.memory.texts().wait_for(number));
+            interner.get_or_intern(self.memory.wait_for(number));
         }
         interner
+    }
+}
+
+impl<S: Symbol, H: BuildHasher> From<StringInterner<StringBackend<S>, H>> for Interner<S, H> {
+    /// Returns a shared interner with the same texts under the same symbols. It interns each text once more, and takes no lock.
+    ///
+    /// ```
+    /// use string_interner::{sync::Interner, StringInterner};
+    ///
+    /// let mut keywords = StringInterner::default();
+    /// let tiger = keywords.get_or_intern("Tiger");
+    /// let names = Interner::from(keywords);
+    /// assert_eq!(names.get("Tiger"), Some(tiger));
+    /// ```
+    ///
+    /// # Panics
+    ///
+    /// If an allocation fails, or there are more texts than 2³² − 1.
+    #[track_caller]
+    fn from(plain: StringInterner<StringBackend<S>, H>) -> Self {
+        Self::of_plain(plain)
+    }
+}
+
+impl<S: Symbol, H: BuildHasher> From<StringInterner<BucketBackend<S>, H>> for Interner<S, H> {
+    /// The same of an interner over buckets. It copies static texts, too.
+    #[track_caller]
+    fn from(plain: StringInterner<BucketBackend<S>, H>) -> Self {
+        Self::of_plain(plain)
     }
 }
 
@@ -56,7 +96,7 @@ impl<S: Symbol, H> Interner<S, H> {
     pub fn into_backend(self) -> StringBackend<S> {
         let mut backend = StringBackend::with_capacity(self.len());
         for number in 0..self.shared.count() {
-            backend.intern(self.memory.texts().wait_for(number));
+            backend.intern(self.memory.wait_for(number));
         }
         backend.shrink_to_fit();
         backend

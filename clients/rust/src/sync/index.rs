@@ -7,7 +7,6 @@
 //! empty slot that it may have.
 
 use super::memory::{Table, Tables, Texts};
-use super::orders::{ACQUIRE, RELEASE};
 use crate::error::InternError;
 use crate::proved::equal_texts::texts_are_equal;
 use std::sync::atomic::Ordering::Relaxed;
@@ -62,7 +61,7 @@ fn put(table: Table, text: Coded) {
     let mut window = (home..home + WINDOW).map(|place| table.slot(place));
     if let Some(slot) = window.find(|slot| slot.load(Relaxed) == 0) {
         let bits = table.number_bits();
-        slot.store(text.code & !bits | bits.min(text.number + 1), RELEASE);
+        slot.store(text.code & !bits | bits.min(text.number + 1), Relaxed);
     }
 }
 
@@ -71,8 +70,8 @@ fn put(table: Table, text: Coded) {
 #[inline(always)]
 fn glance(table: Table, code: u32, texts: &Texts, text: &str) -> Option<u32> {
     let home = code as usize;
-    let first = table.slot(home).load(ACQUIRE);
-    let second = table.slot(home + 1).load(ACQUIRE);
+    let first = table.slot(home).load(Relaxed);
+    let second = table.slot(home + 1).load(Relaxed);
     let content = if is_alike(table, first, code) {
         first
     } else {
@@ -88,7 +87,7 @@ fn glance(table: Table, code: u32, texts: &Texts, text: &str) -> Option<u32> {
 pub(super) fn look(table: Table, code: u32, texts: &Texts, text: &str) -> Look {
     let home = code as usize;
     for place in home..home + WINDOW {
-        let content = table.slot(place).load(ACQUIRE);
+        let content = table.slot(place).load(Relaxed);
         if content == 0 {
             return Look::Absent;
         }
@@ -154,7 +153,12 @@ impl Index {
             return Ok(());
         }
         self.tables
-            .grow(|larger| texts.iter().for_each(|text| put(larger, *text)))
+            .grow(0, |larger| texts.iter().for_each(|text| put(larger, *text)))
+    }
+
+    /// Makes room for so many texts, before the first one comes. The caller has the shard's lock.
+    pub(super) fn make_first_room(&self, texts: usize) -> Result<(), InternError> {
+        self.tables.grow(texts.div_ceil(3) * 4, |_| {})
     }
 
     /// Adds a text. The caller has the shard's lock.

@@ -1,6 +1,6 @@
 //! Iterating over the texts of a shared interner.
 
-use super::memory::Texts;
+use super::memory::Memory;
 use crate::symbol::{DefaultSymbol, Symbol};
 use core::fmt;
 use core::iter::FusedIterator;
@@ -9,19 +9,31 @@ use core::ops::Range;
 
 /// Yields the texts of an [`Interner`](super::Interner) with their symbols, those that it had when this was made.
 pub struct Iter<'a, S = DefaultSymbol> {
-    texts: &'a Texts,
+    memory: &'a Memory,
     numbers: Range<u32>,
     symbol: PhantomData<fn() -> S>,
 }
 
 impl<'a, S> Iter<'a, S> {
+    /// Returns an iterator over the texts with the numbers from one on and below `count`, which were all taken.
     #[inline]
-    pub(super) fn new(texts: &'a Texts, count: u32) -> Self {
+    pub(super) fn new(memory: &'a Memory, from: usize, count: u32) -> Self {
+        let from = u32::try_from(from).map_or(count, |from| from.min(count));
         Iter {
-            texts,
-            numbers: 0..count,
+            memory,
+            numbers: from..count,
             symbol: PhantomData,
         }
+    }
+
+    /// Returns the text of a number with its symbol.
+    #[inline]
+    fn entry(&self, number: u32) -> (S, &'a str)
+    where
+        S: Symbol,
+    {
+        let symbol = S::try_from_usize(number as usize).expect("each text has a symbol");
+        (symbol, self.memory.wait_for(number))
     }
 }
 
@@ -31,8 +43,14 @@ impl<'a, S: Symbol> Iterator for Iter<'a, S> {
     #[inline]
     fn next(&mut self) -> Option<Self::Item> {
         let number = self.numbers.next()?;
-        let symbol = S::try_from_usize(number as usize).expect("each text has a symbol");
-        Some((symbol, self.texts.wait_for(number)))
+        Some(self.entry(number))
+    }
+
+    /// Takes the same time for each `n`.
+    #[inline]
+    fn nth(&mut self, n: usize) -> Option<Self::Item> {
+        let number = self.numbers.nth(n)?;
+        Some(self.entry(number))
     }
 
     #[inline]

@@ -7,7 +7,8 @@
 //!   its place among the others.
 //! - **Bytes**: an entry is made of a text that is static or in a block of bytes of one of the shards. These live as long as the table
 //!   of entries, because [`Memory`] has both, and lends the bytes only as a [`Store`], which cannot take them away. The bytes of a block
-//!   never move or change, and no call drops a text.
+//!   never move or change, and no call drops a text once there is an entry for it.
+//! - **Zeros**: items of an array are made of bytes that are 0, which are a value of [each such type](Zeroed).
 //!
 //! An entry of the table has eight bytes: the address of a text of less than 2¹⁶ − 1 bytes, shifted by 16 bits, and its length. A text
 //! that is longer, or whose address has more than 48 bits, stands in a list of its own, and the entry has its number there.
@@ -22,9 +23,9 @@ use crate::rt::alloc::Global;
 use crate::rt::string::String;
 use core::marker::PhantomData;
 use core::{mem, ptr, slice, str};
+use std::alloc::{alloc_zeroed, Layout};
 use std::boxed::Box;
-use std::sync::atomic::{AtomicPtr, AtomicU32, Ordering::Relaxed};
-use std::sync::OnceLock;
+use std::sync::atomic::{AtomicPtr, AtomicU32, AtomicUsize, Ordering::Relaxed};
 use std::sync::{Mutex, PoisonError};
 use std::thread;
 use std::vec::Vec;
@@ -35,21 +36,36 @@ const FIRST: usize = 64;
 /// So many segments have an item for each number of 32 bits.
 const SEGMENTS: usize = 27;
 
-/// Items by number, made as `Default` makes them, which never move.
-pub(super) struct Segments<T> {
+/// A type whose bytes may all be 0.
+///
+/// # Safety
+///
+/// Such bytes are a value of it.
+unsafe trait Zeroed {}
+
+// SAFETY: null.
+unsafe impl Zeroed for AtomicPtr<u8> {}
+
+/// Items by number, made of bytes that are 0, which never move.
+struct Segments<T> {
     /// Each segment by [`name_of`], or null.
     segments: [AtomicPtr<T>; SEGMENTS],
+    /// Its lock is held by who makes a segment.
+    maker: Mutex<()>,
     items: PhantomData<Box<[T]>>,
 }
 
-/// Makes items, if memory for them is granted.
-fn make_items<T: Default>(count: usize) -> Result<Box<[T]>, InternError> {
-    let mut items = Vec::new();
-    items
-        .try_reserve_exact(count)
-        .map_err(|_| InternError::Memory)?;
-    items.resize_with(count, T::default);
-    Ok(items.into_boxed_slice())
+/// Makes items, if memory for them is granted. The system has no pages for a large array until they are written to.
+fn make_items<T: Zeroed>(count: usize) -> Result<Box<[T]>, InternError> {
+    let layout = Layout::array::<T>(count).map_err(|_| InternError::Memory)?;
+    assert_ne!(layout.size(), 0);
+    // SAFETY: the size is not 0.
+    let items = unsafe { alloc_zeroed(layout) }.cast::<T>();
+    if items.is_null() {
+        return Err(InternError::Memory);
+    }
+    // SAFETY: a box of so many items has this layout, and the bytes are 0.
+    Ok(unsafe { Box::from_raw(ptr::slice_from_raw_parts_mut(items, count)) })
 }
 
 /// Drops items.
@@ -81,41 +97,45 @@ fn item_at<T>(name: *mut T, place: usize) -> *mut T {
     name.wrapping_byte_sub(1).wrapping_add(place)
 }
 
-impl<T: Default> Segments<T> {
-    pub(super) const fn new() -> Self {
+impl<T: Zeroed> Segments<T> {
+    fn new() -> Self {
         Segments {
             segments: [const { AtomicPtr::new(ptr::null_mut()) }; SEGMENTS],
+            maker: Mutex::new(()),
             items: PhantomData,
         }
     }
 
     /// Makes room for the item of a number. Any thread may call it at any time.
     #[inline]
-    pub(super) fn make_room(&self, number: u32) -> Result<(), InternError> {
+    fn make_room(&self, number: u32) -> Result<(), InternError> {
         match self.get(number) {
             Some(_) => Ok(()),
             None => self.add(place_of(number).0),
         }
     }
 
+    /// Makes room for the items of a number and of all below.
+    fn make_room_up_to(&self, number: u32) -> Result<(), InternError> {
+        (0..=place_of(number).0).try_for_each(|segment| self.add(segment))
+    }
+
+    /// Adds a segment, unless another thread has done so. One thread makes it while the others wait, because memory for one may be
+    /// all that there is.
     #[cold]
     fn add(&self, segment: usize) -> Result<(), InternError> {
-        let count = FIRST << segment;
-        let items = Box::into_raw(make_items::<T>(count)?).cast::<T>();
+        let _held = self.maker.lock().unwrap_or_else(PoisonError::into_inner);
         let place = &self.segments[segment];
-        let name = name_of(items, segment);
-        let added = place.compare_exchange(ptr::null_mut(), name, RELEASE, Relaxed);
-        if added.is_err() {
-            // Another thread was faster.
-            // SAFETY: nobody else has seen these.
-            unsafe { drop_items(items, count) };
+        if place.load(Relaxed).is_null() {
+            let items = Box::into_raw(make_items::<T>(FIRST << segment)?).cast::<T>();
+            place.store(name_of(items, segment), RELEASE);
         }
         Ok(())
     }
 
     /// Returns the item of a number, if room was made for it.
     #[inline(always)]
-    pub(super) fn get(&self, number: u32) -> Option<&T> {
+    fn get(&self, number: u32) -> Option<&T> {
         let (segment, place) = place_of(number);
         let name = self.segments[segment].load(ACQUIRE);
         if name.is_null() {
@@ -143,13 +163,15 @@ impl<T> Drop for Segments<T> {
 const TABLES: usize = 15;
 
 /// The slots of a cache line, whose address leaves six bits for something else.
-#[derive(Default)]
 #[repr(align(64))]
 struct Line {
     /// Read by the addresses of slots.
     #[allow(dead_code)]
     slots: [AtomicU32; SLOTS_OF_LINE],
 }
+
+// SAFETY: numbers.
+unsafe impl Zeroed for Line {}
 
 const SLOTS_OF_LINE: usize = 16;
 
@@ -216,19 +238,22 @@ impl Tables {
         })
     }
 
-    /// Adds a larger table, which counts once it is filled, unless there is the largest. Only one thread at a time may call this.
+    /// Adds a larger table of at least so many slots, which counts once it is filled, unless none can be so large. Only one thread at a
+    /// time may call this.
     #[cold]
-    pub(super) fn grow(&self, fill: impl FnOnce(Table<'_>)) -> Result<(), InternError> {
+    pub(super) fn grow(
+        &self,
+        least: usize,
+        fill: impl FnOnce(Table<'_>),
+    ) -> Result<(), InternError> {
         let is_made = |place: &AtomicPtr<Line>| !place.load(Relaxed).is_null();
-        let next = self
-            .all
-            .iter()
-            .rposition(is_made)
-            .map_or(0, |last| last + 1);
-        let Some(place) = self.all.get(next) else {
+        let last = self.all.iter().rposition(is_made);
+        let larger = last.map_or(0, |last| last + 1)..TABLES;
+        let mut enough = larger.filter(|table| 1 << bits_of(*table) >= least);
+        let Some(next) = enough.next() else {
             return Ok(());
         };
-        let bits = bits_of(next);
+        let (place, bits) = (&self.all[next], bits_of(next));
         let lines: Box<[Line]> = make_items((1 << bits) / SLOTS_OF_LINE)?;
         fill(Table {
             lines: lines.as_ptr(),
@@ -271,10 +296,19 @@ const LENGTH_BITS: u32 = 16;
 /// The length in an entry of a text that stands in the list of its own.
 const ELSEWHERE: usize = (1 << LENGTH_BITS) - 1;
 
+/// Where the bytes of a text are that stands in the list of its own. It is written before the entry that has its number.
+struct Long {
+    bytes: AtomicPtr<u8>,
+    len: AtomicUsize,
+}
+
+// SAFETY: null, and a number.
+unsafe impl Zeroed for Long {}
+
 /// Texts by number. Their bytes belong to someone else.
 pub(super) struct Texts {
     entries: Segments<AtomicPtr<u8>>,
-    elsewhere: Segments<OnceLock<&'static str>>,
+    elsewhere: Segments<Long>,
     count_elsewhere: AtomicU32,
 }
 
@@ -301,8 +335,20 @@ fn pack(text: &str) -> Option<*mut u8> {
     fits.then(|| bytes.map_addr(|address| address << LENGTH_BITS | text.len()))
 }
 
+/// Lends a text, unless its pointer is null.
+///
+/// # Safety
+///
+/// Otherwise the pointer and the length are those of a text whose bytes stay as long as they are lent.
+#[inline(always)]
+unsafe fn lend<'a>(bytes: *const u8, len: usize) -> Option<&'a str> {
+    // SAFETY: owed by the caller.
+    (!bytes.is_null())
+        .then(|| unsafe { str::from_utf8_unchecked(slice::from_raw_parts(bytes, len)) })
+}
+
 impl Texts {
-    const fn new() -> Self {
+    fn new() -> Self {
         Texts {
             entries: Segments::new(),
             elsewhere: Segments::new(),
@@ -316,36 +362,56 @@ impl Texts {
         self.entries.make_room(number)
     }
 
-    /// Returns an entry for a text.
-    ///
-    /// # Safety
-    ///
-    /// The bytes of the text stay where they are, unchanged, as long as this table.
+    /// Makes room for the texts of a number and of all below.
+    pub(super) fn make_room_up_to(&self, number: u32) -> Result<(), InternError> {
+        self.entries.make_room_up_to(number)
+    }
+
+    /// Returns an entry for a text, and what a call returns that may fail or panic. `spare` is a number in the list of long texts that an
+    /// earlier such call left, if one did.
     #[inline]
-    unsafe fn entry_of(&self, text: &str) -> Result<Entry<'_>, InternError> {
-        let packed = match pack(text) {
-            Some(packed) => packed,
-            // SAFETY: the caller promises that the text outlives this table, which lends it no longer than it lives.
-            None => self.put_elsewhere(unsafe { mem::transmute::<&str, &'static str>(text) })?,
+    fn keep<T>(
+        &self,
+        text: &'static str,
+        spare: &mut Option<u32>,
+        call: impl FnOnce() -> Result<T, InternError>,
+    ) -> Result<(Entry<'_>, T), InternError> {
+        let (packed, returned) = match pack(text) {
+            Some(packed) => (packed, call()?),
+            None => self.keep_elsewhere(text, spare, call)?,
         };
-        Ok(Entry {
+        let entry = Entry {
             texts: self,
             packed,
-        })
+        };
+        Ok((entry, returned))
     }
 
     #[cold]
-    fn put_elsewhere(&self, text: &'static str) -> Result<*mut u8, InternError> {
-        let number = self
-            .count_elsewhere
-            .fetch_update(Relaxed, Relaxed, |count| count.checked_add(1))
-            .map_err(|_| InternError::Memory)?;
+    fn keep_elsewhere<T>(
+        &self,
+        text: &'static str,
+        spare: &mut Option<u32>,
+        call: impl FnOnce() -> Result<T, InternError>,
+    ) -> Result<(*mut u8, T), InternError> {
+        let number = match *spare {
+            Some(number) => number,
+            None => *spare.insert(self.take_number_elsewhere()?),
+        };
         self.elsewhere.make_room(number)?;
         let place = self.elsewhere.get(number).expect("there is room");
-        place.set(text).expect("the number is taken once");
-        Ok(ptr::without_provenance_mut(
-            (number as usize) << LENGTH_BITS | ELSEWHERE,
-        ))
+        place.bytes.store(text.as_ptr().cast_mut(), Relaxed);
+        place.len.store(text.len(), Relaxed);
+        let returned = call()?;
+        *spare = None;
+        let packed = ptr::without_provenance_mut((number as usize) << LENGTH_BITS | ELSEWHERE);
+        Ok((packed, returned))
+    }
+
+    fn take_number_elsewhere(&self) -> Result<u32, InternError> {
+        self.count_elsewhere
+            .fetch_update(Relaxed, Relaxed, |count| count.checked_add(1))
+            .map_err(|_| InternError::Memory)
     }
 
     /// Returns the text of a number, if it was published.
@@ -356,29 +422,18 @@ impl Texts {
         if len == ELSEWHERE {
             return self.get_elsewhere((entry.addr() >> LENGTH_BITS) as u32);
         }
-        let bytes = entry.map_addr(|packed| packed >> LENGTH_BITS);
-        if bytes.is_null() {
-            return None;
-        }
-        // SAFETY: `pack` made the entry of a text with this address and this length, whose bytes stay as long as this table: so
-        // said whoever called `entry_of`.
-        Some(unsafe { str::from_utf8_unchecked(slice::from_raw_parts(bytes, len)) })
-    }
-
-    /// Returns the text of a number that was taken. The thread that took it publishes the text next, and allocates nothing before.
-    #[inline]
-    pub(super) fn wait_for(&self, number: u32) -> &str {
-        loop {
-            match self.get(number) {
-                Some(text) => return text,
-                None => thread::yield_now(),
-            }
-        }
+        // SAFETY: the entry is null, or `pack` made it of a text with this address and this length. `Store` took care that the bytes stay
+        // as long as this table.
+        unsafe { lend(entry.map_addr(|packed| packed >> LENGTH_BITS), len) }
     }
 
     #[cold]
     fn get_elsewhere(&self, number: u32) -> Option<&str> {
-        self.elsewhere.get(number)?.get().copied()
+        let place = self.elsewhere.get(number)?;
+        let (bytes, len) = (place.bytes.load(Relaxed), place.len.load(Relaxed));
+        // SAFETY: `keep_elsewhere` wrote both before there was an entry with this number, and nobody writes them afterwards. `Store` took
+        // care that the bytes stay as long as this table.
+        unsafe { lend(bytes, len) }
     }
 }
 
@@ -392,6 +447,43 @@ struct Bytes {
     head: String,
     /// The sizes of all blocks.
     size: usize,
+    /// A number in the list of long texts that a call took which failed.
+    spare: Option<u32>,
+}
+
+/// A copy of a text, which is taken back when this is dropped.
+struct Copied<'a> {
+    bytes: &'a mut Bytes,
+    /// Where it begins in the head, unless it has a block of its own, which is the last one.
+    from: Option<usize>,
+}
+
+impl Copied<'_> {
+    #[inline]
+    fn text(&self) -> &str {
+        match self.from {
+            Some(from) => &self.bytes.head.as_str()[from..],
+            None => self.bytes.full.last().expect("it is there").as_str(),
+        }
+    }
+
+    /// Keeps the copy for good.
+    #[inline]
+    fn keep(self) {
+        mem::forget(self);
+    }
+}
+
+impl Drop for Copied<'_> {
+    fn drop(&mut self) {
+        match self.from {
+            Some(from) => self.bytes.head.truncate(from),
+            None => {
+                let block = self.bytes.full.pop();
+                self.bytes.size -= block.map_or(0, |block| block.capacity());
+            }
+        }
+    }
 }
 
 impl Bytes {
@@ -400,38 +492,57 @@ impl Bytes {
             full: Vec::new(),
             head: String::new(Global),
             size: 0,
+            spare: None,
         }
     }
 
-    /// Copies a text, and returns the copy. Its bytes stay where they are as long as `self`: no call here drops, moves or changes a
-    /// text.
+    /// Copies a text. If the copy is kept, its bytes stay where they are as long as `self`: no call here drops, moves or changes it.
     #[inline]
-    fn store(&mut self, text: &str) -> Result<&str, InternError> {
+    fn store(&mut self, text: &str) -> Result<Copied<'_>, InternError> {
         let from = self.head.len();
         if self.head.capacity() - from < text.len() {
             return self.store_in_new(text);
         }
         self.head.push_str(text).map_err(|_| InternError::Memory)?;
-        Ok(&self.head.as_str()[from..])
+        Ok(Copied {
+            bytes: self,
+            from: Some(from),
+        })
     }
 
-    /// Copies a text into a new block. Blocks are half as large as all before, so that at most a third of the memory is spare.
+    /// Copies a text into a new block: the next head, which is half as large as all blocks before, or one of its own if it is longer than
+    /// an eighth of that. So a head leaves less spare than an eighth of the next one, and is at most a third of the memory, once 256 bytes
+    /// came before: less than half is spare then, and less than an eighth beside the head.
     #[cold]
-    fn store_in_new(&mut self, text: &str) -> Result<&str, InternError> {
-        let size = (self.size / 2).clamp(LEAST, GREATEST).max(text.len());
+    fn store_in_new(&mut self, text: &str) -> Result<Copied<'_>, InternError> {
+        let shared = (self.size / 2).clamp(LEAST, GREATEST);
+        let is_alone = text.len() > shared / 8;
+        let size = if is_alone { text.len() } else { shared };
         self.full.try_reserve(1).map_err(|_| InternError::Memory)?;
         let mut block = String::with_capacity(Global, size).map_err(|_| InternError::Memory)?;
         block.push_str(text).map_err(|_| InternError::Memory)?;
-        self.size += size;
-        self.full.push(mem::replace(&mut self.head, block));
-        Ok(self.head.as_str())
+        self.size += block.capacity();
+        if !is_alone {
+            mem::swap(&mut self.head, &mut block);
+        }
+        self.full.push(block);
+        Ok(Copied {
+            bytes: self,
+            from: (!is_alone).then_some(0),
+        })
     }
 }
+
+/// So often a thread that waits for a text looks for it before it takes locks.
+const TURNS: usize = 64;
+
+/// A shard with the bytes of its texts, behind its lock.
+type Locked = Mutex<(Shard, Bytes)>;
 
 /// Texts by number, and the shards with the bytes of their texts.
 pub(super) struct Memory {
     texts: Texts,
-    shards: Box<[Apart<Mutex<(Shard, Bytes)>>]>,
+    shards: Box<[Apart<Locked>]>,
 }
 
 /// Where a shard that nobody else has meanwhile stores its texts.
@@ -457,8 +568,8 @@ impl Memory {
     /// Makes a call with a shard, whose lock is taken. No panic leaves a shard half changed, so a lock that somebody panicked under is
     /// as good.
     #[inline(always)]
-    pub(super) fn with_locked<'a, T>(
-        &'a self,
+    pub(super) fn with_locked<T>(
+        &self,
         shard: usize,
         call: impl FnOnce(&mut Shard, Store<'_>) -> T,
     ) -> T {
@@ -468,7 +579,33 @@ impl Memory {
         call(shard, Store { texts, bytes })
     }
 
-    /// The same for who has the interner alone: no lock is taken.
+    /// Returns the text of a number that was taken, as the caller knows from the count. The thread that took it publishes the text next,
+    /// and allocates nothing before.
+    #[inline]
+    pub(super) fn wait_for(&self, number: u32) -> &str {
+        match self.texts.get(number) {
+            Some(text) => text,
+            None => self.wait_long_for(number),
+        }
+    }
+
+    /// Lets other threads run, and then takes the lock of each shard once: the thread that took the number has one of them until it has
+    /// published the text. Who waits for a lock lets threads of less priority run, too.
+    #[cold]
+    fn wait_long_for(&self, number: u32) -> &str {
+        for _ in 0..TURNS {
+            thread::yield_now();
+            if let Some(text) = self.texts.get(number) {
+                return text;
+            }
+        }
+        self.shards.iter().for_each(|shard| drop(shard.0.lock()));
+        self.texts
+            .get(number)
+            .expect("whoever took the number published its text")
+    }
+
+    /// The same as `with_locked` for who has the interner alone: no lock is taken.
     #[inline(always)]
     pub(super) fn hold(&mut self, shard: usize) -> (&mut Shard, Store<'_>) {
         let held = self.shards[shard].0.get_mut();
@@ -484,19 +621,29 @@ impl<'a> Store<'a> {
         self.texts
     }
 
-    /// Copies a text, and returns an entry for the copy.
+    /// Copies a text, and returns an entry for the copy and what a call returns that may fail or panic. The copy is taken back then.
     #[inline]
-    pub(super) fn copy(&mut self, text: &str) -> Result<Entry<'a>, InternError> {
-        let text = self.bytes.store(text)?;
-        // SAFETY: as `Bytes::store` says, the bytes stay as long as all those of the shard. `Memory` drops these with the table, and
-        // nobody can take them out of there.
-        unsafe { self.texts.entry_of(text) }
+    pub(super) fn copy<T>(
+        &mut self,
+        text: &str,
+        call: impl FnOnce() -> Result<T, InternError>,
+    ) -> Result<(Entry<'a>, T), InternError> {
+        let copied = self.bytes.store(text)?;
+        // SAFETY: there is an entry only if the copy is kept. As `Bytes::store` says, its bytes stay then as long as all those of the
+        // shard. `Memory` drops these with the table, and nobody can take them out of there.
+        let text = unsafe { mem::transmute::<&str, &'static str>(copied.text()) };
+        let kept = self.texts.keep(text, &mut copied.bytes.spare, call)?;
+        copied.keep();
+        Ok(kept)
     }
 
-    /// Returns an entry for a static text.
+    /// The same for a static text, which is not copied.
     #[inline]
-    pub(super) fn keep(&self, text: &'static str) -> Result<Entry<'a>, InternError> {
-        // SAFETY: the bytes are static.
-        unsafe { self.texts.entry_of(text) }
+    pub(super) fn keep<T>(
+        &mut self,
+        text: &'static str,
+        call: impl FnOnce() -> Result<T, InternError>,
+    ) -> Result<(Entry<'a>, T), InternError> {
+        self.texts.keep(text, &mut self.bytes.spare, call)
     }
 }

@@ -1,11 +1,12 @@
 //! The traits of serde for a shared interner, in the form of a plain one: the sequence of its texts in the order of their numbers.
 
 use super::Interner;
+use crate::serde::OneText;
 use crate::symbol::Symbol;
 use core::fmt;
 use core::hash::BuildHasher;
 use core::marker::PhantomData;
-use serde::de::{DeserializeSeed, Deserializer, Error, SeqAccess, Visitor};
+use serde::de::{Deserializer, SeqAccess, Visitor};
 use serde::ser::{SerializeSeq, Serializer};
 use serde::{Deserialize, Serialize};
 
@@ -22,7 +23,7 @@ impl<S: Symbol, H> Serialize for Interner<S, H> {
 }
 
 impl<'de, S: Symbol, H: BuildHasher + Default> Deserialize<'de> for Interner<S, H> {
-    /// Reads a sequence of texts. Repeats add no text.
+    /// Reads a sequence of texts, or of bytes that are UTF-8. Repeats add no text.
     fn deserialize<D: Deserializer<'de>>(deserializer: D) -> Result<Self, D::Error> {
         deserializer.deserialize_seq(OfTexts(PhantomData))
     }
@@ -40,30 +41,8 @@ impl<'de, S: Symbol, H: BuildHasher + Default> Visitor<'de> for OfTexts<S, H> {
 
     fn visit_seq<A: SeqAccess<'de>>(self, mut texts: A) -> Result<Self::Value, A::Error> {
         let mut interner = Interner::with_hasher(H::default());
-        while texts.next_element_seed(OneText(&mut interner))?.is_some() {}
+        let mut intern = |text: &str| interner.intern_alone(text).map(drop);
+        while texts.next_element_seed(OneText(&mut intern))?.is_some() {}
         Ok(interner)
-    }
-}
-
-/// Reads a text into an interner.
-struct OneText<'a, S, H>(&'a mut Interner<S, H>);
-
-impl<'de, S: Symbol, H: BuildHasher> DeserializeSeed<'de> for OneText<'_, S, H> {
-    type Value = ();
-
-    fn deserialize<D: Deserializer<'de>>(self, deserializer: D) -> Result<(), D::Error> {
-        deserializer.deserialize_str(self)
-    }
-}
-
-impl<S: Symbol, H: BuildHasher> Visitor<'_> for OneText<'_, S, H> {
-    type Value = ();
-
-    fn expecting(&self, f: &mut fmt::Formatter<'_>) -> fmt::Result {
-        f.write_str("a string")
-    }
-
-    fn visit_str<E: Error>(self, text: &str) -> Result<(), E> {
-        self.0.intern_alone(text).map(drop).map_err(E::custom)
     }
 }

@@ -6,10 +6,10 @@ use super::shared::Shared;
 use crate::error::InternError;
 use crate::proved::backend as proved;
 use crate::proved::dedup::{TaggedIndex, TextIndex};
-use crate::proved::interner::new_text::intern_coded;
 use crate::proved::interner::given::Given;
+use crate::proved::interner::new_text::intern_coded;
 use crate::proved::symbol::{Symbol as _, SymbolU32};
-use crate::rt::alloc::{AllocError, Global};
+use crate::rt::alloc::Global;
 use crate::symbol::Symbol;
 use core::hash::BuildHasher;
 use std::vec::Vec;
@@ -43,6 +43,15 @@ impl Shard {
             index: TextIndex::new(Global),
             all: Vec::new(),
         }
+    }
+
+    /// Returns a shard without texts, with spare capacity for so many.
+    pub(super) fn with_capacity(texts: usize) -> Result<Self, InternError> {
+        let mut all = Vec::new();
+        all.try_reserve_exact(texts)
+            .map_err(|_| InternError::Memory)?;
+        let index = TextIndex::with_capacity(Global, texts)?;
+        Ok(Shard { index, all })
     }
 
     /// Returns the index, and the list of its texts for calls that are about a text with this code.
@@ -103,16 +112,15 @@ impl<'a, S: Symbol, H: BuildHasher> List<'a, S, H> {
         self.shared.make_room(self.store.texts())
     }
 
-    /// Takes the next number for the text of an entry. All that may be refused comes before that.
+    /// Appends the text of an entry, for which a number was taken. All that may be refused came before that.
     #[inline]
-    fn append(&mut self, entry: Entry<'a>) -> Result<SymbolU32, proved::InternError> {
-        let (number, symbol) = self.shared.take_number(self.store.texts())?;
+    fn append(&mut self, (entry, (number, symbol)): (Entry<'a>, (u32, S))) -> SymbolU32 {
         self.appended = Some(Appended {
             number,
             symbol,
             entry,
         });
-        Ok(SymbolU32::try_from_usize(number as usize).expect("it is less than the greatest"))
+        SymbolU32::try_from_usize(number as usize).expect("it is less than the greatest")
     }
 
     /// Shows a text to all threads. It has a place in the proved index by now.
@@ -129,7 +137,7 @@ impl<'a, S: Symbol, H: BuildHasher> List<'a, S, H> {
     }
 }
 
-impl<S: Symbol, H: BuildHasher> proved::Backend for List<'_, S, H> {
+impl<S: Symbol, H: BuildHasher> proved::Store for List<'_, S, H> {
     type Symbol = SymbolU32;
 
     #[inline(always)]
@@ -140,15 +148,17 @@ impl<S: Symbol, H: BuildHasher> proved::Backend for List<'_, S, H> {
     #[inline(always)]
     fn intern(&mut self, text: &str) -> Result<SymbolU32, proved::InternError> {
         self.make_room()?;
-        let entry = self.store.copy(text)?;
-        self.append(entry)
+        let (shared, texts) = (self.shared, self.store.texts());
+        let copied = self.store.copy(text, || shared.take_number(texts))?;
+        Ok(self.append(copied))
     }
 
     #[inline(always)]
     fn intern_static(&mut self, text: &'static str) -> Result<SymbolU32, proved::InternError> {
         self.make_room()?;
-        let entry = self.store.keep(text)?;
-        self.append(entry)
+        let (shared, texts) = (self.shared, self.store.texts());
+        let kept = self.store.keep(text, || shared.take_number(texts))?;
+        Ok(self.append(kept))
     }
 
     #[inline(always)]
@@ -161,32 +171,6 @@ impl<S: Symbol, H: BuildHasher> proved::Backend for List<'_, S, H> {
         self.resolve(symbol).expect("each text was shown")
     }
 
-    // What this crate calls of the index and of `intern_coded` asks for none of these.
-    fn new(_alloc: Global) -> Self {
-        unreachable!()
-    }
-
-    fn with_capacity(_alloc: Global, _capacity: usize) -> Result<Self, AllocError> {
-        unreachable!()
-    }
-
-    fn count(&self) -> usize {
-        unreachable!()
-    }
-
-    fn next_symbol(&self) -> Option<SymbolU32> {
-        unreachable!()
-    }
-
-    fn entry_at(&self, _at: usize) -> (SymbolU32, &str, usize) {
-        unreachable!()
-    }
-
-    fn shrink_to_fit(&mut self) {
-        unreachable!()
-    }
-
-    fn truncate(&mut self, _len: usize) {
-        unreachable!()
-    }
+    // No one asks a shard for it.
+    fn shrink_to_fit(&mut self) {}
 }

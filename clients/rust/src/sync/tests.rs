@@ -4,9 +4,12 @@ use super::shared::{shard_of, SHARDS};
 use super::*;
 use crate::hasher::By;
 use crate::proved::hash::TextHasher as _;
+use std::boxed::Box;
 use std::format;
 use std::string::{String, ToString as _};
 use std::sync::atomic::Ordering::Relaxed;
+use std::thread;
+use std::time::{Duration, Instant};
 use std::vec::Vec;
 
 /// A text that is interned step by step.
@@ -27,7 +30,7 @@ impl Writer {
         }
     }
 
-    /// Takes the next of three steps, as `Shard::intern` does.
+    /// Takes the next of three steps, in the order in which `Shard::intern` takes them.
     fn step(&mut self, names: &Interner) {
         let (shared, shard) = (&names.shared, shard_of(self.code));
         match self.steps {
@@ -42,9 +45,9 @@ impl Writer {
                 shared.indexes[shard].insert(index::Coded { code, number });
             }
             _ => {
-                names.memory.with_locked(shard, |_, store| {
-                    let entry = store.keep(self.text);
-                    entry.unwrap().publish(self.number.unwrap());
+                names.memory.with_locked(shard, |_, mut store| {
+                    let (entry, ()) = store.keep(self.text, || Ok(())).unwrap();
+                    entry.publish(self.number.unwrap());
                 });
             }
         }
@@ -56,7 +59,11 @@ impl Writer {
         let number = self
             .number
             .and_then(|number| DefaultSymbol::try_from_usize(number as usize));
-        let resolved = number.and_then(|symbol| names.resolve(symbol));
+        // `resolve` waits for a text whose number is taken.
+        let resolved = match self.steps {
+            0 | 3 => number.and_then(|symbol| names.resolve(symbol)),
+            _ => names.memory.texts().get(self.number.unwrap()),
+        };
         assert_eq!(resolved, (self.steps > 2).then_some(self.text));
         assert_eq!(names.get(self.text), number.filter(|_| self.steps > 2));
         // Its shard is asked, and answers once the text is published.
@@ -90,6 +97,42 @@ fn each_order_of_steps() {
             .all(|(symbol, text)| names.get(text) == Some(symbol)));
         assert_eq!(names.iter().len(), 2);
     }
+}
+
+/// A text whose number is taken is about to be published. Whoever resolves the number waits for that.
+#[test]
+fn a_number_that_is_taken_is_waited_for() {
+    let names = &Interner::new();
+    thread::scope(|scope| {
+        let reader = names.memory.with_locked(0, |_, mut store| {
+            let texts = store.texts();
+            let kept = store.keep("Tiger", || names.shared.take_number(texts));
+            let (entry, (number, symbol)) = kept.unwrap();
+            let reader = scope.spawn(move || names.resolve(symbol));
+            thread::sleep(Duration::from_millis(100));
+            assert!(!reader.is_finished());
+            entry.publish(number);
+            reader
+        });
+        assert_eq!(reader.join().unwrap(), Some("Tiger"));
+    });
+}
+
+/// No thread that has a shard will publish a text of this number. Who waits for it has had the lock of each, and does not go on waiting.
+#[test]
+fn nothing_is_waited_for_without_end() {
+    let names: &'static Interner = Box::leak(Box::default());
+    let (_, symbol) = names.shared.take_number(names.memory.texts()).unwrap();
+    let readers = [
+        thread::spawn(move || names.resolve(symbol).is_some()),
+        thread::spawn(move || names.iter().next().is_some()),
+    ];
+    let until = Instant::now() + Duration::from_secs(20);
+    while !readers.iter().all(|reader| reader.is_finished()) {
+        assert!(Instant::now() < until, "they wait");
+        thread::sleep(Duration::from_millis(5));
+    }
+    assert!(readers.into_iter().all(|reader| reader.join().is_err()));
 }
 
 /// A look that began before its index grew finds all that was there when it began.

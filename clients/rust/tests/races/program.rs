@@ -28,14 +28,18 @@ struct Task<'a> {
 }
 
 fn spell(number: usize) -> String {
-    match number % 50 {
-        0 => "long ".repeat(number + 1),
-        _ => format!("text {number}"),
+    match number {
+        // Too long for an entry of the table.
+        0 => "long ".repeat(14_000),
+        number if number % 50 == 0 => "long ".repeat(number),
+        number => format!("text {number}"),
     }
 }
 
 /// Reads texts of which this thread was not told.
 fn read_what_others_intern(names: &Interner, number: usize) {
+    let last = DefaultSymbol::try_from_usize(names.len() - 1).unwrap();
+    assert!(names.resolve(last).is_some());
     let symbol = DefaultSymbol::try_from_usize(number).unwrap();
     if let Some(text) = names.resolve(symbol) {
         assert_eq!(names.get(text), Some(symbol));

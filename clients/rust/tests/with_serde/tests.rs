@@ -3,7 +3,9 @@
 
 use std::fmt::Debug;
 
-use serde::{de::DeserializeOwned, Deserialize, Serialize};
+use serde::de::value::{Error, SeqDeserializer};
+use serde::de::DeserializeOwned;
+use serde::{Deserialize, Serialize};
 use string_interner::backend::{Backend, BucketBackend, BufferBackend, StringBackend};
 use string_interner::symbol::{SymbolU16, SymbolU32, SymbolUsize};
 use string_interner::sync::Interner;
@@ -98,6 +100,26 @@ fn an_interner_is_a_sequence() {
     over::<StringBackend>();
     over::<BucketBackend>();
     over::<BufferBackend>();
+}
+
+/// Reads a sequence whose texts a format hands over as bytes, because it has no type for texts.
+fn of_bytes<T: DeserializeOwned>(texts: &[&[u8]]) -> Result<T, Error> {
+    T::deserialize(SeqDeserializer::new(texts.iter().copied()))
+}
+
+#[test]
+fn texts_may_come_as_bytes() {
+    let good = ["b", "", "語", "b"].map(str::as_bytes);
+    let names: DefaultStringInterner = of_bytes(&good).unwrap();
+    let shared: Interner = of_bytes(&good).unwrap();
+    assert!(names.iter().map(|(_, text)| text).eq(["b", "", "語"]));
+    assert!(shared.iter().eq(names.iter()));
+    for bad in [&b"\xff"[..], "語".as_bytes().split_last().unwrap().1] {
+        let bad = [good[0], bad];
+        let said = of_bytes::<Vec<String>>(&bad).unwrap_err();
+        assert_eq!(of_bytes::<DefaultStringInterner>(&bad), Err(said.clone()));
+        assert_eq!(of_bytes::<Interner>(&bad).err(), Some(said));
+    }
 }
 
 #[test]

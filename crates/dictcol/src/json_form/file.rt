@@ -1,6 +1,6 @@
 //! The file: a JSON object with the dictionary, a number for each line, and whether the last line ends in a newline.
 
-ghost use Rattle.std.specs.Prelude.{⊤, ◌≡◌, ◌≢◌, ◌<◌, ◌≤◌, ◌++◌, ◌⊎◌, List, All, length, Bool, true, false, codes, Some, None, IfOk, IfErr, OnOk};
+ghost use Rattle.std.specs.Prelude.{◌≡◌, ◌≢◌, ◌<◌, ◌≤◌, ◌++◌, ◌⊎◌, List, All, length, Bool, true, false, codes, Some, None, IfOk, IfErr, OnOk};
 ghost use Rattle.std.specs.Io.KnownBytes.{Appends};
 ghost use Rattle.std.specs.List.{join_with_byte, list_any};
 ghost use Rattle.serde_json.specs.Data.{boolean, array, Items};
@@ -11,9 +11,9 @@ ghost use Rattle.string_interner.specs.Text.{Text, IsDistinct};
 ghost use Rattle.string_interner.specs.Extend.{texts_of};
 ghost use Rattle.string_interner.specs.Json.{json_of_texts};
 ghost use Rattle.string_column.specs.Column.{rows_of};
-ghost use Rattle.dictcol.specs.Crowded.{CrowdsFile, LacksElement, default_numbering};
+ghost use Rattle.dictcol.specs.Crowded.{CrowdsColumn, CrowdsFile, LacksElement, default_numbering};
 ghost use Rattle.dictcol.specs.Fault.{IsParseFault, IsValueDamage, IsWriteFault, WritesLast};
-ghost use Rattle.dictcol.specs.File.{indexed_texts, AreWithin, HaveEntries, HoldsLines, HoldsText, IsFileDamage, IsFileFault, IsJsonFault, FileHolds, DecodesFile};
+ghost use Rattle.dictcol.specs.File.{indexed_texts, AreWithin, HasDictionary, HaveEntries, HoldsLines, HoldsText, IsFileDamage, IsFileFault, IsJsonFault, FileHolds, DecodesFile};
 ghost use Rattle.dictcol.specs.Lines.{has_newline, newline_if, text_of_lines};
 ghost use Rattle.dictcol.specs.Places.{IsEarlyEnd, IsLastLine};
 ghost use Rattle.dictcol.specs.Writes.{Writes};
@@ -30,7 +30,7 @@ use std::io;
 use std::io::Write;
 use string_column::{Codes, Column, PartsError};
 use string_interner::StringInterner;
-use string_interner::backend::{Backend, DefaultBackend};
+use string_interner::backend::{Backend, DefaultBackend, Store};
 use string_interner::dedup::TaggedIndex;
 use string_interner::json::JsonError;
 
@@ -38,7 +38,7 @@ use string_interner::json::JsonError;
 pub type Dictionary<B = DefaultBackend> = StringInterner<
     B,
     LineHasher,
-    TaggedIndex<<B as Backend>::Symbol>,
+    TaggedIndex<<B as Store>::Symbol>,
 >;
 
 /// What a file holds: its texts, for each line the index of its text, and whether the last line ends in a newline.
@@ -208,6 +208,8 @@ fn read_value<B: Backend + Drop>(
     ensures lines { IfOk result (λ parts. HoldsLines (view file.now)
         (rows_of parts.dictionary.texts parts.codes.items) parts.is_ended) }
     ensures within { IfOk result AreWithin }
+    ensures texts { IfOk result (λ parts. get (codes "dictionary") (view file.now)
+        ≡ Some (json_of_texts parts.dictionary.texts)) }
     ensures err { IfErr result (IsParseFault (LacksElement B.numbering (view file.now))
         (λ fault. IsValueDamage fault × ((text : Text) → ¬ (HoldsText (view file.now) text)))) }
 {
@@ -267,6 +269,7 @@ pub fn read<B: Backend + Drop>(
     ensures lines { IfOk result (λ parts. FileHolds file.now
         (rows_of parts.dictionary.texts parts.codes.items) parts.is_ended) }
     ensures within { IfOk result AreWithin }
+    ensures texts { IfOk result (λ parts. HasDictionary file.now parts.dictionary.texts) }
 
     // A file that holds a text is never called damaged. Where its JSON ends early is told.
     ensures err { IfErr result
@@ -289,7 +292,7 @@ pub fn read_column<B: Backend + Drop>(
     ensures lines { IfOk result (λ lines. FileHolds bytes.items lines.0 lines.1) }
 
     // A file is called damaged only if it holds no text, and not UTF-8 only if it is not.
-    ensures err { IfErr result (IsFileFault (λ file. ⊤) (Some bytes.items)) }
+    ensures err { IfErr result (IsFileFault (CrowdsColumn B.numbering) (Some bytes.items)) }
 {
     let Parts {
         dictionary,

@@ -10,7 +10,7 @@ ghost use Rattle.string_interner.specs.Probe.{FindsFirst, Follows, HasFreeSlot, 
 ghost use Rattle.string_interner.specs.declared.dedup.probe.Step.TheVariants.{On};
 ghost use Rattle.string_interner.specs.TextIndex.{found_by};
 
-use crate::backend::Backend;
+use crate::backend::Store;
 use crate::dedup::layout::Layout;
 use crate::dedup::slots::{Looks, Slots};
 use crate::dedup::text_index::Entry;
@@ -77,7 +77,7 @@ pub enum Step<S> {
 pub trait Probe<S: Symbol>: Layout<S> {
     /// Takes one step of a probe for a text with this code: from slot `at` on, up to a slot that has the text or is empty,
     /// or past one slot or more. Takes at most one look.
-    fn step<B: Backend<Symbol = S>>(
+    fn step<B: Store<Symbol = S>>(
         &self,
         at: usize,
         code: u64,
@@ -99,7 +99,7 @@ pub trait Probe<S: Symbol>: Layout<S> {
 ///
 /// Takes at most one look more than there are symbols in the probe cluster.
 #[inline(always)]
-pub fn probe_for<S: Symbol, L: Probe<S>, B: Backend<Symbol = S>>(
+pub fn probe_for<S: Symbol, L: Probe<S>, B: Store<Symbol = S>>(
     slots: &L,
     code: u64,
     looks: &mut Looks<'_, B>,
@@ -136,7 +136,7 @@ pub fn probe_for<S: Symbol, L: Probe<S>, B: Backend<Symbol = S>>(
 ///
 /// Takes at most as many looks as there are symbols in the probe cluster.
 #[inline(always)]
-pub(super) fn probe_on<S: Symbol, L: Probe<S>, B: Backend<Symbol = S>>(
+pub(super) fn probe_on<S: Symbol, L: Probe<S>, B: Store<Symbol = S>>(
     slots: &L,
     from: usize,
     code: u64,
@@ -182,7 +182,7 @@ pub trait Find<S: Symbol>: Probe<S> {
     /// for the place of a new text.
     ///
     /// Takes at most one look more than there are symbols in the probe cluster.
-    fn find<B: Backend<Symbol = S>>(
+    fn find<B: Store<Symbol = S>>(
         &self,
         code: u64,
         looks: &mut Looks<'_, B>,
@@ -202,7 +202,7 @@ pub trait Find<S: Symbol>: Probe<S> {
 
 impl<S: Symbol> Probe<S> for Slots<S> {
     #[inline(always)]
-    fn step<B: Backend<Symbol = S>>(
+    fn step<B: Store<Symbol = S>>(
         &self,
         at: usize,
         _code: u64,
@@ -219,7 +219,7 @@ impl<S: Symbol> Probe<S> for Slots<S> {
 
 impl<S: Symbol> Find<S> for Slots<S> {
     #[inline(always)]
-    fn find<B: Backend<Symbol = S>>(
+    fn find<B: Store<Symbol = S>>(
         &self,
         code: u64,
         looks: &mut Looks<'_, B>,

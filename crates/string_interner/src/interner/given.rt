@@ -4,7 +4,7 @@ ghost use Rattle.std.specs.Prelude.{◌≡◌};
 ghost use Rattle.string_interner.specs.Backend.{AppendsInto};
 ghost use Rattle.string_interner.specs.Given.{given_text};
 
-use crate::backend::{Backend, InternError};
+use crate::backend::{InternError, Store};
 
 /// A text to intern: one that the backend copies, or a static one, which it may keep by reference.
 #[derive(Clone, Copy)]
@@ -27,7 +27,7 @@ impl<'t> Given<'t> {
 
     /// Appends the text to the backend, by `intern` or by `intern_static`.
     #[inline(always)]
-    pub fn store_in<B: Backend>(self, backend: &mut B) -> Result<B::Symbol, InternError>
+    pub fn store_in<B: Store>(self, backend: &mut B) -> Result<B::Symbol, InternError>
         ensures { AppendsInto B.numbering B.texts B.buckets B.room backend.old
             (given_text self.entry) result backend.new }
     {

@@ -7,12 +7,12 @@ ghost use Rattle.string_interner.specs.InternAll.{InternsEach, Lists};
 use super::StringInterner;
 use super::intern_slice::intern_front;
 use super::look_ahead::{Ahead, BLOCK_LEN, FEWEST_FOR_BLOCKS};
-use crate::backend::{Backend, InternError};
+use crate::backend::{InternError, Store};
 use crate::dedup::TextIndex;
 use crate::hash::TextHasher;
 use crate::symbol::Symbol;
 
-impl<B: Backend, H: TextHasher, I: TextIndex<B::Symbol>> StringInterner<B, H, I> {
+impl<B: Store, H: TextHasher, I: TextIndex<B::Symbol>> StringInterner<B, H, I> {
     /// Interns the texts of a finite iterator in order, and appends the symbol of each to a list: a column becomes its symbols.
     /// Stops at the first text that fails, as `get_or_intern` does.
     ///

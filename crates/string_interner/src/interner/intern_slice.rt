@@ -8,7 +8,7 @@ use super::StringInterner;
 use super::given::Given;
 use super::look_ahead::Ahead;
 use super::new_text::intern_coded;
-use crate::backend::{Backend, InternError};
+use crate::backend::{InternError, Store};
 use crate::dedup::TextIndex;
 use crate::hash::TextHasher;
 use crate::symbol::Symbol;
@@ -24,7 +24,7 @@ pub struct Stopped {
     pub error: InternError,
 }
 
-impl<B: Backend, H: TextHasher, I: TextIndex<B::Symbol>> StringInterner<B, H, I> {
+impl<B: Store, H: TextHasher, I: TextIndex<B::Symbol>> StringInterner<B, H, I> {
     /// Interns texts in order, and writes the number of the symbol of each to the front of `numbers`. Stops at the first text
     /// that fails, as `get_or_intern` does.
     ///
@@ -56,7 +56,7 @@ impl<B: Backend, H: TextHasher, I: TextIndex<B::Symbol>> StringInterner<B, H, I>
 }
 
 /// Interns texts in order, and writes their numbers, as `intern_slice` does.
-pub fn intern_front<B: Backend, H: TextHasher, I: TextIndex<B::Symbol>>(
+pub fn intern_front<B: Store, H: TextHasher, I: TextIndex<B::Symbol>>(
     backend: &mut B,
     hasher: &H,
     index: &mut I,

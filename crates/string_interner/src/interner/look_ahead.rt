@@ -14,7 +14,7 @@ ghost use Rattle.string_interner.specs.Interner.{IsInternerList, IsSoundIndex};
 ghost use Rattle.string_interner.specs.InternAll.{AreCodes, AreGuesses, AreKnown, AreResolved, IsGuess, IsResolved, LooksAhead, LooksAtNone};
 ghost use Rattle.string_interner.specs.StandsFor.{StandsFor};
 
-use crate::backend::Backend;
+use crate::backend::Store;
 use crate::dedup::TextIndex;
 use crate::hash::TextHasher;
 use crate::symbol::Symbol;
@@ -67,7 +67,7 @@ impl Ahead {
 
     /// Returns the code of the text whose turn it is, and its symbol if it was found. Looks further first if it is time to.
     #[inline(always)]
-    pub fn find<B: Backend, H: TextHasher, I: TextIndex<B::Symbol>>(
+    pub fn find<B: Store, H: TextHasher, I: TextIndex<B::Symbol>>(
         &mut self,
         backend: &B,
         hasher: &H,
@@ -101,7 +101,7 @@ impl Ahead {
     ///
     /// It is a call of its own, so that the other texts take no longer than in `get_or_intern`.
     #[inline(never)]
-    fn look_further<B: Backend, H: TextHasher, I: TextIndex<B::Symbol>>(
+    fn look_further<B: Store, H: TextHasher, I: TextIndex<B::Symbol>>(
         &mut self,
         backend: &B,
         hasher: &H,
@@ -142,7 +142,7 @@ impl Ahead {
 ///
 /// Returns how many texts are best looked up one by one before the next block.
 #[inline(always)]
-pub fn look_for<B: Backend, H: TextHasher, I: TextIndex<B::Symbol>>(
+pub fn look_for<B: Store, H: TextHasher, I: TextIndex<B::Symbol>>(
     backend: &B,
     hasher: &H,
     index: &I,
@@ -181,7 +181,7 @@ fn hash_each<H: TextHasher>(hasher: &H, texts: &[&str], codes: &mut [u64])
 
 /// Stores the number of the symbol that the index guesses for each code. Reads no text.
 #[inline(always)]
-fn guess_each<B: Backend, I: TextIndex<B::Symbol>>(
+fn guess_each<B: Store, I: TextIndex<B::Symbol>>(
     index: &I,
     backend: &B,
     codes: &[u64],
@@ -214,7 +214,7 @@ fn texts_alone(known: &[Option<usize>]) -> usize {
 
 /// Returns the number of the symbol that the index guesses for a code.
 #[inline(always)]
-fn guess_number<B: Backend, I: TextIndex<B::Symbol>>(
+fn guess_number<B: Store, I: TextIndex<B::Symbol>>(
     index: &I,
     backend: &B,
     code: u64,
@@ -233,7 +233,7 @@ fn guess_number<B: Backend, I: TextIndex<B::Symbol>>(
 ///
 /// All guesses are resolved before the first text is compared, because a text can be read only once its address is loaded.
 #[inline(always)]
-fn check_each<B: Backend>(backend: &B, texts: &[&str], guesses: &mut [Option<usize>])
+fn check_each<B: Store>(backend: &B, texts: &[&str], guesses: &mut [Option<usize>])
     requires few { length texts.now ≤ 32 }
     requires count { length guesses.old ≡ length texts.now }
     requires texts { IsInternerList B.numbering (B.texts backend.now) }
@@ -255,7 +255,7 @@ fn check_each<B: Backend>(backend: &B, texts: &[&str], guesses: &mut [Option<usi
 
 /// Stores the text of the symbol of each guess, or the empty text if there is none. Compares nothing.
 #[inline(always)]
-fn resolve_each<'b, B: Backend>(backend: &'b B, guesses: &[Option<usize>], found: &mut [&'b str])
+fn resolve_each<'b, B: Store>(backend: &'b B, guesses: &[Option<usize>], found: &mut [&'b str])
     requires count { length found.old ≡ length guesses.now }
     requires guesses { AreGuesses B.Symbol.symbol_of
         (entry_text B.numbering (B.texts backend.now)) guesses.now }
@@ -270,7 +270,7 @@ fn resolve_each<'b, B: Backend>(backend: &'b B, guesses: &[Option<usize>], found
 
 /// Returns the text of the symbol of a guess, or the empty text if there is none.
 #[inline(always)]
-fn resolve_guess<B: Backend>(backend: &B, guess: Option<usize>) -> &str
+fn resolve_guess<B: Store>(backend: &B, guess: Option<usize>) -> &str
     requires { IsGuess B.Symbol.symbol_of (entry_text B.numbering (B.texts backend.now)) guess }
     ensures { IsResolved B.Symbol.symbol_of (entry_text B.numbering (B.texts backend.now)) guess
         result.now }

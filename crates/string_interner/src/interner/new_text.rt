@@ -6,14 +6,14 @@ ghost use Rattle.string_interner.specs.Given.{given_text};
 ghost use Rattle.string_interner.specs.Interner.{InternsInto, IsSoundIndex, contents_of};
 
 use super::given::Given;
-use crate::backend::{Backend, InternError};
+use crate::backend::{InternError, Store};
 use crate::dedup::{Entry, TextIndex};
 use crate::hash::TextHasher;
 
 /// Returns the symbol of a text with this code, and appends the text if it is new. If its symbol is `known`, it is not
 /// looked up.
 #[inline(always)]
-pub fn intern_coded<B: Backend, H: TextHasher, I: TextIndex<B::Symbol>>(
+pub fn intern_coded<B: Store, H: TextHasher, I: TextIndex<B::Symbol>>(
     backend: &mut B,
     hasher: &H,
     index: &mut I,

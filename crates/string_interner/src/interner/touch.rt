@@ -4,11 +4,11 @@ ghost use Rattle.std.specs.Prelude.{◌≤◌, length, min};
 
 use super::StringInterner;
 use super::look_ahead::{BLOCK_LEN, look_for};
-use crate::backend::Backend;
+use crate::backend::Store;
 use crate::dedup::TextIndex;
 use crate::hash::TextHasher;
 
-impl<B: Backend, H: TextHasher, I: TextIndex<B::Symbol>> StringInterner<B, H, I> {
+impl<B: Store, H: TextHasher, I: TextIndex<B::Symbol>> StringInterner<B, H, I> {
     /// Looks for the first 32 texts of a list together, so that they wait for memory at the same time: to look for one of them soon
     /// after takes less time, if there are a hundred thousand texts or more. Returns behind how many texts of the list the next call is
     /// worth its time.

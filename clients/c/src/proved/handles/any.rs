@@ -23,27 +23,29 @@ macro_rules! each {
     };
 }
 
-pub(crate) mod entries;
-pub(crate) mod guessed;
-pub(crate) mod intern_many;
-pub(crate) mod joined;
-pub(crate) mod one_kind;
-pub(crate) mod part;
+pub mod entries;
+pub mod guessed;
+pub mod intern_many;
+pub mod joined;
+pub mod one_kind;
+pub mod part;
 
 use crate::handles::hasher::ChosenHasher;
 use crate::handles::kind::Kind;
 use crate::handles::status::{Status, tell};
 use crate::handles::text::Text;
-use crate::serde_json::Value;
+use crate::rt::serde_json::Value;
 use crate::rt::alloc::{AllocError, Global};
 use crate::proved::StringInterner;
-use crate::proved::backend::{Backend, BucketBackend, BufferBackend, InternError, StringBackend};
+use crate::proved::backend::{
+    Backend, BucketBackend, BufferBackend, InternError, Store, StringBackend,
+};
 use crate::proved::dedup::TaggedIndex;
-use crate::json::JsonError;
+use crate::proved::json::JsonError;
 use crate::proved::symbol::{Symbol, SymbolU32};
 
 /// A `FastStringInterner` over a backend, except that its hasher is chosen at run time.
-type HashedInterner<B> = StringInterner<B, ChosenHasher, TaggedIndex<<B as Backend>::Symbol>>;
+type HashedInterner<B> = StringInterner<B, ChosenHasher, TaggedIndex<<B as Store>::Symbol>>;
 
 /// An interner of one of the kinds.
 //~ #[derive(Drop)]

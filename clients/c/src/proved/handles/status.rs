@@ -5,7 +5,7 @@
 
 use crate::rt::prelude::*; use crate::rt::alloc::AllocError;
 use crate::proved::backend::InternError;
-use crate::json::JsonError;
+use crate::proved::json::JsonError;
 
 /// Why a call failed.
 #[derive(Clone, Copy)]

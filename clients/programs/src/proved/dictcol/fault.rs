@@ -5,7 +5,8 @@
 //~ ghost use Rattle.string_interner.specs.declared.backend.InternError.TheVariants.{NoSymbol};
 //~ ghost use Rattle.dictcol.specs.Fault.{arguments_fault, dictionary_fault, intern_fault, numbers_fault, pair_fault, read_fault, write_fault, status_of, IsNoDamage, IsReadFault, IsTakeFault, IsWriteFault};
 
-use crate::rt::prelude::*; use crate::rt::io;
+use crate::rt::prelude::*; use crate::dictcol::input::compression::Compression;
+use crate::rt::io;
 use crate::rt::io::ErrorKind;
 use crate::proved::backend::InternError;
 //~ use thiserror::Error;
@@ -20,9 +21,12 @@ pub enum Fault {
     /// The first line that is not UTF-8.
     //~ #[error("line {0} is not UTF-8")]
     NotUtf8(usize),
+    /// This line, in input that looks compressed.
+    //~ #[error("line {0} is not UTF-8: it looks compressed ({1} FILE | dictcol ..)")]
+    Compressed(usize, Compression),
     /// The file is no JSON, nests deeper than 127, or has a number too large for a float.
     //~ #[error("{0}")]
-    NotJson(crate::serde_json::Error),
+    NotJson(crate::rt::serde_json::Error),
     /// The column is counted from 1, in bytes.
     //~ #[error("JSON ends too early, at line {line} column {column}")]
     EndsEarly { line: usize, column: usize },
@@ -84,6 +88,9 @@ pub enum Fault {
     /// The character behind DIR in the name of the unfinished folder.
     //~ #[error("cannot write files: DIR{0}dictcol-unfinished is not what a killed run leaves: move it away")]
     NotLeft(char),
+    /// So many shards can be open at once.
+    //~ #[error("cannot write files: the limit of open files allows {0} shards (see ulimit -n)")]
+    TooManyShards(usize),
     //~ #[error("cannot draw random keys: {0}")]
     NoKeys(io::Error),
     /// If the backend has no symbol for one more, or the count is full.
@@ -96,7 +103,7 @@ pub enum Fault {
     /// If nobody reads it any more.
     //~ #[error("output is closed")]
     ClosedOutput,
-} impl ::core::error::Error for Fault {} impl ::core::fmt::Display for Fault { fn fmt(&self, f: &mut ::core::fmt::Formatter<'_>) -> ::core::fmt::Result { match self { Self::Argument { .. } => f.write_str("an argument is not UTF-8"), Self::Input(it) => ::core::write!(f, "cannot read input: {0}", it), Self::NotUtf8(it) => ::core::write!(f, "line {0} is not UTF-8", it), Self::NotJson(it) => ::core::write!(f, "{0}", it), Self::EndsEarly { line, column, .. } => ::core::write!(f, "JSON ends too early, at line {line} column {column}"), Self::ByteOrderMark { .. } => f.write_str("the JSON begins with a byte order mark"), Self::NoDictionary { .. } => f.write_str("no array \"dictionary\""), Self::NotAText(it) => ::core::write!(f, "dictionary[{0}] is not a string", it), Self::Repeated(it) => ::core::write!(f, "dictionary[{0}] repeats an earlier text", it), Self::HasNewline(it) => ::core::write!(f, "dictionary[{0}] contains a newline", it), Self::NoLines { .. } => f.write_str("no array \"lines\""), Self::NotAnIndex(it) => ::core::write!(f, "lines[{0}] is not the index of a text", it), Self::NoFinalNewline { .. } => f.write_str("no boolean \"final_newline\""), Self::DictionaryNotUtf8(it) => ::core::write!(f, "dict.txt: line {0} is not UTF-8", it), Self::NotEnded { .. } => f.write_str("dict.txt does not end in a newline"), Self::RepeatedLine(it) => ::core::write!(f, "dict.txt: line {0} repeats an earlier line", it), Self::NotNpy { .. } => f.write_str("codes.npy is not in NumPy's format 1.0"), Self::OtherType { .. } => f.write_str("codes.npy has another type than '<u4'"), Self::OtherOrder { .. } => f.write_str("codes.npy is in Fortran's order"), Self::OtherShape { .. } => f.write_str("codes.npy has another shape than a list"), Self::OtherLength { .. } => f.write_str("codes.npy has another length than its header says"), Self::NotALine(it) => ::core::write!(f, "codes[{0}] is not the number of a line of dict.txt", it), Self::NotAPair { .. } => f.write_str("dict.txt and codes.npy are not of one run (see pair.txt)"), Self::NoCut { .. } => f.write_str("no_final_newline is missing (see pair.txt)"), Self::OtherCut { .. } => f.write_str("no_final_newline is of another run (see pair.txt)"), Self::DictionaryFile(it) => ::core::write!(f, "cannot read dict.txt: {0}", it), Self::NumbersFile(it) => ::core::write!(f, "cannot read codes.npy: {0}", it), Self::PairFile(it) => ::core::write!(f, "cannot read pair.txt: {0}", it), Self::CutFile(it) => ::core::write!(f, "cannot read no_final_newline: {0}", it), Self::Folder(it) => ::core::write!(f, "cannot write files: {0}", it), Self::NotLeft(it) => ::core::write!(f, "cannot write files: DIR{0}dictcol-unfinished is not what a killed run leaves: move it away", it), Self::NoKeys(it) => ::core::write!(f, "cannot draw random keys: {0}", it), Self::TooMany { .. } => f.write_str("too many distinct lines"), Self::Memory { .. } => f.write_str("out of memory"), Self::Output(it) => ::core::write!(f, "cannot write output: {0}", it), Self::ClosedOutput { .. } => f.write_str("output is closed"), } } }
+} impl ::core::error::Error for Fault {} impl ::core::fmt::Display for Fault { fn fmt(&self, f: &mut ::core::fmt::Formatter<'_>) -> ::core::fmt::Result { match self { Self::Argument { .. } => f.write_str("an argument is not UTF-8"), Self::Input(it) => ::core::write!(f, "cannot read input: {0}", it), Self::NotUtf8(it) => ::core::write!(f, "line {0} is not UTF-8", it), Self::Compressed(it0, it1) => ::core::write!(f, "line {0} is not UTF-8: it looks compressed ({1} FILE | dictcol ..)", it0, it1), Self::NotJson(it) => ::core::write!(f, "{0}", it), Self::EndsEarly { line, column, .. } => ::core::write!(f, "JSON ends too early, at line {line} column {column}"), Self::ByteOrderMark { .. } => f.write_str("the JSON begins with a byte order mark"), Self::NoDictionary { .. } => f.write_str("no array \"dictionary\""), Self::NotAText(it) => ::core::write!(f, "dictionary[{0}] is not a string", it), Self::Repeated(it) => ::core::write!(f, "dictionary[{0}] repeats an earlier text", it), Self::HasNewline(it) => ::core::write!(f, "dictionary[{0}] contains a newline", it), Self::NoLines { .. } => f.write_str("no array \"lines\""), Self::NotAnIndex(it) => ::core::write!(f, "lines[{0}] is not the index of a text", it), Self::NoFinalNewline { .. } => f.write_str("no boolean \"final_newline\""), Self::DictionaryNotUtf8(it) => ::core::write!(f, "dict.txt: line {0} is not UTF-8", it), Self::NotEnded { .. } => f.write_str("dict.txt does not end in a newline"), Self::RepeatedLine(it) => ::core::write!(f, "dict.txt: line {0} repeats an earlier line", it), Self::NotNpy { .. } => f.write_str("codes.npy is not in NumPy's format 1.0"), Self::OtherType { .. } => f.write_str("codes.npy has another type than '<u4'"), Self::OtherOrder { .. } => f.write_str("codes.npy is in Fortran's order"), Self::OtherShape { .. } => f.write_str("codes.npy has another shape than a list"), Self::OtherLength { .. } => f.write_str("codes.npy has another length than its header says"), Self::NotALine(it) => ::core::write!(f, "codes[{0}] is not the number of a line of dict.txt", it), Self::NotAPair { .. } => f.write_str("dict.txt and codes.npy are not of one run (see pair.txt)"), Self::NoCut { .. } => f.write_str("no_final_newline is missing (see pair.txt)"), Self::OtherCut { .. } => f.write_str("no_final_newline is of another run (see pair.txt)"), Self::DictionaryFile(it) => ::core::write!(f, "cannot read dict.txt: {0}", it), Self::NumbersFile(it) => ::core::write!(f, "cannot read codes.npy: {0}", it), Self::PairFile(it) => ::core::write!(f, "cannot read pair.txt: {0}", it), Self::CutFile(it) => ::core::write!(f, "cannot read no_final_newline: {0}", it), Self::Folder(it) => ::core::write!(f, "cannot write files: {0}", it), Self::NotLeft(it) => ::core::write!(f, "cannot write files: DIR{0}dictcol-unfinished is not what a killed run leaves: move it away", it), Self::TooManyShards(it) => ::core::write!(f, "cannot write files: the limit of open files allows {0} shards (see ulimit -n)", it), Self::NoKeys(it) => ::core::write!(f, "cannot draw random keys: {0}", it), Self::TooMany { .. } => f.write_str("too many distinct lines"), Self::Memory { .. } => f.write_str("out of memory"), Self::Output(it) => ::core::write!(f, "cannot write output: {0}", it), Self::ClosedOutput { .. } => f.write_str("output is closed"), } } }
 
 impl Fault {
     /// Returns the fault of arguments that cannot be read.
@@ -189,6 +196,7 @@ impl Fault {
             | Fault::CutFile(_)
             | Fault::Folder(_)
             | Fault::NotLeft(_)
+            | Fault::TooManyShards(_)
             | Fault::NoKeys(_)
             | Fault::TooMany
             | Fault::Memory

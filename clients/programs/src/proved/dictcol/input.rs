@@ -2,6 +2,7 @@
 
 use crate::rt::prelude::*; pub mod block;
 pub mod blocks;
+pub mod compression;
 pub mod inputs;
 pub mod mend;
 pub mod split;

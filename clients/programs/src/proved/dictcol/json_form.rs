@@ -1,7 +1,7 @@
 //! The file that `encode` writes and `decode` reads.
 
-use crate::rt::prelude::*; pub(crate) mod escapes;
+use crate::rt::prelude::*; pub mod escapes;
 pub mod file;
 pub mod format;
-pub(crate) mod quoted;
-pub(crate) mod stream;
+pub mod quoted;
+pub mod stream;

@@ -6,6 +6,9 @@ use crate::rt::io::ErrorKind;
 use crate::rt::os::unix::fs::MetadataExt;
 use crate::rt::{fs, io};
 
+/// The name of a folder for the files of another, or what is behind its own name.
+pub const NAME: &str = "dictcol-unfinished";
+
 /// A folder that one run alone writes into.
 //~ #[derive(Drop)]
 pub struct Unfinished {
@@ -58,13 +61,8 @@ fn busy_if(kind: ErrorKind, error: io::Error) -> io::Error {
     if error.kind() == kind { busy() } else { error }
 }
 
-/// Locks a folder that was opened by this path. Fails if another run has locked it, or if the path leads elsewhere by now.
-fn lock(rt: &HostRuntime, folder: &File, path: &str) -> io::Result<()> {
-    match folder.try_lock() {
-        Ok(()) => {}
-        Err(TryLockError::WouldBlock) => return Err(busy()),
-        Err(TryLockError::Error(error)) => return Err(error),
-    }
+/// Fails if a folder that was opened by this path is there no more.
+fn check_there(rt: &HostRuntime, folder: &File, path: &str) -> io::Result<()> {
     let there = fs::symlink_metadata(rt, path).map_err(|error| busy_if(
         ErrorKind::NotFound,
         error,
@@ -74,6 +72,36 @@ fn lock(rt: &HostRuntime, folder: &File, path: &str) -> io::Result<()> {
     } else {
         Err(busy())
     }
+}
+
+/// Returns what came of a try to lock a folder, which fails if another run has it.
+fn of_try(outcome: Result<(), TryLockError>) -> io::Result<()> {
+    match outcome {
+        Ok(()) => Ok(()),
+        Err(TryLockError::WouldBlock) => Err(busy()),
+        Err(TryLockError::Error(error)) => Err(error),
+    }
+}
+
+/// Locks a folder that was opened by this path. Fails if another run has locked it, or if the path leads elsewhere by now.
+fn lock(rt: &HostRuntime, folder: &File, path: &str) -> io::Result<()> {
+    of_try(folder.try_lock())?;
+    check_there(rt, folder, path)
+}
+
+/// Returns whether another run than the one that has `own` writes into the unfinished folder of this path.
+pub fn is_taken(rt: &HostRuntime, path: &str, own: Option<&Unfinished>) -> bool {
+    let Ok(folder) = File::open(rt, path) else {
+        return false;
+    };
+    if let (Some(own), Ok(there)) = (own, folder.metadata()) {
+        if let Ok(here) = own.folder.metadata() {
+            if is_same(&here, &there) {
+                return false;
+            }
+        }
+    }
+    matches!(folder.try_lock_shared(), Err(TryLockError::WouldBlock))
 }
 
 /// Returns whether a folder has nothing but files with names that a run gives.
@@ -121,7 +149,10 @@ fn remove_left<N: Fn(&str) -> bool>(rt: &HostRuntime, path: &str, is_name: &N) -
 fn make_locked(rt: &HostRuntime, path: &str) -> io::Result<File> {
     fs::create_dir(rt, path).map_err(|error| busy_if(ErrorKind::AlreadyExists, error))?;
     let folder = File::open(rt, path).map_err(|error| busy_if(ErrorKind::NotFound, error))?;
-    lock(rt, &folder, path)?;
+    // A run that only asks whether it is taken locks it for a moment, beside others. It is waited for, one that writes is not.
+    of_try(folder.try_lock_shared())?;
+    folder.lock()?;
+    check_there(rt, &folder, path)?;
     Ok(folder)
 }
 
@@ -136,9 +167,7 @@ impl Unfinished {
     ) -> Result<Unfinished, Fault>
         //~ requires { N.IsAlwaysCallable is_name.now }
     {
-        let path = crate::rt::format!(in rt.alloc(); "{folder}{separator}dictcol-unfinished").map_err(
-            |_| Fault::Memory,
-        )?;
+        let path = crate::rt::format!(in rt.alloc(); "{folder}{separator}{NAME}").map_err(|_| Fault::Memory)?;
         if !remove_left(rt, path.as_str(), is_name).map_err(Fault::Folder)? {
             return Err(Fault::NotLeft(separator));
         }

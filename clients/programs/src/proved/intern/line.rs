@@ -9,7 +9,7 @@
 
 use crate::rt::prelude::*; use crate::rt::io::Write;
 use crate::rt::{fmt, io};
-use crate::run::{Command, Reply};
+use crate::proved::run::{Command, Reply};
 
 /// Parses decimal digits. A leading plus, which `parse` accepts, is no digit.
 fn parse_number(digits: &str) -> Option<usize>

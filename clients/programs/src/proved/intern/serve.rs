@@ -19,7 +19,7 @@ use crate::rt::alloc::Global;
 use crate::rt::io::{ErrorKind, Read, Write};
 use crate::proved::StringInterner;
 use crate::proved::backend::{Backend, BucketBackend, BufferBackend, StringBackend};
-use crate::run::{Command, Reply, run};
+use crate::proved::run::{Command, Reply, run};
 
 /// Which backend the interner stores its texts in.
 #[derive(Clone, Copy)]

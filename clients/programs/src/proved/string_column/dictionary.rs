@@ -10,7 +10,7 @@ use crate::rt::prelude::*; use crate::string_column::code_list::Codes;
 use crate::string_column::symbols::SymbolList;
 use crate::rt::alloc::{AllocError, Global};
 use crate::rt::marker::Model;
-use crate::proved::backend::{Backend, DefaultBackend, InternError};
+use crate::proved::backend::{Backend, DefaultBackend, InternError, Store};
 use crate::proved::dedup::{FoldState, TaggedIndex, TextHasher, TextIndex};
 use crate::proved::{Stopped, StringInterner, Symbol};
 
@@ -61,7 +61,7 @@ impl<'a, 't> TextList for &'a [&'t str] {
 pub struct Dictionary<
     B: Backend = DefaultBackend,
     H: TextHasher = FoldState,
-    I: TextIndex<B::Symbol> = TaggedIndex<<B as Backend>::Symbol>,
+    I: TextIndex<B::Symbol> = TaggedIndex<<B as Store>::Symbol>,
 > {
     interner: StringInterner<B, H, I>,
     /// The symbol of each entry.

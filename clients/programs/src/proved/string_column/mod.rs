@@ -20,10 +20,10 @@
 //! The symbol type alone limits how many distinct rows a column has.
 //~ #![tactic(auto)]
 
-use crate::rt::prelude::*; pub(crate) mod code_list;
-pub(crate) mod dictionary;
-pub(crate) mod rows;
-pub(crate) mod symbols;
+use crate::rt::prelude::*; pub mod code_list;
+pub mod dictionary;
+pub mod rows;
+pub mod symbols;
 
 pub use code_list::Codes;
 pub use dictionary::Dictionary;

@@ -1,8 +1,8 @@
 //! A column of texts: each distinct one once, and its index for each row.
 
-use crate::rt::prelude::*; pub(crate) mod append;
-pub(crate) mod iter;
-pub(crate) mod parts;
+use crate::rt::prelude::*; pub mod append;
+pub mod iter;
+pub mod parts;
 
 //~ ghost use Rattle.std.specs.Prelude.{◌≡◌, ◌↔◌, ◌≤◌, [], length, slice_get, IfOk, IsTrue};
 //~ ghost use Rattle.std.specs.Option.{option_copied};
@@ -17,7 +17,7 @@ pub use parts::PartsError;
 use crate::rt::alloc::{AllocError, Global};
 use crate::rt::marker::Model;
 use crate::proved::StringInterner;
-use crate::proved::backend::{Backend, DefaultBackend, InternError};
+use crate::proved::backend::{Backend, DefaultBackend, InternError, Store};
 use crate::proved::dedup::{FoldState, TaggedIndex, TextHasher, TextIndex};
 
 /// A dictionary of fewer texts is taken to fit the processor's cache. There a block takes longer than its texts one by one. These are
@@ -40,7 +40,7 @@ const FEWEST_FOR_BLOCKS: usize = 1 << 16;
 pub struct Column<
     B: Backend = DefaultBackend,
     H: TextHasher = FoldState,
-    I: TextIndex<B::Symbol> = TaggedIndex<<B as Backend>::Symbol>,
+    I: TextIndex<B::Symbol> = TaggedIndex<<B as Store>::Symbol>,
 > {
     dictionary: Dictionary<B, H, I>,
     codes: Codes,

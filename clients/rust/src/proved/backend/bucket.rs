@@ -1,12 +1,12 @@
 //! Texts in append-only buckets of bytes, and static texts by reference.
 
-use crate::rt::prelude::*; pub(crate) mod buckets;
-pub(crate) mod copies;
-pub(crate) mod entries;
-pub(crate) mod fixed_str;
-pub(crate) mod full_bucket;
-pub(crate) mod interned_str;
-pub(crate) mod lasting;
+use crate::rt::prelude::*; pub mod buckets;
+pub mod copies;
+pub mod entries;
+pub mod fixed_str;
+pub mod full_bucket;
+pub mod interned_str;
+pub mod lasting;
 
 //~ ghost use Rattle.std.specs.Prelude.{◌≡◌, ◌+◌, ◌^◌, ◌<◌, ◌≤◌, [], ◌∷◌, ◌++◌, length, take, map, slice_get, true, false, Some, IfOk, OnOk, OnErr, refl};
 //~ ghost use Rattle.std.specs.Cmp.{partial_equiv_from_equiv, on_equiv};
@@ -17,7 +17,7 @@ pub(crate) mod lasting;
 //~ ghost use Rattle.string_interner.specs.ByIndexLaws.{length_grows, reads_at_length};
 //~ ghost use Rattle.string_interner.specs.BucketBackend.{BucketContents, bucket_numbering, empty_contents, buckets_of, AppendsText, AreBounded, CopiesBuckets, JoinsBuckets, KeepsBuckets, Puts, Stays, interned_text};
 
-use crate::proved::backend::{Backend, CopyBackend, InternError, Iter};
+use crate::proved::backend::{Backend, CopyBackend, InternError, Iter, Store};
 use crate::proved::symbol::{DefaultSymbol, Symbol};
 use buckets::{interned_text, store};
 use copies::{copies_of, joint_capacity};
@@ -81,7 +81,7 @@ impl<S: Symbol> BucketBackend<S> {
     }
 }
 
-impl<S: Symbol> Backend for BucketBackend<S> {
+impl<S: Symbol> Store for BucketBackend<S> {
     type Symbol = S;
 
     //~ ghost texts = { λ b. b.texts };
@@ -90,53 +90,11 @@ impl<S: Symbol> Backend for BucketBackend<S> {
 
     //~ ghost numbering = { bucket_numbering S.symbol_of S.number };
 
-    //~ ghost grant = { λ capacity. capacity };
-
     //~ ghost buckets = { λ b. buckets_of b.full b.head };
 
-    /// Makes an empty backend, with a head of capacity 0. Allocates nothing.
-    fn new(alloc: Global) -> Self
-        //~ ensures { result ≡ empty_contents 0 0 }
-    {
-        BucketBackend {
-            entries: Entries::new(alloc),
-            full: Vec::new(alloc),
-            head: FixedString::new(alloc),
-            symbols: PhantomData,
-        }
-    }
-
-    /// Makes an empty backend with capacity for `capacity` entries and a head of `capacity` bytes: 17 bytes for each, and 41
-    /// from 2^32 entries on, since so many may have texts of 4 GiB or more.
-    ///
-    /// Returns `Err` only if an allocation fails or a size does not fit a `usize`.
-    fn with_capacity(alloc: Global, capacity: usize) -> Result<Self, AllocError>
-        //~ ensures room { IfOk result (λ backend. capacity ≤ backend.room) }
-        //~ ensures fits { OnOk result (capacity < 2 ^ 64) }
-        //~ ensures empty { IfOk result (λ backend. backend ≡ empty_contents capacity backend.room) }
-    {
-        let long = if is_long(capacity) { capacity } else { 0 };
-        Ok(BucketBackend {
-            entries: Entries::with_capacity(alloc, capacity, long)?,
-            full: Vec::new(alloc),
-            head: FixedString::with_capacity(alloc, capacity)?,
-            symbols: PhantomData,
-        })
-    }
-
-    /// Returns the number of texts, repeats included. Its clause `bounded` holds of the buckets of every
-    /// `BucketBackend`.
-    fn count(&self) -> usize
-        //~ ensures value { result ≡ length self.now.texts }
-        //~ ensures valid { IsValidList S.symbol_of length self.now.texts }
-        //~ ensures statics { length self.now.statics ≡ result }
-        //~ ensures bounded { AreBounded (buckets_of self.now.full self.now.head) }
-    {
-        self.entries.len()
-    }
-
-    fn next_symbol(&self) -> Option<S> {
-        S::try_from_usize(self.entries.len())
+    #[inline(always)]
+    fn is_full(&self) -> bool {
+        S::try_from_usize(self.entries.len()).is_none()
     }
 
     /// Appends a copy of the text to the head, or to a new head if it does not fit. No stored byte changes its value or its
@@ -185,11 +143,6 @@ impl<S: Symbol> Backend for BucketBackend<S> {
         self.text_at(symbol.to_usize())
     }
 
-    fn entry_at(&self, at: usize) -> (S, &str, usize) {
-        let text = self.text_at(at);
-        (S::try_from_usize(at).unwrap(), text, at + 1)
-    }
-
     /// Releases spare capacity of the lists of entries and of older buckets. The buckets are unchanged, with the spare
     /// bytes of the head and the bytes of dropped texts.
     fn shrink_to_fit(&mut self)
@@ -199,6 +152,75 @@ impl<S: Symbol> Backend for BucketBackend<S> {
     {
         self.entries.shrink_to_fit();
         self.full.shrink_to_fit();
+    }
+
+    //~ ghost symbols = { (refl, refl) };
+
+    //~ ghost starts = { refl };
+
+    //~ ghost grows = { length_grows };
+
+    //~ ghost costs = { λ text. Prim.search rules };
+
+    //~ ghost reads = { λ texts i valid within. reads_at_length texts i within };
+}
+
+impl<S: Symbol> Backend for BucketBackend<S> {
+    //~ ghost grant = { λ capacity. capacity };
+
+    /// Makes an empty backend, with a head of capacity 0. Allocates nothing.
+    fn new(alloc: Global) -> Self
+        //~ ensures { result ≡ empty_contents 0 0 }
+    {
+        BucketBackend {
+            entries: Entries::new(alloc),
+            full: Vec::new(alloc),
+            head: FixedString::new(alloc),
+            symbols: PhantomData,
+        }
+    }
+
+    /// Makes an empty backend with capacity for `capacity` entries and a head of `capacity` bytes: 17 bytes for each, and 41
+    /// from 2^32 entries on, since so many may have texts of 4 GiB or more.
+    ///
+    /// Returns `Err` only if an allocation fails or a size does not fit a `usize`.
+    fn with_capacity(alloc: Global, capacity: usize) -> Result<Self, AllocError>
+        //~ ensures room { IfOk result (λ backend. capacity ≤ backend.room) }
+        //~ ensures fits { OnOk result (capacity < 2 ^ 64) }
+        //~ ensures empty { IfOk result (λ backend. backend ≡ empty_contents capacity backend.room) }
+    {
+        let long = if is_long(capacity) { capacity } else { 0 };
+        Ok(BucketBackend {
+            entries: Entries::with_capacity(alloc, capacity, long)?,
+            full: Vec::new(alloc),
+            head: FixedString::with_capacity(alloc, capacity)?,
+            symbols: PhantomData,
+        })
+    }
+
+    /// Returns the number of texts, repeats included. Its clause `bounded` holds of the buckets of every
+    /// `BucketBackend`.
+    fn count(&self) -> usize
+        //~ ensures value { result ≡ length self.now.texts }
+        //~ ensures valid { IsValidList S.symbol_of length self.now.texts }
+        //~ ensures statics { length self.now.statics ≡ result }
+        //~ ensures bounded { AreBounded (buckets_of self.now.full self.now.head) }
+    {
+        self.entries.len()
+    }
+
+    fn next_symbol(&self) -> Option<S> {
+        S::try_from_usize(self.entries.len())
+    }
+
+    fn entry_at(&self, at: usize) -> (S, &str, usize) {
+        let text = self.text_at(at);
+        (S::try_from_usize(at).unwrap(), text, at + 1)
+    }
+
+    #[inline]
+    fn place_of(&self, index: usize) -> usize {
+        index
     }
 
     fn truncate(&mut self, len: usize)
@@ -212,16 +234,6 @@ impl<S: Symbol> Backend for BucketBackend<S> {
     {
         self.entries.truncate(len);
     }
-
-    //~ ghost symbols = { (refl, refl) };
-
-    //~ ghost starts = { refl };
-
-    //~ ghost grows = { length_grows };
-
-    //~ ghost costs = { λ text. Prim.search rules };
-
-    //~ ghost reads = { λ texts i valid within. reads_at_length texts i within };
 }
 
 impl<S: Symbol> BucketBackend<S> {

@@ -1,6 +1,6 @@
 //! All texts in one byte buffer, each behind its length.
 
-use crate::rt::prelude::*; pub(crate) mod leb128;
+use crate::rt::prelude::*; pub mod leb128;
 
 //~ ghost use Rattle.std.specs.Prelude.{◌≡◌, ℕ, ◌+◌, ◌*◌, ◌^◌, ◌<◌, ◌≤◌, ◌↔◌, List, [], ◌++◌, length, take, slice_get, Option, Some, SomeIff, IsTrue, IfOk, OnOk, refl};
 //~ ghost use Rattle.std.specs.Option.{option_copied};
@@ -13,7 +13,7 @@ use crate::rt::prelude::*; pub(crate) mod leb128;
 //~ ghost use Rattle.string_interner.specs.BufferLaws.{entry_len-positive, place_grows, reads_at_place};
 
 use crate::proved::backend::reserve::reserve_items;
-use crate::proved::backend::{Backend, CopyBackend, InternError, Iter};
+use crate::proved::backend::{Backend, CopyBackend, InternError, Iter, Store};
 use crate::proved::symbol::{DefaultSymbol, Symbol};
 use leb128::{digit_count, number_at, push_number};
 use crate::rt::alloc::{AllocError, Global};
@@ -126,7 +126,7 @@ impl<S: Symbol> BufferBackend<S> {
     }
 }
 
-impl<S: Symbol> Backend for BufferBackend<S> {
+impl<S: Symbol> Store for BufferBackend<S> {
     type Symbol = S;
 
     //~ ghost texts = { λ b. b.texts };
@@ -135,6 +135,58 @@ impl<S: Symbol> Backend for BufferBackend<S> {
 
     //~ ghost numbering = { buffer_numbering S.symbol_of S.number };
 
+    #[inline(always)]
+    fn is_full(&self) -> bool {
+        S::try_from_usize(self.as_bytes().len()).is_none()
+    }
+
+    /// Appends the length of the text and a copy of it.
+    fn intern(&mut self, text: &str) -> Result<S, InternError> {
+        let symbol = self.next_symbol().ok_or(InternError::NoSymbol)?;
+        let len = Self::entry_len(text.len()).ok_or(AllocError)?;
+        // Allocates before it stores anything, so that nothing changes on `Err`.
+        reserve_items(&mut self.bytes, len)?;
+        push_number(&mut self.bytes, text.len());
+        self.bytes.extend_from_slice(text.as_bytes()).unwrap();
+        self.count += 1;
+        Ok(symbol)
+    }
+
+    /// Returns the text that is decoded at the symbol's number, if any. For the symbol of an entry this is its text.
+    ///
+    /// Any other number gives `None`, or a text from the middle of an entry or across two: whatever follows bytes that
+    /// decode as its length, in at most ten digits. Such a length may have more digits than it needs.
+    fn resolve(&self, symbol: S) -> Option<&str>
+        //~ ensures value { option_copied result ≡ read_at self.now.texts (S.number symbol) }
+        //~ ensures reads { (text : Text) → (option_copied result ≡ Some text)
+        //~     ↔ Reads (bytes_of self.now.texts) (S.number symbol) text }
+    {
+        front_text(self.as_bytes().get(symbol.to_usize()..)?)
+    }
+
+    fn resolve_unchecked(&self, symbol: S) -> &str {
+        text_and_next(self.as_bytes(), symbol.to_usize()).0
+    }
+
+    /// Reduces spare capacity if it can: leaves no more than there was, and none if there are no texts.
+    fn shrink_to_fit(&mut self)
+        //~ ensures { Shrinks self.old self.new }
+    {
+        self.bytes.shrink_to_fit();
+    }
+
+    //~ ghost symbols = { (refl, refl) };
+
+    //~ ghost starts = { refl };
+
+    //~ ghost grows = { place_grows };
+
+    //~ ghost costs = { entry_len-positive };
+
+    //~ ghost reads = { reads_at_place S.symbol_of };
+}
+
+impl<S: Symbol> Backend for BufferBackend<S> {
     //~ ghost grant = { λ capacity. 13 * capacity };
 
     fn new(alloc: Global) -> Self {
@@ -169,44 +221,13 @@ impl<S: Symbol> Backend for BufferBackend<S> {
         S::try_from_usize(self.as_bytes().len())
     }
 
-    /// Appends the length of the text and a copy of it.
-    fn intern(&mut self, text: &str) -> Result<S, InternError> {
-        let symbol = self.next_symbol().ok_or(InternError::NoSymbol)?;
-        let len = Self::entry_len(text.len()).ok_or(AllocError)?;
-        // Allocates before it stores anything, so that nothing changes on `Err`.
-        reserve_items(&mut self.bytes, len)?;
-        push_number(&mut self.bytes, text.len());
-        self.bytes.extend_from_slice(text.as_bytes()).unwrap();
-        self.count += 1;
-        Ok(symbol)
-    }
-
-    /// Returns the text that is decoded at the symbol's number, if any. For the symbol of an entry this is its text.
-    ///
-    /// Any other number gives `None`, or a text from the middle of an entry or across two: whatever follows bytes that
-    /// decode as its length, in at most ten digits. Such a length may have more digits than it needs.
-    fn resolve(&self, symbol: S) -> Option<&str>
-        //~ ensures value { option_copied result ≡ read_at self.now.texts (S.number symbol) }
-        //~ ensures reads { (text : Text) → (option_copied result ≡ Some text)
-        //~     ↔ Reads (bytes_of self.now.texts) (S.number symbol) text }
-    {
-        front_text(self.as_bytes().get(symbol.to_usize()..)?)
-    }
-
-    fn resolve_unchecked(&self, symbol: S) -> &str {
-        text_and_next(self.as_bytes(), symbol.to_usize()).0
-    }
-
     fn entry_at(&self, at: usize) -> (S, &str, usize) {
         let (text, next) = text_and_next(self.as_bytes(), at);
         (S::try_from_usize(at).unwrap(), text, next)
     }
 
-    /// Reduces spare capacity if it can: leaves no more than there was, and none if there are no texts.
-    fn shrink_to_fit(&mut self)
-        //~ ensures { Shrinks self.old self.new }
-    {
-        self.bytes.shrink_to_fit();
+    fn place_of(&self, index: usize) -> usize {
+        self.place_at(index)
     }
 
     fn truncate(&mut self, len: usize) {
@@ -216,16 +237,6 @@ impl<S: Symbol> Backend for BufferBackend<S> {
             self.count = len;
         }
     }
-
-    //~ ghost symbols = { (refl, refl) };
-
-    //~ ghost starts = { refl };
-
-    //~ ghost grows = { place_grows };
-
-    //~ ghost costs = { entry_len-positive };
-
-    //~ ghost reads = { reads_at_place S.symbol_of };
 }
 
 impl<S: Symbol> BufferBackend<S> {

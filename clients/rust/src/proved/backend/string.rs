@@ -1,6 +1,6 @@
 //! All texts joined in one string, with a list of their ends.
 
-use crate::rt::prelude::*; pub(crate) mod ends;
+use crate::rt::prelude::*; pub mod ends;
 
 //~ ghost use Rattle.std.specs.Prelude.{◌≡◌, ◌*◌, ◌^◌, ◌<◌, ◌≤◌, [], length, slice_get, Some, IfOk, IfSome, OnOk, refl};
 //~ ghost use Rattle.std.specs.Option.{option_copied};
@@ -13,7 +13,7 @@ use crate::rt::prelude::*; pub(crate) mod ends;
 //~ ghost use Rattle.string_interner.specs.ByIndexLaws.{length_grows, reads_at_length};
 
 use crate::proved::backend::reserve::grow_bytes;
-use crate::proved::backend::{Backend, CopyBackend, InternError, Iter};
+use crate::proved::backend::{Backend, CopyBackend, InternError, Iter, Store};
 use crate::proved::number_list::NumberList;
 use crate::proved::symbol::{DefaultSymbol, Symbol};
 use ends::{find_narrow_span, span, start_of};
@@ -74,7 +74,7 @@ impl<S: Symbol> StringBackend<S> {
         //~ ensures valid { IsValidList S.symbol_of length self.now.texts }
     {
         let (start, end) = span(&self.ends, index);
-        &self.joined[start..end]
+        unsafe { crate::unchecked::cut_unchecked(&self.joined, start..end) }
     }
 
     /// Returns the text of entry `index`, if there is one and its end takes four bytes. Calls no other function, so that a caller
@@ -84,7 +84,7 @@ impl<S: Symbol> StringBackend<S> {
         //~ ensures { IfSome result (λ text. slice_get self.now.texts index ≡ Some text.now) }
     {
         match find_narrow_span(&self.ends, index) {
-            Some((start, end)) => Some(&self.joined[start..end]),
+            Some((start, end)) => Some(unsafe { crate::unchecked::cut_unchecked(&self.joined, start..end) }),
             None => None,
         }
     }
@@ -103,7 +103,7 @@ impl<S: Symbol> StringBackend<S> {
 }
 
 //~ #[tactic(auto, using(crate::proofs::Lemmas::StringBackend::IsCut::cut_length))]
-impl<S: Symbol> Backend for StringBackend<S> {
+impl<S: Symbol> Store for StringBackend<S> {
     type Symbol = S;
 
     //~ ghost texts = { λ b. b.texts };
@@ -112,6 +112,55 @@ impl<S: Symbol> Backend for StringBackend<S> {
 
     //~ ghost numbering = { string_numbering S.symbol_of S.number };
 
+    #[inline(always)]
+    fn is_full(&self) -> bool {
+        S::try_from_usize(self.ends.len()).is_none()
+    }
+
+    /// Appends a copy of the text to the string, and its end to the list of ends.
+    #[inline(always)]
+    fn intern(&mut self, text: &str) -> Result<S, InternError> {
+        let symbol = self.next_symbol().ok_or(InternError::NoSymbol)?;
+        // Allocates before it stores anything, so that nothing changes on `Err`.
+        if text.len() > self.joined.capacity() - self.joined.len() {
+            grow_bytes(&mut self.joined, text.len())?;
+        }
+        let end = self.joined.len() + text.len();
+        self.ends.reserve(end)?;
+        self.joined.push_str(text).unwrap();
+        self.ends.push_reserved(end);
+        Ok(symbol)
+    }
+
+    fn resolve(&self, symbol: S) -> Option<&str> {
+        self.find_text(symbol.to_usize())
+    }
+
+    fn resolve_unchecked(&self, symbol: S) -> &str {
+        self.text_at(symbol.to_usize())
+    }
+
+    /// Reduces spare capacity if it can: leaves no more than there was, and none if there are no texts.
+    fn shrink_to_fit(&mut self)
+        //~ ensures { Shrinks self.old self.new }
+    {
+        self.joined.shrink_to_fit();
+        self.ends.shrink_to_fit();
+    }
+
+    //~ ghost symbols = { (refl, refl) };
+
+    //~ ghost starts = { refl };
+
+    //~ ghost grows = { length_grows };
+
+    //~ ghost costs = { λ text. Prim.search rules };
+
+    //~ ghost reads = { λ texts i valid within. reads_at_length texts i within };
+}
+
+//~ #[tactic(auto, using(crate::proofs::Lemmas::StringBackend::IsCut::cut_length))]
+impl<S: Symbol> Backend for StringBackend<S> {
     //~ ghost grant = { λ capacity. 5 * capacity };
 
     fn new(alloc: Global) -> Self {
@@ -146,40 +195,14 @@ impl<S: Symbol> Backend for StringBackend<S> {
         S::try_from_usize(self.ends.len())
     }
 
-    /// Appends a copy of the text to the string, and its end to the list of ends.
-    #[inline(always)]
-    fn intern(&mut self, text: &str) -> Result<S, InternError> {
-        let symbol = self.next_symbol().ok_or(InternError::NoSymbol)?;
-        // Allocates before it stores anything, so that nothing changes on `Err`.
-        if text.len() > self.joined.capacity() - self.joined.len() {
-            grow_bytes(&mut self.joined, text.len())?;
-        }
-        let end = self.joined.len() + text.len();
-        self.ends.reserve(end)?;
-        self.joined.push_str(text).unwrap();
-        self.ends.push_reserved(end);
-        Ok(symbol)
-    }
-
-    fn resolve(&self, symbol: S) -> Option<&str> {
-        self.find_text(symbol.to_usize())
-    }
-
-    fn resolve_unchecked(&self, symbol: S) -> &str {
-        self.text_at(symbol.to_usize())
-    }
-
     fn entry_at(&self, at: usize) -> (S, &str, usize) {
         let text = self.text_at(at);
         (S::try_from_usize(at).unwrap(), text, at + 1)
     }
 
-    /// Reduces spare capacity if it can: leaves no more than there was, and none if there are no texts.
-    fn shrink_to_fit(&mut self)
-        //~ ensures { Shrinks self.old self.new }
-    {
-        self.joined.shrink_to_fit();
-        self.ends.shrink_to_fit();
+    #[inline]
+    fn place_of(&self, index: usize) -> usize {
+        index
     }
 
     fn truncate(&mut self, len: usize) {
@@ -188,16 +211,6 @@ impl<S: Symbol> Backend for StringBackend<S> {
             self.ends.truncate(len);
         }
     }
-
-    //~ ghost symbols = { (refl, refl) };
-
-    //~ ghost starts = { refl };
-
-    //~ ghost grows = { length_grows };
-
-    //~ ghost costs = { λ text. Prim.search rules };
-
-    //~ ghost reads = { λ texts i valid within. reads_at_length texts i within };
 }
 
 impl<S: Symbol> StringBackend<S> {

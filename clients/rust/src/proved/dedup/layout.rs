@@ -8,7 +8,7 @@
 //~ ghost use Rattle.string_interner.specs.Index.{text_of};
 //~ ghost use Rattle.string_interner.specs.Layout.{SlotLayout, Fills, IsLayout};
 
-use crate::rt::prelude::*; use crate::proved::backend::Backend;
+use crate::rt::prelude::*; use crate::proved::backend::Store;
 use crate::proved::hash::TextHasher;
 use crate::proved::symbol::Symbol;
 use crate::rt::alloc::{AllocError, Global};
@@ -47,7 +47,7 @@ pub trait Layout<S: Symbol>: Sized + Drop {
     /// Returns the symbol of a slot, if any, and a code that has the same home among `count` slots as its text's.
     ///
     /// Takes `&mut self`, so that a look-up, which borrows the slots, cannot call this: it is no look.
-    fn rehash_slot<H: TextHasher, B: Backend<Symbol = S>>(
+    fn rehash_slot<H: TextHasher, B: Store<Symbol = S>>(
         &mut self,
         at: usize,
         count: usize,
@@ -74,7 +74,7 @@ pub trait Layout<S: Symbol>: Sized + Drop {
     ///
     /// Takes a backend that the slots fit, so that `Table::find`, which has it in its `Looks` alone, cannot call this: it is
     /// no look.
-    fn guess<B: Backend<Symbol = S>>(&self, code: u64, backend: &B) -> Option<S>;
+    fn guess<B: Store<Symbol = S>>(&self, code: u64, backend: &B) -> Option<S>;
         //~ requires some { 0 < length (layout.slots self.now) }
         //~ requires count { IsSlotCount (length (layout.slots self.now)) }
         //~ requires fits { (of : Text → ℕ)
@@ -87,6 +87,12 @@ pub trait Layout<S: Symbol>: Sized + Drop {
         //~ ensures slots { layout.slots self.new
         //~     ≡ slice_set (layout.slots self.old) at (Some symbol) }
         //~ ensures stored { layout.stored self.new at ≡ layout.stores code }
+        //~ ensures others { (k : ℕ) → k ≢ at → layout.stored self.new k ≡ layout.stored self.old k };
+
+    /// Empties this slot.
+    fn unset(&mut self, at: usize);
+        //~ requires { at < length (layout.slots self.old) }
+        //~ ensures slots { layout.slots self.new ≡ slice_set (layout.slots self.old) at None }
         //~ ensures others { (k : ℕ) → k ≢ at → layout.stored self.new k ≡ layout.stored self.old k };
 
     /// Puts the symbol of a text with this code into the first empty slot from its home on, wrapping around at the end.

@@ -6,7 +6,7 @@
 //~ ghost use Rattle.string_interner.specs.Index.{has_text};
 //~ ghost use Rattle.string_interner.specs.Symbol.{AreNarrow};
 
-use crate::rt::prelude::*; use crate::proved::backend::Backend;
+use crate::rt::prelude::*; use crate::proved::backend::Store;
 use crate::proved::dedup::count::Count;
 use crate::proved::dedup::layout::Layout;
 use crate::proved::dedup::probe::{home_of, slot_after};
@@ -119,7 +119,7 @@ pub(super) struct Seen<S> {
     pub matches: bool,
 }
 
-impl<'a, B: Backend> Looks<'a, B> {
+impl<'a, B: Store> Looks<'a, B> {
     /// Reports whether the text of a symbol is this one. That is one look.
     #[inline(always)]
     pub(super) fn has_text(&mut self, symbol: B::Symbol, text: &str) -> bool
@@ -207,7 +207,7 @@ impl<S: Symbol> Layout<S> for Slots<S> {
     }
 
     #[inline(always)]
-    fn rehash_slot<H: TextHasher, B: Backend<Symbol = S>>(
+    fn rehash_slot<H: TextHasher, B: Store<Symbol = S>>(
         &mut self,
         at: usize,
         _count: usize,
@@ -219,7 +219,7 @@ impl<S: Symbol> Layout<S> for Slots<S> {
     }
 
     #[inline(always)]
-    fn guess<B: Backend<Symbol = S>>(&self, code: u64, _backend: &B) -> Option<S> {
+    fn guess<B: Store<Symbol = S>>(&self, code: u64, _backend: &B) -> Option<S> {
         self.symbol_at(home_of(code, self.len()))
     }
 
@@ -235,6 +235,18 @@ impl<S: Symbol> Layout<S> for Slots<S> {
                 self.numbers[at] = u32::MAX;
                 self.others[at] = Some(symbol);
             }
+        }
+    }
+
+    #[inline(always)]
+    fn unset(&mut self, at: usize) {
+        if !has_numbers::<S>() {
+            self.others[at] = None;
+            return;
+        }
+        self.numbers[at] = u32::MAX;
+        if !self.others.is_empty() {
+            self.others[at] = None;
         }
     }
 

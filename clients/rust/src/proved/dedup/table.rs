@@ -1,20 +1,21 @@
 //! A hash table of symbols over any layout of its slots.
 
-use crate::rt::prelude::*; pub(crate) mod growing;
+use crate::rt::prelude::*; pub mod growing;
+pub mod removing;
 
-//~ ghost use Rattle.std.specs.Prelude.{◌≡◌, ℕ, ◌+◌, ◌<◌, ◌^◌, ◌↔◌, length, [], IsOk, IsTrue, IfOk, OnOk, OnErr};
+//~ ghost use Rattle.std.specs.Prelude.{◌≡◌, ℕ, ◌+◌, ◌<◌, ◌≤◌, ◌^◌, ◌↔◌, length, take, [], Contains, Some, IsOk, IsTrue, IfOk, OnOk, OnErr};
 //~ ghost use Rattle.string_interner.specs.Text.{IsDistinct};
 //~ ghost use Rattle.string_interner.specs.Entry.{entry_text};
 //~ ghost use Rattle.string_interner.specs.Slots.{symbols};
 //~ ghost use Rattle.string_interner.specs.SlotRule.{IsLeastSlotCount};
 //~ ghost use Rattle.string_interner.specs.LoadFactor.{GrowsTo, rule_by};
-//~ ghost use Rattle.string_interner.specs.Layout.{FitsCode};
+//~ ghost use Rattle.string_interner.specs.Layout.{FitsCode, IsTable};
 //~ ghost use Rattle.string_interner.specs.Index.{IsAbsent, SameMap};
 //~ ghost use Rattle.string_interner.specs.Probe.{IsVacant};
 //~ ghost use Rattle.string_interner.specs.TextIndex.{IfVacant, found_by};
-//~ ghost use Rattle.string_interner.specs.Table.{FitsAll, Grows, HasRoom, Inserts, InsertsByCode, IsBounded, Refills, Seeks, entry_count, slot_count};
+//~ ghost use Rattle.string_interner.specs.Table.{FitsAll, Grows, HasRoom, Inserts, InsertsByCode, IsBounded, Refills, Removes, Seeks, entry_count, slot_count};
 
-use crate::proved::backend::Backend;
+use crate::proved::backend::{Backend, Store};
 use crate::proved::dedup::layout::Layout;
 use crate::proved::dedup::probe::{Find, Vacancy, probe_for};
 use crate::proved::dedup::slots::Looks;
@@ -22,6 +23,7 @@ use crate::proved::dedup::text_index::{CopyIndex, Entry, TextIndex};
 use crate::proved::hash::TextHasher;
 use crate::proved::symbol::Symbol;
 use growing::{least_slot_count, next_slot_count, occupy, put_all, rehash};
+use removing::{slot_of, vacate};
 use crate::rt::alloc::{AllocError, Global};
 use crate::rt::marker::{Model, PhantomData};
 
@@ -135,7 +137,7 @@ impl<S: Symbol, L: Find<S>> Table<S, L> {
 
     /// Looks for a text with this code, and returns its symbol, or where the symbol of a text that is not there goes.
     #[inline(always)]
-    fn entry<B: Backend<Symbol = S>>(
+    fn entry<B: Store<Symbol = S>>(
         &self,
         code: u64,
         looks: &mut Looks<'_, B>,
@@ -155,7 +157,7 @@ impl<S: Symbol, L: Find<S>> Table<S, L> {
 
     /// Looks for a text with this code, and returns its symbol alone.
     #[inline(always)]
-    fn symbol_of<B: Backend<Symbol = S>>(
+    fn symbol_of<B: Store<Symbol = S>>(
         &self,
         code: u64,
         looks: &mut Looks<'_, B>,
@@ -176,7 +178,7 @@ impl<S: Symbol, L: Find<S>> Table<S, L> {
     ///
     /// Takes at most one look more than there are slots in the probe cluster from the text's home on, and so at most
     /// one more than there are entries; takes none if there are no slots.
-    pub fn find<H: TextHasher, B: Backend<Symbol = S>>(
+    pub fn find<H: TextHasher, B: Store<Symbol = S>>(
         &self,
         hasher: &H,
         looks: &mut Looks<'_, B>,
@@ -195,7 +197,7 @@ impl<S: Symbol, L: Find<S>> Table<S, L> {
     ///
     /// Returns `Err` only if an allocation fails or the slot count does not fit a `usize`. Nothing changes then.
     #[inline(always)]
-    pub fn reserve_one<H: TextHasher, B: Backend<Symbol = S>>(
+    pub fn reserve_one<H: TextHasher, B: Store<Symbol = S>>(
         &mut self,
         hasher: &H,
         backend: &B,
@@ -229,7 +231,7 @@ impl<S: Symbol, L: Find<S>> Table<S, L> {
     }
 
     /// Adds the symbol of an entry whose text is not in the index. There must be room for one more. Allocates nothing.
-    pub fn insert<H: TextHasher, B: Backend<Symbol = S>>(
+    pub fn insert<H: TextHasher, B: Store<Symbol = S>>(
         &mut self,
         hasher: &H,
         backend: &B,
@@ -245,6 +247,63 @@ impl<S: Symbol, L: Find<S>> Table<S, L> {
     {
         let text = backend.resolve_unchecked(symbol);
         Table::insert_at(self, Vacancy::by_code(hasher.hash_text(text)), symbol);
+    }
+
+    /// Removes the symbol of an entry, and returns `true`. As many slots stay. Allocates nothing. What is compiled without a proof
+    /// returns `false`, and changes nothing, if a hasher that panicked before has left the symbol without a slot.
+    ///
+    /// Costs one look-up, in which `Slots` hash each text that it passes, and a hash code of each symbol behind it in its probe
+    /// cluster.
+    pub fn remove<H: TextHasher, B: Store<Symbol = S>>(
+        &mut self,
+        hasher: &H,
+        backend: &B,
+        symbol: S,
+    ) -> bool
+        //~ requires fits { L.layout.fits (entry_text B.numbering (B.texts backend.now))
+        //~     (H.code hasher.now) self.old.slots }
+        //~ requires there { Contains (L.layout.slots self.old.slots) (Some symbol) }
+        //~ ensures done { IsTrue result }
+        //~ ensures removes { Removes L.layout (entry_text B.numbering (B.texts backend.now))
+        //~     (H.code hasher.now) self.old self.new symbol }
+    {
+        let code = hasher.hash_text(backend.resolve_unchecked(symbol));
+        let Some(at) = slot_of(&mut self.slots, symbol, code, hasher, backend) else {
+            return false;
+        };
+        vacate(&mut self.slots, at, symbol, code, hasher, backend);
+        self.peak = self.peak.max(self.len);
+        self.len -= 1;
+        true
+    }
+
+    /// Removes the symbols of all texts of the backend from the index `len` on, as `remove` does, and returns `true`.
+    fn remove_last<H: TextHasher, B: Backend<Symbol = S>>(
+        &mut self,
+        hasher: &H,
+        backend: &B,
+        len: usize,
+    ) -> bool
+        //~ requires whole { IsTable L.layout (entry_text B.numbering (B.texts backend.now))
+        //~     (H.code hasher.now) self.old.slots }
+        //~ requires within { len ≤ length (B.texts backend.now) }
+        //~ ensures done { IsTrue result }
+        //~ ensures whole { IsTable L.layout
+        //~     (entry_text B.numbering (take len (B.texts backend.now)))
+        //~     (H.code hasher.now) self.new.slots }
+        //~ ensures count { entry_count L.layout self.new + length (B.texts backend.now)
+        //~     ≡ entry_count L.layout self.old + len }
+        //~ ensures slots { slot_count L.layout self.new ≡ slot_count L.layout self.old }
+    {
+        let mut at = backend.place_of(len);
+        for _entry in len..backend.count() {
+            let (symbol, _text, next) = backend.entry_at(at);
+            if !Table::remove(self, hasher, backend, symbol) {
+                return false;
+            }
+            at = next;
+        }
+        true
     }
 
     /// Empties all slots, and adds the symbol of every entry of the backend, whose texts are distinct and within the
@@ -334,22 +393,17 @@ impl<S: Symbol, L: Find<S>> TextIndex<S> for Table<S, L> {
     }
 
     #[inline(always)]
-    fn entry<B: Backend<Symbol = S>>(
-        &self,
-        code: u64,
-        backend: &B,
-        text: &str,
-    ) -> Entry<S, Vacancy> {
+    fn entry<B: Store<Symbol = S>>(&self, code: u64, backend: &B, text: &str) -> Entry<S, Vacancy> {
         Table::entry(self, code, &mut Looks::new(backend), text)
     }
 
     #[inline(always)]
-    fn find<B: Backend<Symbol = S>>(&self, code: u64, backend: &B, text: &str) -> Option<S> {
+    fn find<B: Store<Symbol = S>>(&self, code: u64, backend: &B, text: &str) -> Option<S> {
         self.symbol_of(code, &mut Looks::new(backend), text)
     }
 
     #[inline(always)]
-    fn guess<B: Backend<Symbol = S>>(&self, code: u64, backend: &B) -> Option<S> {
+    fn guess<B: Store<Symbol = S>>(&self, code: u64, backend: &B) -> Option<S> {
         if self.slots.len() == 0 {
             return None;
         }
@@ -357,7 +411,7 @@ impl<S: Symbol, L: Find<S>> TextIndex<S> for Table<S, L> {
     }
 
     #[inline(always)]
-    fn reserve_one<H: TextHasher, B: Backend<Symbol = S>>(
+    fn reserve_one<H: TextHasher, B: Store<Symbol = S>>(
         &mut self,
         hasher: &H,
         backend: &B,
@@ -372,6 +426,19 @@ impl<S: Symbol, L: Find<S>> TextIndex<S> for Table<S, L> {
 
     fn refill<H: TextHasher, B: Backend<Symbol = S>>(&mut self, hasher: &H, backend: &B) {
         Table::refill(self, hasher, backend);
+    }
+
+    /// Removes if at least eight times as many texts stay as go. Otherwise it costs less to fill the index anew.
+    fn remove_from<H: TextHasher, B: Backend<Symbol = S>>(
+        &mut self,
+        hasher: &H,
+        backend: &B,
+        len: usize,
+    ) -> bool {
+        if backend.count() - len > len / 8 {
+            return false;
+        }
+        self.remove_last(hasher, backend, len)
     }
 
     //~ ghost rule_laws = { rule_by-laws L.layout.holds L.layout_laws.load };

@@ -1,6 +1,6 @@
 //! Slots with a tag and 32 bits of a code beside each symbol.
 
-use crate::rt::prelude::*; pub(crate) mod tags;
+use crate::rt::prelude::*; pub mod tags;
 
 //~ ghost use Rattle.std.specs.Prelude.{◌≡◌, ◌≢◌, ◌+◌, ◌<◌, ◌≤◌, ◌%◌, ℕ, length, slice_index_or, replicate, vec_capacity, vec_len, IfNone, IfSome, None, Some};
 //~ ghost use Rattle.string_interner.specs.Entry.{entry_text};
@@ -11,7 +11,7 @@ use crate::rt::prelude::*; pub(crate) mod tags;
 //~ ghost use Rattle.string_interner.specs.Tagged.{HasAnotherTag, symbols_in, tag_of, tagged_layout};
 //~ ghost use Rattle.string_interner.specs.declared.dedup.probe.Step.TheVariants.{On};
 
-use crate::proved::backend::Backend;
+use crate::proved::backend::Store;
 use crate::proved::dedup::layout::Layout;
 use crate::proved::dedup::probe::{Find, Probe, Step, home_of, probe_on, slot_after};
 use crate::proved::dedup::slots::Looks;
@@ -150,7 +150,7 @@ impl<S: Symbol> TaggedSlots<S> {
     /// Goes on with a search, whose first step led on to slot `from`. Few texts come here, so it is a call.
     #[cold]
     #[inline(never)]
-    fn find_on<B: Backend<Symbol = S>>(
+    fn find_on<B: Store<Symbol = S>>(
         &self,
         from: usize,
         code: u64,
@@ -224,7 +224,7 @@ impl<S: Symbol> Layout<S> for TaggedSlots<S> {
     }
 
     #[inline(always)]
-    fn rehash_slot<H: TextHasher, B: Backend<Symbol = S>>(
+    fn rehash_slot<H: TextHasher, B: Store<Symbol = S>>(
         &mut self,
         at: usize,
         count: usize,
@@ -242,7 +242,7 @@ impl<S: Symbol> Layout<S> for TaggedSlots<S> {
     }
 
     #[inline(always)]
-    fn guess<B: Backend<Symbol = S>>(&self, code: u64, _backend: &B) -> Option<S> {
+    fn guess<B: Store<Symbol = S>>(&self, code: u64, _backend: &B) -> Option<S> {
         let tag = tag_of(stored_code(code));
         let reached = self.pass(home_of(code, self.len()), tag);
         Some(self.item_with(reached, tag)?.symbol)
@@ -255,6 +255,11 @@ impl<S: Symbol> Layout<S> for TaggedSlots<S> {
         fill_items(&mut self.items, self.count, item);
         self.items[at] = item;
         self.tags[at] = tag_of(code);
+    }
+
+    #[inline(always)]
+    fn unset(&mut self, at: usize) {
+        self.tags[at] = 0;
     }
 
     #[inline(always)]
@@ -277,7 +282,7 @@ impl<S: Symbol> Layout<S> for TaggedSlots<S> {
 impl<S: Symbol> Probe<S> for TaggedSlots<S> {
     /// Slots of other tags are passed without a look, up to sixteen at once.
     #[inline(always)]
-    fn step<B: Backend<Symbol = S>>(
+    fn step<B: Store<Symbol = S>>(
         &self,
         at: usize,
         code: u64,
@@ -301,7 +306,7 @@ impl<S: Symbol> Probe<S> for TaggedSlots<S> {
 impl<S: Symbol> Find<S> for TaggedSlots<S> {
     /// Nearly all searches end with their first step, and most others by the tags of the next sixteen slots.
     #[inline(always)]
-    fn find<B: Backend<Symbol = S>>(
+    fn find<B: Store<Symbol = S>>(
         &self,
         code: u64,
         looks: &mut Looks<'_, B>,

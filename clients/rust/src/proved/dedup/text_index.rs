@@ -1,12 +1,12 @@
 //! What an interner asks of an index of its texts.
 
-//~ ghost use Rattle.std.specs.Prelude.{◌≡◌, ℕ, ◌+◌, ◌<◌, ◌^◌, length, Option, None, IsOk, IsSome, IfOk, IfSome, OnOk, OnErr};
+//~ ghost use Rattle.std.specs.Prelude.{◌≡◌, ℕ, ◌+◌, ◌<◌, ◌≤◌, ◌^◌, length, take, Option, None, IsOk, IsSome, IsTrue, IfOk, IfSome, OnOk, OnErr};
 //~ ghost use Rattle.string_interner.specs.Text.{Text, IsDistinct};
 //~ ghost use Rattle.string_interner.specs.Entry.{entry_text};
 //~ ghost use Rattle.string_interner.specs.SlotRule.{SlotRule, IsLoaded, IsLeastSlotCount, IsSlotRule};
 //~ ghost use Rattle.string_interner.specs.TextIndex.{AddsEntry, FindsEntry, HasCode, IfVacant, found_by};
 
-use crate::rt::prelude::*; use crate::proved::backend::Backend;
+use crate::rt::prelude::*; use crate::proved::backend::{Backend, Store};
 use crate::proved::hash::TextHasher;
 use crate::proved::symbol::Symbol;
 use crate::rt::alloc::{AllocError, Global};
@@ -86,7 +86,7 @@ pub trait TextIndex<S: Symbol>: Sized {
 
     /// Looks up a text with this code. Returns its symbol or, if it is new, where its symbol goes, which `insert_at` takes.
     /// [`TextIndex::find`] returns a symbol alone.
-    fn entry<B: Backend<Symbol = S>>(
+    fn entry<B: Store<Symbol = S>>(
         &self,
         code: u64,
         backend: &B,
@@ -102,7 +102,7 @@ pub trait TextIndex<S: Symbol>: Sized {
     /// It is for a text that is not inserted if it is new. A [`TaggedIndex`](super::TaggedIndex) finds it faster than by
     /// `entry`, since it need not tell where the symbol of a new text goes. By default it asks `entry`.
     #[inline(always)]
-    fn find<B: Backend<Symbol = S>>(&self, code: u64, backend: &B, text: &str) -> Option<S>
+    fn find<B: Store<Symbol = S>>(&self, code: u64, backend: &B, text: &str) -> Option<S>
         //~ requires { HasCode (indexes self.now) B.numbering (B.texts backend.now) code text.now }
         //~ ensures { FindsEntry (entry_text B.numbering (B.texts backend.now)) text.now result }
     {
@@ -114,7 +114,7 @@ pub trait TextIndex<S: Symbol>: Sized {
     ///
     /// To look up many texts, ask for all guesses first, and then read the texts of the symbols, so that they wait for
     /// memory at the same time. By default there is no guess.
-    fn guess<B: Backend<Symbol = S>>(&self, code: u64, backend: &B) -> Option<S>
+    fn guess<B: Store<Symbol = S>>(&self, code: u64, backend: &B) -> Option<S>
         //~ requires { (of : Text → ℕ)
         //~     × indexes self.now (entry_text B.numbering (B.texts backend.now)) of }
         //~ ensures { IfSome result (λ symbol.
@@ -128,7 +128,7 @@ pub trait TextIndex<S: Symbol>: Sized {
     /// Makes room for one more entry: does nothing if the load factor allows one more, and else grows once.
     ///
     /// Returns `Err` only if an allocation fails or the slot count does not fit a `usize`. Nothing changes then.
-    fn reserve_one<H: TextHasher, B: Backend<Symbol = S>>(
+    fn reserve_one<H: TextHasher, B: Store<Symbol = S>>(
         &mut self,
         hasher: &H,
         backend: &B,
@@ -169,6 +169,31 @@ pub trait TextIndex<S: Symbol>: Sized {
         //~     (H.code hasher.now) }
         //~ ensures count { entries self.new ≡ length (B.texts backend.now) }
         //~ ensures slots { slots self.new ≡ slots self.old };
+
+    /// Removes the symbols of all texts of the backend from the index `len` on, and reports whether it did: an index may leave
+    /// it to a `refill` once the backend has forgotten these texts, as it does by default. As many slots stay. Allocates nothing.
+    fn remove_from<H: TextHasher, B: Backend<Symbol = S>>(
+        &mut self,
+        hasher: &H,
+        backend: &B,
+        len: usize,
+    ) -> bool
+        //~ requires whole { indexes self.old (entry_text B.numbering (B.texts backend.now))
+        //~     (H.code hasher.now) }
+        //~ requires count { entries self.old ≡ length (B.texts backend.now) }
+        //~ requires within { len ≤ length (B.texts backend.now) }
+        //~ ensures whole { IsTrue result
+        //~     → indexes self.new (entry_text B.numbering (take len (B.texts backend.now)))
+        //~     (H.code hasher.now) }
+        //~ ensures count { IsTrue result → entries self.new ≡ len }
+        //~ ensures slots { slots self.new ≡ slots self.old }
+        //~ ensures same { ¬ IsTrue result → self.new ≡ self.old }
+    {
+        let _ = hasher;
+        let _ = backend;
+        let _ = len;
+        false
+    }
 
     //~ /// The rule keeps its laws.
     //~ ghost rule_laws: { IsSlotRule rule };

@@ -3,12 +3,12 @@
 //~ ghost use Rattle.string_interner.specs.Extend.{Extends, Collects, IsFinite, YieldedBy};
 
 use crate::rt::prelude::*; use super::StringInterner;
-use crate::proved::backend::{Backend, InternError};
+use crate::proved::backend::{Backend, InternError, Store};
 use crate::proved::dedup::TextIndex;
 use crate::proved::hash::TextHasher;
 use crate::rt::alloc::Global;
 
-impl<B: Backend, H: TextHasher, I: TextIndex<B::Symbol>> StringInterner<B, H, I> {
+impl<B: Store, H: TextHasher, I: TextIndex<B::Symbol>> StringInterner<B, H, I> {
     /// Interns the texts of a finite iterator in order. Stops at the first that fails, as `get_or_intern` does.
     ///
     /// - On `Err` the texts before the failed one stay, and the iterator is not advanced past it.

@@ -7,12 +7,12 @@
 use crate::rt::prelude::*; use super::StringInterner;
 use super::intern_slice::intern_front;
 use super::look_ahead::{Ahead, BLOCK_LEN, FEWEST_FOR_BLOCKS};
-use crate::proved::backend::{Backend, InternError};
+use crate::proved::backend::{InternError, Store};
 use crate::proved::dedup::TextIndex;
 use crate::proved::hash::TextHasher;
 use crate::proved::symbol::Symbol;
 
-impl<B: Backend, H: TextHasher, I: TextIndex<B::Symbol>> StringInterner<B, H, I> {
+impl<B: Store, H: TextHasher, I: TextIndex<B::Symbol>> StringInterner<B, H, I> {
     /// Interns the texts of a finite iterator in order, and appends the symbol of each to a list: a column becomes its symbols.
     /// Stops at the first text that fails, as `get_or_intern` does.
     ///

@@ -8,7 +8,7 @@ use crate::rt::prelude::*; use super::StringInterner;
 use super::given::Given;
 use super::look_ahead::Ahead;
 use super::new_text::intern_coded;
-use crate::proved::backend::{Backend, InternError};
+use crate::proved::backend::{InternError, Store};
 use crate::proved::dedup::TextIndex;
 use crate::proved::hash::TextHasher;
 use crate::proved::symbol::Symbol;
@@ -24,7 +24,7 @@ pub struct Stopped {
     pub error: InternError,
 } impl ::core::error::Error for Stopped {} impl ::core::fmt::Display for Stopped { fn fmt(&self, f: &mut ::core::fmt::Formatter<'_>) -> ::core::fmt::Result { match self {Self { error, .. } => ::core::write!(f, "{error}") } } }
 
-impl<B: Backend, H: TextHasher, I: TextIndex<B::Symbol>> StringInterner<B, H, I> {
+impl<B: Store, H: TextHasher, I: TextIndex<B::Symbol>> StringInterner<B, H, I> {
     /// Interns texts in order, and writes the number of the symbol of each to the front of `numbers`. Stops at the first text
     /// that fails, as `get_or_intern` does.
     ///
@@ -56,7 +56,7 @@ impl<B: Backend, H: TextHasher, I: TextIndex<B::Symbol>> StringInterner<B, H, I>
 }
 
 /// Interns texts in order, and writes their numbers, as `intern_slice` does.
-pub fn intern_front<B: Backend, H: TextHasher, I: TextIndex<B::Symbol>>(
+pub fn intern_front<B: Store, H: TextHasher, I: TextIndex<B::Symbol>>(
     backend: &mut B,
     hasher: &H,
     index: &mut I,

@@ -32,4 +32,4 @@ returns-in_err-add-clause-fault g c =
     let some : string_bytes c.in_ok-rest.rest ≢ [] = λ e. search rules in
     let last : c.deref.result.now ≡ string_bytes c.in_ok-rest.rest = search rules in
     let p = err_from_is_err_and c.from_residual-in_err-add.result c.from_residual-in_err-add.ensures.1 in
-    rw (p.1, p.2) (rest-refused (LacksCount g.B.Backend.numbering) (g.R.Read.remaining c.args.input.now) read.0 (string_bytes c.in_ok-rest.rest) _ read.2 some (rw last at (c.in_err-add.ensures.fault read.0 read.1)))
+    rw (p.1, p.2) (rest-refused (LacksCount g.B.Store.numbering) (g.R.Read.remaining c.args.input.now) read.0 (string_bytes c.in_ok-rest.rest) _ read.2 some (rw last at (c.in_err-add.ensures.fault read.0 read.1)))

@@ -5,7 +5,7 @@ use Rattle.dictcol.proofs.count.list_rows.Goals as goal
 
 pub loop-text-preserved : goal.loop-text-preserved
 loop-text-preserved g c =
-    let first = first_entry g.B.Backend.numbering _ _ _ _ _ _ c.in-Some.ensures.steps in
+    let first = first_entry g.B.Store.numbering _ _ _ _ _ _ c.in-Some.ensures.steps in
     let within : c.loop-text.rows.len < length c.args.counts.now = omega (arith, ap length first, c.loop-text.invariant.long) in
     record {
       so_far = rw c.push_reserved.ensures.len (row-listed c.loop-text.rows.items c.push_reserved.new.self.items c.args.counts.now _ _ _ c.loop-text.rows.len _ c.in-Some.text c.loop-text.invariant.so_far first within (search rules) c.push_reserved.ensures.items);
@@ -15,4 +15,4 @@ loop-text-preserved g c =
 
 pub returns-clause-rows : goal.returns-clause-rows
 returns-clause-rows g c =
-    rows-listed c.loop-text.rows.items c.args.counts.now _ _ c.loop-text.rows.len c.loop-text.invariant.so_far (no_entry g.B.Backend.numbering _ _ c.in-None.ensures.steps.0)
+    rows-listed c.loop-text.rows.items c.args.counts.now _ _ c.loop-text.rows.len c.loop-text.invariant.so_far (no_entry g.B.Store.numbering _ _ c.in-None.ensures.steps.0)

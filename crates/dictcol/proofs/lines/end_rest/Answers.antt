@@ -20,4 +20,4 @@ returns-in-Ok-clause-ok g c =
 pub returns-in-Err-clause-fault : goal.returns-in-Err-clause-fault
 returns-in-Err-clause-fault g c =
     let some : c.args.rest.now ≢ [] = λ e. search rules in
-    rw c.of_intern.ensures.value (whole-refused g.B.Backend.numbering c.args.lines.now c.args.rest.now c.in-Err.error c.requires.plain c.requires.rest_plain some c.in-Err.ensures.0)
+    rw c.of_intern.ensures.value (whole-refused g.B.Store.numbering c.args.lines.now c.args.rest.now c.in-Err.error c.requires.plain c.requires.rest_plain some c.in-Err.ensures.0)

@@ -30,4 +30,4 @@ returns-in_err-is_ended-clause-fault g c =
     let same = ap₂ text_of_ended (sym read.1) (sym last) in
     let whole = some-weaker _ _ (g.R.Read.remaining c.args.input.now) (λ text is. is ∙ same) read.2.whole in
     let p = err_from_is_err_and c.from_residual-in_err-is_ended.result c.from_residual-in_err-is_ended.ensures.1 in
-    rw (p.1, p.2) (text-fault (LacksLine g.B.Backend.numbering) (g.R.Read.remaining c.args.input.now) _ _ whole c.in_err-is_ended.ensures.fault)
+    rw (p.1, p.2) (text-fault (LacksLine g.B.Store.numbering) (g.R.Read.remaining c.args.input.now) _ _ whole c.in_err-is_ended.ensures.fault)

@@ -1,6 +1,7 @@
 use Rattle.std.proofs.Common.{inr, subst}
 use Rattle.std.proofs.lemmas.Result.{on_ok_weaker, IfErr-weaker}
 use Rattle.dictcol.specs.File.{DecodesFile}
+use Rattle.dictcol.specs.Merge.{CrowdsBehind}
 use Rattle.dictcol.proofs.PlainColumns.{some-weaker}
 use Rattle.dictcol.proofs.Written.{file-fault}
 use Rattle.dictcol.proofs.merge.append_input.Goals as goal
@@ -12,4 +13,4 @@ returns-clause-ok g c =
 
 pub returns-clause-fault : goal.returns-clause-fault
 returns-clause-fault g c =
-    IfErr-weaker c.append_file.result _ _ (λ fault why. inr (file-fault (g.R.Read.remaining c.args.input.now) c.in_ok-bytes.bytes.items fault c.in_ok-bytes.ensures.whole why)) c.append_file.ensures.err
+    IfErr-weaker c.append_file.result _ _ (λ fault why. inr (file-fault (CrowdsBehind g.B.Store.numbering c.args.text.now) (g.R.Read.remaining c.args.input.now) c.in_ok-bytes.bytes.items fault c.in_ok-bytes.ensures.whole why)) c.append_file.ensures.err

@@ -1,6 +1,6 @@
 use Rattle.std.proofs.Common.{◌≡◌, ◌<◌, ◌≤◌, ◌+◌, ◌∷◌, [], length, map, take, string_bytes, sym, ap, subst, ◌∙◌, arith, rules, inl}
 use Rattle.std.specs.Prelude.{IfSome}
-use Rattle.std.proofs.lemmas.List.{get_or-set_other, length-set, take_all}
+use Rattle.std.proofs.lemmas.List.{get_or-set_other, length-set, take_all, take-map}
 use Rattle.dictcol.specs.File.{DecodesFile, HoldTogether}
 use Rattle.dictcol.specs.Lines.{AreLines, has_newline, lines_of, text_of_ended}
 use Rattle.dictcol.specs.Merge.{IsInputFault}
@@ -35,7 +35,11 @@ returns-in-Err-clause-fault g c =
     let input = c.index-inputs-at.result in (
       g.R.Read.remaining input,
       input-at g.R.Read.remaining c.args.inputs.now c.loop-at.inputs c.loop-at.at input inv.ahead within c.index-inputs-at.is,
-      subst (λ r. IsInputFault (g.R.Read.remaining r) c.in-Err.fault) (sym c.index-inputs-at.is) c.in-Err.ensures.fault,
+      (
+        c.loop-at.text,
+        subst (λ before. HoldTogether before c.loop-at.text) (sym (take-map g.R.Read.remaining c.loop-at.at c.args.inputs.now)) inv.so_far,
+        subst (λ r. IsInputFault g.B.Store.numbering c.loop-at.text (g.R.Read.remaining r) c.in-Err.fault) (sym c.index-inputs-at.is) c.in-Err.ensures.fault,
+      ),
     )
 
 pub end_rest-requires-clause-plain : goal.end_rest-requires-clause-plain
@@ -66,5 +70,5 @@ returns-in-Err-end_rest-clause-fault g c =
     inl (take-weaker _ (λ refused. (
       c.loop-at.text,
       together,
-      subst (λ text. HasRefused (LacksLine g.B.Backend.numbering) (lines_of text)) (ap (text_of_ended c.text-2.inside.lines) last ∙ c.text-2.view_is) refused,
+      subst (λ text. HasRefused (LacksLine g.B.Store.numbering) (lines_of text)) (ap (text_of_ended c.text-2.inside.lines) last ∙ c.text-2.view_is) refused,
     )) c.in-Err-end_rest.ensures.fault)

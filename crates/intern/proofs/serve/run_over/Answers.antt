@@ -14,4 +14,4 @@ mapped (Err error) (Err other) P Q R f is same p = tt
 pub returns-clause-ran : goal.returns-clause-ran
 returns-clause-ran g c =
     mapped c.run.result c.map_err.result _ _ _ (λ replies ran. (c.run.new.interner.texts, ran)) c.map_err.ensures.cases c.map_err.ensures.variant
-    (subst (λ texts. RunsAll g.B.Backend.numbering texts c.args.commands.now c.run.result c.run.new.interner.texts) c.new-interner.ensures.texts c.run.ensures.run)
+    (subst (λ texts. RunsAll g.B.Store.numbering texts c.args.commands.now c.run.result c.run.new.interner.texts) c.new-interner.ensures.texts c.run.ensures.run)

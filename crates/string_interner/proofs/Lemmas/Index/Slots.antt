@@ -98,6 +98,12 @@ module _ {S : Type 0} where
   length-symbols (None ∷ rest) = let h = length-symbols rest in omega arith
   length-symbols (Some y ∷ rest) = let h = length-symbols rest in omega arith
 
+  -- one slot is empty where symbols are fewer than slots
+  pub empty-slot : (slots : List (Option S)) → length (symbols slots) < length slots → (k : ℕ) × (k < length slots) × (get_or slots k None ≡ None)
+  empty-slot [] h = absurd (omega arith)
+  empty-slot (None ∷ rest) h = (0, omega arith, refl)
+  empty-slot (Some y ∷ rest) h = let r = empty-slot rest (omega arith) in (suc r.0, (let l = r.1 in omega arith), r.2)
+
   pub symbols-append : (a b : List (Option S)) → symbols (a ++ b) ≡ symbols a ++ symbols b
   symbols-append [] b = refl
   symbols-append (None ∷ a) b = symbols-append a b

@@ -48,6 +48,35 @@ module _ {S : Type 0} (symbol_of : ℕ → Option S) where
   set-other (n ∷ ns) (o ∷ os) zero number symbol l m free = rw free refl
   set-other (n ∷ ns) (o ∷ os) (suc k) number symbol l m free = ap (λ rest. option_or (symbol_of n) o ∷ rest) (set-other ns os k number symbol (omega arith) (omega arith) free)
 
+  -- a slot is emptied
+  pub set-none : (numbers : List ℕ) (others : List (Option S)) (k number : ℕ) → symbol_of number ≡ None
+      → slots_stored symbol_of (set numbers k number) (set others k None) ≡ set (slots_stored symbol_of numbers others) k None
+  set-none [] others k number free = refl
+  set-none (n ∷ ns) [] zero number free = rw free refl
+  set-none (n ∷ ns) [] (suc k) number free = ap (λ rest. symbol_of n ∷ rest) (set-none ns [] k number free)
+  set-none (n ∷ ns) (o ∷ os) zero number free = rw free refl
+  set-none (n ∷ ns) (o ∷ os) (suc k) number free = ap (λ rest. option_or (symbol_of n) o ∷ rest) (set-none ns os k number free)
+
+  -- nothing is set in a list without elements
+  pub set-past : (others : List (Option S)) (k : ℕ) → length others ≡ 0 → others ≡ set others k None
+  set-past [] k e = refl
+  set-past (o ∷ os) k e = absurd (omega arith)
+
+  none_stays : (others : List (Option S)) (at k : ℕ) → IsNone (get_or others k None) → IsNone (get_or (set others at None) k None)
+  none_stays [] at k h = h
+  none_stays (o ∷ os) zero zero h = refl
+  none_stays (o ∷ os) zero (suc k) h = h
+  none_stays (o ∷ os) (suc at) zero h = h
+  none_stays (o ∷ os) (suc at) (suc k) h = none_stays os at k h
+
+  pub none-stored : (numbers : List ℕ) (others : List (Option S)) (at number : ℕ) → AreStored symbol_of numbers others → AreStored symbol_of (set numbers at number) (set others at None)
+  none-stored numbers others at number stored = record {
+    absent = λ some. rw (stored.absent some) refl;
+    counted = λ free. elim (stored.counted free) as (λ _. (length (set others at None) ≡ length (set numbers at number)) ⊎ ((set others at None ≡ []) × AreNarrow symbol_of))
+        [ inl e ↦ inl (length-set others at None ∙ e ∙ sym (length-set numbers at number)) | inr e ↦ inr (rw e.0 refl, e.1) ];
+    unused = λ narrow k. none_stays others at k (stored.unused narrow k);
+  }
+
   -- numbers without symbols beside empty slots
   pub all_empty : (count others number : ℕ) → symbol_of number ≡ None → (others ≡ count) ⊎ (others ≡ 0)
       → slots_stored symbol_of (replicate count number) (replicate others None) ≡ replicate count None

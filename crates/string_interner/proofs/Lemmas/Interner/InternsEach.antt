@@ -2,7 +2,7 @@
 use Rattle.std.proofs.Common.{◌≡◌, ℕ, ◌+◌, ◌-◌, ◌≤◌, ◌<◌, zero, suc, List, [], ◌∷◌, ◌++◌, length, map, take, drop, set, get_or, refl, sym, ap, subst, ◌∙◌, arith, inl, inr, Option, Some, None, Ok, Err, Bor}
 use Rattle.std.specs.Prelude.{◌^◌, Result, Vec, IsOk, IfSome, option_and_then, vec_capacity}
 use Rattle.std.specs.declared.alloc.Global.{Global}
-use Rattle.std.proofs.lemmas.List.{append_assoc, append-nil, get_or-drop, get_or-take, get_or_append_left, length-append, length-drop, length-take-le, map_push, map-append, take_more, take_more_set, take_all, length-set, get_or_default, get_or-set_other}
+use Rattle.std.proofs.lemmas.List.{append_assoc, append-nil, get_or-drop, get_or-take, get_or_append_left, length-drop, length-take-le, map_push, map-append, take_more, take_more_set, take_all, length-set, get_or-set_other}
 use Rattle.string_interner.specs.Text.{Text}
 use Rattle.string_interner.specs.SlotRule.{SlotRule, IsLoaded, GrowsFor, IsSlotRule}
 use Rattle.string_interner.specs.Interner.{InternerContents, InternsInto}

@@ -11,16 +11,25 @@ use Rattle.string_interner.specs.Entry.{entry_text}
 use Rattle.string_interner.specs.Slots.{symbols}
 use Rattle.string_interner.specs.TextIndex.{Adds, AddsEntry, FindsEntry, IsNewText}
 use Rattle.string_interner.specs.Index.{AddsPair, Fits, IsAbsent, SameMap, look_up, text_of}
-use Rattle.string_interner.specs.Interner.{Finds, IsSoundInterner, entry_symbol, known_symbol}
+use Rattle.string_interner.specs.Interner.{Finds, IsInternerList, IsSoundInterner, entry_symbol, known_symbol}
 use Rattle.string_interner.specs.InternAll.{IsKnown, IsResolved}
 use Rattle.string_interner.specs.StandsFor.{StandsFor}
 use Rattle.string_interner.specs.EntryLaws.{entry_text-adds, entry_text-at, entry_text-is}
+use Rattle.string_interner.proofs.Lemmas.Backend.IsValidList.{valid-take, distinct-take}
 use Rattle.string_interner.proofs.Lemmas.Texts.First.{first_within, first_is, first_none}
 use Rattle.string_interner.proofs.Lemmas.Interner.StandsFor.{one_entry, finds-known}
 use Rattle.string_interner.proofs.Lemmas.Index.IsWhole.{IsWhole, Fits-added, text_of-added, IsAbsent-added, IsWhole-added, look_up-known}
 use Rattle.string_interner.specs.Numbering.{Numbering}
 
 module _ {S : Type 0} (numbering : Numbering S) where
+  -- the first texts of an interner's list are an interner's
+  pub list-take : ((texts : List Text) (text : Text) → numbering.place texts < numbering.place (texts ++ text ∷ [])) → (len : ℕ) (old new : List Text) → new ≡ take len old
+      → IsInternerList numbering old → IsInternerList numbering new
+  list-take grows len old new is list = record {
+    distinct = subst IsDistinct (sym is) (distinct-take len old list.distinct);
+    valid = subst (IsValidList numbering.symbol_of numbering.place) (sym is) (valid-take numbering.symbol_of numbering.place grows len old list.valid);
+  }
+
   -- with no symbol the text is new
   pub known_none : (texts : List Text) (t : Text) → IsValidList numbering.symbol_of numbering.place texts → known_symbol numbering texts t ≡ None → first texts t ≡ None
   known_none texts t valid h = none_of (first texts t) refl h

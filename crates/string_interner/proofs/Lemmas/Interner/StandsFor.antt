@@ -145,7 +145,7 @@ module _ {S : Type 0} (numbering : Numbering S) where
           subst (λ (list : List Text). numbering.place (take j texts) < numbering.place list) (sym longer) (grows (take j texts) (get_or texts j []))
 
       -- a later entry has a greater place
-      later : (texts : List Text) (i j : ℕ) → i < j → j ≤ length texts → numbering.place (take i texts) < numbering.place (take j texts)
+      pub later : (texts : List Text) (i j : ℕ) → i < j → j ≤ length texts → numbering.place (take i texts) < numbering.place (take j texts)
       later texts i zero below within = absurd (omega arith)
       later texts i (suc j) below within =
           let here : j < length texts = omega arith in

@@ -1,5 +1,5 @@
 -- What is stored beside symbols, as symbols are put and entries come.
-use Rattle.std.proofs.Common.{◌≡◌, ◌≢◌, ℕ, List, [], Option, Some, None, length, get_or, set, sym, ap, subst, ◌∙◌, inl, inr, arith}
+use Rattle.std.proofs.Common.{◌≡◌, ◌≢◌, ℕ, List, [], Option, Some, None, get_or, set, sym, ap, subst, ◌∙◌, inl, inr, arith}
 use Rattle.std.proofs.lemmas.List.{length-set, get_or-set_same, get_or-set_other}
 use Rattle.std.proofs.lemmas.List.Elements.{Contains-get_or}
 use Rattle.std.proofs.lemmas.Bool.{cases_eq}
@@ -27,6 +27,29 @@ module _ {S : Type 0} (stores : ℕ → ℕ) (entry : S → Option Text) (code :
       let both : Some t ≡ Some (text_of entry s) = sym h ∙ keeps s (text_of entry s) old in let same : t ≡ text_of entry s = cc in
       is k s (text_of entry s) l e old ∙ ap (λ x. stores (code x)) (sym same)
 
+  module _ (slots : List (Option S)) (stored more : ℕ → ℕ) (at : ℕ) (others : (k : ℕ) → k ≢ at → more k ≡ stored k) (coded : IsCoded stores entry code slots stored) where
+    -- a slot has another symbol, and what its text's code stores
+    pub IsCoded-set : (symbol : S) (text : Text) → entry symbol ≡ Some text → more at ≡ stores (code text) → IsCoded stores entry code (set slots at (Some symbol)) more
+    IsCoded-set symbol text is agrees k s t l e h =
+        let n = length-set slots at (Some symbol) in
+        elim (cases_eq k at) as (λ _. more k ≡ stores (code t)) [
+          | inl q ↦
+              (let here : get_or (set slots at (Some symbol)) k None ≡ Some symbol = ap (λ j. get_or (set slots at (Some symbol)) j None) q ∙ get_or-set_same slots at (Some symbol) None (omega arith) in
+              let both : Some s ≡ Some symbol = sym e ∙ here in let same : s ≡ symbol = cc in
+              let texts : Some t ≡ Some text = sym h ∙ ap entry same ∙ is in let u : t ≡ text = cc in
+              ap more q ∙ agrees ∙ ap (λ x. stores (code x)) (sym u))
+          | inr ne ↦ others k ne ∙ coded k s t (omega arith) (sym (get_or-set_other slots at k (Some symbol) None ne) ∙ e) h
+        ]
+
+    -- or none
+    pub IsCoded-unset : IsCoded stores entry code (set slots at None) more
+    IsCoded-unset k s t l e h =
+        let n = length-set slots at None in
+        elim (cases_eq k at) as (λ _. more k ≡ stores (code t)) [
+          | inl q ↦ absurd (let z : None ≡ Some s = sym (ap (λ j. get_or (set slots at None) j None) q ∙ get_or-set_same slots at None None (omega arith)) ∙ e in cc)
+          | inr ne ↦ others k ne ∙ coded k s t (omega arith) (sym (get_or-set_other slots at k None None ne) ∙ e) h
+        ]
+
 module _ {S L : Type 0} (layout : SlotLayout S L) where
   -- a symbol and what is stored of its code are put into a free slot
   pub Fills-free : (old new : L) (home at : ℕ) (symbol : S) (code : ℕ) → IsFree (layout.slots old) home at → layout.slots new ≡ set (layout.slots old) at (Some symbol)
@@ -45,17 +68,6 @@ module _ {S L : Type 0} (layout : SlotLayout S L) where
   pub IsCoded-put : (entry : S → Option Text) (code : Text → ℕ) (old new : L) (home : ℕ) (symbol : S) (c : ℕ) → Fills layout old new home symbol c
       → (text : Text) → entry symbol ≡ Some text → layout.stores c ≡ layout.stores (code text) → IsCoded layout.stores entry code (layout.slots old) (layout.stored old)
       → IsCoded layout.stores entry code (layout.slots new) (layout.stored new)
-  IsCoded-put entry code old new home symbol c p text is agrees coded k s t l e h =
-      let at = p.slot.at in let r = p.slot.in_range in
-      let n = ap length p.slot.written ∙ length-set (layout.slots old) at (Some symbol) in
-      elim (cases_eq k at) as (λ _. layout.stored new k ≡ layout.stores (code t)) [
-        | inl q ↦
-            (let here : get_or (layout.slots new) k None ≡ Some symbol = ap (λ xs. get_or xs k None) p.slot.written
-            ∙ ap (λ j. get_or (set (layout.slots old) at (Some symbol)) j None) q ∙ get_or-set_same (layout.slots old) at (Some symbol) None r in
-            let both : Some s ≡ Some symbol = sym e ∙ here in let same : s ≡ symbol = cc in
-            let texts : Some t ≡ Some text = sym h ∙ ap entry same ∙ is in let u : t ≡ text = cc in
-            ap (layout.stored new) q ∙ p.stored ∙ agrees ∙ ap (λ x. layout.stores (code x)) (sym u))
-        | inr ne ↦
-            (let there : get_or (layout.slots new) k None ≡ get_or (layout.slots old) k None = ap (λ xs. get_or xs k None) p.slot.written ∙ get_or-set_other (layout.slots old) at k (Some symbol) None ne in
-            p.others k ne ∙ coded k s t (omega arith) (sym there ∙ e) h)
-      ]
+  IsCoded-put entry code old new home symbol c p text is agrees coded =
+      subst (λ (xs : List (Option S)). IsCoded layout.stores entry code xs (layout.stored new)) (sym p.slot.written)
+      (IsCoded-set layout.stores entry code (layout.slots old) (layout.stored old) (layout.stored new) p.slot.at p.others coded symbol text is (p.stored ∙ agrees))

@@ -12,6 +12,12 @@ zero_at zero k = refl
 zero_at (suc n) zero = refl
 zero_at (suc n) (suc k) = zero_at n k
 
+-- a list of one value keeps it
+replicate-set : {X : Type 0} (n at : ℕ) (x : X) → set (replicate n x) at x ≡ replicate n x
+replicate-set zero at x = refl
+replicate-set (suc n) zero x = refl
+replicate-set (suc n) (suc at) x = ap (λ rest. x ∷ rest) (replicate-set n at x)
+
 -- what passes only tags that are set does not pass one that is not
 pub within_unset : (tags : List ℕ) (at n count : ℕ) → at ≤ count → get_or tags count 0 ≡ 0 → ((j : ℕ) → j < n → get_or tags (at + j) 0 ≢ 0) → at + n ≤ count
 within_unset tags at n count le end nz = elim (cases_lt count (at + n)) as (λ _. at + n ≤ count) [
@@ -143,6 +149,34 @@ module _ {S : Type 0} where
           unset = λ none. absurd (omega arith);
           room = omega arith;
         }
+
+  -- a tag is set to 0
+  zip_slots-unset : (tags : List ℕ) (items : List (CodedSymbol S)) (at : ℕ) → map slot_in (zip (set tags at 0) items) ≡ set (map slot_in (zip tags items)) at None
+  zip_slots-unset [] items at = refl
+  zip_slots-unset (t ∷ tags) [] zero = refl
+  zip_slots-unset (t ∷ tags) [] (suc at) = refl
+  zip_slots-unset (t ∷ tags) (i ∷ items) zero = refl
+  zip_slots-unset (t ∷ tags) (i ∷ items) (suc at) = ap (λ rest. slot_in (t, i) ∷ rest) (zip_slots-unset tags items at)
+
+  pub slots_of-unset : (count : ℕ) (tags : List ℕ) (items : List (CodedSymbol S)) (at : ℕ) → slots_of count (set tags at 0) items ≡ set (slots_of count tags items) at None
+  slots_of-unset count tags [] at = sym (replicate-set count at None)
+  slots_of-unset count tags (i ∷ items) at = zip_slots-unset tags (i ∷ items) at
+
+  pub IsTagged-unset : (count : ℕ) (tags : List ℕ) (items : List (CodedSymbol S)) (capacity : ℕ) → IsTagged count tags items capacity → (at : ℕ) → at < count → IsTagged count (set tags at 0) items capacity
+  IsTagged-unset count tags items capacity h at l =
+      let slots = slots_of count tags items in let n = length-set tags at 0 in let t = h.ahead (omega arith) in record {
+        counted = ap length (slots_of-unset count tags items at) ∙ length-set slots at None ∙ h.counted;
+        ahead = λ some. omega arith;
+        end = get_or-set_other tags at count 0 0 (λ q. absurd (omega arith)) ∙ h.end;
+        tag = λ k i f. let is : get_or (set slots at None) k None ≡ Some i = ap (λ xs. get_or xs k None) (sym (slots_of-unset count tags items at)) ∙ f in
+            elim (cases_eq k at) as (λ _. get_or (set tags at 0) k 0 ≡ tag_of i.code) [
+              | inl q ↦ absurd (let d = h.counted in let z : None ≡ Some i = sym (ap (λ j. get_or (set slots at None) j None) q ∙ get_or-set_same slots at None None (omega arith)) ∙ is in cc)
+              | inr ne ↦ get_or-set_other tags at k 0 0 ne ∙ h.tag k i (sym (get_or-set_other slots at k None None ne) ∙ is)
+            ];
+        all = h.all;
+        unset = λ none. let z = h.unset none in ap (λ xs. set xs at 0) z ∙ replicate-set (length tags) at 0 ∙ ap (λ m. replicate m 0) (sym n);
+        room = h.room;
+      }
 
   -- tags that are all 0
   pub IsTagged-zeroes : (count n : ℕ) (items : List (CodedSymbol S)) (capacity : ℕ) → (0 < count → n ≡ count + 16) → (0 < length items → length items ≡ count) → count ≤ capacity

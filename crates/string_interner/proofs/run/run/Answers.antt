@@ -7,7 +7,7 @@ use Rattle.string_interner.proofs.run.run.Goals as goal
 
 pub loop-command-preserved : goal.loop-command-preserved
 loop-command-preserved g c = record {
-  ran = Run-step g.B.Backend.numbering _ _ _ _ _ _ _ _ _ _ c.loop-command-test.true c.loop-command.invariant.ran c.deref.ensures.value c.step-reply.ensures.step (search rules);
+  ran = Run-step g.B.Store.numbering _ _ _ _ _ _ _ _ _ _ c.loop-command-test.true c.loop-command.invariant.ran c.deref.ensures.value c.step-reply.ensures.step (search rules);
   count = search rules;
   room = search rules;
   quiet = record {
@@ -24,5 +24,5 @@ loop-command-preserved g c = record {
 }
 
 pub returns-clause-as_a_list : goal.returns-clause-as_a_list
-returns-clause-as_a_list g c = Run-tells g.B.Backend.numbering (numbered g.B.Backend.numbering g.met.B.Backend.symbols g.met.B.Symbol.Symbol.numbered) g.met.B.Backend.grows g.met.B.Backend.reads _ _ _ _ c.len.ensures.holds.texts.valid
+returns-clause-as_a_list g c = Run-tells g.B.Store.numbering (numbered g.B.Store.numbering g.met.B.Store.symbols g.met.B.Symbol.Symbol.numbered) g.met.B.Store.grows g.met.B.Store.reads _ _ _ _ c.len.ensures.holds.texts.valid
     (rw (take_all c.loop-command.command-index c.args.commands.now c.loop-command-test.false) at c.loop-command.invariant.ran)

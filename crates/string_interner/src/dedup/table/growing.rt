@@ -10,7 +10,7 @@ ghost use Rattle.string_interner.specs.Text.{IsDistinct};
 ghost use Rattle.string_interner.specs.Probe.{HasFreeSlot, IsVacant, Rebuilt};
 ghost use Rattle.string_interner.specs.Layout.{Fills, IsTable};
 
-use crate::backend::Backend;
+use crate::backend::{Backend, Store};
 use crate::dedup::layout::Layout;
 use crate::dedup::probe::{Vacancy, home_of};
 use crate::hash::TextHasher;
@@ -76,7 +76,7 @@ pub fn occupy<S: Symbol, L: Layout<S>>(slots: &mut L, vacancy: Vacancy, symbol: 
 /// Returns `count` slots, more than before, into which all symbols are moved. Returns `Err` only if an allocation
 /// fails.
 #[inline(never)]
-pub fn rehash<S: Symbol, L: Layout<S>, H: TextHasher, B: Backend<Symbol = S>>(
+pub fn rehash<S: Symbol, L: Layout<S>, H: TextHasher, B: Store<Symbol = S>>(
     slots: &mut L,
     count: usize,
     hasher: &H,

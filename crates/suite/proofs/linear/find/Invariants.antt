@@ -3,4 +3,4 @@ use Rattle.suite.proofs.Listed.{IsMissed}
 use Rattle.suite.proofs.linear.find.Given as goal
 
 abbrev pub invariant-loop-symbol : goal.invariant-loop-symbol
-invariant-loop-symbol g l = IsMissed (entry_text g.B.Backend.numbering (g.B.Backend.texts l.backend)) l.text l.symbols l.symbol-index
+invariant-loop-symbol g l = IsMissed (entry_text g.B.Store.numbering (g.B.Store.texts l.backend)) l.text l.symbols l.symbol-index

@@ -6,6 +6,6 @@ use Rattle.suite.proofs.linear.put_all.Given as goal
 -- the symbols so far are in the list
 abbrev pub invariant-loop-symbol : goal.invariant-loop-symbol
 invariant-loop-symbol g l = record {
-  put : IsPut g.B.Backend.numbering (g.B.Backend.texts l.backend) l.symbol-iterator.behind l.symbol-iterator.ahead l.symbols.items;
+  put : IsPut g.B.Store.numbering (g.B.Store.texts l.backend) l.symbol-iterator.behind l.symbol-iterator.ahead l.symbols.items;
   capacity : vec_capacity l.symbols ≡ vec_capacity l.fn.symbols;
 }

@@ -102,11 +102,11 @@ fn string_entries<'a>(
         narrow[place - 1] as usize
     };
     for index in 0..many {
-        let end = *crate::unchecked::at(narrow, place + index) as usize;
+        let end = *unsafe { narrow.at_unchecked(place + index) } as usize;
         // Field by field: a whole entry would be written with the bytes between its fields.
         let entry = &mut room[index];
         entry.symbol = (place + index) as u32;
-        entry.text.bytes = crate::unchecked::cut(joined, start..end).as_bytes();
+        entry.text.bytes = unsafe { crate::unchecked::cut_unchecked(joined, start..end) }.as_bytes();
         start = end;
     }
     cursor.index += many;

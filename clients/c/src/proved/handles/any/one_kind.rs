@@ -42,7 +42,7 @@ fn text_by_narrow_ends(
     if index == 0 || index >= narrow.len() {
         return None;
     }
-    Some(crate::unchecked::cut(joined, narrow[index - 1] as usize..narrow[index] as usize))
+    Some(unsafe { crate::unchecked::cut_unchecked(joined, narrow[index - 1] as usize..narrow[index] as usize) })
 }
 
 impl AnyInterner {

@@ -14,7 +14,7 @@ use crate::handles::hasher::ChosenHasher;
 use crate::handles::kind::Kind;
 use crate::handles::options::Options;
 use crate::handles::status::Status;
-use crate::serde_json::Value;
+use crate::rt::serde_json::Value;
 use crate::rt::alloc::Global;
 
 /// Returns the JSON array of the texts of a handle.

@@ -1,10 +1,12 @@
 //! The input: files that are read one after another, as `cat` writes them.
 
-//~ ghost use Rattle.std.specs.Prelude.{◌≡◌, ◌≤◌, length, true, IfOk, OnOk};
+//~ ghost use Rattle.std.specs.Prelude.{◌≡◌, ◌≤◌, length, true, None, IfOk, OnOk, if◌then◌else◌};
+//~ ghost use Rattle.dictcol.specs.Compression.{compression_of, explained};
 //~ ghost use Rattle.dictcol.specs.Inputs.{goes_on, lines_begun, newlines_with, noted, source_at, IsLocated};
 
 use crate::rt::prelude::*; use crate::dictcol::fault::Fault;
 use crate::dictcol::input::blocks::count_byte;
+use crate::dictcol::input::compression::Compression;
 use crate::dictcol::input::zero::exchange_ends;
 use crate::dictcol::request::Source;
 use crate::rt::fs::File;
@@ -57,13 +59,18 @@ pub struct Inputs<'a> {
     is_within: bool,
     /// Of several files those that gave bytes so far.
     begins: Vec<Begin<'a>>,
+    /// What compressed the file that is read, as it looks. One that goes on with a line of an earlier file is not looked at.
+    compression: Option<Compression>,
     /// The first of them that looks like one that `encode` wrote.
     encoded: Option<Source<'a>>,
 }
 
 impl<'a> Inputs<'a> {
     /// Returns the input of these files, none of which is open yet, in which newlines and zero bytes are exchanged or not.
-    pub fn new(rt: &'a HostRuntime, sources: &'a [Source<'a>], is_exchanged: bool) -> Inputs<'a> {
+    pub fn new(rt: &'a HostRuntime, sources: &'a [Source<'a>], is_exchanged: bool) -> Inputs<'a>
+        //~ ensures sources { result.sources.now ≡ sources.now }
+        //~ ensures exchanged { result.is_exchanged ≡ is_exchanged }
+    {
         Inputs {
             rt,
             sources,
@@ -76,6 +83,7 @@ impl<'a> Inputs<'a> {
             newlines: 0,
             is_within: false,
             begins: Vec::new(rt.alloc()),
+            compression: None,
             encoded: None,
         }
     }
@@ -99,6 +107,8 @@ impl<'a> Inputs<'a> {
     /// Notes the first bytes of a file.
     fn note_begin(&mut self, bytes: &[u8]) -> io::Result<()>
         //~ ensures begun { OnOk result (self.new.has_bytes ≡ true) }
+        //~ ensures compression { OnOk result (self.new.compression
+        //~     ≡ (if self.old.is_within then None else compression_of bytes.now)) }
         //~ ensures begin { OnOk result (self.new.begins.items ≡ noted self.old.sources.now
         //~     self.old.begins.items record {
         //~       source = source_at self.old.sources.now self.old.at;
@@ -118,6 +128,11 @@ impl<'a> Inputs<'a> {
             } else {
                 self.newlines
             },
+        };
+        self.compression = if self.is_within {
+            None
+        } else {
+            Compression::of(bytes)
         };
         self.has_bytes = true;
         if self.sources.len() > 1 && self.begins.push(begin).is_err() {
@@ -195,6 +210,16 @@ impl<'a> Inputs<'a> {
             }
         }
         (self.current(), fault)
+    }
+
+    /// Returns a fault of the file that is read, which is told of as compressed if it looks like that.
+    pub fn explain(&self, fault: Fault) -> Fault
+        //~ ensures { result ≡ explained self.now.compression fault }
+    {
+        match (fault, self.compression) {
+            (Fault::NotUtf8(line), Some(compression)) => Fault::Compressed(line, compression),
+            (fault, _) => fault,
+        }
     }
 }
 

@@ -1,6 +1,6 @@
 //! Input that is not all UTF-8, mended before its lines are looked at.
 
-//~ ghost use Rattle.std.specs.Prelude.{◌≡◌, ◌+◌, ◌≤◌, length, IfOk};
+//~ ghost use Rattle.std.specs.Prelude.{◌≡◌, ◌+◌, ◌≤◌, length, IfOk, OnErr};
 
 use crate::rt::prelude::*; use crate::memchr::memrchr;
 use crate::rt::alloc::{AllocError, Global};
@@ -64,8 +64,9 @@ impl<R: Read> Mended<R> {
 
     /// Reads once, behind what is held. Returns how many bytes came: none at the end of the input.
     fn hold_more(&mut self) -> io::Result<usize>
-        //~ ensures { IfOk result (λ count.
+        //~ ensures ok { IfOk result (λ count.
         //~     length self.new.held.items ≡ length self.old.held.items + count) }
+        //~ ensures err { OnErr result (self.new.held.items ≡ self.old.held.items) }
     {
         let start = self.held.len();
         self.held.resize(start.saturating_add(BLOCK), 0)?;

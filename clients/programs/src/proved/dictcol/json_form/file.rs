@@ -1,6 +1,6 @@
 //! The file: a JSON object with the dictionary, a number for each line, and whether the last line ends in a newline.
 
-//~ ghost use Rattle.std.specs.Prelude.{⊤, ◌≡◌, ◌≢◌, ◌<◌, ◌≤◌, ◌++◌, ◌⊎◌, List, All, length, Bool, true, false, codes, Some, None, IfOk, IfErr, OnOk};
+//~ ghost use Rattle.std.specs.Prelude.{◌≡◌, ◌≢◌, ◌<◌, ◌≤◌, ◌++◌, ◌⊎◌, List, All, length, Bool, true, false, codes, Some, None, IfOk, IfErr, OnOk};
 //~ ghost use Rattle.std.specs.Io.KnownBytes.{Appends};
 //~ ghost use Rattle.std.specs.List.{join_with_byte, list_any};
 //~ ghost use Rattle.serde_json.specs.Data.{boolean, array, Items};
@@ -11,9 +11,9 @@
 //~ ghost use Rattle.string_interner.specs.Extend.{texts_of};
 //~ ghost use Rattle.string_interner.specs.Json.{json_of_texts};
 //~ ghost use Rattle.string_column.specs.Column.{rows_of};
-//~ ghost use Rattle.dictcol.specs.Crowded.{CrowdsFile, LacksElement, default_numbering};
+//~ ghost use Rattle.dictcol.specs.Crowded.{CrowdsColumn, CrowdsFile, LacksElement, default_numbering};
 //~ ghost use Rattle.dictcol.specs.Fault.{IsParseFault, IsValueDamage, IsWriteFault, WritesLast};
-//~ ghost use Rattle.dictcol.specs.File.{indexed_texts, AreWithin, HaveEntries, HoldsLines, HoldsText, IsFileDamage, IsFileFault, IsJsonFault, FileHolds, DecodesFile};
+//~ ghost use Rattle.dictcol.specs.File.{indexed_texts, AreWithin, HasDictionary, HaveEntries, HoldsLines, HoldsText, IsFileDamage, IsFileFault, IsJsonFault, FileHolds, DecodesFile};
 //~ ghost use Rattle.dictcol.specs.Lines.{has_newline, newline_if, text_of_lines};
 //~ ghost use Rattle.dictcol.specs.Places.{IsEarlyEnd, IsLastLine};
 //~ ghost use Rattle.dictcol.specs.Writes.{Writes};
@@ -24,21 +24,21 @@ use crate::dictcol::hasher::LineHasher;
 use crate::dictcol::input::blocks::{check_utf8, count_byte};
 use crate::dictcol::json_form::stream;
 use crate::memchr::memrchr;
-use crate::serde_json::Value;
+use crate::rt::serde_json::Value;
 use crate::rt::alloc::Global;
 use crate::rt::io;
 use crate::rt::io::Write;
 use crate::string_column::{Codes, Column, PartsError};
 use crate::proved::StringInterner;
-use crate::proved::backend::{Backend, DefaultBackend};
+use crate::proved::backend::{Backend, DefaultBackend, Store};
 use crate::proved::dedup::TaggedIndex;
-use crate::json::JsonError;
+use crate::proved::json::JsonError;
 
 /// The texts of a file.
 pub type Dictionary<B = DefaultBackend> = StringInterner<
     B,
     LineHasher,
-    TaggedIndex<<B as Backend>::Symbol>,
+    TaggedIndex<<B as Store>::Symbol>,
 >;
 
 /// What a file holds: its texts, for each line the index of its text, and whether the last line ends in a newline.
@@ -208,6 +208,8 @@ fn read_value<B: Backend + Drop>(
     //~ ensures lines { IfOk result (λ parts. HoldsLines (view file.now)
     //~     (rows_of parts.dictionary.texts parts.codes.items) parts.is_ended) }
     //~ ensures within { IfOk result AreWithin }
+    //~ ensures texts { IfOk result (λ parts. get (codes "dictionary") (view file.now)
+    //~     ≡ Some (json_of_texts parts.dictionary.texts)) }
     //~ ensures err { IfErr result (IsParseFault (LacksElement B.numbering (view file.now))
     //~     (λ fault. IsValueDamage fault × ((text : Text) → ¬ (HoldsText (view file.now) text)))) }
 {
@@ -267,6 +269,7 @@ pub fn read<B: Backend + Drop>(
     //~ ensures lines { IfOk result (λ parts. FileHolds file.now
     //~     (rows_of parts.dictionary.texts parts.codes.items) parts.is_ended) }
     //~ ensures within { IfOk result AreWithin }
+    //~ ensures texts { IfOk result (λ parts. HasDictionary file.now parts.dictionary.texts) }
 
     // A file that holds a text is never called damaged. Where its JSON ends early is told.
     //~ ensures err { IfErr result
@@ -289,7 +292,7 @@ pub fn read_column<B: Backend + Drop>(
     //~ ensures lines { IfOk result (λ lines. FileHolds bytes.items lines.0 lines.1) }
 
     // A file is called damaged only if it holds no text, and not UTF-8 only if it is not.
-    //~ ensures err { IfErr result (IsFileFault (λ file. ⊤) (Some bytes.items)) }
+    //~ ensures err { IfErr result (IsFileFault (CrowdsColumn B.numbering) (Some bytes.items)) }
 {
     let Parts {
         dictionary,

@@ -11,7 +11,7 @@
 //~ ghost use Rattle.string_column.specs.Entries.{LacksSymbol};
 //~ ghost use Rattle.dictcol.specs.Crowded.{LacksEntry, LacksText};
 //~ ghost use Rattle.dictcol.specs.Fault.{IsTakeFault};
-//~ ghost use Rattle.dictcol.specs.File.{AreWithin, FileHolds};
+//~ ghost use Rattle.dictcol.specs.File.{AreWithin, FileHolds, HasDictionary};
 //~ ghost use Rattle.dictcol.specs.Lines.{has_newline};
 //~ ghost use Rattle.dictcol.specs.StreamTokens.{AreIndexes, StreamHolds, behind_front};
 //~ ghost use Rattle.dictcol.specs.declared.fault.Fault.TheVariants.{Memory};
@@ -267,6 +267,8 @@ pub fn read_stream<B: Backend + Drop>(
     //~ ensures lines { IfOk result (λ found. IfSome found (λ parts. FileHolds file.now
     //~     (rows_of parts.dictionary.texts parts.codes.items) parts.is_ended)) }
     //~ ensures within { IfOk result (λ found. IfSome found AreWithin) }
+    //~ ensures texts { IfOk result (λ found. IfSome found (λ parts.
+    //~     HasDictionary file.now parts.dictionary.texts)) }
     //~ ensures fault { IfErr result (IsTakeFault (LacksEntry B.numbering (tokens file.now))) }
 {
     let mut dictionary = Dictionary::<B>::with_hasher(alloc, hasher);

@@ -3,15 +3,17 @@
 //! `codes.npy` is the first file that is taken away and the last that gets its name. So while it is there, the other files are of
 //! its run, and who finds it in its place after opening the others has files of one run.
 
-use crate::rt::prelude::*; use super::{Plain, npy, pair};
+use crate::rt::prelude::*; use super::exchange::exchange;
+use super::{Plain, npy, pair};
 use crate::dictcol::fault::Fault;
 use crate::dictcol::hasher::LineHasher;
 use crate::dictcol::input::blocks::count_byte;
 use crate::dictcol::request::Onto;
-use crate::dictcol::unfinished::{Unfinished, busy, is_same, store, store_folder, store_parent};
+use crate::dictcol::unfinished::{NAME, Unfinished, busy, is_same, is_taken, store, store_parent};
 use crate::rt::alloc::Global;
-use crate::rt::fs::File;
+use crate::rt::fs::{File, Metadata};
 use crate::rt::io::{ErrorKind, Read, Write};
+use crate::rt::os::unix::fs::{MetadataExt, OpenOptionsExt, fchown};
 use crate::rt::{fs, io};
 use crate::proved::backend::Backend;
 
@@ -27,18 +29,35 @@ const PAIR: &str = "pair.txt";
 /// This file is there if the last line has no newline.
 const CUT: &str = "no_final_newline";
 
+/// What is behind the name of an old file while a run may put it back.
+const KEPT: &str = ".old";
+
+/// The mode of a file until it gets that of another.
+const PRIVATE: u32 = 0o600;
+
+/// What is said of files that are not there so far.
+const WRITING: &str = "another run is writing";
+
+/// So many times files are opened that other runs replace meanwhile.
+const TURNS: usize = 16;
+
 /// The paths of the files of a folder.
 //~ #[derive(Drop)]
-struct Paths {
-    dictionary: String,
-    numbers: String,
-    pair: String,
-    cut: String,
+pub struct Paths {
+    pub dictionary: String,
+    pub numbers: String,
+    pub pair: String,
+    pub cut: String,
 }
 
 /// Returns the path of a file in a folder.
 fn join(alloc: Global, folder: &str, name: &str) -> Result<String, Fault> {
     crate::rt::format!(in alloc; "{folder}/{name}").map_err(|_| Fault::Memory)
+}
+
+/// Returns the path of an old file in a folder.
+fn join_kept(alloc: Global, folder: &str, name: &str) -> Result<String, Fault> {
+    crate::rt::format!(in alloc; "{folder}/{name}{KEPT}").map_err(|_| Fault::Memory)
 }
 
 impl Paths {
@@ -48,6 +67,16 @@ impl Paths {
             numbers: join(alloc, folder, NUMBERS)?,
             pair: join(alloc, folder, PAIR)?,
             cut: join(alloc, folder, CUT)?,
+        })
+    }
+
+    /// Returns the paths of old files.
+    fn kept(alloc: Global, folder: &str) -> Result<Paths, Fault> {
+        Ok(Paths {
+            dictionary: join_kept(alloc, folder, DICTIONARY)?,
+            numbers: join_kept(alloc, folder, NUMBERS)?,
+            pair: join_kept(alloc, folder, PAIR)?,
+            cut: join_kept(alloc, folder, CUT)?,
         })
     }
 }
@@ -109,10 +138,47 @@ struct Files {
     is_cut: bool,
 }
 
+/// Returns whether files are missing, or were replaced while they were opened. A run that exchanges them may be why.
+fn is_exchanged(fault: &Fault) -> bool {
+    match fault {
+        Fault::NumbersFile(error) | Fault::DictionaryFile(error) => {
+            error.kind() == ErrorKind::NotFound || error.kind() == ErrorKind::ResourceBusy
+        }
+        _ => false,
+    }
+}
+
+/// Waits while a run exchanges files, of which it keeps these numbers, and has locked them.
+fn wait(rt: &HostRuntime, kept: &str) {
+    if let Ok(numbers) = File::open(rt, kept) {
+        // Without locks the files are looked for again at once.
+        let _ = numbers.lock_shared();
+    }
+}
+
 impl Files {
-    /// Opens the files of a folder.
-    fn open(rt: &HostRuntime, folder: &str) -> Result<Files, Fault> {
-        let paths = Paths::new(rt.alloc(), folder)?;
+    /// Opens the files of a folder, which another run than the one that has `own` may exchange meanwhile.
+    fn open(rt: &HostRuntime, folder: &str, own: Option<&Unfinished>) -> Result<Files, Fault> {
+        let alloc = rt.alloc();
+        let paths = Paths::new(alloc, folder)?;
+        let unfinished = join(alloc, folder, NAME)?;
+        let kept = join_kept(alloc, unfinished.as_str(), NUMBERS)?;
+        for _ in 1..TURNS {
+            match Files::open_once(rt, &paths) {
+                Err(fault) if is_exchanged(&fault) => wait(rt, kept.as_str()),
+                outcome => return outcome,
+            }
+        }
+        match Files::open_once(rt, &paths) {
+            Err(fault) if is_exchanged(&fault) && is_taken(rt, unfinished.as_str(), own) => {
+                let error = io::Error::new(ErrorKind::ResourceBusy, WRITING);
+                Err(Fault::NumbersFile(error))
+            }
+            outcome => outcome,
+        }
+    }
+
+    fn open_once(rt: &HostRuntime, paths: &Paths) -> Result<Files, Fault> {
         let numbers = open(rt, paths.numbers.as_str());
         let dictionary = open(rt, paths.dictionary.as_str()).map_err(Fault::of_dictionary)?;
         let numbers = numbers.map_err(Fault::of_numbers)?;
@@ -158,11 +224,13 @@ fn find_fault(alloc: Global, dictionary: &[u8], numbers: &[u8], fault: Fault) ->
     }
 }
 
-/// Reads the dictionary that further columns begin with. Unless it is to be taken alone, its numbers show that no line is missing.
+/// Reads the dictionary that further columns begin with, which are written into this place. Unless it is to be taken alone, its
+/// numbers show that no line is missing.
 pub fn read_dictionary<B: Backend + Drop>(
     rt: &HostRuntime,
     hasher: LineHasher,
     onto: Onto<'_>,
+    place: &Place<'_>,
 ) -> Result<Plain<B>, Fault> {
     let alloc = rt.alloc();
     if onto.is_dictionary {
@@ -170,7 +238,7 @@ pub fn read_dictionary<B: Backend + Drop>(
         let mut dictionary = open(rt, path.as_str()).map_err(Fault::of_dictionary)?;
         return Plain::begin(alloc, hasher, &mut dictionary);
     }
-    let mut files = Files::open(rt, onto.folder)?;
+    let mut files = Files::open(rt, onto.folder, Some(&place.unfinished))?;
     let before = Plain::begin(alloc, hasher, &mut files.dictionary)?;
     let numbers = read(alloc, &mut files.numbers).map_err(Fault::of_numbers)?;
     let _ = npy::read(alloc, &numbers, before.known())?;
@@ -181,7 +249,7 @@ pub fn read_dictionary<B: Backend + Drop>(
 /// Writes the text of a folder.
 pub fn decode<W: Write>(rt: &HostRuntime, folder: &str, output: &mut W) -> Result<(), Fault> {
     let alloc = rt.alloc();
-    let mut files = Files::open(rt, folder)?;
+    let mut files = Files::open(rt, folder, None)?;
     let dictionary = read(alloc, &mut files.dictionary).map_err(Fault::of_dictionary)?;
     let numbers = read(alloc, &mut files.numbers).map_err(Fault::of_numbers)?;
     match files.check_pair(alloc, count_byte(b'\n', &dictionary), &numbers) {
@@ -190,69 +258,74 @@ pub fn decode<W: Write>(rt: &HostRuntime, folder: &str, output: &mut W) -> Resul
     }
 }
 
-/// Creates a file, which is not there.
-fn create(rt: &HostRuntime, path: &str) -> Result<File, Fault> {
-    File::create_new(rt, path).map_err(Fault::Folder)
+/// Returns what the system says of a file, if there is one.
+fn look(rt: &HostRuntime, path: &str) -> Option<Metadata> {
+    match fs::metadata(rt, path) {
+        Ok(metadata) if metadata.is_file() => Some(metadata),
+        _ => None,
+    }
 }
 
-/// Writes new files.
+/// Creates a file, which is not there, for those alone who may open the other one.
+fn create_like(rt: &HostRuntime, path: &str, other: &Metadata) -> io::Result<File> {
+    let mut how = File::options();
+    how.write(true);
+    how.create_new(true);
+    how.mode(PRIVATE);
+    let file = how.open(rt, path)?;
+    let is_owned = fchown(&file, Some(other.uid()), Some(other.gid())).is_ok();
+    // Not everyone may give a file away. Where it has another group, too, it is for its owner alone.
+    if is_owned || fchown(&file, None, Some(other.gid())).is_ok() {
+        // Not every file system has modes.
+        let _ = file.set_permissions(other.permissions());
+    }
+    Ok(file)
+}
+
+/// Creates a file, which is not there, for the place of an old one. Where that has none, it is like this other one, if there is one.
+fn create(
+    rt: &HostRuntime,
+    path: &str,
+    place: &str,
+    other: &Option<Metadata>,
+) -> Result<File, Fault> {
+    let file = match (look(rt, place), other) {
+        (Some(old), _) => create_like(rt, path, &old),
+        (None, Some(other)) => create_like(rt, path, other),
+        (None, None) => File::create_new(rt, path),
+    };
+    file.map_err(Fault::Folder)
+}
+
+/// Writes new files for the places of old ones.
 fn write_new<B: Backend + Drop>(
     rt: &HostRuntime,
-    paths: &Paths,
+    new: &Paths,
+    old: &Paths,
     plain: &Plain<B>,
 ) -> Result<(), Fault> {
     let alloc = rt.alloc();
-    let mut dictionary = create(rt, paths.dictionary.as_str())?;
-    let mut numbers = create(rt, paths.numbers.as_str())?;
+    let other = look(rt, old.numbers.as_str());
+    let mut dictionary = create(rt, new.dictionary.as_str(), old.dictionary.as_str(), &other)?;
+    let mut numbers = create(rt, new.numbers.as_str(), old.numbers.as_str(), &other)?;
     match plain.write(alloc, &mut dictionary, &mut numbers) {
         Err(Fault::Output(error)) => return Err(Fault::Folder(error)),
         outcome => outcome?,
     }
-    let mut pair = create(rt, paths.pair.as_str())?;
+    let mut pair = create(rt, new.pair.as_str(), old.pair.as_str(), &other)?;
     let text = plain.format_pair(alloc)?;
     pair.write_all(text.as_bytes()).map_err(Fault::Folder)?;
     if plain.is_cut() {
-        store(&create(rt, paths.cut.as_str())?)?;
+        store(&create(rt, new.cut.as_str(), old.cut.as_str(), &other)?)?;
     }
     store(&pair)?;
     store(&dictionary)?;
     store(&numbers)
 }
 
-/// Removes a file, if it is there.
-fn remove(rt: &HostRuntime, path: &str) -> io::Result<()> {
-    match fs::remove_file(rt, path) {
-        Err(error) if error.kind() == ErrorKind::NotFound => Ok(()),
-        outcome => outcome,
-    }
-}
-
-/// Gives new files their places. There is no `codes.npy` while the other files are not those of the new one, also after a power
-/// cut: each step is stored before the next.
-fn exchange(
-    rt: &HostRuntime,
-    folder: &str,
-    new: &Paths,
-    old: &Paths,
-    is_cut: bool,
-) -> io::Result<()> {
-    let folder = File::open(rt, folder)?;
-    remove(rt, old.numbers.as_str())?;
-    store_folder(&folder)?;
-    fs::rename(rt, new.pair.as_str(), old.pair.as_str())?;
-    if is_cut {
-        fs::rename(rt, new.cut.as_str(), old.cut.as_str())?;
-    } else {
-        remove(rt, old.cut.as_str())?;
-    }
-    fs::rename(rt, new.dictionary.as_str(), old.dictionary.as_str())?;
-    store_folder(&folder)?;
-    fs::rename(rt, new.numbers.as_str(), old.numbers.as_str())?;
-    store_folder(&folder)
-}
-
 /// Returns whether a file of this name is written.
 fn is_name(name: &str) -> bool {
+    let name = name.strip_suffix(KEPT).unwrap_or(name);
     name == DICTIONARY || name == NUMBERS || name == PAIR || name == CUT
 }
 
@@ -311,8 +384,8 @@ impl<'a> Place<'a> {
         }
     }
 
-    /// Writes new files, and then puts them into the place of the old ones. A run that fails, or is killed, leaves the files that
-    /// were there, no `codes.npy`, or all of the new files.
+    /// Writes new files, and then puts them into the place of the old ones. A run that fails leaves the files that were there, and
+    /// one that is killed those, no `codes.npy`, or all of the new files.
     pub fn write<B: Backend + Drop>(
         &self,
         rt: &HostRuntime,
@@ -320,11 +393,12 @@ impl<'a> Place<'a> {
     ) -> Result<(), Fault> {
         let old = Paths::new(rt.alloc(), self.folder)?;
         let new = Paths::new(rt.alloc(), self.unfinished.path())?;
-        write_new(rt, &new, plain)?;
+        let kept = Paths::kept(rt.alloc(), self.unfinished.path())?;
+        write_new(rt, &new, &old, plain)?;
         for folder in &self.made {
             store_parent(rt, *folder).map_err(Fault::Folder)?;
         }
-        exchange(rt, self.folder, &new, &old, plain.is_cut()).map_err(Fault::Folder)
+        exchange(rt, self.folder, &new, &old, &kept, plain.is_cut()).map_err(Fault::Folder)
     }
 
     /// Leaves the folder to other runs. What was made for it stays if it was written, or if files are in it.

@@ -20,6 +20,9 @@ const ORDER: &str = "order";
 /// Linux's number for a file that is there already.
 const EXISTS: i32 = 17;
 
+/// Linux's number for more open files than a process may have.
+const TOO_MANY_FILES: i32 = 24;
+
 /// Creates a file, in which zero bytes end lines or not.
 fn create(rt: &HostRuntime, path: &str, is_exchanged: bool) -> Result<Shard<Exchanged<File>>, Fault>
     //~ ensures { IfOk result IsWritten }
@@ -78,6 +81,32 @@ fn is_name(name: &str) -> bool {
     name == ORDER || name == "0" || is_number && !name.starts_with('0')
 }
 
+/// Returns how many of some files can be open at once beside what is. The limit is no number of ours, so it is tried.
+fn count_free_files(rt: &HostRuntime, wanted: usize) -> Result<usize, Fault> {
+    let mut free = Vec::new(rt.alloc());
+    for _ in 0..wanted {
+        match File::open(rt, "/") {
+            Ok(file) => free.push(file).map_err(|_| Fault::Memory)?,
+            Err(error) if error.raw_os_error() == Some(TOO_MANY_FILES) => break,
+            // What is wrong with it matters to no shard.
+            Err(_) => return Ok(wanted),
+        }
+    }
+    Ok(free.len())
+}
+
+/// Checks that so many shards can be open at once, with the numbers of their lines, the folder, and the file that is read.
+fn check_count(rt: &HostRuntime, count: usize, files: &[Source<'_>]) -> Result<(), Fault> {
+    let is_named = files.iter().any(|file| matches!(file, Source::File(_)));
+    let others = 2 + usize::from(is_named);
+    let wanted = count.saturating_add(others);
+    let free = count_free_files(rt, wanted)?;
+    if free < wanted {
+        return Err(Fault::TooManyShards(free.saturating_sub(others)));
+    }
+    Ok(())
+}
+
 /// Makes the folder that becomes this one, which may not be there.
 fn begin(rt: &HostRuntime, folder: &str) -> Result<Unfinished, Fault> {
     match fs::symlink_metadata(rt, folder) {
@@ -112,6 +141,9 @@ pub fn write<'a>(
     files: &'a [Source<'a>],
 ) -> (Source<'a>, Result<(), Fault>) {
     let folder = Source::File(place.folder);
+    if let Err(fault) = check_count(rt, place.count.get(), files) {
+        return (folder, Err(fault));
+    }
     let unfinished = match begin(rt, place.folder) {
         Ok(unfinished) => unfinished,
         Err(fault) => return (folder, Err(fault)),

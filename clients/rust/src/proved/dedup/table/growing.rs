@@ -10,7 +10,7 @@
 //~ ghost use Rattle.string_interner.specs.Probe.{HasFreeSlot, IsVacant, Rebuilt};
 //~ ghost use Rattle.string_interner.specs.Layout.{Fills, IsTable};
 
-use crate::rt::prelude::*; use crate::proved::backend::Backend;
+use crate::rt::prelude::*; use crate::proved::backend::{Backend, Store};
 use crate::proved::dedup::layout::Layout;
 use crate::proved::dedup::probe::{Vacancy, home_of};
 use crate::proved::hash::TextHasher;
@@ -76,7 +76,7 @@ pub fn occupy<S: Symbol, L: Layout<S>>(slots: &mut L, vacancy: Vacancy, symbol: 
 /// Returns `count` slots, more than before, into which all symbols are moved. Returns `Err` only if an allocation
 /// fails.
 #[cold] #[inline(never)]
-pub fn rehash<S: Symbol, L: Layout<S>, H: TextHasher, B: Backend<Symbol = S>>(
+pub fn rehash<S: Symbol, L: Layout<S>, H: TextHasher, B: Store<Symbol = S>>(
     slots: &mut L,
     count: usize,
     hasher: &H,

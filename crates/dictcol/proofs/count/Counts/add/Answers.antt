@@ -16,7 +16,7 @@ invariant_of-self-then-index-len g c =
     let old = c.self.inside.lines in
     let index = c.in_ok-index.index in
     let given : c.intern.result ≡ Ok c.in_ok-index.index = search rules in
-    let found : FindsIndex g.B.Backend.numbering old c.args.line.now (Ok index) c.intern.new.self = rw given at c.intern.ensures in
+    let found : FindsIndex g.B.Store.numbering old c.args.line.now (Ok index) c.intern.new.self = rw given at c.intern.ensures in
     let within : index < length old = search rules in
     let known = index-known old c.intern.new.self c.args.line.now index found.0 found.1 within in
     length-set c.reserve.new.self.items index c.saturating_add.result ∙ ap length c.reserve.ensures.items ∙ c.self.invariant ∙ sym (ap length known.1)
@@ -26,7 +26,7 @@ invariant_of-self-2 g c =
     let old = c.self.inside.lines in
     let index = c.in_ok-index.index in
     let given : c.intern.result ≡ Ok c.in_ok-index.index = search rules in
-    let found : FindsIndex g.B.Backend.numbering old c.args.line.now (Ok index) c.intern.new.self = rw given at c.intern.ensures in
+    let found : FindsIndex g.B.Store.numbering old c.args.line.now (Ok index) c.intern.new.self = rw given at c.intern.ensures in
     let behind : length old ≤ index = search rules in
     let new = index-new old c.intern.new.self c.args.line.now index found.0 found.1 behind in
     let longer = length_push c.reserve.new.self.items 1 in
@@ -38,7 +38,7 @@ returns-then-index-len-clause-counted g c = λ lines has.
     let counts = c.self.inside.counts.items in
     let index = c.in_ok-index.index in
     let given : c.intern.result ≡ Ok c.in_ok-index.index = search rules in
-    let found : FindsIndex g.B.Backend.numbering old c.args.line.now (Ok index) c.intern.new.self = rw given at c.intern.ensures in
+    let found : FindsIndex g.B.Store.numbering old c.args.line.now (Ok index) c.intern.new.self = rw given at c.intern.ensures in
     let within : index < length old = search rules in
     let known = index-known old c.intern.new.self c.args.line.now index found.0 found.1 within in
     let read = rw c.reserve.ensures.items at c.index.ensures in
@@ -54,7 +54,7 @@ returns-clause-counted g c = λ lines has.
     let counts = c.self.inside.counts.items in
     let index = c.in_ok-index.index in
     let given : c.intern.result ≡ Ok c.in_ok-index.index = search rules in
-    let found : FindsIndex g.B.Backend.numbering old c.args.line.now (Ok index) c.intern.new.self = rw given at c.intern.ensures in
+    let found : FindsIndex g.B.Store.numbering old c.args.line.now (Ok index) c.intern.new.self = rw given at c.intern.ensures in
     let behind : length old ≤ index = search rules in
     let new = index-new old c.intern.new.self c.args.line.now index found.0 found.1 behind in
     let total : c.in_ok-total.total ≡ c.self.inside.total + 1 = search rules in
@@ -66,12 +66,12 @@ returns-in_err-total-clause-fault g c = λ lines has.
     let counted : HasCounted (contents_of c.self.inside.lines c.self.inside.counts.items c.self.inside.total) lines = subst (λ contents. HasCounted contents lines) (sym c.self.view_is) has in
     let many : IfErr c.from_residual.result (λ fault. fault ≡ TooMany) = search rules in
     let full : 2 ^ 64 ≤ c.self.inside.total + 1 = search rules in
-    IfErr-weaker c.from_residual.result (λ fault. fault ≡ TooMany) (IsTakeFault (LacksCount g.B.Backend.numbering lines c.args.line.now))
+    IfErr-weaker c.from_residual.result (λ fault. fault ≡ TooMany) (IsTakeFault (LacksCount g.B.Store.numbering lines c.args.line.now))
     (λ fault is. inr (is, inl (omega (arith, full, counted.total_is)))) many
 
 pub returns-in_err-index-clause-fault : goal.returns-in_err-index-clause-fault
 returns-in_err-index-clause-fault g c = λ lines has.
-    let numbering = g.B.Backend.numbering in
+    let numbering = g.B.Store.numbering in
     let old = c.self.inside.lines in
     let counted : HasCounted (contents_of old c.self.inside.counts.items c.self.inside.total) lines = subst (λ contents. HasCounted contents lines) (sym c.self.view_is) has in
     let refused : (error : InternError) × (c.intern.result ≡ Err error) × IfErr c.from_residual-in_err-index.result (λ fault. fault ≡ intern_fault error) = search rules in

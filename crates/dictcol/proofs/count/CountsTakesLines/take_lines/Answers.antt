@@ -13,4 +13,4 @@ pub returns-in_err-add-clause-fault : goal.returns-in_err-add-clause-fault
 returns-in_err-add-clause-fault g c lines has =
     let inv = c.loop-line.invariant in
     let p = err_from_is_err_and c.from_residual.result c.from_residual.ensures.1 in
-    rw (p.1, p.2) (take-weaker _ (next-refused (LacksCount g.B.Backend.numbering) lines inv.0 _ _ _ c.in-Some.line.now c.in-Some.ensures.steps inv.2) (c.in_err-add.ensures.fault (lines ++ inv.0) (inv.1 lines has)))
+    rw (p.1, p.2) (take-weaker _ (next-refused (LacksCount g.B.Store.numbering) lines inv.0 _ _ _ c.in-Some.line.now c.in-Some.ensures.steps inv.2) (c.in_err-add.ensures.fault (lines ++ inv.0) (inv.1 lines has)))

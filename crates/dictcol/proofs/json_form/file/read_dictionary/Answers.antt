@@ -13,7 +13,7 @@ returns-in-Err-NotAText-clause-err g c = inr (
   λ texts distinct e.
       let found : Some (view c.in_ok-value.value.now) ≡ get (codes "dictionary") (view c.args.file.now) = search rules in
       let told : c.from_json_exact_with_hasher.result ≡ Err (NotAText c.in-Err-NotAText.index) = search rules in
-      subst IsRead told (distinct-read g.B.Backend.numbering texts (view c.in_ok-value.value.now) c.from_json_exact_with_hasher.result distinct (same_Some _ _ (found ∙ e)) c.from_json_exact_with_hasher.ensures.reads),
+      subst IsRead told (distinct-read g.B.Store.numbering texts (view c.in_ok-value.value.now) c.from_json_exact_with_hasher.result distinct (same_Some _ _ (found ∙ e)) c.from_json_exact_with_hasher.ensures.reads),
 )
 
 pub returns-in-Err-Repeated-clause-err : goal.returns-in-Err-Repeated-clause-err
@@ -22,7 +22,7 @@ returns-in-Err-Repeated-clause-err g c = inr (
   λ texts distinct e.
       let found : Some (view c.in_ok-value.value.now) ≡ get (codes "dictionary") (view c.args.file.now) = search rules in
       let told : c.from_json_exact_with_hasher.result ≡ Err (Repeated c.in-Err-Repeated.index) = search rules in
-      subst IsRead told (distinct-read g.B.Backend.numbering texts (view c.in_ok-value.value.now) c.from_json_exact_with_hasher.result distinct (same_Some _ _ (found ∙ e)) c.from_json_exact_with_hasher.ensures.reads),
+      subst IsRead told (distinct-read g.B.Store.numbering texts (view c.in_ok-value.value.now) c.from_json_exact_with_hasher.result distinct (same_Some _ _ (found ∙ e)) c.from_json_exact_with_hasher.ensures.reads),
 )
 
 pub returns-in-Err-NotANumber-clause-err : goal.returns-in-Err-NotANumber-clause-err
@@ -31,7 +31,7 @@ returns-in-Err-NotANumber-clause-err g c = inr (
   λ texts distinct e.
       let found : Some (view c.in_ok-value.value.now) ≡ get (codes "dictionary") (view c.args.file.now) = search rules in
       let told : c.from_json_exact_with_hasher.result ≡ Err NotANumber = search rules in
-      subst IsRead told (distinct-read g.B.Backend.numbering texts (view c.in_ok-value.value.now) c.from_json_exact_with_hasher.result distinct (same_Some _ _ (found ∙ e)) c.from_json_exact_with_hasher.ensures.reads),
+      subst IsRead told (distinct-read g.B.Store.numbering texts (view c.in_ok-value.value.now) c.from_json_exact_with_hasher.result distinct (same_Some _ _ (found ∙ e)) c.from_json_exact_with_hasher.ensures.reads),
 )
 
 pub returns-in-Err-NotAList-clause-err : goal.returns-in-Err-NotAList-clause-err
@@ -40,11 +40,11 @@ returns-in-Err-NotAList-clause-err g c = inr (
   λ texts distinct e.
       let found : Some (view c.in_ok-value.value.now) ≡ get (codes "dictionary") (view c.args.file.now) = search rules in
       let told : c.from_json_exact_with_hasher.result ≡ Err NotAList = search rules in
-      subst IsRead told (distinct-read g.B.Backend.numbering texts (view c.in_ok-value.value.now) c.from_json_exact_with_hasher.result distinct (same_Some _ _ (found ∙ e)) c.from_json_exact_with_hasher.ensures.reads),
+      subst IsRead told (distinct-read g.B.Store.numbering texts (view c.in_ok-value.value.now) c.from_json_exact_with_hasher.result distinct (same_Some _ _ (found ∙ e)) c.from_json_exact_with_hasher.ensures.reads),
 )
 
 pub returns-in-Err-NoSymbol-clause-err : goal.returns-in-Err-NoSymbol-clause-err
 returns-in-Err-NoSymbol-clause-err g c =
     let found : Some (view c.in_ok-value.value.now) ≡ get (codes "dictionary") (view c.args.file.now) = search rules in
     let told : c.from_json_exact_with_hasher.result ≡ Err NoSymbol = search rules in
-    inl (inr (refl, lacks-element g.B.Backend.numbering c.from_json_exact_with_hasher.result told (view c.args.file.now) (view c.in_ok-value.value.now) found c.from_json_exact_with_hasher.ensures.reads))
+    inl (inr (refl, lacks-element g.B.Store.numbering c.from_json_exact_with_hasher.result told (view c.args.file.now) (view c.in_ok-value.value.now) found c.from_json_exact_with_hasher.ensures.reads))

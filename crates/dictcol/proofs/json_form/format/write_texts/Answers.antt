@@ -17,7 +17,7 @@ loop-text-preserved g c =
     let so_far = c.loop-text.invariant in
     let text = c.in-Some.text.now in
     let is_further = c.loop-text.is_further in
-    let first = first_entry g.B.Backend.numbering _ _ _ _ _ _ c.in-Some.ensures.steps in
+    let first = first_entry g.B.Store.numbering _ _ _ _ _ _ c.in-Some.ensures.steps in
     let room : Puts (g.W.Write.contents c.loop-text.output) c.loop-text.block (g.W.Write.contents c.if-len-ge-BLOCK.output) c.if-len-ge-BLOCK.block [] =
     elim c.if-len-ge-BLOCK.branch [ then-len-ge-BLOCK+in_ok-write w ↦ rw (w.block-is, w.output-is) w.in_ok-write.ensures.puts | else-len-ge-BLOCK w ↦ rw (w.block-is, w.output-is) (puts-nothing _ _) ] in
     let front : (front : Text) × (c.in-Some.text.now ≡ front ++ c.if-rest-gt-PIECE.rest.now)
@@ -35,7 +35,7 @@ loop-text-preserved g c =
 pub returns : goal.returns
 returns g c =
     let so_far = c.loop-text.invariant in
-    let none = no_entry g.B.Backend.numbering _ _ c.in-None.ensures.steps.0 in
+    let none = no_entry g.B.Store.numbering _ _ c.in-None.ensures.steps.0 in
     let whole = ap (λ ahead. so_far.0 ++ items_text c.loop-text.is_further (items_of (map string ahead))) (sym none) ∙ so_far.1 in
     let start = g.W.Write.contents c.args.output.now in
     let end = g.W.Write.contents c.append-2.new.output in

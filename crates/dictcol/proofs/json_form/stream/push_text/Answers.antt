@@ -11,5 +11,5 @@ returns-in_err-map_err-clause-fault g c =
     let old = c.args.dictionary.now.texts in
     let refused : (error : InternError) × (c.get_or_intern.result ≡ Err error) × IfErr c.from_residual.result (λ fault. fault ≡ intern_fault error) = search rules in
     let interned = rw refused.1 at c.get_or_intern.ensures.interns in
-    let taking = interns-fault g.B.Backend.numbering old c.get_or_intern.new.self.texts c.args.text.now refused.0 interned in
-    IfErr-weaker c.from_residual.result (λ fault. fault ≡ intern_fault refused.0) (IsTakeFault (LacksSymbol g.B.Backend.numbering c.args.dictionary.now.texts c.args.text.now)) (λ fault is. subst (IsTakeFault (LacksSymbol g.B.Backend.numbering c.args.dictionary.now.texts c.args.text.now)) (sym is) taking) refused.2
+    let taking = interns-fault g.B.Store.numbering old c.get_or_intern.new.self.texts c.args.text.now refused.0 interned in
+    IfErr-weaker c.from_residual.result (λ fault. fault ≡ intern_fault refused.0) (IsTakeFault (LacksSymbol g.B.Store.numbering c.args.dictionary.now.texts c.args.text.now)) (λ fault is. subst (IsTakeFault (LacksSymbol g.B.Store.numbering c.args.dictionary.now.texts c.args.text.now)) (sym is) taking) refused.2

@@ -9,4 +9,4 @@ pub returns-in_err-push_text-clause-fault : goal.returns-in_err-push_text-clause
 returns-in_err-push_text-clause-fault g c =
     let next : tokens c.texts.ahead.now ≡ string c.in-Some.text.now ∷ tokens c.in-Some.behind.now = search rules in
     let p = err_from_is_err_and c.from_residual.result c.from_residual.ensures.1 in
-    rw (p.1, p.2) (text-lacks g.B.Backend.numbering _ _ _ _ c.in-Some.text.now _ c.texts.invariant.so_far next c.in_err-push_text.ensures.fault)
+    rw (p.1, p.2) (text-lacks g.B.Store.numbering _ _ _ _ c.in-Some.text.now _ c.texts.invariant.so_far next c.in_err-push_text.ensures.fault)

@@ -20,7 +20,7 @@ returns-in-Ok-clause-ok g c lines is =
 
 pub returns-in-Err-clause-fault : goal.returns-in-Err-clause-fault
 returns-in-Err-clause-fault g c lines is =
-    let numbering = g.B.Backend.numbering in
+    let numbering = g.B.Store.numbering in
     let h = c.in-Err.ensures in
     let refused = h.2.0 in
     let yielded = h.2.1 in

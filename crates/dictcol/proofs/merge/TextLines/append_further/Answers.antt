@@ -16,14 +16,14 @@ invariant_of-self-in_err-map_err-2 g c =
     let pushed : c.push.new.self ≡ c.self.inside.lines ++ string_bytes c.self.inside.rest ∷ [] = search rules in
     let plain = ap (list_any has_newline) pushed ∙ push-plain c.self.inside.lines (string_bytes c.self.inside.rest) c.self.invariant.0 c.self.invariant.1 in
     let range = range-plain c.args.lines.now 1 c.saturating_sub-end.result c.requires in
-    (appends-plain g.B.Backend.numbering c.push.new.self _ c.append_range.new.self c.append_range.result c.append_range.ensures plain range, ap has_newline c.clear.ensures.bytes)
+    (appends-plain g.B.Store.numbering c.push.new.self _ c.append_range.new.self c.append_range.result c.append_range.ensures plain range, ap has_newline c.clear.ensures.bytes)
 
 pub invariant_of-self-2 : goal.invariant_of-self-2
 invariant_of-self-2 g c =
     let pushed : c.push.new.self ≡ c.self.inside.lines ++ string_bytes c.self.inside.rest ∷ [] = search rules in
     let plain = ap (list_any has_newline) pushed ∙ push-plain c.self.inside.lines (string_bytes c.self.inside.rest) c.self.invariant.0 c.self.invariant.1 in
     let range = range-plain c.args.lines.now 1 c.saturating_sub-end.result c.requires in
-    (appends-plain g.B.Backend.numbering c.push.new.self _ c.append_range.new.self c.append_range.result c.append_range.ensures plain range, ap has_newline c.clear.ensures.bytes)
+    (appends-plain g.B.Store.numbering c.push.new.self _ c.append_range.new.self c.append_range.result c.append_range.ensures plain range, ap has_newline c.clear.ensures.bytes)
 
 pub push_text-requires : goal.push_text-requires
 push_text-requires g c =
@@ -45,7 +45,7 @@ returns-clause-ok g c =
 
 pub returns-in_err-map_err-clause-fault : goal.returns-in_err-map_err-clause-fault
 returns-in_err-map_err-clause-fault g c =
-    let numbering = g.B.Backend.numbering in
+    let numbering = g.B.Store.numbering in
     let lines = c.self.inside.lines in
     let rest = string_bytes c.self.inside.rest in
     let at : slice_get c.args.lines.now c.saturating_sub-end.result ≡ Some c.in-Some.last.now = search rules in
@@ -62,7 +62,7 @@ returns-in_err-map_err-clause-fault g c =
 
 pub returns-in_err-map_err-2-clause-fault : goal.returns-in_err-map_err-2-clause-fault
 returns-in_err-map_err-2-clause-fault g c =
-    let numbering = g.B.Backend.numbering in
+    let numbering = g.B.Store.numbering in
     let lines = c.self.inside.lines in
     let rest = string_bytes c.self.inside.rest in
     let at : slice_get c.args.lines.now c.saturating_sub-end.result ≡ Some c.in-Some.last.now = search rules in

@@ -27,4 +27,4 @@ returns-clause-fault g c =
     let at : slice_get c.args.lines.now 0 ≡ Some c.in-Some.first.now = search rules in
     let first : c.push_text.new.self ≡ c.args.self.now ++ c.in-Some.first.now = search rules in
     let text = ap (λ text. text ++ flat_map behind_newline (drop 1 c.args.lines.now)) first ∙ rows-joined c.args.self.now c.args.lines.now c.in-Some.first.now at in
-    IfErr-weaker c.append_further.result _ _ (λ fault. subst (λ text. IsTakeFault (HasRefused (LacksLine g.B.Backend.numbering) (lines_of text)) fault) text) c.append_further.ensures.fault
+    IfErr-weaker c.append_further.result _ _ (λ fault. subst (λ text. IsTakeFault (HasRefused (LacksLine g.B.Store.numbering) (lines_of text)) fault) text) c.append_further.ensures.fault

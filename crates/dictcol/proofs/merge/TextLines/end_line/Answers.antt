@@ -7,7 +7,7 @@ use Rattle.dictcol.proofs.merge.TextLines.end_line.Goals as goal
 
 pub returns-in-Err-clause-fault : goal.returns-in-Err-clause-fault
 returns-in-Err-clause-fault g c =
-    let numbering = g.B.Backend.numbering in
+    let numbering = g.B.Store.numbering in
     let lines = c.self.inside.lines in
     let rest = string_bytes c.self.inside.rest in
     let last : c.deref.result.now ≡ string_bytes c.self.inside.rest = search rules in

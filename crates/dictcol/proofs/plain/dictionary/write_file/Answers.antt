@@ -15,7 +15,7 @@ loop-text-init g c =
 
 pub loop-text-preserved : goal.loop-text-preserved
 loop-text-preserved g c =
-    let first = first_entry g.B.Backend.numbering _ _ _ _ _ _ c.in-Some.ensures.steps in
+    let first = first_entry g.B.Store.numbering _ _ _ _ _ _ c.in-Some.ensures.steps in
     let inv = c.loop-text.invariant in
     let text = c.in-Some.text.now in
     let more = text_of_ended inv.0 [] in
@@ -30,7 +30,7 @@ loop-text-preserved g c =
 
 pub returns-clause-written : goal.returns-clause-written
 returns-clause-written g c =
-    let none = no_entry g.B.Backend.numbering _ _ c.in-None.ensures.steps.0 in
+    let none = no_entry g.B.Store.numbering _ _ c.in-None.ensures.steps.0 in
     let inv = c.loop-text.invariant in
     let all : c.args.texts.now.texts ≡ inv.0 = inv.1 ∙ ap (λ ahead. inv.0 ++ ahead) none ∙ append-nil inv.0 in
     let start = g.W.Write.contents c.args.output.now in

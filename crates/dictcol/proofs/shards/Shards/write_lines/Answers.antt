@@ -16,7 +16,7 @@ returns-clause-written g c =
     let contents = g.W.Write.contents in
     let read = c.in_ok-rest.ensures.ok in
     let rest = string_bytes c.in_ok-rest.rest in
-    written-input code contents (g.R.Read.remaining c.args.input.now) c.write.result c.if-not-is_empty.self c.write.new.self read.0 rest read.2
+    written-input code contents (g.R.Read.remaining c.args.input.now) c.write_above.result c.if-not-is_empty.self c.write_above.new.self read.0 rest read.2
     (elim c.if-not-is_empty.branch as (λ _. HasSharded code contents c.if-not-is_empty.self (read.0 ++ lines_of rest)) [
       | then-not-is_empty+in_ok-add w ↦
           let some : rest ≢ [] = λ e. search rules in
@@ -27,7 +27,7 @@ returns-clause-written g c =
       | else-not-is_empty w ↦
           let none = nil_from_length rest (search rules) in
           rw (w.self-is, none, append-nil read.0) read.1
-    ]) c.write.ensures.same c.write.ensures.none
+    ]) c.write_above.ensures.same c.write_above.ensures.few
 
 pub returns-in_err-add-clause-fault : goal.returns-in_err-add-clause-fault
 returns-in_err-add-clause-fault g c =

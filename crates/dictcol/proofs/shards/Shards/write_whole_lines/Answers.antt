@@ -43,6 +43,6 @@ loop-preserved g c =
     let block = c.in_ok-read_block.ensures in
     let read = block.read (g.R.Read.remaining c.args.input.now) c.loop.invariant.read in
     record {
-      read = taken-kept (HasSharded g.H.TextHasher.code g.W.Write.contents) _ _ c.read_block.new.lines c.write.new.self (held c.read_block.new.block) c.in_ok-write.ensures.same read;
+      read = taken-kept (HasSharded g.H.TextHasher.code g.W.Write.contents) _ _ c.read_block.new.lines c.write_above.new.self (held c.read_block.new.block) c.in_ok-write_above.ensures.same read;
       rest = block.rest;
     }

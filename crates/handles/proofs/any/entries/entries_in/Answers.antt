@@ -12,8 +12,8 @@ pub loop-index-preserved : goal.loop-index-preserved
 loop-index-preserved g c =
     let so_far = c.loop-index.invariant in
     let any = any_of c.args.kind c.args.interner.now in
-    let list = list_as g.B.Backend.numbering c.args.interner.now c.len.ensures.holds.texts c.args.kind c.requires in
-    let texts = texts_as g.B.Backend.numbering c.args.interner.now c.args.kind in
+    let list = list_as g.B.Store.numbering c.args.interner.now c.len.ensures.holds.texts c.args.kind c.requires in
+    let texts = texts_as g.B.Store.numbering c.args.interner.now c.args.kind in
     let within : c.loop-index.cursor.index < length (texts_in any) = rw texts (omega (arith, so_far.cursor, c.loop-index-test.true, c.len.ensures.value, c.saturating_sub.ensures, c.min-many.ensures)) in
     let fits : c.loop-index.index < length c.loop-index.room = omega (arith, so_far.room, c.loop-index-test.true, c.min-many.ensures) in
     record {
@@ -22,15 +22,15 @@ loop-index-preserved g c =
       cursor = omega (arith, so_far.cursor);
       read = read-more any c.loop-index.cursor.place c.loop-index.index c.loop-index.room _ c.in-Some.entry so_far.read c.in-Some.ensures fits refl;
       piece = λ here. piece-more any list c.loop-index.cursor (so_far.piece here).cursor within c.args.cursor.now _ c.loop-index.index c.loop-index.room _ c.in-Some.entry (so_far.piece here) c.in-Some.ensures fits refl refl
-          (rw (kind_as g.B.Backend.numbering c.args.interner.now c.args.kind) c.place_after-cursor.ensures);
+          (rw (kind_as g.B.Store.numbering c.args.interner.now c.args.kind) c.place_after-cursor.ensures);
     }
 
 pub returns-in-None : goal.returns-in-None
 returns-in-None g c =
     let so_far = c.loop-index.invariant in
     let any = any_of c.args.kind c.args.interner.now in
-    let list = list_as g.B.Backend.numbering c.args.interner.now c.len.ensures.holds.texts c.args.kind c.requires in
-    let texts = texts_as g.B.Backend.numbering c.args.interner.now c.args.kind in
+    let list = list_as g.B.Store.numbering c.args.interner.now c.len.ensures.holds.texts c.args.kind c.requires in
+    let texts = texts_as g.B.Store.numbering c.args.interner.now c.args.kind in
     let within : c.loop-index.cursor.index < length (texts_in any) = rw texts (omega (arith, so_far.cursor, c.loop-index-test.true, c.len.ensures.value, c.saturating_sub.ensures, c.min-many.ensures)) in
     record {
       fits = omega (arith, c.loop-index-test.true, c.min-many.ensures);

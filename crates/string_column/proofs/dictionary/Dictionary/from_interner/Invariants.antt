@@ -6,5 +6,5 @@ use Rattle.string_column.proofs.dictionary.Dictionary.from_interner.Given as goa
 
 -- the symbols are those of the texts in front of those ahead
 abbrev pub invariant-loop-symbol : goal.invariant-loop-symbol
-invariant-loop-symbol g l = (front : List Text) × AreNumbered g.B.Backend.numbering front l.symbols × (front ++ l.symbol-iterator.ahead ≡ l.fn.interner.texts)
-    × (entries g.B.Backend.numbering l.symbol-iterator.behind l.symbol-iterator.ahead ≡ entries g.B.Backend.numbering front l.symbol-iterator.ahead)
+invariant-loop-symbol g l = (front : List Text) × AreNumbered g.B.Store.numbering front l.symbols × (front ++ l.symbol-iterator.ahead ≡ l.fn.interner.texts)
+    × (entries g.B.Store.numbering l.symbol-iterator.behind l.symbol-iterator.ahead ≡ entries g.B.Store.numbering front l.symbol-iterator.ahead)

@@ -5,8 +5,8 @@ use Rattle.string_column.proofs.dictionary.DictionaryTextList.text_at.Goals as g
 
 pub returns : goal.returns
 returns g c =
-    let numbering = g.B.Backend.numbering in
-    let are = numbered numbering g.met.B.Backend.symbols g.met.B.Symbol.Symbol.numbered in
+    let numbering = g.B.Store.numbering in
+    let are = numbered numbering g.met.B.Store.symbols g.met.B.Symbol.Symbol.numbered in
     let texts = c.self.inside.interner.texts in
-    rw (← c.self.view_is) (stands-at numbering are g.met.B.Backend.grows texts c.at.result c.resolve_unchecked.result.now c.args.index c.resolve_unchecked.ensures
+    rw (← c.self.view_is) (stands-at numbering are g.met.B.Store.grows texts c.at.result c.resolve_unchecked.result.now c.args.index c.resolve_unchecked.ensures
     (begins-at numbering are texts c.self.inside.symbols c.args.index c.at.result c.self.invariant c.at.ensures))

@@ -10,7 +10,7 @@ use Rattle.string_column.proofs.rows.Column.append_codes.Goals.{in-Some+in_ok-pu
 
 pub returns-in_err-known : goal.returns-in_err-known
 returns-in_err-known g c =
-    let numbering = g.B.Backend.numbering in
+    let numbering = g.B.Store.numbering in
     let theirs = g.T.TextList.texts c.args.entries.now in
     let rows = rows_of theirs c.args.codes.now.items in
     let before : c.args.start < c.args.end = omega (arith, c.requires.ordered, c.if-start-end.false) in
@@ -54,7 +54,7 @@ returns-in_err-push_code-in-Some g c =
     let text = get_or theirs c.at-theirs.result [] in
     let entry : slice_get theirs c.at-theirs.result ≡ Some text = slice_get-get_or theirs c.at-theirs.result [] within in
     let row : slice_get rows c.loop-row.row ≡ Some text = row-of theirs c.args.codes.now.items c.loop-row.row c.at-theirs.result text inside c.at-theirs.ensures entry in
-    let numbering = g.B.Backend.numbering in
+    let numbering = g.B.Store.numbering in
     refused-at numbering c.args.self.now rows c.args.start c.loop-row.row c.args.end text c.from_residual-in_err-push_code-in-Some.result c.push_code.new.self
     (omega (arith, c.loop-row.auto.row)) c.loop-row-test.true row (c.in_err-push_code-in-Some.ensures.err ∙ c.loop-row.invariant.rows)
     (memory-refusal numbering c.from_residual-in_err-push_code-in-Some.result _ _ _ c.from_residual-in_err-push_code-in-Some.ensures.1)
@@ -75,7 +75,7 @@ returns-in_err-push-in-None g c =
     let text = get_or theirs c.at-theirs.result [] in
     let entry : slice_get theirs c.at-theirs.result ≡ Some text = slice_get-get_or theirs c.at-theirs.result [] within in
     let row : slice_get rows c.loop-row.row ≡ Some text = row-of theirs c.args.codes.now.items c.loop-row.row c.at-theirs.result text inside c.at-theirs.ensures entry in
-    let numbering = g.B.Backend.numbering in
+    let numbering = g.B.Store.numbering in
     let refused = c.in_err-push-in-None.ensures in
     refused-at numbering c.args.self.now rows c.args.start c.loop-row.row c.args.end text c.from_residual-in_err-push-in-None.result c.push.new.self
     (omega (arith, c.loop-row.auto.row)) c.loop-row-test.true row (refused.1 ∙ c.loop-row.invariant.rows)

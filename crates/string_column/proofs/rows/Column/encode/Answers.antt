@@ -18,7 +18,7 @@ loop-text-preserved-then-distinct-lt-FEWEST_FOR_BLOCKS g c =
     let inv = c.loop-text.invariant in let block = c.in-Some.text ∷ [] in let empty : c.loop-text.len ≡ 0 = search rules in (
       inv.0 ++ block,
       ap (λ xs. xs ++ block) (all-in c.loop-text.yielded inv.0 c.loop-text.block c.loop-text.len inv.1 empty) ∙ sym (all-in _ (inv.0 ++ block) c.loop-text.block c.loop-text.len refl empty),
-      rows-more g.B.Backend.numbering c.args.self.now c.loop-text.self c.push.new.self inv.0 block (Ok tt) refl inv.2 (block, c.in_ok-push.ensures.1, refl),
+      rows-more g.B.Store.numbering c.args.self.now c.loop-text.self c.push.new.self inv.0 block (Ok tt) refl inv.2 (block, c.in_ok-push.ensures.1, refl),
       inv.3,
       inv.4,
     )
@@ -26,7 +26,7 @@ loop-text-preserved-then-distinct-lt-FEWEST_FOR_BLOCKS g c =
 pub returns-in_err-push_block : goal.returns-in_err-push_block
 returns-in_err-push_block g c =
     let inv = c.loop-text.invariant in let block = slice_set c.loop-text.block c.loop-text.len c.in-Some.text in
-    rows-stopped g.B.Backend.numbering (YieldedBy g.T.IntoIterator g.T.IntoIter.Iterator c.args.texts) c.args.self.now c.loop-text.self c.push_block.new.self inv.0 block c.in_err-push_block.field-0.0 c.from_residual-in_err-push_block.result (search rules)
+    rows-stopped g.B.Store.numbering (YieldedBy g.T.IntoIterator g.T.IntoIter.Iterator c.args.texts) c.args.self.now c.loop-text.self c.push_block.new.self inv.0 block c.in_err-push_block.field-0.0 c.from_residual-in_err-push_block.result (search rules)
     (yielded-front g.T.IntoIterator.into_iter_gives g.T.IntoIter.Iterator.next_gives c.args.texts c.into_iter-text-iterator.result c.next.new.self inv.0 block (c.loop-text.yielded ++ c.in-Some.text ∷ []) c.into_iter-text-iterator.ensures.into_iter_gives
     (filled c.loop-text.yielded inv.0 c.loop-text.block c.loop-text.len c.in-Some.text inv.1 (search rules))
     (yields-more g.T.IntoIter.Iterator.next_gives c.loop-text.yielded c.in-Some.text c.into_iter-text-iterator.result _ c.next.new.self c.loop-text.yielded_by c.in-Some.ensures.steps))
@@ -37,7 +37,7 @@ loop-text-preserved-then-len-eq-BLOCK_LEN g c =
     let inv = c.loop-text.invariant in let block = slice_set c.loop-text.block c.loop-text.len c.in-Some.text in (
       inv.0 ++ block,
       filled c.loop-text.yielded inv.0 c.loop-text.block c.loop-text.len c.in-Some.text inv.1 (search rules) ∙ sym (append-nil (inv.0 ++ block)),
-      rows-more g.B.Backend.numbering c.args.self.now c.loop-text.self c.push_block.new.self inv.0 block (Ok tt) refl inv.2 c.in_ok-push_block.ensures,
+      rows-more g.B.Store.numbering c.args.self.now c.loop-text.self c.push_block.new.self inv.0 block (Ok tt) refl inv.2 c.in_ok-push_block.ensures,
       omega arith,
       search rules,
     )
@@ -46,7 +46,7 @@ pub returns : goal.returns
 returns g c =
     let inv = c.loop-text.invariant in let block = take c.loop-text.len c.loop-text.block in
     let by = YieldedBy g.T.IntoIterator g.T.IntoIter.Iterator c.args.texts in
-    rows-last g.B.Backend.numbering by c.args.self.now c.loop-text.self _ inv.0 block c.push_block-2.result
+    rows-last g.B.Store.numbering by c.args.self.now c.loop-text.self _ inv.0 block c.push_block-2.result
     (λ ok. subst (λ xs. by xs None) inv.1 (drained-by g.T.IntoIterator.into_iter_gives g.T.IntoIter.Iterator.next_gives c.args.texts c.into_iter-text-iterator.result c.loop-text.yielded c.into_iter-text-iterator.ensures.into_iter_gives (search rules)))
     (yielded-front g.T.IntoIterator.into_iter_gives g.T.IntoIter.Iterator.next_gives c.args.texts c.into_iter-text-iterator.result _ inv.0 block c.loop-text.yielded c.into_iter-text-iterator.ensures.into_iter_gives inv.1 c.loop-text.yielded_by)
     inv.2 c.push_block-2.ensures

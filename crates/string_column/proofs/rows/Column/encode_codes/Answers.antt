@@ -20,5 +20,5 @@ returns-in_err-append_codes g c =
     let codes = c.args.codes.now.items in
     let rows = rows_of texts codes in
     let all : slice_range rows 0 c.len.result ≡ rows = range-all rows c.len.result (omega (arith, c.len.ensures, length-map codes (λ code. get_or texts code []))) in
-    refused-row g.B.Backend.numbering texts codes (rows_of c.args.dictionary c.new.result.items) c.append_codes.new.self c.from_residual.result c.in_err-append_codes.field-0.0
+    refused-row g.B.Store.numbering texts codes (rows_of c.args.dictionary c.new.result.items) c.append_codes.new.self c.from_residual.result c.in_err-append_codes.field-0.0
     c.from_residual.ensures.1 c.requires.indexes (ap (rows_of c.args.dictionary) c.new.ensures.items) (rw all at c.in_err-append_codes.ensures)

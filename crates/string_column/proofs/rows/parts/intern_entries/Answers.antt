@@ -22,5 +22,5 @@ loop-index-preserved g c =
 pub returns-in_err-intern-clause-fault : goal.returns-in_err-intern-clause-fault
 returns-in_err-intern-clause-fault g c =
     let none : Bor Text = record { ref_ptr = (0, 0); now = [] } in
-    refused-entry g.B.Backend.numbering (texts_of c.args.texts.now) c.loop-index.entries c.loop-index.index (get_or c.args.texts.now c.loop-index.index none).now c.from_residual.result c.in_err-intern.field-0.0
+    refused-entry g.B.Store.numbering (texts_of c.args.texts.now) c.loop-index.entries c.loop-index.index (get_or c.args.texts.now c.loop-index.index none).now c.from_residual.result c.in_err-intern.field-0.0
     c.from_residual.ensures.1 c.loop-index.invariant.so_far (text-at c.args.texts.now c.loop-index.index none c.loop-index-test.true) c.loop-index.invariant.distinct c.in_err-intern.ensures.0

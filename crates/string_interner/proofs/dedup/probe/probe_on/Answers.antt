@@ -20,19 +20,19 @@ loop-step-init g c =
 pub returns-in-Found-clause-found : goal.returns-in-Found-clause-found
 returns-in-Found-clause-found g c =
     let free = c.requires.free.free in let slots = g.L.Layout.layout.slots c.args.slots.now in let h = mod_less c.args.code (length slots) (omega arith) in
-    let leads = subst (λ b. StepsTo (has_text (entry_text g.B.Backend.numbering (g.B.Backend.texts b)) c.args.text.now) slots c.loop-step.at (Found c.in-Found.symbol)) c.loop-step.invariant.backend c.in-Found.ensures.leads in
+    let leads = subst (λ b. StepsTo (has_text (entry_text g.B.Store.numbering (g.B.Store.texts b)) c.args.text.now) slots c.loop-step.at (Found c.in-Found.symbol)) c.loop-step.invariant.backend c.in-Found.ensures.leads in
     sym (Stands-found _ _ _ h free _ _ c.in-Found.symbol c.loop-step.invariant.stands leads).0
 
 pub returns-in-Free-clause-found : goal.returns-in-Free-clause-found
 returns-in-Free-clause-found g c =
     let free = c.requires.free.free in let slots = g.L.Layout.layout.slots c.args.slots.now in let h = mod_less c.args.code (length slots) (omega arith) in
-    let leads = subst (λ b. StepsTo (has_text (entry_text g.B.Backend.numbering (g.B.Backend.texts b)) c.args.text.now) slots c.loop-step.at (Free c.in-Free.at)) c.loop-step.invariant.backend c.in-Free.ensures.leads in
+    let leads = subst (λ b. StepsTo (has_text (entry_text g.B.Store.numbering (g.B.Store.texts b)) c.args.text.now) slots c.loop-step.at (Free c.in-Free.at)) c.loop-step.invariant.backend c.in-Free.ensures.leads in
     sym (Stands-free_to _ _ _ h free _ _ c.in-Free.at c.loop-step.invariant.stands leads).found
 
 pub returns-in-Free-clause-vacant : goal.returns-in-Free-clause-vacant
 returns-in-Free-clause-vacant g c =
     let free = c.requires.free.free in let slots = g.L.Layout.layout.slots c.args.slots.now in let h = mod_less c.args.code (length slots) (omega arith) in
-    let leads = subst (λ b. StepsTo (has_text (entry_text g.B.Backend.numbering (g.B.Backend.texts b)) c.args.text.now) slots c.loop-step.at (Free c.in-Free.at)) c.loop-step.invariant.backend c.in-Free.ensures.leads in
+    let leads = subst (λ b. StepsTo (has_text (entry_text g.B.Store.numbering (g.B.Store.texts b)) c.args.text.now) slots c.loop-step.at (Free c.in-Free.at)) c.loop-step.invariant.backend c.in-Free.ensures.leads in
     let n = c.len-count.ensures in
     record { code_is = refl; before = omega arith; free = λ same some. (Stands-free_to _ _ _ h free _ _ c.in-Free.at c.loop-step.invariant.stands leads).is_free }
 
@@ -40,7 +40,7 @@ pub loop-step-preserved : goal.loop-step-preserved
 loop-step-preserved g c =
     let free = c.requires.free.free in let slots = g.L.Layout.layout.slots c.args.slots.now in let h = mod_less c.args.code (length slots) (omega arith) in
     let inv = c.loop-step.invariant in
-    let leads = subst (λ b. StepsTo (has_text (entry_text g.B.Backend.numbering (g.B.Backend.texts b)) c.args.text.now) slots c.loop-step.at (On c.in-On.next)) inv.backend c.in-On.ensures.leads in
+    let leads = subst (λ b. StepsTo (has_text (entry_text g.B.Store.numbering (g.B.Store.texts b)) c.args.text.now) slots c.loop-step.at (On c.in-On.next)) inv.backend c.in-On.ensures.leads in
     let a = inv.count in let b = c.step.ensures.looks in let d = inv.counts in let e = c.step.ensures.counts in
     record {
       stands = Stands-on _ _ _ h free _ _ c.in-On.next inv.stands leads;

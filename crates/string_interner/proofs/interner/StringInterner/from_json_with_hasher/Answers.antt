@@ -3,7 +3,7 @@ use Rattle.string_interner.proofs.Lemmas.Json.Reads.{reads_back}
 use Rattle.string_interner.proofs.interner.StringInterner.from_json_with_hasher.Goals as goal
 
 pub returns-in_err-read_elements-clause-gives_back : goal.returns-in_err-read_elements-clause-gives_back
-returns-in_err-read_elements-clause-gives_back g c = reads_back g.B.Backend.numbering _ _ (search rules)
+returns-in_err-read_elements-clause-gives_back g c = reads_back g.B.Store.numbering _ _ (search rules)
 
 pub returns-clause-gives_back : goal.returns-clause-gives_back
-returns-clause-gives_back g c = reads_back g.B.Backend.numbering _ (Ok c.read_elements.new.self) (search rules)
+returns-clause-gives_back g c = reads_back g.B.Store.numbering _ (Ok c.read_elements.new.self) (search rules)

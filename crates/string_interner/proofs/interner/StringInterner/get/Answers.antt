@@ -3,5 +3,5 @@ use Rattle.string_interner.proofs.Lemmas.Interner.IsSoundInterner.{finds, known-
 use Rattle.string_interner.proofs.interner.StringInterner.get.Goals as goal
 
 pub returns : goal.returns
-returns g c = rw (← c.self.view_is) (finds g.B.Backend.numbering _ c.args.text.now _ c.self.invariant.texts.valid
-    (known-found g.B.Backend.numbering (numbered g.B.Backend.numbering g.met.B.Backend.symbols g.met.B.Symbol.Symbol.numbered) (injective g.B.Backend.numbering g.met.B.Backend.symbols g.met.B.Symbol.Symbol.injective) g.met.B.Backend.grows _ c.self.invariant.texts.distinct c.self.invariant.texts.valid c.args.text.now _ c.find.ensures))
+returns g c = rw (← c.self.view_is) (finds g.B.Store.numbering _ c.args.text.now _ c.self.invariant.texts.valid
+    (known-found g.B.Store.numbering (numbered g.B.Store.numbering g.met.B.Store.symbols g.met.B.Symbol.Symbol.numbered) (injective g.B.Store.numbering g.met.B.Store.symbols g.met.B.Symbol.Symbol.injective) g.met.B.Store.grows _ c.self.invariant.texts.distinct c.self.invariant.texts.valid c.args.text.now _ c.find.ensures))

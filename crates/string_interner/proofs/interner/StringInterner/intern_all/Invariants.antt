@@ -9,6 +9,6 @@ use Rattle.string_interner.proofs.interner.StringInterner.intern_all.Given as go
 -- list of symbols holds no less than it did, and has room for one more than these.
 abbrev pub invariant-loop-text : goal.invariant-loop-text
 invariant-loop-text g l = (done : List (Bor Text)) × (l.yielded ≡ done ++ take l.len l.block)
-    × AppendsSymbols g.B.Backend.numbering g.I.TextIndex.rule l.fn.self l.fn.symbols.items (texts_of done) l.self l.symbols.items
+    × AppendsSymbols g.B.Store.numbering g.I.TextIndex.rule l.fn.self l.fn.symbols.items (texts_of done) l.self l.symbols.items
     × (vec_capacity l.fn.symbols ≤ vec_capacity l.symbols) × (l.len < 32) × (length l.block ≡ 32)
     × (l.len ≢ 0 → length l.symbols.items + l.len < vec_capacity l.symbols)

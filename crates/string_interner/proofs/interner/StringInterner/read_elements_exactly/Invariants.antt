@@ -9,7 +9,7 @@ use Rattle.string_interner.proofs.interner.StringInterner.read_elements_exactly.
 -- these texts, if they were before
 abbrev pub invariant-loop-index : goal.invariant-loop-index
 invariant-loop-index g l = record {
-  reads : (outcome : Result InternerContents JsonError) → ReadsElementsExactly g.B.Backend.numbering l.self.texts l.index (items_view (drop l.index l.elements)) outcome
-      → ReadsElementsExactly g.B.Backend.numbering l.fn.self.texts 0 (items_view l.elements) outcome;
+  reads : (outcome : Result InternerContents JsonError) → ReadsElementsExactly g.B.Store.numbering l.self.texts l.index (items_view (drop l.index l.elements)) outcome
+      → ReadsElementsExactly g.B.Store.numbering l.fn.self.texts 0 (items_view l.elements) outcome;
   slots : KeepsLeastSlots g.I.TextIndex.rule l.fn.self l.self;
 }

@@ -4,6 +4,6 @@ use Rattle.string_interner.proofs.interner.StringInterner.resolve_unchecked.Goal
 
 pub returns : goal.returns
 returns g c =
-    let is_numbered = numbered g.B.Backend.numbering g.met.B.Backend.symbols g.met.B.Symbol.Symbol.numbered in
-    let is_injective = injective g.B.Backend.numbering g.met.B.Backend.symbols g.met.B.Symbol.Symbol.injective in
-    rw (← c.self.view_is) (stands-placed g.B.Backend.numbering is_numbered is_injective _ c.args.symbol _ c.self.invariant.texts.valid (rw (← c.self.view_is) at c.requires) c.resolve_unchecked.ensures)
+    let is_numbered = numbered g.B.Store.numbering g.met.B.Store.symbols g.met.B.Symbol.Symbol.numbered in
+    let is_injective = injective g.B.Store.numbering g.met.B.Store.symbols g.met.B.Symbol.Symbol.injective in
+    rw (← c.self.view_is) (stands-placed g.B.Store.numbering is_numbered is_injective _ c.args.symbol _ c.self.invariant.texts.valid (rw (← c.self.view_is) at c.requires) c.resolve_unchecked.ensures)

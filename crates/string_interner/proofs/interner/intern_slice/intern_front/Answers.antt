@@ -5,7 +5,7 @@ use Rattle.string_interner.proofs.interner.intern_slice.intern_front.Goals as go
 
 pub loop-at-init : goal.loop-at-init
 loop-at-init g c = let loaded = subst (IsLoaded g.I.TextIndex.rule (g.I.TextIndex.slots c.args.index.now)) c.requires.sound.count c.len.ensures.loaded in record {
-  front = front-none g.B.Backend.numbering g.I.TextIndex.rule g.met.I.TextIndex.rule_laws _ _ _ loaded;
+  front = front-none g.B.Store.numbering g.I.TextIndex.rule g.met.I.TextIndex.rule_laws _ _ _ loaded;
   sound = c.requires.sound;
   loaded = loaded;
   ahead = record {
@@ -30,12 +30,12 @@ loop-at-preserved g c =
     let room : c.loop-at.at < length c.loop-at.numbers = omega (arith, within, inv.front.count, c.requires.room) in
     let loaded = subst (IsLoaded g.I.TextIndex.rule (g.I.TextIndex.slots c.intern_coded.new.index)) call.sound.count c.len-in-loop-at.ensures.loaded in
     record {
-      front = front-more g.B.Backend.numbering g.I.TextIndex.rule g.met.I.TextIndex.rule_laws _ _ c.args.texts.now c.loop-at.at _ _ _ c.loop-at.numbers c.in-Ok.symbol _ within room inv.loaded loaded
-          (c.to_usize.ensures.value ∙ ap (λ f. f c.in-Ok.symbol) (sym g.met.B.Backend.symbols.1)) inv.front call.interns;
+      front = front-more g.B.Store.numbering g.I.TextIndex.rule g.met.I.TextIndex.rule_laws _ _ c.args.texts.now c.loop-at.at _ _ _ c.loop-at.numbers c.in-Ok.symbol _ within room inv.loaded loaded
+          (c.to_usize.ensures.value ∙ ap (λ f. f c.in-Ok.symbol) (sym g.met.B.Store.symbols.1)) inv.front call.interns;
       sound = call.sound;
       loaded = loaded;
-      ahead = ahead-kept g.B.Backend.numbering (g.H.TextHasher.code c.args.hasher.now) g.B.Symbol.Symbol.symbol_of _ _ call.interns.keeps _ _ _ c.find-code.ensures.ahead;
+      ahead = ahead-kept g.B.Store.numbering (g.H.TextHasher.code c.args.hasher.now) g.B.Symbol.Symbol.symbol_of _ _ call.interns.keeps _ _ _ c.find-code.ensures.ahead;
     }
 
 pub returns-in-Err-clause-interns : goal.returns-in-Err-clause-interns
-returns-in-Err-clause-interns g c = slice-stopped g.B.Backend.numbering g.I.TextIndex.rule g.met.I.TextIndex.rule_laws c.args.texts.now c.loop-at.at _ _ _ _ _ _ c.in-Err.error _ (search rules) refl c.loop-at.invariant.front c.in-Err.ensures.interns
+returns-in-Err-clause-interns g c = slice-stopped g.B.Store.numbering g.I.TextIndex.rule g.met.I.TextIndex.rule_laws c.args.texts.now c.loop-at.at _ _ _ _ _ _ c.in-Err.error _ (search rules) refl c.loop-at.invariant.front c.in-Err.ensures.interns

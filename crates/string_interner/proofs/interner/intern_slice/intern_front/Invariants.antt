@@ -8,10 +8,10 @@ use Rattle.string_interner.proofs.interner.intern_slice.intern_front.Given as go
 -- was found ahead is known
 abbrev pub invariant-loop-at : goal.invariant-loop-at
 invariant-loop-at g l = record {
-  front : InternsFront g.B.Backend.numbering g.I.TextIndex.rule
-      (contents_of (g.B.Backend.texts l.fn.backend) (g.B.Backend.buckets l.fn.backend) (g.B.Backend.room l.fn.backend) (g.I.TextIndex.slots l.fn.index)) l.fn.numbers l.texts l.at
-      (contents_of (g.B.Backend.texts l.backend) (g.B.Backend.buckets l.backend) (g.B.Backend.room l.backend) (g.I.TextIndex.slots l.index)) l.numbers;
-  sound : IsSoundInterner g.B.Backend.numbering (λ entry. g.I.TextIndex.indexes l.index entry (g.H.TextHasher.code l.hasher)) (g.I.TextIndex.entries l.index) (g.B.Backend.texts l.backend);
-  loaded : IsLoaded g.I.TextIndex.rule (g.I.TextIndex.slots l.index) (length (g.B.Backend.texts l.backend));
-  ahead : LooksAhead (g.H.TextHasher.code l.hasher) g.B.Symbol.Symbol.symbol_of g.B.Backend.numbering (g.B.Backend.texts l.backend) l.texts l.at l.ahead;
+  front : InternsFront g.B.Store.numbering g.I.TextIndex.rule
+      (contents_of (g.B.Store.texts l.fn.backend) (g.B.Store.buckets l.fn.backend) (g.B.Store.room l.fn.backend) (g.I.TextIndex.slots l.fn.index)) l.fn.numbers l.texts l.at
+      (contents_of (g.B.Store.texts l.backend) (g.B.Store.buckets l.backend) (g.B.Store.room l.backend) (g.I.TextIndex.slots l.index)) l.numbers;
+  sound : IsSoundInterner g.B.Store.numbering (λ entry. g.I.TextIndex.indexes l.index entry (g.H.TextHasher.code l.hasher)) (g.I.TextIndex.entries l.index) (g.B.Store.texts l.backend);
+  loaded : IsLoaded g.I.TextIndex.rule (g.I.TextIndex.slots l.index) (length (g.B.Store.texts l.backend));
+  ahead : LooksAhead (g.H.TextHasher.code l.hasher) g.B.Symbol.Symbol.symbol_of g.B.Store.numbering (g.B.Store.texts l.backend) l.texts l.at l.ahead;
 }

@@ -19,9 +19,9 @@ loop-at-preserved g c = elim c.if-ne.branch [
       let same : (text : Bor Text) → (slice_index_or c.resolve_each.new.found at text).now ≡ (slice_index_or c.args.texts.now at text).now = λ text.
       ap (λ (b : Bor Text). b.now) (get_or_default c.resolve_each.new.found at text _ (search rules)) ∙ (bytes_eq-Decides _ _).0 (not-false _ (sym c.ne.ensures ∙ w.if-ne.false))
       ∙ ap (λ (b : Bor Text). b.now) (get_or_default c.args.texts.now at _ text (search rules)) in
-      let here : (text : Bor Text) → IsKnown g.B.Symbol.Symbol.symbol_of g.B.Backend.numbering (g.B.Backend.texts c.args.backend.now) (slice_index_or c.args.texts.now at text).now (slice_index_or c.if-ne.guesses at None) = λ text.
-      resolved-known g.B.Backend.numbering (numbered g.B.Backend.numbering g.met.B.Backend.symbols g.met.B.Symbol.Symbol.numbered) (injective g.B.Backend.numbering g.met.B.Backend.symbols g.met.B.Symbol.Symbol.injective) g.met.B.Backend.grows (g.B.Backend.texts c.args.backend.now) c.requires.texts.distinct c.requires.texts.valid
+      let here : (text : Bor Text) → IsKnown g.B.Symbol.Symbol.symbol_of g.B.Store.numbering (g.B.Store.texts c.args.backend.now) (slice_index_or c.args.texts.now at text).now (slice_index_or c.if-ne.guesses at None) = λ text.
+      resolved-known g.B.Store.numbering (numbered g.B.Store.numbering g.met.B.Store.symbols g.met.B.Symbol.Symbol.numbered) (injective g.B.Store.numbering g.met.B.Store.symbols g.met.B.Symbol.Symbol.injective) g.met.B.Store.grows (g.B.Store.texts c.args.backend.now) c.requires.texts.distinct c.requires.texts.valid
       g.B.Symbol.Symbol.symbol_of (slice_index_or c.if-ne.guesses at None) (slice_index_or c.args.texts.now at text).now
-      (subst (λ t. IsResolved g.B.Symbol.Symbol.symbol_of (entry_text g.B.Backend.numbering (g.B.Backend.texts c.args.backend.now)) (slice_index_or c.if-ne.guesses at None) t) (same text) (search rules)) in
+      (subst (λ t. IsResolved g.B.Symbol.Symbol.symbol_of (entry_text g.B.Store.numbering (g.B.Store.texts c.args.backend.now)) (slice_index_or c.if-ne.guesses at None) t) (same text) (search rules)) in
       search (rules, here)
 ]

@@ -11,7 +11,7 @@ invariant-loop-at g l = record {
   count : length l.guesses ≡ length l.texts;
   found_count : length l.found ≡ length l.texts;
   found : (k : ℕ) → l.at ≤ k → k < length l.guesses → (text : Bor Text)
-      → IsResolved g.B.Symbol.Symbol.symbol_of (entry_text g.B.Backend.numbering (g.B.Backend.texts l.backend)) (slice_index_or l.guesses k None) (slice_index_or l.found k text).now;
+      → IsResolved g.B.Symbol.Symbol.symbol_of (entry_text g.B.Store.numbering (g.B.Store.texts l.backend)) (slice_index_or l.guesses k None) (slice_index_or l.found k text).now;
   known : (k : ℕ) → k < l.at → (text : Bor Text)
-      → IsKnown g.B.Symbol.Symbol.symbol_of g.B.Backend.numbering (g.B.Backend.texts l.backend) (slice_index_or l.texts k text).now (slice_index_or l.guesses k None);
+      → IsKnown g.B.Symbol.Symbol.symbol_of g.B.Store.numbering (g.B.Store.texts l.backend) (slice_index_or l.texts k text).now (slice_index_or l.guesses k None);
 }

@@ -9,5 +9,5 @@ abbrev pub invariant-loop-at : goal.invariant-loop-at
 invariant-loop-at g l = record {
   count : length l.guesses ≡ length l.codes;
   guesses : (k : ℕ) → k < l.at
-      → IsGuess g.B.Symbol.Symbol.symbol_of (entry_text g.B.Backend.numbering (g.B.Backend.texts l.backend)) (slice_index_or l.guesses k None);
+      → IsGuess g.B.Symbol.Symbol.symbol_of (entry_text g.B.Store.numbering (g.B.Store.texts l.backend)) (slice_index_or l.guesses k None);
 }

@@ -10,5 +10,5 @@ abbrev pub invariant-loop-at : goal.invariant-loop-at
 invariant-loop-at g l = record {
   count : length l.found ≡ length l.guesses;
   found : (k : ℕ) → k < l.at → (text : Bor Text)
-      → IsResolved g.B.Symbol.Symbol.symbol_of (entry_text g.B.Backend.numbering (g.B.Backend.texts l.backend)) (slice_index_or l.guesses k None) (slice_index_or l.found k text).now;
+      → IsResolved g.B.Symbol.Symbol.symbol_of (entry_text g.B.Store.numbering (g.B.Store.texts l.backend)) (slice_index_or l.guesses k None) (slice_index_or l.found k text).now;
 }

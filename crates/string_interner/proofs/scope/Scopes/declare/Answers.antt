@@ -6,10 +6,10 @@ pub returns-clause-interns : goal.returns-clause-interns
 returns-clause-interns g c = rw (← c.self.view_is, joined_layers-of_list, joined_layers-of_list) c.get_or_intern.ensures
 
 pub returns-clause-new : goal.returns-clause-new
-returns-clause-new g c = rw (← c.self.view_is, joined_layers-of_list) (top-gains g.B.Backend.numbering _ _ c.self.invariant _ _ _ c.get_or_intern.ensures.interns)
+returns-clause-new g c = rw (← c.self.view_is, joined_layers-of_list) (top-gains g.B.Store.numbering _ _ c.self.invariant _ _ _ c.get_or_intern.ensures.interns)
 
 pub returns-clause-known : goal.returns-clause-known
 returns-clause-known g c = rw (← c.self.view_is, joined_layers-of_list) (λ h. rw (c.get_or_intern.ensures.known h) refl)
 
 pub returns-clause-step : goal.returns-clause-step
-returns-clause-step g c = rw (← c.self.view_is) (step-declares g.B.Backend.numbering _ _ c.self.invariant _ _ _ c.get_or_intern.ensures.interns)
+returns-clause-step g c = rw (← c.self.view_is) (step-declares g.B.Store.numbering _ _ c.self.invariant _ _ _ c.get_or_intern.ensures.interns)

@@ -20,7 +20,7 @@ returns-in-Some-clause-step g c = rw (← c.self.view_is) (step-leaves _ _ _ _ _
 pub returns-in-Some-clause-keeps : goal.returns-in-Some-clause-keeps
 returns-in-Some-clause-keeps g c = λ symbol text stands.
     let below = left_below _ _ _ _ _ _ (ap (λ (s : ScopesContents). s.below) c.self.view_is) c.in-Some.ensures.items c.truncate.ensures.texts in
-    subst (λ layers. StandsFor g.B.Backend.numbering (joined_layers layers) symbol text) below stands
+    subst (λ layers. StandsFor g.B.Store.numbering (joined_layers layers) symbol text) below stands
 
 pub returns-in-None-clause-step : goal.returns-in-None-clause-step
 returns-in-None-clause-step g c = step-stays _ _ (search rules)

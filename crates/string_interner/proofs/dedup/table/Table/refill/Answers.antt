@@ -15,5 +15,5 @@ pub invariant_of-self : goal.invariant_of-self
 invariant_of-self g c =
     let n = c.count-self-inside.ensures.value in
     IsSoundTable-filled g.L.Layout.layout g.met.L.Layout.layout_laws.load _ _ c.self.invariant _ _
-    (subst (λ m. g.L.Layout.layout.holds (length (g.L.Layout.layout.slots c.self.inside.slots)) m) (sym n) (subst (λ x. g.L.Layout.layout.holds (length (g.L.Layout.layout.slots x.slots)) (length (g.B.Backend.texts c.args.backend.now))) (sym c.self.view_is) c.requires.room))
+    (subst (λ m. g.L.Layout.layout.holds (length (g.L.Layout.layout.slots c.self.inside.slots)) m) (sym n) (subst (λ x. g.L.Layout.layout.holds (length (g.L.Layout.layout.slots x.slots)) (length (g.B.Store.texts c.args.backend.now))) (sym c.self.view_is) c.requires.room))
     (c.put_all.ensures.entries ∙ sym n) (c.put_all.ensures.count ∙ c.clear.ensures.count) refl (omega (arith, c.max-self-inside.ensures)) (omega arith)

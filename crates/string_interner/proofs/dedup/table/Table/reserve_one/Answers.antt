@@ -11,7 +11,7 @@ use Rattle.string_interner.proofs.dedup.table.Table.reserve_one.Goals as goal
 
 pub returns-clause-same : goal.returns-clause-same
 returns-clause-same g c =
-    let entry = entry_text g.B.Backend.numbering (g.B.Backend.texts c.args.backend.now) in let code = g.H.TextHasher.code c.args.hasher.now in let slots = g.L.Layout.layout.slots in
+    let entry = entry_text g.B.Store.numbering (g.B.Store.texts c.args.backend.now) in let code = g.H.TextHasher.code c.args.hasher.now in let slots = g.L.Layout.layout.slots in
     rw c.grow.ensures.slots (Rebuilt-same entry code (slots c.args.self.now.slots) (slots c.in_ok-bigger.bigger) (Fits-of g.L.Layout.layout g.met.L.Layout.layout_laws entry code c.args.self.now.slots c.requires)
     (subst (λ x. Rebuilt entry code (slots x.slots) (slots c.in_ok-bigger.bigger)) c.self.view_is c.in_ok-bigger.ensures.made))
 

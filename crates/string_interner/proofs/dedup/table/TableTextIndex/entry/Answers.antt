@@ -7,4 +7,4 @@ use Rattle.string_interner.proofs.dedup.table.TableTextIndex.entry.Goals as goal
 
 pub returns-clause-found : goal.returns-clause-found
 returns-clause-found g c = found-entry _ _ _ _ _ (IsWhole-of g.L.Layout.layout g.met.L.Layout.layout_laws _ _ c.args.self.now.slots c.requires.1.0)
-    (c.entry.ensures.seeks.found_is ∙ ap (λ (b : g.row.B.Denot). look_up (entry_text g.B.Backend.numbering (g.B.Backend.texts b)) (g.L.Layout.layout.slots c.args.self.now.slots) c.args.text.now) c.new.ensures.backend)
+    (c.entry.ensures.seeks.found_is ∙ ap (λ (b : g.row.B.Denot). look_up (entry_text g.B.Store.numbering (g.B.Store.texts b)) (g.L.Layout.layout.slots c.args.self.now.slots) c.args.text.now) c.new.ensures.backend)

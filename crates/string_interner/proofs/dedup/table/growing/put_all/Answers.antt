@@ -14,7 +14,7 @@ use Rattle.string_interner.proofs.dedup.table.growing.put_all.Given.{Over}
 
 pub loop-symbol-init : goal.loop-symbol-init
 loop-symbol-init g c = record {
-  placed = rw (c.into_iter-symbol-iterator.ensures.into_iter_gives, c.iter-symbol-items.ensures) (placed-start g.B.Backend.numbering (numbered g.B.Backend.numbering g.met.B.Backend.symbols g.met.S.Symbol.numbered) (injective g.B.Backend.numbering g.met.B.Backend.symbols g.met.S.Symbol.injective) g.met.B.Backend.grows (g.H.TextHasher.code c.args.hasher.now) (g.B.Backend.texts c.args.backend.now) c.requires.valid c.requires.distinct (g.L.Layout.layout.slots c.args.slots.now) c.requires.empty);
+  placed = rw (c.into_iter-symbol-iterator.ensures.into_iter_gives, c.iter-symbol-items.ensures) (placed-start g.B.Store.numbering (numbered g.B.Store.numbering g.met.B.Store.symbols g.met.S.Symbol.numbered) (injective g.B.Store.numbering g.met.B.Store.symbols g.met.S.Symbol.injective) g.met.B.Store.grows (g.H.TextHasher.code c.args.hasher.now) (g.B.Store.texts c.args.backend.now) c.requires.valid c.requires.distinct (g.L.Layout.layout.slots c.args.slots.now) c.requires.empty);
   coded = IsCoded-none g.L.Layout.layout.stores _ (g.H.TextHasher.code c.args.hasher.now) _ (g.L.Layout.layout.stored c.args.slots.now) c.requires.empty;
   size = refl;
 }
@@ -22,19 +22,19 @@ loop-symbol-init g c = record {
 pub loop-symbol-preserved : goal.loop-symbol-preserved
 loop-symbol-preserved g c =
     let inv = c.loop-symbol.invariant in let layout = g.L.Layout.layout in
-    let code = g.H.TextHasher.code c.args.hasher.now in let texts = g.B.Backend.texts c.args.backend.now in
+    let code = g.H.TextHasher.code c.args.hasher.now in let texts = g.B.Store.texts c.args.backend.now in
     let puts = puts_at _ _ _ _ _ c.hash_text.ensures c.put_by_code.ensures.slot in
     record {
-      placed = placed-next g.B.Backend.numbering (numbered g.B.Backend.numbering g.met.B.Backend.symbols g.met.S.Symbol.numbered) (injective g.B.Backend.numbering g.met.B.Backend.symbols g.met.S.Symbol.injective) g.met.B.Backend.grows code texts c.requires.valid c.requires.distinct _ _ _ _ (layout.slots c.loop-symbol.slots) (layout.slots c.put_by_code.new.slots) c.in-Some.symbol c.in-Some.text.now inv.placed c.in-Some.ensures.steps puts;
-      coded = IsCoded-put layout (entry_text g.B.Backend.numbering texts) code c.loop-symbol.slots c.put_by_code.new.slots _ c.in-Some.symbol _ c.put_by_code.ensures c.in-Some.text.now
-          (entry-ahead g.B.Backend.numbering (numbered g.B.Backend.numbering g.met.B.Backend.symbols g.met.S.Symbol.numbered) g.met.B.Backend.grows code texts _ _ _ _ _ c.in-Some.symbol c.in-Some.text.now inv.placed c.in-Some.ensures.steps)
+      placed = placed-next g.B.Store.numbering (numbered g.B.Store.numbering g.met.B.Store.symbols g.met.S.Symbol.numbered) (injective g.B.Store.numbering g.met.B.Store.symbols g.met.S.Symbol.injective) g.met.B.Store.grows code texts c.requires.valid c.requires.distinct _ _ _ _ (layout.slots c.loop-symbol.slots) (layout.slots c.put_by_code.new.slots) c.in-Some.symbol c.in-Some.text.now inv.placed c.in-Some.ensures.steps puts;
+      coded = IsCoded-put layout (entry_text g.B.Store.numbering texts) code c.loop-symbol.slots c.put_by_code.new.slots _ c.in-Some.symbol _ c.put_by_code.ensures c.in-Some.text.now
+          (entry-ahead g.B.Store.numbering (numbered g.B.Store.numbering g.met.B.Store.symbols g.met.S.Symbol.numbered) g.met.B.Store.grows code texts _ _ _ _ _ c.in-Some.symbol c.in-Some.text.now inv.placed c.in-Some.ensures.steps)
           (ap layout.stores c.hash_text.ensures) inv.coded;
       size = FillsSlot-length _ _ _ _ puts ∙ inv.size;
     }
 
 -- once the iteration has ended, all entries are in the slots
-filled : (g : Over) (c : In-None g) → IsFilled g.B.Backend.numbering (g.H.TextHasher.code c.args.hasher.now) (g.B.Backend.texts c.args.backend.now) (g.L.Layout.layout.slots c.loop-symbol.slots)
-filled g c = placed-end g.B.Backend.numbering (numbered g.B.Backend.numbering g.met.B.Backend.symbols g.met.S.Symbol.numbered) (injective g.B.Backend.numbering g.met.B.Backend.symbols g.met.S.Symbol.injective) g.met.B.Backend.grows (g.H.TextHasher.code c.args.hasher.now) (g.B.Backend.texts c.args.backend.now) c.requires.valid c.requires.distinct _ _ (g.L.Layout.layout.slots c.loop-symbol.slots) c.loop-symbol.invariant.placed c.in-None.ensures.steps.0
+filled : (g : Over) (c : In-None g) → IsFilled g.B.Store.numbering (g.H.TextHasher.code c.args.hasher.now) (g.B.Store.texts c.args.backend.now) (g.L.Layout.layout.slots c.loop-symbol.slots)
+filled g c = placed-end g.B.Store.numbering (numbered g.B.Store.numbering g.met.B.Store.symbols g.met.S.Symbol.numbered) (injective g.B.Store.numbering g.met.B.Store.symbols g.met.S.Symbol.injective) g.met.B.Store.grows (g.H.TextHasher.code c.args.hasher.now) (g.B.Store.texts c.args.backend.now) c.requires.valid c.requires.distinct _ _ (g.L.Layout.layout.slots c.loop-symbol.slots) c.loop-symbol.invariant.placed c.in-None.ensures.steps.0
 
 pub returns-clause-whole : goal.returns-clause-whole
 returns-clause-whole g c =

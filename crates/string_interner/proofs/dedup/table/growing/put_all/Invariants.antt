@@ -7,7 +7,7 @@ use Rattle.string_interner.proofs.dedup.table.growing.put_all.Given as goal
 -- the entries so far are in the slots, with what is stored of their codes
 abbrev pub invariant-loop-symbol : goal.invariant-loop-symbol
 invariant-loop-symbol g l = record {
-  placed : IsPlaced g.B.Backend.numbering (g.H.TextHasher.code l.hasher) (g.B.Backend.texts l.backend) l.symbol-iterator.behind l.symbol-iterator.ahead (g.L.Layout.layout.slots l.slots);
-  coded : IsCoded g.L.Layout.layout.stores (entry_text g.B.Backend.numbering (g.B.Backend.texts l.backend)) (g.H.TextHasher.code l.hasher) (g.L.Layout.layout.slots l.slots) (g.L.Layout.layout.stored l.slots);
+  placed : IsPlaced g.B.Store.numbering (g.H.TextHasher.code l.hasher) (g.B.Store.texts l.backend) l.symbol-iterator.behind l.symbol-iterator.ahead (g.L.Layout.layout.slots l.slots);
+  coded : IsCoded g.L.Layout.layout.stores (entry_text g.B.Store.numbering (g.B.Store.texts l.backend)) (g.H.TextHasher.code l.hasher) (g.L.Layout.layout.slots l.slots) (g.L.Layout.layout.stored l.slots);
   size : length (g.L.Layout.layout.slots l.slots) ≡ length (g.L.Layout.layout.slots l.fn.slots);
 }

@@ -28,7 +28,7 @@ put_by_code-requires g c = let inv = c.loop-at.invariant in record {
 pub loop-at-preserved : goal.loop-at-preserved
 loop-at-preserved g c =
     let inv = c.loop-at.invariant in let layout = g.L.Layout.layout in let slots = layout.slots c.args.slots.now in
-    let entry = entry_text g.B.Backend.numbering (g.B.Backend.texts c.args.backend.now) in let code = g.H.TextHasher.code c.args.hasher.now in
+    let entry = entry_text g.B.Store.numbering (g.B.Store.texts c.args.backend.now) in let code = g.H.TextHasher.code c.args.hasher.now in
     let fits : Fits entry code slots = Fits-of layout g.met.L.Layout.layout_laws entry code c.args.slots.now c.requires.fits in
     let same = ap (λ s. get_or (layout.slots s) c.loop-at.at None) (sym inv.same) in
     elim c.match-rehash_slot.branch [

@@ -8,6 +8,6 @@ abbrev pub invariant-loop-at : goal.invariant-loop-at
 invariant-loop-at g l = record {
   same : l.slots ≡ l.fn.slots;
   size : length (g.L.Layout.layout.slots l.bigger) ≡ l.count;
-  rebuilt : Rebuilt (entry_text g.B.Backend.numbering (g.B.Backend.texts l.backend)) (g.H.TextHasher.code l.hasher) (take l.at (g.L.Layout.layout.slots l.fn.slots)) (g.L.Layout.layout.slots l.bigger);
-  coded : IsCoded g.L.Layout.layout.stores (entry_text g.B.Backend.numbering (g.B.Backend.texts l.backend)) (g.H.TextHasher.code l.hasher) (g.L.Layout.layout.slots l.bigger) (g.L.Layout.layout.stored l.bigger);
+  rebuilt : Rebuilt (entry_text g.B.Store.numbering (g.B.Store.texts l.backend)) (g.H.TextHasher.code l.hasher) (take l.at (g.L.Layout.layout.slots l.fn.slots)) (g.L.Layout.layout.slots l.bigger);
+  coded : IsCoded g.L.Layout.layout.stores (entry_text g.B.Store.numbering (g.B.Store.texts l.backend)) (g.H.TextHasher.code l.hasher) (g.L.Layout.layout.slots l.bigger) (g.L.Layout.layout.stored l.bigger);
 }

@@ -15,21 +15,21 @@ pub returns-in-Found-clause-found : goal.returns-in-Found-clause-found
 returns-in-Found-clause-found g c =
     let free = c.requires.free.free in let slots = symbols_in c.args.self.now in let h = mod_less c.args.code (length slots) (omega arith) in
     let home = c.home_of.ensures ∙ ap (λ n. c.args.code % n) c.len-count.ensures in
-    let leads = subst (λ at. StepsTo (has_text (entry_text g.B.Backend.numbering (g.B.Backend.texts c.args.looks.now.backend)) c.args.text.now) slots at (Found c.in-Found.symbol)) home c.in-Found.ensures.leads in
+    let leads = subst (λ at. StepsTo (has_text (entry_text g.B.Store.numbering (g.B.Store.texts c.args.looks.now.backend)) c.args.text.now) slots at (Found c.in-Found.symbol)) home c.in-Found.ensures.leads in
     sym (Stands-found _ _ _ h free 0 _ c.in-Found.symbol (Stands-start _ _ _ h free) leads).0
 
 pub returns-in-Free-clause-found : goal.returns-in-Free-clause-found
 returns-in-Free-clause-found g c =
     let free = c.requires.free.free in let slots = symbols_in c.args.self.now in let h = mod_less c.args.code (length slots) (omega arith) in
     let home = c.home_of.ensures ∙ ap (λ n. c.args.code % n) c.len-count.ensures in
-    let leads = subst (λ at. StepsTo (has_text (entry_text g.B.Backend.numbering (g.B.Backend.texts c.args.looks.now.backend)) c.args.text.now) slots at (Free c.in-Free.field-0)) home c.in-Free.ensures.leads in
+    let leads = subst (λ at. StepsTo (has_text (entry_text g.B.Store.numbering (g.B.Store.texts c.args.looks.now.backend)) c.args.text.now) slots at (Free c.in-Free.field-0)) home c.in-Free.ensures.leads in
     sym (Stands-free_to _ _ _ h free 0 _ c.in-Free.field-0 (Stands-start _ _ _ h free) leads).found
 
 pub returns-then-is_none-clause-found : goal.returns-then-is_none-clause-found
 returns-then-is_none-clause-found g c =
     let free = c.requires.free.free in let slots = symbols_in c.args.self.now in let h = mod_less c.args.code (length slots) (omega arith) in
     let home = c.home_of.ensures ∙ ap (λ n. c.args.code % n) c.len-count.ensures in
-    let entry = entry_text g.B.Backend.numbering (g.B.Backend.texts c.args.looks.now.backend) in
+    let entry = entry_text g.B.Store.numbering (g.B.Store.texts c.args.looks.now.backend) in
     let test = has_text entry c.args.text.now in
     let leads = subst (λ at. StepsTo test slots at (On c.in-On.from)) home c.in-On.ensures.leads in
     let misses = λ (k : ℕ) (inside : k < length c.args.self.now) (other : HasAnotherTag c.args.self.now c.tag_of.result k).

@@ -15,13 +15,13 @@ use Rattle.string_interner.proofs.dedup.tagged.TaggedSlotsProbe.step.Given.{Over
 
 -- a slot of another tag misses
 misses : (g : Over) (c : After-pass-reached g) → (k : ℕ) → k < length c.args.self.now → HasAnotherTag c.args.self.now c.tag_of-tag.result k
-    → Misses (has_text (entry_text g.B.Backend.numbering (g.B.Backend.texts c.args.looks.now.backend)) c.args.text.now) (symbols_in c.args.self.now) k
-misses g c = TagTells-misses (entry_text g.B.Backend.numbering (g.B.Backend.texts c.args.looks.now.backend)) _ c.args.self.now c.requires.fits.1.0 c.args.text.now c.args.code _ c.requires.fits.1.1
+    → Misses (has_text (entry_text g.B.Store.numbering (g.B.Store.texts c.args.looks.now.backend)) c.args.text.now) (symbols_in c.args.self.now) k
+misses g c = TagTells-misses (entry_text g.B.Store.numbering (g.B.Store.texts c.args.looks.now.backend)) _ c.args.self.now c.requires.fits.1.0 c.args.text.now c.args.code _ c.requires.fits.1.1
     (c.tag_of-tag.ensures ∙ ap tag_of c.stored_code.ensures)
 
 -- so do all that are passed, if they have others
 passes : (g : Over) (c : After-pass-reached g) → (to : ℕ) → c.args.at ≤ to → to < length c.args.self.now → ((k : ℕ) → c.args.at ≤ k → k < to → HasAnotherTag c.args.self.now c.tag_of-tag.result k)
-    → Passes (has_text (entry_text g.B.Backend.numbering (g.B.Backend.texts c.args.looks.now.backend)) c.args.text.now) (symbols_in c.args.self.now) c.args.at to
+    → Passes (has_text (entry_text g.B.Store.numbering (g.B.Store.texts c.args.looks.now.backend)) c.args.text.now) (symbols_in c.args.self.now) c.args.at to
 passes g c to a l others =
     let m = length-map c.args.self.now symbol_in in
     record { ordered = a; within = omega arith; missed = λ k from before. misses g c k (omega arith) (others k from before) }

@@ -4,4 +4,4 @@ use Rattle.string_interner.proofs.Lemmas.Interner.IsSoundInterner.{sought}
 use Rattle.suite.proofs.indexes.filled.FilledTexts.find.Goals as goal
 
 pub returns : goal.returns
-returns g c = sym (sought g.B.Backend.numbering (numbered g.B.Backend.numbering g.met.B.Backend.symbols g.met.B.Symbol.Symbol.numbered) (injective g.B.Backend.numbering g.met.B.Backend.symbols g.met.B.Symbol.Symbol.injective) g.met.B.Backend.grows _ _ _ (rw c.self.view_is at c.self.invariant) _ _ c.args.text.now c.find.ensures.found_is (ap g.B.Backend.texts c.new-looks.ensures.backend ∙ c.self.view_is))
+returns g c = sym (sought g.B.Store.numbering (numbered g.B.Store.numbering g.met.B.Store.symbols g.met.B.Symbol.Symbol.numbered) (injective g.B.Store.numbering g.met.B.Store.symbols g.met.B.Symbol.Symbol.injective) g.met.B.Store.grows _ _ _ (rw c.self.view_is at c.self.invariant) _ _ c.args.text.now c.find.ensures.found_is (ap g.B.Store.texts c.new-looks.ensures.backend ∙ c.self.view_is))

@@ -1,0 +1,173 @@
+/* Columns of some rows of another. */
+#include "native.h"
+
+/* Raises IndexError for a number of a buffer without a row. */
+static Block *refuse_row(Block *block, int64_t row, bool is_unsigned) {
+  drop_block(block);
+  if (is_unsigned) PyErr_Format(PyExc_IndexError, "there is no row %llu", (unsigned long long)row);
+  else PyErr_Format(PyExc_IndexError, "there is no row %lld", (long long)row);
+  return NULL;
+}
+
+/* So many rows before its turn a code is fetched from memory, because numbers may be in no order. */
+enum { AHEAD = 24 };
+
+/* There may be no such row, so its place is counted without a sign. */
+static inline void fetch_code(const Encoded *from, int64_t row) {
+  if (from->n) __builtin_prefetch((const void *)((uintptr_t)from->block->data + (uintptr_t)row * from->block->width));
+}
+
+/* The codes of rows whose numbers are in a buffer. Each is read once, because others may change it. One below 0 counts from the
+ * end; without a sign it is great. */
+static inline __attribute__((always_inline)) Block *take_view(const Encoded *from, const Py_buffer *view, Py_ssize_t width,
+                                                              bool is_unsigned) {
+  const char *at = view->buf;
+  const Py_ssize_t n = view->len / width, step = view->strides ? view->strides[0] : width;
+  const bool is_narrow = from->n && from->block->width == 4;
+  Block *block = new_block(n, from->n ? from->block->width : 4);
+  for (Py_ssize_t place = 0; block && place < n; place++, at += step) {
+    if (place + AHEAD < n) fetch_code(from, widen(at + AHEAD * step, width, is_unsigned));
+    const int64_t given = widen(at, width, is_unsigned), row = given < 0 && !is_unsigned ? given + from->n : given;
+    if ((uint64_t)row >= (uint64_t)from->n) return refuse_row(block, given, is_unsigned);
+    if (is_narrow) ((int32_t *)block->data)[place] = ((const int32_t *)from->block->data)[row];
+    else block->data[place] = from->block->data[row];
+  }
+  if (block) block->used = n;
+  return block;
+}
+
+/* The same for the widths that arrays of numbers have by default, so that the loop knows them. */
+static Block *take_numbers(const Encoded *from, const Py_buffer *view, Py_ssize_t width, bool is_unsigned) {
+  if (width == 8 && !is_unsigned) return take_view(from, view, 8, false);
+  if (width == 4 && !is_unsigned) return take_view(from, view, 4, false);
+  return take_view(from, view, width, is_unsigned);
+}
+
+static Block *refuse_mask(Py_ssize_t of_mask, Py_ssize_t rows) {
+  PyErr_Format(PyExc_IndexError, "the mask is for %zd rows, and the column has %zd", of_mask, rows);
+  return NULL;
+}
+
+/* The codes of the rows for which a mask is true. Each boolean is read once, as above. */
+static Block *mask_view(const Encoded *from, const Py_buffer *view) {
+  const char *at = view->buf;
+  const Py_ssize_t n = view->len, step = view->strides ? view->strides[0] : 1;
+  if (n != from->n) return refuse_mask(n, from->n);
+  /* A place more, because each code is written, and stays if its boolean is true. */
+  Block *block = new_block(n + 1, n ? from->block->width : 4);
+  if (!block) return NULL;
+  Py_ssize_t kept = 0;
+  if (block->width == 4)
+    for (Py_ssize_t row = 0; row < n; row++, at += step) {
+      ((int32_t *)block->data)[kept] = ((const int32_t *)from->block->data)[row];
+      kept += *at != 0;
+    }
+  else
+    for (Py_ssize_t row = 0; row < n; row++, at += step) {
+      block->data[kept] = from->block->data[row];
+      kept += *at != 0;
+    }
+  block->used = kept;
+  shrink_block(&block, kept);
+  return block;
+}
+
+/* The codes of rows whose numbers are not in a buffer. */
+static Block *take_copied(const Encoded *from, const Numbers *rows) {
+  Block *block = new_block(rows->n, from->n ? from->block->width : 4);
+  for (Py_ssize_t at = 0; block && at < rows->n; at++) {
+    const int64_t row = rows->at[at] < 0 ? rows->at[at] + from->n : rows->at[at];
+    if (row >= 0 && row < from->n) set_code(block, at, code_at(from->block, row));
+    else {
+      PyObject *name = name_number(rows, at);
+      if (name) PyErr_Format(PyExc_IndexError, "there is no row %U", name);
+      Py_XDECREF(name);
+      drop_block(block);
+      return NULL;
+    }
+  }
+  if (block) block->used = rows->n;
+  return block;
+}
+
+/* The same for booleans. */
+static Block *mask_copied(const Encoded *from, const Numbers *mask) {
+  Py_ssize_t n = 0;
+  if (mask->n != from->n) return refuse_mask(mask->n, from->n);
+  for (Py_ssize_t row = 0; row < mask->n; row++) n += mask->at[row] != 0;
+  Block *block = new_block(n, from->n ? from->block->width : 4);
+  for (Py_ssize_t row = 0; block && row < mask->n; row++)
+    if (mask->at[row]) set_code(block, block->used++, code_at(from->block, row));
+  return block;
+}
+
+/* The codes of rows whose numbers, or a mask if one is allowed, are in a buffer. */
+static Block *choose_view(const Encoded *from, const Py_buffer *view, Py_ssize_t width, bool takes_mask) {
+  const char kind = *view->format;
+  if (kind != '?') return take_numbers(from, view, width, kind < 'a');
+  return takes_mask ? mask_view(from, view) : (refuse_booleans(), NULL);
+}
+
+static Block *choose_copied(const Encoded *from, const Numbers *rows, bool takes_mask) {
+  if (!takes_mask && (rows->booleans || rows->is_mask)) return refuse_booleans(), NULL;
+  if (rows->is_mask) return mask_copied(from, rows);
+  if (!rows->booleans) return take_copied(from, rows);
+  return PyErr_SetString(PyExc_TypeError, "some are booleans, and some are numbers"), NULL;
+}
+
+/* A column of a block of codes. */
+static PyObject *make_part(Column *taken, const Column *self, const Encoded *from, Block *block) {
+  if (block) begin_column(taken, share_dictionary(from->dictionary), block, block->used);
+  else Py_CLEAR(taken);
+  if (taken) taken->is_part = self->is_part || taken->n < from->n;
+  return (PyObject *)taken;
+}
+
+/* The rows are those that the column has once the numbers are read. */
+static PyObject *choose_rows(Column *self, PyObject *given, bool takes_mask) {
+  Py_buffer view;
+  Numbers rows;
+  const Py_ssize_t width = open_numbers(given, &view);
+  if (!width && !read_numbers(given, &rows)) return NULL;
+  Column *taken = make_plain(self);
+  PyObject *part = NULL;
+  if (taken && is_made(self)) {
+    Encoded from = hold_rows(self);
+    Block *block = width ? choose_view(&from, &view, width, takes_mask) : choose_copied(&from, &rows, takes_mask);
+    part = make_part(taken, self, &from, block);
+    drop_rows(&from);
+  } else Py_XDECREF((PyObject *)taken);
+  if (width) PyBuffer_Release(&view);
+  else drop_numbers(&rows);
+  return part;
+}
+
+PyObject *column_take(Column *self, PyObject *given) { return choose_rows(self, given, false); }
+
+/* Whether a key chooses many rows: a list, or an array with dimensions. A tuple chooses none: for numpy it has a number for each
+ * dimension. */
+static bool is_for_many(PyObject *key) {
+  Py_buffer view;
+  if (PyLong_Check(key) || PyTuple_Check(key) || PyUnicode_Check(key)) return false;
+  if (PyObject_CheckBuffer(key)) {
+    if (PyObject_GetBuffer(key, &view, PyBUF_FULL_RO)) return PyErr_Clear(), true;
+    bool is_array = view.ndim > 0;
+    PyBuffer_Release(&view);
+    return is_array;
+  }
+  return PySequence_Check(key) && !PyIndex_Check(key);
+}
+
+PyObject *column_subscript(Column *self, PyObject *key) {
+  if (PySlice_Check(key)) return column_slice(self, key);
+  if (!PyLong_CheckExact(key)) {
+    if (is_for_many(key)) return choose_rows(self, key, true);
+    /* `column == value` is one boolean, which as a number would choose row 0 or 1. */
+    const char *rest = PyBool_Check(key) || is_flag(key) ? ": column.isin([value]) makes a mask" : "";
+    if (*rest || !PyIndex_Check(key))
+      return raise_type("rows are chosen by a number, a slice, a list, an array or a mask, not by ", key, rest);
+  }
+  Py_ssize_t row = PyNumber_AsSsize_t(key, PyExc_IndexError);
+  if (row == -1 && PyErr_Occurred()) return NULL;
+  return column_item(self, row < 0 ? row + self->n : row);
+}

@@ -1,0 +1,54 @@
+-- What the words of a command ask for: nothing that was chosen is lost.
+-- Cited by `arguments`.
+use Rattle.std.specs.Prelude.{◌≡◌, ⊤, true, false, [], Option, Some, None}
+use Rattle.std.specs.Borrow.{Bor}
+use Rattle.std.specs.Option.{option_flatten, unwrap_or}
+use Rattle.string_interner.specs.Text.{Text}
+use Rattle.dictcol.specs.Names.{Names}
+use Rattle.dictcol.specs.declared.arguments.Command.{Command}
+use Rattle.dictcol.specs.declared.arguments.Command.TheVariants.{Encode, Decode, Count, Merge, Shard}
+use Rattle.dictcol.specs.declared.arguments.Given.{Given}
+use Rattle.dictcol.specs.declared.request.Action.{Action}
+use Rattle.dictcol.specs.declared.request.Action.TheVariants.{Do, WriteShards}
+use Rattle.dictcol.specs.declared.request.Answer.TheVariants.{Encoded, Decoded, Counted}
+use Rattle.dictcol.specs.declared.request.Choice.TheVariants.{String as StringChoice}
+use Rattle.dictcol.specs.declared.request.Files.{Files}
+use Rattle.dictcol.specs.declared.request.Files.TheVariants.{Named, Listed}
+use Rattle.dictcol.specs.declared.request.Reading.{Reading}
+use Rattle.dictcol.specs.declared.request.Request.{Request}
+use Rattle.dictcol.specs.declared.request.Request.TheVariants.{Act, Help, Version}
+use Rattle.dictcol.specs.declared.request.Task.{Task}
+use Rattle.dictcol.specs.declared.request.Task.TheVariants.{Answer, WriteColumns, Merge as MergeTask, CountEncoded}
+
+-- lines are read as the words say
+pub record IsReading (given : Given) (reading : Reading) : Type 0 where
+  pub mending : reading.mending ≡ option_flatten given.mending
+  pub ends : reading.is_zero_ended ≡ given.is_zero_ended
+
+-- the task of a command, with all that the words say of it
+abbrev pub IsTask : Given → Command → Task → Type 0
+IsTask given Encode (WriteColumns columns) = (given.folder ≡ Some columns.folder) × (columns.onto ≡ given.onto)
+IsTask given Encode (Answer Encoded) = given.folder ≡ None
+IsTask given Decode (Answer Decoded) = ⊤
+IsTask given Count (Answer (Counted is_sorted)) = (given.is_encoded ≡ false) × (is_sorted ≡ given.is_sorted)
+IsTask given Count (CountEncoded is_sorted) = (given.is_encoded ≡ true) × (is_sorted ≡ given.is_sorted)
+IsTask given Merge MergeTask = ⊤
+IsTask given command task = ⊥
+
+-- what a command does, with all that the words say of it
+abbrev pub IsAction : Given → Command → Action → Type 0
+IsAction given command (Do task choice reading) =
+    IsTask given command task × (choice ≡ unwrap_or given.choice StringChoice) × IsReading given reading
+IsAction given Shard (WriteShards shards reading) = (given.shards ≡ Some shards) × IsReading given reading
+IsAction given command (WriteShards shards reading) = ⊥
+
+-- the files are those that the words name, or the list is
+abbrev pub AreFiles : Given → Files → Type 0
+AreFiles given (Named files) = (given.list ≡ None) × (files ≡ given.files)
+AreFiles given (Listed source) = (path : Bor Text) × (given.list ≡ Some path) × Names path.now source × (given.files.items ≡ [])
+
+-- what all the words ask for
+abbrev pub IsRequest : Given → Request → Type 0
+IsRequest given (Act action files) =
+    (command : Command) × (given.command ≡ Some command) × IsAction given command action × AreFiles given files
+IsRequest given other = ⊥

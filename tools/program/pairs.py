@@ -1,0 +1,132 @@
+"""What is tried of `dictcol` with all options that a command takes together, in each way to name files."""
+
+import random
+import re
+import shutil
+import tempfile
+from itertools import chain, product
+from pathlib import Path
+
+from edits import TOP
+from program.columns import columns_of, files_in, write_files
+from program.reckon import answer, failed, find_invalid, line_end, mend
+from program.shards import shards_of
+
+# Parts of a text in which newlines or zero bytes end lines. Lines go on in the next part, and the most frequent is not the first.
+GOOD = b"a\nb\nb", b"\n\0a\0b\0b", "\0é\nc".encode()
+BAD = b"a\nb\nb", b"\n\0a\0b\0b\xff\0\nb\xff\n\xc3", b"\n\xff\0c\n"
+SHARDS, KNOWN = 3, [b"old", b"b"]
+SOURCE = (TOP / "crates/dictcol/src/arguments.rt").read_bytes()
+
+BACKEND = [], [b"--backend=string"], [b"--backend=bucket"], [b"--backend=buffer"]
+INVALID = [], [b"--invalid=error"], [b"--invalid=replace"], [b"--invalid=skip"]
+ENDED = [], [b"-z"], [b"--zero-terminated"]
+SORTED = [], [b"--sorted"]
+PLAIN = [], [b"--plain=new"], [b"--plain=new", b"--onto=old"], [b"--plain=new", b"--onto-dictionary=old"]
+MENDING, ONTO = {b"--invalid=replace", b"--invalid=skip"}, {b"--onto=old", b"--onto-dictionary=old"}
+# The choices that a command has, of which each is made beside each of the others.
+COMMANDS = {
+    b"encode": (PLAIN, INVALID, BACKEND),
+    b"count": (SORTED, ENDED, INVALID, BACKEND),
+    b"count --encoded": (SORTED, BACKEND),
+    b"merge": (BACKEND,),
+    b"shard %d new" % SHARDS: (ENDED, INVALID),
+}
+# Ways to name files: the operands, an option, and the names of what is read.
+FILES, BESIDE_INPUT = [b"0", b"1", b"2"], [b"0", b"-", b"2"]
+WAYS = (
+    ([], [], [b"-"]),
+    ([b"whole"], [], [b"whole"]),
+    (FILES, [], FILES),
+    (BESIDE_INPUT, [], BESIDE_INPUT),
+    ([], [b"--files0-from=list"], FILES),
+    ([], [b"--files0-from=list"], BESIDE_INPUT),
+    ([], [b"--files0-from=-"], FILES),
+)
+
+
+def place(operands, options, chance):
+    """The words of a run, whose options may be anywhere, and their values behind `=` or in a word of their own."""
+    words = [[word] for word in operands]
+    for option in options:
+        name, _, value = option.partition(b"=")
+        words.insert(chance.randrange(len(words) + 1), [name, value] if value and chance.randrange(2) else [option])
+    return [*chain(*words)]
+
+
+def end_with(command, options, names, texts):
+    """How a run over these texts ends, and the files of the folder `new`, if it makes one."""
+    end, whole = line_end(options), b"".join(texts)
+    if not MENDING & {*options} and (found := find_invalid(texts, end)):
+        at, line = found
+        name = b"" if names[at] == b"-" else names[at] + b": "
+        return failed(2, b"%bline %d is not UTF-8 (see --invalid)" % (name, line)), None
+    text, told = mend(options, whole)
+    if command.startswith(b"shard"):
+        exchange = bytes.maketrans(b"\n" + end, end + b"\n")
+        shards = shards_of(text.translate(exchange), SHARDS)
+        return (0, b"", told), {name: lines if name == "order" else lines.translate(exchange) for name, lines in shards.items()}
+    if b"--plain=new" in options:
+        return (0, b"", told), columns_of(text, KNOWN if ONTO & {*options} else ())
+    word = b"count" if command.startswith(b"count") else b"encode"
+    return answer([word, *options], whole), None
+
+
+def write_all(folder, command, option, names, parts):
+    """Writes the parts and the whole text, as `encode` does if the command reads that, with a list of names. Returns what is read by each
+    name, and standard input, which no run reads whose files are others."""
+    whole = b"".join(parts)
+    texts = {**dict(zip(FILES, parts)), b"whole": whole, b"-": whole if names == [b"-"] else parts[1]}
+    is_encoded = command in (b"merge", b"count --encoded")
+    contents = {name: answer([b"encode"], text)[1] if is_encoded else text for name, text in texts.items()}
+    listed = b"".join(name + b"\0" for name in names)
+    for name, content in {**contents, b"list": listed}.items():
+        Path(folder, name.decode()).write_bytes(content)
+    given = listed if option == [b"--files0-from=-"] else contents[b"-"] if b"-" in names else b"\xff"
+    return [texts[name] for name in names], given
+
+
+def try_together(program, command, way, parts):
+    """Each option does what it does alone, beside whatever others."""
+    operands, option, names = way
+    chance = random.Random(0)
+    with tempfile.TemporaryDirectory() as folder:
+        write_files(f"{folder}/old", columns_of(b"".join(line + b"\n" for line in KNOWN)))
+        texts, given = write_all(folder, command, option, names, parts)
+        for options in (sum(chosen, option) for chosen in product(*COMMANDS[command])):
+            words = place([*command.split(), *operands], options, chance)
+            wanted, made = end_with(command, options, names, texts)
+            yield f"{words} of {parts}", program.run(words, given, folder=folder), wanted
+            new = Path(folder, "new")
+            yield f"{words} of {parts}, files", files_in(new) if new.exists() else None, made
+            shutil.rmtree(new, ignore_errors=True)
+
+
+def options_of(command):
+    """The options that a command takes, by the table of the program."""
+    lists = {name: commands.split(b", ") for name, commands in re.findall(rb"const (\w+): &\[Command\] = &\[(.*?)\];", SOURCE)}
+    name = b"Command::" + command.title()
+    return {option for option, of in re.findall(rb'\("(-[\w-]+)", Setting::\w+, \w+, (\w+)\)', SOURCE) if name in lists[of]}
+
+
+def tried_options(command):
+    """The options that are tried of a command, or of each one."""
+    for words in (it for it in COMMANDS if it.startswith(command)):
+        yield from words.split()
+        yield from chain(*chain(*COMMANDS[words]))
+    yield from chain(*(option for _, option, _ in WAYS))
+
+
+def try_table(_):
+    """No option is left out."""
+    for command in b"encode", b"count", b"merge", b"shard":
+        tried, wanted = {it.partition(b"=")[0] for it in tried_options(command)}, options_of(command)
+        yield f"{command} has options", wanted != set(), True
+        yield f"options of {command} that are not tried", wanted - tried, set()
+
+
+def trials():
+    """Encoded texts are UTF-8, and `merge` has no list and needs a file."""
+    tried = [(command, way, parts) for command, way, parts in product(COMMANDS, WAYS, (GOOD, BAD))
+             if (command not in (b"merge", b"count --encoded") or parts == GOOD) and (command != b"merge" or way[0])]
+    return [(try_table,), *((try_together, *it) for it in tried)]
