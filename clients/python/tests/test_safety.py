@@ -14,6 +14,9 @@ import unittest
 from array import array
 from contextlib import contextmanager
 from itertools import accumulate
+from operator import methodcaller
+
+from within import attempts
 
 from string_interner import Column, Interner
 
@@ -772,34 +775,11 @@ class Batches(unittest.TestCase):
                 call(Wrong())
         self.assertEqual((list(interner), list(column)), (["a"], ["a"]))
 
-    def run_with_handler(self, handle, call):
-        """Makes a call during which a handler of a signal runs, once. Returns what the call returned or raised."""
-        handled = []
-
-        def note(*_):
-            handled.append(True)
-            handle()
-
-        before = signal.signal(signal.SIGVTALRM, note)
-        try:
-            # By processor time, because on a busy machine much real time may pass before the call begins. Once, because a second
-            # signal may come while the handler is at its first line.
-            signal.setitimer(signal.ITIMER_VIRTUAL, 0.008)
-            try:
-                found = call()
-            except (RuntimeError, ValueError, ZeroDivisionError) as error:
-                found = error
-            self.assertEqual(handled, [True], "the call ended before the signal came")
-        finally:
-            signal.setitimer(signal.ITIMER_VIRTUAL, 0)
-            signal.signal(signal.SIGVTALRM, before)
-        return found
-
     def test_a_handler_within_a_batch(self):
         texts = [f"text {number}" for number in range(1_000_000)]
         lines = "\n".join(texts).encode()
         kept = []
-        for encode in (lambda it: it.intern_all(texts), lambda it: it.intern_lines(lines), lambda it: it.get_all(texts)):
+        for encode in (methodcaller("intern_all", texts), methodcaller("intern_lines", lines), methodcaller("get_all", texts)):
             for name, handle, kind in (
                 ("raises", lambda it: 1 // 0, ZeroDivisionError),
                 ("closes", Interner.close, ValueError),
@@ -811,8 +791,9 @@ class Batches(unittest.TestCase):
                 ("nothing", len, array),
             ):
                 with self.subTest(name):
-                    interner = Interner(["first"])
-                    found = self.run_with_handler(lambda: handle(interner), lambda: encode(interner))
+                    for attempt in attempts():
+                        interner = Interner(["first"])
+                        found = attempt.run(lambda: handle(interner), encode, interner)
                     self.assertIsInstance(found, kind)
                     if name == "raises":
                         self.assertEqual(list(interner), ["first"])
@@ -824,15 +805,20 @@ class Batches(unittest.TestCase):
     def test_a_handler_within_other_calls(self):
         texts, found = [f"text {number}" for number in range(400_000)], []
         lines, numbers = "\n".join(texts).encode(), array("I", [0]) * 3_000_000 + array("I", [1])
-        for encode in (lambda it: it.intern_all(texts), lambda it: it.intern_lines(lines)):
-            self.run_with_handler(lambda: found.append(gc.isenabled()), lambda: encode(Interner()))
+        for encode in (methodcaller("intern_all", texts), methodcaller("intern_lines", lines)):
+            for attempt in attempts():
+                attempt.run(lambda: found.append(gc.isenabled()), encode, Interner())
         self.assertEqual((found, gc.isenabled()), ([True, True], True))
-        interner = Interner(["a", "b"])
-        raised = self.run_with_handler(lambda: interner.truncate(0) or interner.intern_all(["c", "d"]), lambda: interner.resolve_all(numbers))
+        for attempt in attempts():
+            interner = Interner(["a", "b"])
+            raised = attempt.run(lambda: interner.truncate(0) or interner.intern_all(["c", "d"]), interner.resolve_all, numbers)
         self.assertIsInstance(raised, RuntimeError)
-        column, other = Column(["first"]), Column(texts)
-        shared = column[:]
-        self.assertIsInstance(self.run_with_handler(lambda: 1 // 0, lambda: column.merge(other)), ZeroDivisionError)
+        other = Column(texts)
+        for attempt in attempts():
+            column = Column(["first"])
+            shared = column[:]
+            raised = attempt.run(lambda: 1 // 0, column.merge, other)
+        self.assertIsInstance(raised, ZeroDivisionError)
         self.assertEqual((list(column), column.dictionary, list(shared)), (["first"], ["first"], ["first"]))
 
     def test_what_a_handler_saw_stays_though_the_batch_fails(self):
@@ -842,30 +828,30 @@ class Batches(unittest.TestCase):
                      lambda it, last: it.resolve(last) and last, lambda it, last: it.resolve_all([last]) and last,
                      lambda it, last: it.to_json() and last, lambda it, last: it.get_all([texts[last]])[0],
                      lambda it, last: it.copy().get(texts[last])):
-            interner = Interner()
-            self.run_with_handler(lambda: seen.append(look(interner, len(interner) - 1)), lambda: self.refuse(interner.intern_all, rows))
+            for attempt in attempts():
+                interner = Interner()
+                raised = attempt.run(lambda: seen.append(look(interner, len(interner) - 1)), interner.intern_all, rows)
+            self.assertIsInstance(raised, TypeError)
             self.assertEqual((interner[seen[-1]], interner.get(texts[seen[-1]])), (texts[seen[-1]], seen[-1]))
         # What is not there was not seen.
-        interner = Interner(["first"])
-        self.run_with_handler(lambda: [interner.get("none"), "none" in interner, interner.resolve(2**32)],
-                              lambda: self.refuse(interner.intern_all, rows))
+        for attempt in attempts():
+            interner = Interner(["first"])
+            raised = attempt.run(lambda: [interner.get("none"), "none" in interner, interner.resolve(2**32)], interner.intern_all, rows)
+        self.assertIsInstance(raised, TypeError)
         self.assertEqual(list(interner), ["first"])
-        column = Column()
-        self.run_with_handler(lambda: seen.append(column.code(texts[column.distinct - 1])), lambda: self.refuse(column.extend, rows))
+        for attempt in attempts():
+            column = Column()
+            raised = attempt.run(lambda: seen.append(column.code(texts[column.distinct - 1])), column.extend, rows)
+        self.assertIsInstance(raised, TypeError)
         self.assertEqual((len(column), column.code(texts[seen[-1]])), (0, seen[-1]))
-
-    def refuse(self, call, rows):
-        """Makes a call with a row that is no text."""
-        with self.assertRaises(TypeError):
-            call(rows)
 
     def test_a_handler_changes_the_list(self):
         texts = [f"text {number}" for number in range(1_000_000)]
         for handle in (list.clear, lambda it: it.append("more")):
-            interner, column = Interner(), Column()
-            for call, it in ((interner.intern_all, interner), (column.extend, column)):
-                rows = texts[:]
-                found = self.run_with_handler(lambda: handle(rows), lambda: call(rows))
+            for make, call in ((Interner, Interner.intern_all), (Column, Column.extend)):
+                for attempt in attempts():
+                    it, rows = make(), texts[:]
+                    found = attempt.run(lambda: handle(rows), call, it, rows)
                 self.assertEqual((str(found), len(it)), ("the list changed its length during the call", 0))
 
     def test_a_handler_uses_the_column(self):
@@ -875,10 +861,11 @@ class Batches(unittest.TestCase):
             ("makes again", lambda it: it.__init__(["x"]), RuntimeError), ("raises", lambda it: 1 // 0, ZeroDivisionError),
             ("slices and raises", lambda it: kept.append(it[:]) or 1 // 0, ZeroDivisionError),
         ):
-            for rows in (texts, iter(texts)):
+            for form in (list, iter):
                 with self.subTest(name):
-                    kept, column = [], Column(["first", None])
-                    found = self.run_with_handler(lambda: handle(column), lambda: column.extend(rows))
+                    for attempt in attempts():
+                        kept, column = [], Column(["first", None])
+                        found = attempt.run(lambda: handle(column), column.extend, form(texts))
                     self.assertIsInstance(found, kind)
                     before = {"appends": ["first", None, "handler"], "makes again": ["x"]}.get(name, ["first", None])
                     self.assertEqual(list(column), before + texts * (kind is type(None)))

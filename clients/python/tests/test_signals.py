@@ -12,33 +12,45 @@ import unittest
 from array import array
 from collections import deque
 from contextlib import contextmanager
+from functools import partial
 from itertools import accumulate, chain
+
+from within import attempts
 
 from string_interner import Column, Interner
 
 # No handler waits as long, in seconds.
 LONGEST = 0.2
-# After this time a call has begun. The clock may go on by 0.01 seconds at once.
-WITHIN = 0.012
-
-
-# The signal of each clock: of the processor's time, which Linux looks at some hundred times a second, and of the time of day.
-SIGNALS = {signal.ITIMER_VIRTUAL: signal.SIGVTALRM, signal.ITIMER_REAL: signal.SIGALRM}
 
 
 @contextmanager
-def handling(handle, first=0.001, clock=signal.ITIMER_VIRTUAL):
-    """Has a handler of a signal run whenever one may, again and again, from some time on."""
-    before, collects = signal.signal(SIGNALS[clock], lambda *_: handle()), gc.isenabled()
+def not_collecting():
+    """Has no collection come, which would take time, and whose finalizers would swallow what a handler raises."""
+    collects = gc.isenabled()
     gc.disable()
-    signal.setitimer(clock, max(first, 1e-6), 0.001)
     try:
         yield
     finally:
-        signal.setitimer(clock, 0)
-        signal.signal(SIGNALS[clock], before)
         if collects:
             gc.enable()
+
+
+@contextmanager
+def handling(handle):
+    """Has a handler of a signal run whenever one may, again and again."""
+    before = signal.signal(signal.SIGVTALRM, lambda *_: handle())
+    signal.setitimer(signal.ITIMER_VIRTUAL, 0.001, 0.001)
+    try:
+        with not_collecting():
+            yield
+    finally:
+        signal.setitimer(signal.ITIMER_VIRTUAL, 0)
+        signal.signal(signal.SIGVTALRM, before)
+
+
+def interrupt():
+    """What a handler does that ends a call."""
+    raise KeyboardInterrupt
 
 
 def walk(values):
@@ -134,15 +146,16 @@ class Inputs:
         yield "+", lambda: column + self.gaps
 
     def changes(self):
-        """Calls that add all texts to an empty interner or column."""
-        for call in (lambda it: it.intern_all(self.texts), lambda it: it.intern_all(map(str, self.texts)),
-                     lambda it: it.intern_all([*self.texts, None], missing=-1), lambda it: it.intern_lines(self.lines),
-                     lambda it: it.intern_column(self.joined, ends=self.ends),
-                     lambda it: it.intern_column(self.joined, ends=list(self.ends)),
-                     lambda it: it.intern_column(self.joined, offsets=[0, *self.ends])):
-            yield Interner, call
-        for call in (lambda it: it.extend(self.texts), lambda it: it.extend(iter(self.texts)), lambda it: it.merge(self.column)):
-            yield Column, call
+        """Functions that make calls in C, each of which adds all texts to an empty interner or column."""
+        for change in (lambda it: partial(it.intern_all, self.texts), lambda it: partial(it.intern_all, map(str, self.texts)),
+                       lambda it: partial(it.intern_all, [*self.texts, None], missing=-1), lambda it: partial(it.intern_lines, self.lines),
+                       lambda it: partial(it.intern_column, self.joined, ends=self.ends),
+                       lambda it: partial(it.intern_column, self.joined, ends=list(self.ends)),
+                       lambda it: partial(it.intern_column, self.joined, offsets=[0, *self.ends])):
+            yield Interner, change
+        for change in (lambda it: partial(it.extend, self.texts), lambda it: partial(it.extend, iter(self.texts)),
+                       lambda it: partial(it.merge, self.column)):
+            yield Column, change
 
 
 class Signals(unittest.TestCase):
@@ -166,34 +179,26 @@ class Signals(unittest.TestCase):
         inputs = Inputs(1_000_000)
         # A step that has no parts waits for memory, too, and takes some times as long on a busy machine.
         calls = [*inputs.calls(), *Inputs(300_000).short_calls()]
-        for number, (make, call) in enumerate(inputs.changes()):
-            calls.append((f"change {number}", lambda make=make, call=call: call(make(["first"]))))
+        for number, (make, change) in enumerate(inputs.changes()):
+            calls.append((f"change {number}", lambda make=make, change=change: change(make(["first"]))()))
         for name, call in calls:
             with self.subTest(name):
                 self.assertTrue(any(self.longest_wait(call) < LONGEST for _ in range(9)))
 
-    def stop(self, call, after=0.001):
-        """Makes a call that a handler ends by an exception. Makes it again if it ended before the signal came. The clock is that of
-        the day, because some calls take less time than the other needs to see that time went by."""
-        def handle():
-            signal.setitimer(signal.ITIMER_REAL, 0)
-            raise KeyboardInterrupt
+    def stop(self, make_call, after=0.001):
+        """Makes a call that a handler ends by an exception."""
+        with not_collecting():
+            for attempt in attempts(after):
+                ended = attempt.run(interrupt, make_call())
+        self.assertIsInstance(ended, KeyboardInterrupt)
 
-        for _ in range(50):
-            try:
-                with handling(handle, after, signal.ITIMER_REAL):
-                    call()
-            except KeyboardInterrupt:
-                return
-        self.fail("no handler ran")
-
-    def stop_twice(self, call, check):
+    def stop_twice(self, make_call, check):
         """Has a handler end a call at once, and another about in the middle, and looks each time at what is left."""
-        self.stop(call)
+        self.stop(make_call)
         check()
-        start = time.thread_time()
+        call, start = make_call(), time.thread_time()
         call()
-        self.stop(call, (time.thread_time() - start) / 2)
+        self.stop(make_call, (time.thread_time() - start) / 2)
         check()
 
     def test_a_call_that_a_handler_ends_changes_nothing(self):
@@ -206,29 +211,27 @@ class Signals(unittest.TestCase):
 
         for name, call in inputs.calls():
             with self.subTest(name):
-                self.stop_twice(call, check)
+                self.stop_twice(lambda: call, check)
 
     def test_a_change_that_a_handler_ends_changes_nothing(self):
         inputs = Inputs(300_000)
         for number, (make, change) in enumerate(inputs.changes()):
             with self.subTest(number):
-                kept, shared = [make(["first"])], Column(["first"])
+                kept, shared = [], Column(["first"])
 
-                def call():
+                def make_call():
                     kept[:] = [make(["first"]) if make is Interner else shared[:]]
-                    change(kept[0])
+                    return change(kept[0])
 
                 def check():
-                    if list(kept[0]) != ["first", *inputs.texts]:
-                        self.assertEqual((list(kept[0]), len(kept[0])), (["first"], 1))
+                    self.assertEqual((list(kept[0]), len(kept[0])), (["first"], 1))
                     self.assertEqual((list(shared), shared.dictionary), (["first"], ["first"]))
 
-                self.stop(call)
+                self.stop(make_call)
                 check()
-                self.assertEqual(list(kept[0]), ["first"])
-                change(kept[0])
+                change(kept[0])()
                 self.assertEqual([*kept[0]][:300_001], ["first", *inputs.texts])
-                self.stop_twice(call, check)
+                self.stop_twice(make_call, check)
 
     def test_rows_are_those_at_the_beginning_whatever_a_handler_does(self):
         texts = [f"text {number}" for number in range(1_000_000)]
@@ -245,47 +248,46 @@ class Signals(unittest.TestCase):
             for handle in (lambda it: it.append("new"), lambda it: it.__init__(["x"]), lambda it: it.shrink(),
                            lambda it: (it.extend(["p", None, "p"]), it.shrink()), lambda it: it.merge(Column(["y", "z"]))):
                 with self.subTest(name):
-                    column, handled = Column(), []
-                    for _ in range(50):
+                    column = Column()
+                    for attempt in attempts():
                         column.__init__(texts)
-                        with handling(lambda: handled.append(handle(column)), WITHIN):
-                            found = call(column)
+                        with not_collecting():
+                            found = attempt.run(lambda: handle(column), call, column, once=False)
                         self.assertEqual(found, wanted)
-                        if handled:
-                            break
-                    self.assertTrue(handled)
 
     def test_an_iterator_goes_on_after_a_handler_ended_a_call(self):
         texts = [f"text {number}" for number in range(300_000)]
         for make in (Interner, Column):
             it = make(texts)
-            kept = [iter(it), []]
+            kept = []
 
-            def read():
+            def make_call():
                 it.shrink()
                 kept[:] = [iter(it), []]
-                kept[1].extend(kept[0])
+                return partial(kept[1].extend, kept[0])
 
-            self.stop(read)
+            self.stop(make_call)
+            self.assertLess(len(kept[1]), len(texts))
             self.assertEqual(kept[1] + list(kept[0]), texts)
 
     def test_an_interner_that_a_handler_changes(self):
         inputs = Inputs(500_000)
         for handle, kind in ((Interner.close, ValueError), (lambda it: it.truncate(0), RuntimeError),
                              (lambda it: it.__init__(["x"]), RuntimeError)):
-            interner, handled = Interner(["first"]), []
-            with self.assertRaises(kind), handling(lambda: handled or handled.append(handle(interner)), WITHIN):
-                interner.intern_column(inputs.joined, ends=inputs.ends)
-            self.assertTrue(handled)
-        # What a handler adds, and what it saw, stays.
-        interner = Interner(["first"])
+            for attempt in attempts():
+                interner = Interner(["first"])
+                raised = attempt.run(lambda: handle(interner), partial(interner.intern_column, inputs.joined, ends=inputs.ends))
+            self.assertIsInstance(raised, kind)
 
+        # What a handler adds, and what it saw, stays.
         def see():
             interner.intern("handler")
             raise KeyboardInterrupt
 
-        with self.assertRaises(KeyboardInterrupt), handling(see):
-            interner.intern_column(inputs.joined, ends=inputs.ends)
+        for attempt in attempts():
+            interner = Interner(["first"])
+            raised = attempt.run(see, partial(interner.intern_column, inputs.joined, ends=inputs.ends))
+        self.assertIsInstance(raised, KeyboardInterrupt)
         self.assertEqual((interner[0], interner[interner.get("handler")]), ("first", "handler"))
 
 
