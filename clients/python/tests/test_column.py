@@ -23,6 +23,7 @@ from hypothesis import settings, strategies
 from hypothesis.stateful import RuleBasedStateMachine, initialize, invariant, rule
 from test_protocols import Number
 from test_safety import HANGS, LyingStr, collecting, run_apart, running
+from within import attempts
 
 from string_interner import Column, Interner, _column, _native
 
@@ -1192,24 +1193,12 @@ class Buffers(unittest.TestCase):
     @unittest.skipUnless(numpy, "no numpy")
     def test_a_handler_that_uses_the_column_while_an_array_is_read(self):
         array = numpy.array([f"text {number}" for number in range(300_000)])
-        for change, wanted in ((lambda it: it.append("handler"), None), (lambda it: it.__init__(["other"]), RuntimeError)):
-            column, handled = Column(["first"]), []
-
-            def handle(*_):
-                handled or handled.append(change(column))
-
-            before = signal.signal(signal.SIGVTALRM, handle)
-            signal.setitimer(signal.ITIMER_VIRTUAL, 0.012, 0.001)
-            try:
-                if wanted:
-                    self.assertRaises(wanted, column.extend, array)
-                else:
-                    column.extend(array)
-            finally:
-                signal.setitimer(signal.ITIMER_VIRTUAL, 0)
-                signal.signal(signal.SIGVTALRM, before)
-            self.assertTrue(handled)
-            self.assertEqual(list(column), ["other"] if wanted else ["first", "handler", *array.tolist()])
+        for change, wanted in ((lambda it: it.append("handler"), type(None)), (lambda it: it.__init__(["other"]), RuntimeError)):
+            for attempt in attempts():
+                column = Column(["first"])
+                found = attempt.run(lambda: change(column), column.extend, array)
+            self.assertIsInstance(found, wanted)
+            self.assertEqual(list(column), ["other"] if wanted is RuntimeError else ["first", "handler", *array.tolist()])
 
     @unittest.skipUnless(numpy, "no numpy")
     def test_numpy_reads_what_isin_finds_as_booleans(self):

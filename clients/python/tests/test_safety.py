@@ -407,9 +407,10 @@ class Parts(unittest.TestCase):
         for name, call in (("from_buffers", lambda: Column.from_buffers(joined, offsets=offsets, codes=codes)),
                            ("from_parts", lambda: Column.from_parts(texts, codes))):
             with self.subTest(name):
-                self.assertGreaterEqual(max(self.count_stops(call) for _ in range(3)), 3)
+                # On a busy machine the other thread may not come to its turn.
+                self.assertTrue(any(self.count_stops(call) >= 3 for _ in range(30)))
         # To another thread this is one step.
-        self.assertLessEqual(min(self.count_stops(lambda: Interner().intern_all(texts)) for _ in range(3)), 1)
+        self.assertTrue(any(self.count_stops(lambda: Interner().intern_all(texts)) <= 1 for _ in range(30)))
 
 
 class Forks(unittest.TestCase):
@@ -1073,8 +1074,11 @@ class Limits(unittest.TestCase):
                 column.extend(form("abc"))
             return time.process_time() - start
 
-        # It makes a list. It took 14 times as long when each call cleared the table for a long one.
-        self.assertLess(min(time_of(iter) for _ in range(60)), 5 * min(time_of(list) for _ in range(60)))
+        def is_little_longer():
+            return min(time_of(iter) for _ in range(60)) < 5 * min(time_of(list) for _ in range(60))
+
+        # It makes a list. It took 14 times as long when each call cleared the table for a long one. A machine may be slow for a while.
+        self.assertTrue(any(is_little_longer() for _ in range(20)))
 
     def test_at_the_limit_of_recursion(self):
         self.assertEqual(run_apart("""
