@@ -733,6 +733,19 @@ def try_extenders(program):
         yield f"{name}, files", files_in(f"{folder}/it"), columns_of(last + b"\n", before)
 
 
+def is_locked(path):
+    """Whether a run has a folder alone. Looks as a run does that reads."""
+    with suppress(FileNotFoundError):
+        folder = os.open(path, os.O_RDONLY)
+        try:
+            fcntl.flock(folder, fcntl.LOCK_SH | fcntl.LOCK_NB)
+        except BlockingIOError:
+            return True
+        finally:
+            os.close(folder)
+    return False
+
+
 def wait_for(is_there):
     end = time.monotonic() + SECONDS
     while not is_there() and time.monotonic() < end:
@@ -747,11 +760,10 @@ def try_writer_that_reads(program, words, before):
             write_files(f"{folder}/it", columns_of(LINES))
         pipe = subprocess.PIPE
         with subprocess.Popen([program.path, *words], stdin=pipe, stdout=pipe, stderr=pipe, cwd=folder) as first:
-            yield f"{words}, begun", wait_for(Path(folder, "it", UNFINISHED).exists), True
+            # One that came before the first one had locked the folder would win.
+            yield f"{words}, begun", wait_for(lambda: is_locked(f"{folder}/it/{UNFINISHED}")), True
             first.stdin.write(b"blue\n")
             first.stdin.flush()
-            # One that came before the first one had locked the folder would win.
-            time.sleep(0.1)
             busy = failed(1, b"it: cannot write files: resource busy")
             yield f"{words}, the second", program.run(words, b"white\n", folder=folder), busy
             unread = failed(1, b"it: cannot read codes.npy: another run is writing")

@@ -45,12 +45,16 @@ class ScriptTest(unittest.TestCase):
         self.assertEqual(program.run([]).output, b" \n")
 
     def test_a_run_without_end(self):
-        # On a busy machine a process may get no time for a tenth of a second.
-        for script, seconds, least in ("exec sleep 9", 0.1, 0), ("while :; do :; done", 1, 1):
-            ended = self.program(script).run([], seconds=seconds, TELL_HELD=1)
-            self.assertIsNone(ended.status)
-            self.assertRegex(ended.error, rb"\Ahangs after [\d.]+ seconds of processor time\n\Z")
-            self.assertGreaterEqual(float(ended.error.split()[2]), least)
+        for script, seconds, least in ("exec sleep 60", 0.1, 0), ("while :; do :; done", 1, 1):
+            # On a busy machine a process may get no time for a second.
+            for _ in range(9):
+                ended = self.program(script).run([], seconds=seconds, TELL_HELD=1)
+                self.assertIsNone(ended.status)
+                self.assertRegex(ended.error, rb"\Ahangs after [\d.]+ seconds of processor time\n\Z")
+                used = float(ended.error.split()[2])
+                if used >= least:
+                    break
+            self.assertGreaterEqual(used, least)
 
     def test_a_run_that_takes_long_by_the_clock(self):
         with unittest.mock.patch("built.processor_seconds", side_effect=count(0.001, 0.001)):

@@ -108,7 +108,10 @@ class ClientsBuild(unittest.TestCase):
         self.assertTrue((self.top / "there/lib/libstring_interner.so").exists())
 
     def test_says_that_cargo_is_at_work(self):
-        for name, text in (("sleep", "#!/bin/sh\nexec /bin/sleep 0.1\n"), ("cargo", CARGO.format(top=self.top).replace("echo cargo", "/bin/sleep 1; echo cargo"))):
+        # It says so each time that it has slept. Cargo ends once it sleeps again.
+        sleeps = f"#!/bin/sh\necho sleeps >> '{self.top}/slept'\nexec /bin/sleep 0.1\n"
+        waits = f"for turn in $(seq 6000); do [ $(grep -cs . '{self.top}/slept') -lt 3 ] || break; /bin/sleep 0.1; done; echo cargo"
+        for name, text in (("sleep", sleeps), ("cargo", CARGO.format(top=self.top).replace("echo cargo", waits))):
             (self.top / "cargo" / name).write_text(text)
             (self.top / "cargo" / name).chmod(0o755)
         ran = self.build(has_rt=False, has_cargo=True)

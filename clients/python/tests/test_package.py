@@ -10,6 +10,7 @@ import subprocess
 import sys
 import sysconfig
 import tempfile
+import time
 import typing
 import unittest
 from pathlib import Path
@@ -84,16 +85,32 @@ class Metadata(unittest.TestCase):
             ended = self.build_sources(folder, "--quiet")
         self.assertIn("no cargo, which compiles the library: install Rust 1.85 or later, or name the folder", ended.stderr)
 
+    def said_by_build(self, seconds, *words):
+        """What setup.py says of a build by a cargo that takes so long, and fails."""
+        with tempfile.TemporaryDirectory() as folder:
+            cargo = Path(folder, "cargo")
+            cargo.write_text(f'#!/bin/sh\n[ "$1" = -vV ] && echo "host: this-machine" && exit\n/bin/sleep {seconds}\nexit 1\n')
+            cargo.chmod(0o755)
+            ended = self.build_sources(folder, *words)
+        self.assertIn("setup.py: cargo did not compile the library", ended.stderr)
+        return [line for line in ended.stdout.splitlines() if line.startswith("setup.py: ")]
+
     def test_a_build_says_what_it_does(self):
         for words in ((), ("--quiet",)):
-            with tempfile.TemporaryDirectory() as folder:
-                cargo = Path(folder, "cargo")
-                cargo.write_text('#!/bin/sh\n[ "$1" = -vV ] && echo "host: this-machine" && exit\n/bin/sleep 6\nexit 1\n')
-                cargo.chmod(0o755)
-                ended = self.build_sources(folder, *words)
-            self.assertIn("setup.py: cargo did not compile the library", ended.stderr)
-            said = [line for line in ended.stdout.splitlines() if line.startswith("setup.py: ")]
-            self.assertEqual(said, [] if words else ["setup.py: compiling the library by cargo, in a minute", "setup.py: still compiling, 5 s"])
+            # On a busy machine setup.py may come to its turn only after cargo has ended.
+            for seconds in (6, 20, 60):
+                begun = time.monotonic()
+                said = self.said_by_build(seconds, *words)
+                most = time.monotonic() - begun
+                if len(said) != 1:
+                    break
+            if words:
+                self.assertEqual(said, [])
+                continue
+            self.assertEqual(said[0], "setup.py: compiling the library by cargo, in a minute")
+            told = [int(re.fullmatch(r"setup\.py: still compiling, (\d+) s", line)[1]) for line in said[1:]]
+            self.assertEqual(told, sorted({*told}))
+            self.assertTrue(5 <= told[0] and told[-1] <= most + 1, told)
 
     def test_a_python_without_wheel(self):
         try:
