@@ -246,9 +246,19 @@ where
     B: Backend,
     StringInterner<B, H>: for<'t> Extend<&'t String>,
 {
-    let took = least_time(3, &chosen_texts(80_000), &make);
-    let usual = least_time(3, &other_texts(80_000), &make);
-    assert!(took < 3 * usual, "{took:?} instead of {usual:?}");
+    let (chosen, others) = (chosen_texts(80_000), other_texts(80_000));
+    let times = || (least_time(1, &chosen, &make), least_time(3, &others, &make));
+    assert_once(times, |took, usual| took < 3 * usual);
+}
+
+/// Compares two times, and again if they are not as they should be: a machine may be slow for a while, and one of them alone see it.
+#[track_caller]
+fn assert_once(times: impl Fn() -> (Duration, Duration), is_right: fn(Duration, Duration) -> bool) {
+    let (took, usual) = (0..6)
+        .map(|_| times())
+        .find(|(took, usual)| is_right(*took, *usual))
+        .unwrap_or_else(times);
+    assert!(is_right(took, usual), "{took:?} beside {usual:?}");
 }
 
 #[test]
@@ -267,7 +277,7 @@ fn chosen_texts_take_no_longer_than_others_under_keys() {
 #[test]
 fn chosen_texts_take_longer_under_the_fixed_hasher() {
     let fixed = StringInterner::<DefaultBackend, FixedHashBuilder>::new;
-    let took = least_time(1, &chosen_texts(8_000), fixed);
-    let usual = least_time(3, &other_texts(8_000), fixed);
-    assert!(took > 10 * usual, "{took:?} beside {usual:?}");
+    let (chosen, others) = (chosen_texts(8_000), other_texts(8_000));
+    let times = || (least_time(1, &chosen, fixed), least_time(3, &others, fixed));
+    assert_once(times, |took, usual| took > 10 * usual);
 }

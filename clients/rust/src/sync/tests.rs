@@ -127,7 +127,7 @@ fn nothing_is_waited_for_without_end() {
         thread::spawn(move || names.resolve(symbol).is_some()),
         thread::spawn(move || names.iter().next().is_some()),
     ];
-    let until = Instant::now() + Duration::from_secs(20);
+    let until = Instant::now() + Duration::from_secs(600);
     while !readers.iter().all(|reader| reader.is_finished()) {
         assert!(Instant::now() < until, "they wait");
         thread::sleep(Duration::from_millis(5));
