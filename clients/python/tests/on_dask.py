@@ -66,8 +66,9 @@ class OnDask(unittest.TestCase):
         cls.texts = texts.tolist()
 
     def setUp(self):
-        # After so long a worker that does not answer counts as dead.
-        settings = dask.config.set({"distributed.scheduler.worker-ttl": "10s"})
+        # After so long a worker that does not answer counts as dead. On a busy machine one may not answer for a while.
+        ends = "10s" if self._testMethodName == "test_a_worker_is_stopped" else "300s"
+        settings = dask.config.set({"distributed.scheduler.worker-ttl": ends})
         self.addCleanup(settings.__exit__, None, None, None)
         self.cluster = LocalCluster(n_workers=2, threads_per_worker=1, dashboard_address=None, silence_logs=logging.CRITICAL)
         self.addCleanup(self.cluster.close)
@@ -85,10 +86,14 @@ class OnDask(unittest.TestCase):
         self.assertEqual(texts, self.texts)
 
     def test_the_same_as_factorize(self):
-        futures = encode_on(self.client, encode_lines, self.paths)
-        self.check(self.client.gather(futures))
         self.check(self.client.gather(encode_on(self.client, encode_lines, self.paths, shards=5)))
-        self.assertEqual(len({*sum(self.client.who_has(futures).values(), ())}), 2, "one worker did all the work")
+        # On a busy machine one worker may get all of the work.
+        for _ in range(9):
+            futures = encode_on(self.client, encode_lines, self.paths)
+            self.check(self.client.gather(futures))
+            if len(workers := {*sum(self.client.who_has(futures).values(), ())}) == 2:
+                break
+        self.assertEqual(len(workers), 2, "one worker did all the work")
 
     def end_worker(self, signal_number):
         """Sends a signal to a worker that has encoded parts, in the middle, and has the others do its work again."""
