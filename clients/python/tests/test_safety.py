@@ -1078,7 +1078,7 @@ class Limits(unittest.TestCase):
             return min(time_of(iter) for _ in range(60)) < 5 * min(time_of(list) for _ in range(60))
 
         # It makes a list. It took 14 times as long when each call cleared the table for a long one. A machine may be slow for a while.
-        self.assertTrue(any(is_little_longer() for _ in range(20)))
+        self.assertTrue(any(is_little_longer() for _ in range(6)))
 
     def test_at_the_limit_of_recursion(self):
         self.assertEqual(run_apart("""
