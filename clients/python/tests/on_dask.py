@@ -28,7 +28,7 @@ from columns_on_dask import encode_lines, encode_on  # noqa: E402
 ROWS, DISTINCT, PARTS = 1_000_000, 50_000, 9
 
 
-def wait_until(is_so, seconds=120):
+def wait_until(is_so, seconds=600):
     """Asks again and again, and returns the first answer that is true."""
     end = time.monotonic() + seconds
     while not (answer := is_so()):
@@ -137,7 +137,7 @@ class OnDask(unittest.TestCase):
     def test_the_command(self):
         words = [sys.executable, EXAMPLES / "columns_on_dask.py", *self.paths]
         paths = os.pathsep.join(path or os.getcwd() for path in sys.path)
-        said = subprocess.run(words, env=os.environ | {"PYTHONPATH": paths}, capture_output=True, text=True, timeout=300)
+        said = subprocess.run(words, env=os.environ | {"PYTHONPATH": paths}, capture_output=True, text=True, timeout=3000)
         expected = sorted(Counter(self.rows).items(), key=lambda row: (-row[1], row[0]))[:10]
         self.assertEqual(said.stdout, "".join(f"{count} {text}\n" for text, count in expected), said.stderr)
         self.assertEqual(said.returncode, 0)
