@@ -29,7 +29,7 @@ class Attempt:
 
     def __init__(self, after: float) -> None:
         self.after = after
-        self.was_within = False
+        self.was_within = self.is_handling = False
 
     def run(self, handle: Callable[[], object], call: Callable[..., object], *words: object, once: bool = True) -> object:
         """Makes a call within which the handler runs, once or again and again. Returns what the call returned or raised.
@@ -40,12 +40,16 @@ class Attempt:
         begun, found = iter([words]), list[object]()
 
         def note(_: int, frame: FrameType | None) -> None:
-            if length_hint(begun) or found or (once and self.was_within) or (frame and has_just_begun(frame)):
+            if length_hint(begun) or found or (frame and has_just_begun(frame)):
                 return
-            self.was_within = True
+            # Last, because another signal may come at each call of this function, and again while the handler runs.
+            if self.is_handling or (once and self.was_within):
+                return
+            self.is_handling = self.was_within = True
             if once:
                 signal.setitimer(signal.ITIMER_REAL, 0)
             handle()
+            self.is_handling = False
 
         before = signal.signal(signal.SIGALRM, note)
         # The time of day, which is exact. That of the processor goes on by some milliseconds at once, and some calls take no longer.
