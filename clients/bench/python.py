@@ -59,9 +59,14 @@ def words(count, letter):
 
 
 def rows_of(kind, count, letter):
-    """Distinct rows, or few words that are frequent and many that are rare."""
+    """Distinct rows, also those that a counter makes; or few words that are frequent and many that are rare."""
     if kind == "distinct":
         return words(count, letter)
+    if kind.startswith("keys"):
+        keys = [f"schl{letter}ssel_{number:07}" for number in range(count)]
+        if kind == "keys, shuffled":
+            random.Random(1).shuffle(keys)
+        return keys
     source, some = random.Random(1), words(50_000, letter)
     return [some[min(int(source.paretovariate(0.5)) - 1, len(some) - 1)] for _ in range(count)]
 
@@ -116,25 +121,27 @@ def measure_batches():
 
     from string_interner import Column, Interner
 
-    for kind in ("repeats", "distinct"):
-        for letter, name in (("w", "ASCII"), ("ŵ", "not ASCII")):
-            rows = rows_of(kind, 1_000_000, letter)
-            joined = "\n".join(rows)
-            for form in ("same objects", "fresh objects"):
-                read = (lambda: rows) if form == "same objects" else (lambda: joined.split("\n"))
-                found = medians({
-                    "factorize": (lambda: numpy.array(read(), dtype=object), pandas.factorize),
-                    "dict": (read, by_dict),
-                    "intern_all": (read, lambda rows: Interner().intern_all(rows)),
-                    "Column(rows)": (read, Column),
-                })
-                # Rows that repeat are the same objects then.
-                most = 0.5 if kind == "repeats" and form == "same objects" else 0.8
-                where = f"{kind}, {name}, {form}"
-                for call in ("intern_all", "Column(rows)"):
-                    tell(f"{call} / pandas.factorize", where, found[call] / found["factorize"], most)
-                    tell(f"{call} / a dict", where, found[call] / found["dict"])
-                tell("a dict / pandas.factorize", where, found["dict"] / found["factorize"])
+    forms = ("same objects", "fresh objects")
+    ways = [(kind, letter, name, forms) for kind in ("repeats", "distinct") for letter, name in (("w", "ASCII"), ("ŵ", "not ASCII"))]
+    ways += [(kind, letter, name, forms[1:]) for kind in ("keys", "keys, shuffled") for letter, name in (("u", "ASCII"), ("ü", "not ASCII"))]
+    for kind, letter, name, forms in ways:
+        rows = rows_of(kind, 1_000_000, letter)
+        joined = "\n".join(rows)
+        for form in forms:
+            read = (lambda: rows) if form == "same objects" else (lambda: joined.split("\n"))
+            found = medians({
+                "factorize": (lambda: numpy.array(read(), dtype=object), pandas.factorize),
+                "dict": (read, by_dict),
+                "intern_all": (read, lambda rows: Interner().intern_all(rows)),
+                "Column(rows)": (read, Column),
+            })
+            # Rows that repeat are the same objects then.
+            most = 0.5 if kind == "repeats" and form == "same objects" else 0.8
+            where = f"{kind}, {name}, {form}"
+            for call in ("intern_all", "Column(rows)"):
+                tell(f"{call} / pandas.factorize", where, found[call] / found["factorize"], most)
+                tell(f"{call} / a dict", where, found[call] / found["dict"])
+            tell("a dict / pandas.factorize", where, found["dict"] / found["factorize"])
 
 
 def measure_memory():
