@@ -1,7 +1,7 @@
 """Measures calls of the Python package beside what a dict and pandas take, and compares each figure with the most that it may be.
 
-    python.py [calls] [batches] [memory] [import] [file]    all five if none is named; RUNS=9 takes the median of nine runs
-    python.py --docs                                        all five, into bench/measured, and draws a picture (needs matplotlib)
+    python.py [calls] [batches] [columns] [memory] [import] [file]    all six if none is named; RUNS=9 takes the median of nine runs
+    python.py --docs                                        all six, into bench/measured, and draws a picture (needs matplotlib)
     python.py draw                                          draws the picture of what bench/measured has
     python.py instructions                                  of each call, by callgrind (needs gcc and valgrind)
 
@@ -142,6 +142,33 @@ def measure_batches():
                 tell(f"{call} / pandas.factorize", where, found[call] / found["factorize"], most)
                 tell(f"{call} / a dict", where, found[call] / found["dict"])
             tell("a dict / pandas.factorize", where, found["dict"] / found["factorize"])
+
+
+def measure_columns():
+    """What reads rows of a column that has a str of each text, as a Categorical has."""
+    import numpy
+    import pandas
+
+    from string_interner import Column
+
+    source, count = random.Random(1), 1_000_000
+    permuted, chosen = numpy.random.default_rng(1).permutation(count), numpy.flatnonzero(numpy.random.default_rng(2).random(count) < 0.5)
+    for distinct in (50_000, count):
+        some = words(distinct, "w")
+        rows = some if distinct == count else source.choices(some, k=count)
+        column, categorical, wide = Column(rows), pandas.Categorical(rows), numpy.array(rows)
+        calls = {
+            "unique / that of a Categorical": (column.unique, categorical.unique),
+            "value_counts / that of a Categorical": (column.value_counts, categorical.value_counts),
+            "to_numpy / numpy.asarray of a Categorical": (column.to_numpy, lambda: numpy.asarray(categorical)),
+            "column[numbers], permuted / Categorical.take": (lambda: column[permuted], lambda: categorical.take(permuted)),
+            "column[numbers], in order / Categorical.take": (lambda: column[chosen], lambda: categorical.take(chosen)),
+            "Column(texts of numpy) / pandas.factorize": (lambda: Column(wide), lambda: pandas.factorize(wide)),
+        }
+        for what, (ours, theirs) in calls.items():
+            ours()
+            found = medians({"ours": (lambda: None, lambda _: ours()), "theirs": (lambda: None, lambda _: theirs())})
+            tell(what, f"{distinct:,} distinct texts", found["ours"] / found["theirs"], 1.0)
 
 
 def measure_memory():
@@ -326,9 +353,9 @@ def main(*words):
     if words == ("draw",):
         return draw_recorded()
     is_recorded = words == ("--docs",)
-    for part in ((not is_recorded and words) or ("calls", "batches", "memory", "import", "file")):
-        {"calls": measure_calls, "batches": measure_batches, "memory": measure_memory, "import": measure_import, "file": measure_file,
-         "instructions": measure_instructions}[part]()
+    for part in ((not is_recorded and words) or ("calls", "batches", "columns", "memory", "import", "file")):
+        {"calls": measure_calls, "batches": measure_batches, "columns": measure_columns, "memory": measure_memory,
+         "import": measure_import, "file": measure_file, "instructions": measure_instructions}[part]()
     print(f"{len(too_great)} figures are too great")
     if is_recorded:
         record()
