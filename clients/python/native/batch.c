@@ -149,7 +149,7 @@ bool adopt_changes(Batch *batch) {
   if (!still_holds(batch)) {
     batch->h = NULL;
     if (PyErr_Occurred() || (batch->interner && !is_open(batch->interner))) return false;
-    PyErr_SetString(PyExc_RuntimeError, "a handler or an iterator changed this during the call");
+    PyErr_SetString(PyExc_RuntimeError, "a thread, a handler or an iterator changed this during the call");
     return false;
   }
   if (batch->column) batch->h = batch->column->dictionary->h;
@@ -166,17 +166,19 @@ void end_batch(Batch *batch) {
   batch->collects = false;
 }
 
-/* Lets other threads run, which is for what nobody else has: to them all else is one step. */
+/* Lets other threads run. That is for what nobody else has, and for what they have been told of: to them all else is one step. */
 static void let_others_run(void) {
   Py_BEGIN_ALLOW_THREADS
   Py_END_ALLOW_THREADS
 }
 
 bool resume_batch(Batch *batch) {
+  /* Another batch, which others began, must not undo texts whose numbers this one has. */
+  if (batch->interner) batch->interner->uses++;
   note_changes(batch);
   end_batch(batch);
   PyErr_CheckSignals(); /* What it raises is found by adopt_changes. */
-  if (!batch->interner && !batch->column) let_others_run();
+  if (batch->is_shared || (!batch->interner && !batch->column)) let_others_run();
   begin_batch(batch);
   clear_seen(batch);
   return adopt_changes(batch);

@@ -10,8 +10,8 @@
  *   3. A batch runs under PyGC_Disable, so that no finalizer comes between a failure and its undoing. It is all or nothing:
  *      undone by interner_truncate.
  *   4. A text that the library lends becomes a str before anything else is called.
- *   5. Between the parts of a batch PyErr_CheckSignals runs handlers. After it all is tested again (resume_batch): the handle,
- *      the length of the list, the counts of changes. The table of seen objects is cleared, because a handler may have dropped them.
+ *   5. Between the parts of a batch PyErr_CheckSignals runs handlers, and of some other threads run. After it all is tested again
+ *      (resume_batch): the handle, the length of the list, the counts of changes. The table of seen objects is cleared, because a handler may have dropped them.
  *      A loop that only reads lets them run, too (heed_signals). It reads rows that it holds (hold_rows), or memory of C.
  *   6. What `gc.get_objects` finds may be read or changed by others: items of a list or tuple that is being filled are null, and a
  *      list of this module's own may be emptied, or the dict of what is passed by name. So what must not change is in memory of C,
@@ -575,6 +575,7 @@ struct Batch {
   interner *h;
   bool only_looks;    /* whether unknown texts are `missing`, and not added */
   bool takes_none;    /* whether None is `missing`, and no error */
+  bool is_shared;     /* whether other threads run between its parts, though they have the interner, too */
   int64_t missing;
   Py_ssize_t first;   /* rows of earlier calls with this batch */
   void *out;          /* numbers of `width` bytes; those of `block`, if there is one */
