@@ -160,6 +160,7 @@ def measure_columns():
         calls = {
             "unique / that of a Categorical": (column.unique, categorical.unique),
             "value_counts / that of a Categorical": (column.value_counts, categorical.value_counts),
+            "value_counts(most=10) / that of a Categorical": (lambda: column.value_counts(most=10), categorical.value_counts),
             "to_numpy / numpy.asarray of a Categorical": (column.to_numpy, lambda: numpy.asarray(categorical)),
             "column[numbers], permuted / Categorical.take": (lambda: column[permuted], lambda: categorical.take(permuted)),
             "column[numbers], in order / Categorical.take": (lambda: column[chosen], lambda: categorical.take(chosen)),

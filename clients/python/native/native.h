@@ -438,7 +438,7 @@ PyObject *column_counts(Column *self, PyObject *args, PyObject *keywords);
 /* values.c */
 
 PyObject *column_unique(Column *self, PyObject *unused);
-PyObject *column_value_counts(Column *self, PyObject *drops);
+PyObject *column_value_counts(Column *self, PyObject *args);
 
 /** Writes the rows into an array of objects of numpy. */
 PyObject *column_write(Column *self, PyObject *array);
