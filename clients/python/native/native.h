@@ -198,7 +198,7 @@ typedef struct Utf8 {
 
 /** The UTF-8 form of a str, which stays until the next one is read. CPython has that of an ASCII text, and it alone knows which texts
  * are ASCII. Of any other text it makes the form and keeps it as long as the text, which takes time and memory. So it is asked only
- * for long texts, and as long as all are ASCII. */
+ * for long texts, for those that others hold, too, and as long as all are ASCII. */
 const char *read_utf8(Utf8 *utf8, PyObject *text, Py_ssize_t *length);
 
 /* numbers.c: integers or booleans of a buffer or an iterable, copied. */

@@ -27,7 +27,8 @@ const char *read_utf8(Utf8 *utf8, PyObject *text, Py_ssize_t *length) {
   const char *bytes = utf8->bytes;
   const Py_ssize_t n = PyUnicode_GetLength(text);
   if (n < 0) return NULL;
-  *length = utf8->likely ? write_short(utf8, text, n) : -1;
+  /* What others hold, as another row does, may be read again: then the form that CPython keeps is there. */
+  *length = utf8->likely && Py_REFCNT(text) == 1 ? write_short(utf8, text, n) : -1;
   if (*length < 0 && !(bytes = PyUnicode_AsUTF8AndSize(text, length))) return NULL;
   if (*length != n) utf8->likely = LIKELY;
   else if (utf8->likely) utf8->likely--;

@@ -368,7 +368,7 @@ class BeyondAscii(unittest.TestCase):
                 fresh = ["".join(text) for text in map(list, texts)]
                 before = sum(map(sys.getsizeof, fresh))
                 call(fresh)
-                # CPython makes the form of the first one.
+                # CPython makes the form of the first one, and of what others hold, too.
                 self.assertLess(sum(map(sys.getsizeof, fresh)) - before, 1024, (letters, call))
 
     def test_a_text_without_a_form(self):
