@@ -149,11 +149,13 @@ def batches_in_python(figures):
         "repeats, the same objects": "repeats, .*same", "repeats, fresh objects": "repeats, .*fresh",
         "distinct, the same objects": "distinct, .*same", "distinct, fresh, ASCII": "distinct, ASCII, fresh",
         "distinct, fresh, not ASCII": "distinct, not ASCII, fresh",
+        "keys that count up, fresh, not ASCII": "keys, not ASCII", "the same, shuffled": "keys, shuffled, not ASCII",
     }
     lines = [f"| {' | '.join(['a million rows', *columns.values()])} |", "|---|" + "---:|" * len(columns)]
     for name, pattern in kinds.items():
         found = [[it for where, it in figures[column].items() if re.match(pattern, where)] for column in columns]
-        lines.append(f"| {name} | {' | '.join(map(ranges, found))} |")
+        if all(found):
+            lines.append(f"| {name} | {' | '.join(map(ranges, found))} |")
     return "\n".join(lines)
 
 

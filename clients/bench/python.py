@@ -1,7 +1,7 @@
 """Measures calls of the Python package beside what a dict and pandas take, and compares each figure with the most that it may be.
 
-    python.py [calls] [batches] [memory] [import] [file]    all five if none is named; RUNS=9 takes the median of nine runs
-    python.py --docs                                        all five, into bench/measured, and draws a picture (needs matplotlib)
+    python.py [calls] [batches] [columns] [memory] [import] [file]    all six if none is named; RUNS=9 takes the median of nine runs
+    python.py --docs                                        all six, into bench/measured, and draws a picture (needs matplotlib)
     python.py draw                                          draws the picture of what bench/measured has
     python.py instructions                                  of each call, by callgrind (needs gcc and valgrind)
 
@@ -59,9 +59,14 @@ def words(count, letter):
 
 
 def rows_of(kind, count, letter):
-    """Distinct rows, or few words that are frequent and many that are rare."""
+    """Distinct rows, also those that a counter makes; or few words that are frequent and many that are rare."""
     if kind == "distinct":
         return words(count, letter)
+    if kind.startswith("keys"):
+        keys = [f"schl{letter}ssel_{number:07}" for number in range(count)]
+        if kind == "keys, shuffled":
+            random.Random(1).shuffle(keys)
+        return keys
     source, some = random.Random(1), words(50_000, letter)
     return [some[min(int(source.paretovariate(0.5)) - 1, len(some) - 1)] for _ in range(count)]
 
@@ -116,25 +121,57 @@ def measure_batches():
 
     from string_interner import Column, Interner
 
-    for kind in ("repeats", "distinct"):
-        for letter, name in (("w", "ASCII"), ("ŵ", "not ASCII")):
-            rows = rows_of(kind, 1_000_000, letter)
-            joined = "\n".join(rows)
-            for form in ("same objects", "fresh objects"):
-                read = (lambda: rows) if form == "same objects" else (lambda: joined.split("\n"))
-                found = medians({
-                    "factorize": (lambda: numpy.array(read(), dtype=object), pandas.factorize),
-                    "dict": (read, by_dict),
-                    "intern_all": (read, lambda rows: Interner().intern_all(rows)),
-                    "Column(rows)": (read, Column),
-                })
-                # Rows that repeat are the same objects then.
-                most = 0.5 if kind == "repeats" and form == "same objects" else 0.8
-                where = f"{kind}, {name}, {form}"
-                for call in ("intern_all", "Column(rows)"):
-                    tell(f"{call} / pandas.factorize", where, found[call] / found["factorize"], most)
-                    tell(f"{call} / a dict", where, found[call] / found["dict"])
-                tell("a dict / pandas.factorize", where, found["dict"] / found["factorize"])
+    forms = ("same objects", "fresh objects")
+    ways = [(kind, letter, name, forms) for kind in ("repeats", "distinct") for letter, name in (("w", "ASCII"), ("ŵ", "not ASCII"))]
+    ways += [(kind, letter, name, forms[1:]) for kind in ("keys", "keys, shuffled") for letter, name in (("u", "ASCII"), ("ü", "not ASCII"))]
+    for kind, letter, name, forms in ways:
+        rows = rows_of(kind, 1_000_000, letter)
+        joined = "\n".join(rows)
+        for form in forms:
+            read = (lambda: rows) if form == "same objects" else (lambda: joined.split("\n"))
+            found = medians({
+                "factorize": (lambda: numpy.array(read(), dtype=object), pandas.factorize),
+                "dict": (read, by_dict),
+                "intern_all": (read, lambda rows: Interner().intern_all(rows)),
+                "Column(rows)": (read, Column),
+            })
+            # Rows that repeat are the same objects then.
+            most = 0.5 if kind == "repeats" and form == "same objects" else 0.8
+            where = f"{kind}, {name}, {form}"
+            for call in ("intern_all", "Column(rows)"):
+                tell(f"{call} / pandas.factorize", where, found[call] / found["factorize"], most)
+                tell(f"{call} / a dict", where, found[call] / found["dict"])
+            tell("a dict / pandas.factorize", where, found["dict"] / found["factorize"])
+
+
+def measure_columns():
+    """What reads rows of a column that has a str of each text, as a Categorical has."""
+    import numpy
+    import pandas
+
+    from string_interner import Column
+
+    source, count = random.Random(1), 1_000_000
+    permuted, chosen = numpy.random.default_rng(1).permutation(count), numpy.flatnonzero(numpy.random.default_rng(2).random(count) < 0.5)
+    for distinct in (50_000, count):
+        some = words(distinct, "w")
+        rows = some if distinct == count else source.choices(some, k=count)
+        column, categorical, wide = Column(rows), pandas.Categorical(rows), numpy.array(rows)
+        calls = {
+            "unique / that of a Categorical": (column.unique, categorical.unique),
+            "value_counts / that of a Categorical": (column.value_counts, categorical.value_counts),
+            "value_counts(most=10) / that of a Categorical": (lambda: column.value_counts(most=10), categorical.value_counts),
+            "to_numpy / numpy.asarray of a Categorical": (column.to_numpy, lambda: numpy.asarray(categorical)),
+            "column[numbers], permuted / Categorical.take": (lambda: column[permuted], lambda: categorical.take(permuted)),
+            "column[numbers], in order / Categorical.take": (lambda: column[chosen], lambda: categorical.take(chosen)),
+            "Column(texts of numpy) / pandas.factorize": (lambda: Column(wide), lambda: pandas.factorize(wide)),
+        }
+        for what, (ours, theirs) in calls.items():
+            ours()
+            found = medians({"ours": (lambda: None, lambda _: ours()), "theirs": (lambda: None, lambda _: theirs())})
+            # A dict of all texts takes longer than codes of pandas in any case.
+            most = None if ours == column.value_counts else 1.0
+            tell(what, f"{distinct:,} distinct texts", found["ours"] / found["theirs"], most)
 
 
 def measure_memory():
@@ -319,9 +356,9 @@ def main(*words):
     if words == ("draw",):
         return draw_recorded()
     is_recorded = words == ("--docs",)
-    for part in ((not is_recorded and words) or ("calls", "batches", "memory", "import", "file")):
-        {"calls": measure_calls, "batches": measure_batches, "memory": measure_memory, "import": measure_import, "file": measure_file,
-         "instructions": measure_instructions}[part]()
+    for part in ((not is_recorded and words) or ("calls", "batches", "columns", "memory", "import", "file")):
+        {"calls": measure_calls, "batches": measure_batches, "columns": measure_columns, "memory": measure_memory,
+         "import": measure_import, "file": measure_file, "instructions": measure_instructions}[part]()
     print(f"{len(too_great)} figures are too great")
     if is_recorded:
         record()

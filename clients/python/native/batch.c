@@ -149,7 +149,7 @@ bool adopt_changes(Batch *batch) {
   if (!still_holds(batch)) {
     batch->h = NULL;
     if (PyErr_Occurred() || (batch->interner && !is_open(batch->interner))) return false;
-    PyErr_SetString(PyExc_RuntimeError, "a handler or an iterator changed this during the call");
+    PyErr_SetString(PyExc_RuntimeError, "a thread, a handler or an iterator changed this during the call");
     return false;
   }
   if (batch->column) batch->h = batch->column->dictionary->h;
@@ -166,17 +166,19 @@ void end_batch(Batch *batch) {
   batch->collects = false;
 }
 
-/* Lets other threads run, which is for what nobody else has: to them all else is one step. */
+/* Lets other threads run. That is for what nobody else has, and for what they have been told of: to them all else is one step. */
 static void let_others_run(void) {
   Py_BEGIN_ALLOW_THREADS
   Py_END_ALLOW_THREADS
 }
 
 bool resume_batch(Batch *batch) {
+  /* Another batch, which others began, must not undo texts whose numbers this one has. */
+  if (batch->interner) batch->interner->uses++;
   note_changes(batch);
   end_batch(batch);
   PyErr_CheckSignals(); /* What it raises is found by adopt_changes. */
-  if (!batch->interner && !batch->column) let_others_run();
+  if (batch->is_shared || (!batch->interner && !batch->column)) let_others_run();
   begin_batch(batch);
   clear_seen(batch);
   return adopt_changes(batch);
@@ -251,11 +253,11 @@ static bool raise_row(const Batch *batch, Py_ssize_t row, PyObject *object) {
 }
 
 /* Finds the number of a text, or adds the text. */
-static bool encode_text(Batch *batch, Py_ssize_t row, PyObject *text, int64_t *number) {
+static bool encode_text(Batch *batch, Utf8 *utf8, Py_ssize_t row, PyObject *text, int64_t *number) {
   Py_ssize_t length;
   interner_symbol found;
   if (!PyUnicode_Check(text)) return raise_row(batch, row, text);
-  const char *bytes = PyUnicode_AsUTF8AndSize(text, &length);
+  const char *bytes = read_utf8(utf8, text, &length);
   *number = batch->missing;
   if (!bytes) {
     if (!batch->only_looks || !PyErr_ExceptionMatches(PyExc_UnicodeEncodeError)) return false;
@@ -272,7 +274,7 @@ static bool encode_text(Batch *batch, Py_ssize_t row, PyObject *text, int64_t *n
 
 /* Encodes some objects. A small table has the number of the last object at each place. That is sound because the caller holds the
  * objects, so an address means one text until Python code runs. */
-static bool encode_part(Batch *batch, PyObject *const *part, Py_ssize_t at, Py_ssize_t n) {
+static bool encode_part(Batch *batch, Utf8 *utf8, PyObject *const *part, Py_ssize_t at, Py_ssize_t n) {
   enum { AHEAD = 8 };
   for (Py_ssize_t row = 0; row < n; row++) {
     PyObject *text = part[row];
@@ -283,7 +285,7 @@ static bool encode_part(Batch *batch, PyObject *const *part, Py_ssize_t at, Py_s
     if (seen->object == text) number = seen->number;
     else if (batch->takes_none && text == Py_None) number = batch->missing;
     else {
-      if (!encode_text(batch, at + row, text, &number)) return false;
+      if (!encode_text(batch, utf8, at + row, text, &number)) return false;
       if (number == (uint32_t)number) *seen = (Seen){text, (uint32_t)number};
     }
     if (!put_number(batch, at + row, number)) return false;
@@ -294,6 +296,8 @@ static bool encode_part(Batch *batch, PyObject *const *part, Py_ssize_t at, Py_s
 bool encode_rows(Batch *batch, Rows *rows) {
   enum { AT_ONCE = 1024 };
   PyObject *part[AT_ONCE];
+  Utf8 utf8;
+  utf8.likely = 0;
   bool is_done = has_its_length(rows);
   int bits = bits_for(rows->n);
   batch->seen_bits = bits < batch->most_bits ? bits : batch->most_bits;
@@ -304,7 +308,7 @@ bool encode_rows(Batch *batch, Rows *rows) {
     if (!is_done) break;
     Py_ssize_t n = rows->n - at < AT_ONCE ? rows->n - at : AT_ONCE;
     read_part(rows, at, n, part);
-    is_done = encode_part(batch, part, batch->first + at, n);
+    is_done = encode_part(batch, &utf8, part, batch->first + at, n);
     if (batch->column) batch->h = batch->column->dictionary->h;
   }
   if (!is_done) undo_batch(batch);

@@ -330,7 +330,9 @@ static PyMethodDef method_methods[] = {
      "intern_lines($self, joined, /)\n--\n\n"
      "Returns the number of each line of some bytes, in an array of 4 bytes for each. Makes no str of a line.\n\n"
      "A line ends at a newline, which is not part of it, or at the end of the bytes. Raises ValueError for a line that is not\n"
-     "UTF-8, and says which, counted from 1; then nothing changes."},
+     "UTF-8, and says which, counted from 1; then nothing changes.\n\n"
+     "Other threads run after each MiB. If one interns or looks up texts then, the lines up to there stay, even if a later one is\n"
+     "wrong. If one closes the interner, this raises ValueError, and if it truncates it, RuntimeError."},
     {"get", (PyCFunction)(void (*)(void))method_get, METH_FASTCALL | METH_KEYWORDS,
      "get($self, text, /, default=None)\n--\n\nReturns the number of a text, or the default if it is not known."},
     {"get_all", (PyCFunction)(void (*)(void))method_get_all_holding, METH_VARARGS | METH_KEYWORDS,

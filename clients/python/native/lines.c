@@ -104,18 +104,29 @@ static bool encode_bytes(Batch *batch, const Bytes *bytes) {
   return is_done;
 }
 
+/* How many lines bytes have that nobody changes. Other threads run meanwhile, if there are many. */
+static Py_ssize_t count_lines(const Bytes *bytes) {
+  const char *end = bytes->at + bytes->length;
+  Py_ssize_t ends;
+  if (bytes->length <= BYTES_OF_A_PART) ends = count_ends(bytes->at, end, false);
+  else {
+    Py_BEGIN_ALLOW_THREADS
+    ends = count_ends(bytes->at, end, false);
+    Py_END_ALLOW_THREADS
+  }
+  return ends + (bytes->length && end[-1] != '\n');
+}
+
 PyObject *intern_lines(Interner *self, PyObject *given) {
   Bytes bytes;
   Py_buffer view;
   if (!read_bytes(given, &bytes)) return NULL;
-  const char *end = bytes.at + bytes.length;
-  Py_ssize_t lines = count_ends(bytes.at, end, false) + (bytes.length && end[-1] != '\n');
-  PyObject *array = new_array(self->state, "I", lines, &view);
+  PyObject *array = new_array(self->state, "I", count_lines(&bytes), &view);
   if (array) {
     Batch *batch = is_open(self) ? new_batch(self, NULL, self->h, 0) : NULL;
     bool is_done = false;
     if (batch) {
-      batch->out = view.buf, batch->width = 4;
+      batch->out = view.buf, batch->width = 4, batch->is_shared = true;
       is_done = encode_bytes(batch, &bytes);
     }
     free_batch(batch);

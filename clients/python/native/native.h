@@ -10,8 +10,8 @@
  *   3. A batch runs under PyGC_Disable, so that no finalizer comes between a failure and its undoing. It is all or nothing:
  *      undone by interner_truncate.
  *   4. A text that the library lends becomes a str before anything else is called.
- *   5. Between the parts of a batch PyErr_CheckSignals runs handlers. After it all is tested again (resume_batch): the handle,
- *      the length of the list, the counts of changes. The table of seen objects is cleared, because a handler may have dropped them.
+ *   5. Between the parts of a batch PyErr_CheckSignals runs handlers, and of some other threads run. After it all is tested again
+ *      (resume_batch): the handle, the length of the list, the counts of changes. The table of seen objects is cleared, because a handler may have dropped them.
  *      A loop that only reads lets them run, too (heed_signals). It reads rows that it holds (hold_rows), or memory of C.
  *   6. What `gc.get_objects` finds may be read or changed by others: items of a list or tuple that is being filled are null, and a
  *      list of this module's own may be emptied, or the dict of what is passed by name. So what must not change is in memory of C,
@@ -170,6 +170,36 @@ size_t number_after(interner_kind kind, size_t number, size_t length);
 
 /** An array of the module array with n items, and a writable view of it. Runs no Python code but hooks of `sys.addaudithook`. */
 PyObject *new_array(const State *state, const char *typecode, Py_ssize_t n, Py_buffer *view);
+
+/* utf8.c: the UTF-8 form of texts, in memory of the caller. */
+
+/** Writes a character as UTF-8. Returns how many bytes it has, or 0 if it has no such form. */
+static inline int write_character(uint32_t character, char *to) {
+  if (character < 0x80) return to[0] = (char)character, 1;
+  if (character < 0x800) return to[0] = (char)(0xC0 | character >> 6), to[1] = (char)(0x80 | (character & 0x3F)), 2;
+  const int more = character >= 0x10000;
+  if (character > 0x10FFFF || (character >= 0xD800 && character < 0xE000)) return 0;
+  if (more) *to++ = (char)(0xF0 | character >> 18);
+  *to++ = (char)(more ? 0x80 | (character >> 12 & 0x3F) : 0xE0 | character >> 12);
+  *to++ = (char)(0x80 | (character >> 6 & 0x3F));
+  *to = (char)(0x80 | (character & 0x3F));
+  return 3 + more;
+}
+
+/** The characters of a text have at most so many bytes. */
+enum { BYTES_OF_A_CHARACTER = 4, MOST_CHARACTERS = 256 };
+
+/** Room for the UTF-8 form of a text of so many characters. */
+typedef struct Utf8 {
+  int likely; /* more than 0 if the next text is probably not ASCII; 0 at first */
+  Py_UCS4 characters[MOST_CHARACTERS];
+  char bytes[BYTES_OF_A_CHARACTER * MOST_CHARACTERS];
+} Utf8;
+
+/** The UTF-8 form of a str, which stays until the next one is read. CPython has that of an ASCII text, and it alone knows which texts
+ * are ASCII. Of any other text it makes the form and keeps it as long as the text, which takes time and memory. So it is asked only
+ * for long texts, for those that others hold, too, and as long as all are ASCII. */
+const char *read_utf8(Utf8 *utf8, PyObject *text, Py_ssize_t *length);
 
 /* numbers.c: integers or booleans of a buffer or an iterable, copied. */
 
@@ -408,7 +438,7 @@ PyObject *column_counts(Column *self, PyObject *args, PyObject *keywords);
 /* values.c */
 
 PyObject *column_unique(Column *self, PyObject *unused);
-PyObject *column_value_counts(Column *self, PyObject *drops);
+PyObject *column_value_counts(Column *self, PyObject *args);
 
 /** Writes the rows into an array of objects of numpy. */
 PyObject *column_write(Column *self, PyObject *array);
@@ -545,6 +575,7 @@ struct Batch {
   interner *h;
   bool only_looks;    /* whether unknown texts are `missing`, and not added */
   bool takes_none;    /* whether None is `missing`, and no error */
+  bool is_shared;     /* whether other threads run between its parts, though they have the interner, too */
   int64_t missing;
   Py_ssize_t first;   /* rows of earlier calls with this batch */
   void *out;          /* numbers of `width` bytes; those of `block`, if there is one */

@@ -9,38 +9,48 @@ static Block *refuse_row(Block *block, int64_t row, bool is_unsigned) {
   return NULL;
 }
 
-/* So many rows before its turn a code is fetched from memory, because numbers may be in no order. */
-enum { AHEAD = 24 };
-
-/* There may be no such row, so its place is counted without a sign. */
-static inline void fetch_code(const Encoded *from, int64_t row) {
-  if (from->n) __builtin_prefetch((const void *)((uintptr_t)from->block->data + (uintptr_t)row * from->block->width));
-}
-
-/* The codes of rows whose numbers are in a buffer. Each is read once, because others may change it. One below 0 counts from the
- * end; without a sign it is great. */
-static inline __attribute__((always_inline)) Block *take_view(const Encoded *from, const Py_buffer *view, Py_ssize_t width,
-                                                              bool is_unsigned) {
-  const char *at = view->buf;
-  const Py_ssize_t n = view->len / width, step = view->strides ? view->strides[0] : width;
-  const bool is_narrow = from->n && from->block->width == 4;
-  Block *block = new_block(n, from->n ? from->block->width : 4);
-  for (Py_ssize_t place = 0; block && place < n; place++, at += step) {
-    if (place + AHEAD < n) fetch_code(from, widen(at + AHEAD * step, width, is_unsigned));
-    const int64_t given = widen(at, width, is_unsigned), row = given < 0 && !is_unsigned ? given + from->n : given;
-    if ((uint64_t)row >= (uint64_t)from->n) return refuse_row(block, given, is_unsigned);
-    if (is_narrow) ((int32_t *)block->data)[place] = ((const int32_t *)from->block->data)[row];
-    else block->data[place] = from->block->data[row];
+/* Takes rows whose numbers begin at a place and lie `step` bytes apart. Returns how many it took: less than n if the next has no row,
+ * which it writes to `wrong`. Each number is read once, because others may change it. One below 0, which counts from the end, is
+ * great without a sign. */
+#define TAKE(name, Code) \
+  static inline __attribute__((always_inline)) Py_ssize_t name(const Encoded *from, const char *at, Py_ssize_t n, Py_ssize_t step, \
+                                                               Py_ssize_t width, bool is_unsigned, Block *block, int64_t *wrong) { \
+    const Py_ssize_t rows = from->n; \
+    const Code *codes = rows ? (const Code *)from->block->data : NULL; \
+    Code *to = (Code *)block->data; \
+    for (Py_ssize_t place = 0; place < n; place++, at += step) { \
+      const int64_t given = widen(at, width, is_unsigned); \
+      uint64_t row = (uint64_t)given; \
+      if (__builtin_expect(row >= (uint64_t)rows, 0)) { \
+        if (given < 0 && !is_unsigned) row += rows; \
+        if (row >= (uint64_t)rows) return *wrong = given, place; \
+      } \
+      to[place] = codes[row]; \
+    } \
+    return n; \
   }
-  if (block) block->used = n;
-  return block;
+
+TAKE(take_narrow, int32_t)
+TAKE(take_wide, int64_t)
+
+/* The codes of rows whose numbers are in a buffer. */
+static inline __attribute__((always_inline)) Block *take_view(const Encoded *from, const Py_buffer *view, Py_ssize_t step,
+                                                              Py_ssize_t width, bool is_unsigned) {
+  const Py_ssize_t n = view->len / width;
+  int64_t wrong;
+  Block *block = new_block(n, from->n ? from->block->width : 4);
+  if (!block) return NULL;
+  block->used = block->width == 4 ? take_narrow(from, view->buf, n, step, width, is_unsigned, block, &wrong)
+                                  : take_wide(from, view->buf, n, step, width, is_unsigned, block, &wrong);
+  return block->used == n ? block : refuse_row(block, wrong, is_unsigned);
 }
 
-/* The same for the widths that arrays of numbers have by default, so that the loop knows them. */
+/* The same for the widths that arrays of numbers have by default, end to end, so that the loop knows them. */
 static Block *take_numbers(const Encoded *from, const Py_buffer *view, Py_ssize_t width, bool is_unsigned) {
-  if (width == 8 && !is_unsigned) return take_view(from, view, 8, false);
-  if (width == 4 && !is_unsigned) return take_view(from, view, 4, false);
-  return take_view(from, view, width, is_unsigned);
+  const Py_ssize_t step = view->strides ? view->strides[0] : width;
+  if (width == 8 && step == 8 && !is_unsigned) return take_view(from, view, 8, 8, false);
+  if (width == 4 && step == 4 && !is_unsigned) return take_view(from, view, 4, 4, false);
+  return take_view(from, view, step, width, is_unsigned);
 }
 
 static Block *refuse_mask(Py_ssize_t of_mask, Py_ssize_t rows) {

@@ -146,26 +146,38 @@ static PyObject *pair_values(const Values *values, const size_t *counts) {
   return dict;
 }
 
-PyObject *column_value_counts(Column *self, PyObject *drops) {
-  const int drops_none = PyObject_IsTrue(drops);
+/* A dict of the most frequent values, at most so many, and their counts. */
+static PyObject *count_values(const Encoded *rows, bool drops_none, size_t most) {
+  const size_t distinct = interner_len(rows->dictionary->h), end = distinct + !drops_none;
+  size_t *counts = count_codes(rows);
   Values values = {0};
   PyObject *dict = NULL;
-  if (drops_none < 0 || !is_made(self)) return NULL;
-  Encoded rows = hold_rows(self);
-  const size_t distinct = interner_len(rows.dictionary->h), end = distinct + !drops_none;
-  size_t *counts = count_codes(&rows);
-  const size_t most = end < (size_t)rows.n ? end : (size_t)rows.n;
-  if (counts && reserve_values(&values, most) && order_codes(counts, end, rows.n, &values)) {
+  if (counts && reserve_values(&values, end < (size_t)rows->n ? end : (size_t)rows->n) && order_codes(counts, end, rows->n, &values)) {
+    if (values.n > most) values.n = most;
     /* The code of None is -1 to whoever makes the objects. */
     size_t none = 0;
     while (none < values.n && values.codes[none] != (int64_t)distinct) none++;
     if (none < values.n) values.codes[none] = -1;
-    const bool is_done = make_values(&rows, &values);
+    const bool is_done = make_values(rows, &values);
     if (none < values.n) values.codes[none] = (int64_t)distinct;
     if (is_done) dict = pair_values(&values, counts);
   }
   PyMem_Free(counts);
   drop_values(&values);
+  return dict;
+}
+
+PyObject *column_value_counts(Column *self, PyObject *args) {
+  PyObject *drops, *most;
+  if (!PyArg_ParseTuple(args, "OO:_value_counts", &drops, &most)) return NULL;
+  const int drops_none = PyObject_IsTrue(drops);
+  if (drops_none < 0) return NULL;
+  /* A number that is too great means all, too. */
+  const Py_ssize_t number = most == Py_None ? PY_SSIZE_T_MAX : PyNumber_AsSsize_t(most, NULL);
+  if (number < 0 && !PyErr_Occurred()) PyErr_SetString(PyExc_ValueError, "most is less than 0");
+  if (PyErr_Occurred() || !is_made(self)) return NULL;
+  Encoded rows = hold_rows(self);
+  PyObject *dict = count_values(&rows, drops_none, (size_t)number);
   drop_rows(&rows);
   return dict;
 }

@@ -31,19 +31,6 @@ static bool open_wide(PyObject *given, Wide *wide) {
   return false;
 }
 
-/* Writes a character as UTF-8. Returns how many bytes it has, or 0 if it has none. */
-static int write_character(uint32_t character, char *to) {
-  if (character < 0x80) return to[0] = (char)character, 1;
-  if (character < 0x800) return to[0] = (char)(0xC0 | character >> 6), to[1] = (char)(0x80 | (character & 0x3F)), 2;
-  const int more = character >= 0x10000;
-  if (character > 0x10FFFF || (character >= 0xD800 && character < 0xE000)) return 0;
-  if (more) *to++ = (char)(0xF0 | character >> 18);
-  *to++ = (char)(more ? 0x80 | (character >> 12 & 0x3F) : 0xE0 | character >> 12);
-  *to++ = (char)(0x80 | (character >> 6 & 0x3F));
-  *to = (char)(0x80 | (character & 0x3F));
-  return 3 + more;
-}
-
 /* Raises what a str of such characters raises where it becomes UTF-8. */
 static bool raise_characters(const char *at, Py_ssize_t length, bool is_swapped) {
   int order = is_swapped ? 1 : -1;

@@ -149,17 +149,21 @@ class Column(Pickled, _native.Column):
         return rows if dtype is None else rows.astype(dtype)
 
     @overload
-    def value_counts(self, *, dropna: _types.Literal[True] = True) -> dict[str, int]: ...
+    def value_counts(self, *, dropna: _types.Literal[True] = True, most: _types.SupportsIndex | None = None) -> dict[str, int]: ...
     @overload
-    def value_counts(self, *, dropna: _types.Literal[False]) -> dict[str | None, int]: ...
+    def value_counts(self, *, dropna: _types.Literal[False], most: _types.SupportsIndex | None = None) -> dict[str | None, int]: ...
     @overload
-    def value_counts(self, *, dropna: bool) -> dict[str, int] | dict[str | None, int]: ...
-    def value_counts(self, *, dropna: bool = True) -> _types.Any:
+    def value_counts(
+        self, *, dropna: bool, most: _types.SupportsIndex | None = None
+    ) -> dict[str, int] | dict[str | None, int]: ...
+    def value_counts(self, *, dropna: bool = True, most: _types.SupportsIndex | None = None) -> _types.Any:
         """Returns the number of rows with each text that a row has, the most frequent first.
 
-        Counts rows that are None only if `dropna` is false.
+        Counts rows that are None only if `dropna` is false. With `most` it returns at most so many, and raises ValueError for a number
+        below 0. It makes a str and an entry of a dict for each text that it returns. So of many distinct texts ask for the first few,
+        or call `counts`, which makes none.
         """
-        return self._with_few_texts()._value_counts(dropna)
+        return self._with_few_texts()._value_counts(dropna, most)
 
     def unique(self) -> list[str | None]:
         """Returns the distinct values of the rows, in order of first appearance. None is one of them if a row is None."""

@@ -9,6 +9,7 @@ if TYPE_CHECKING:
     from typing import Any as Any
     from typing import Literal as Literal
     from typing import Self as Self
+    from typing import SupportsIndex as SupportsIndex
 
     from . import Hasher as Hasher
 

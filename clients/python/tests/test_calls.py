@@ -4,6 +4,7 @@ import copy
 import doctest
 import json
 import pickle
+import random
 import sys
 import threading
 import unittest
@@ -331,6 +332,70 @@ class Others(unittest.TestCase):
         self.assertEqual(len(numbers), 4)
         for found in numbers:
             self.assertEqual(found, {text: interner.get(text) for text in found})
+
+
+class BeyondAscii(unittest.TestCase):
+    """Batches of texts of any characters, whose UTF-8 form has another length than the text has."""
+
+    LETTERS = "aZ~\0\x7f\x80ÿßĀ߿ࠀ語\ud7ff\ue000\uffff𐀀𝄞\U0010ffff"
+
+    def draw(self, source):
+        """A text of few letters, all or mostly ASCII or not, about as long as a short one may be, or short."""
+        letters = source.choice((self.LETTERS, "ab", "ß", "ab" * 9 + "é", "語𝄞"))
+        length = source.choice((253, 254, 255, 256, 257, 258, 1000)) if source.random() < 0.05 else source.randrange(12)
+        return "".join(source.choices(letters, k=length))
+
+    def test_batches_beside_a_dict(self):
+        for seed in range(60):
+            source = random.Random(seed)
+            texts = [self.draw(source) for _ in range(source.randrange(400))]
+            texts += source.choices(texts, k=len(texts) // 2)
+            numbers, unknown = {}, "unknown" * 2 + "ß" * source.randrange(300)
+            wanted = [numbers.setdefault(text, len(numbers)) for text in texts]
+            with self.subTest(seed):
+                interner, column = Interner(), Column(texts)
+                self.assertEqual(interner.intern_all(texts).tolist(), wanted)
+                self.assertEqual(list(interner), list(numbers))
+                self.assertEqual(interner.get_all([unknown, *texts, unknown], missing=-1).tolist(), [-1, *wanted, -1])
+                self.assertEqual((column.codes.tolist(), column.dictionary), (wanted, list(numbers)))
+                column.extend(text for text in [*texts, None])
+                self.assertEqual(column.codes.tolist(), [*wanted, *wanted, -1])
+
+    def test_texts_keep_no_second_form(self):
+        for count, letters in ((2000, "ß"), (2000, "語"), (2000, "𝄞a"), (300, "ä" * 200)):
+            texts = [f"{letters}{number}" for number in range(count)]
+            for call in (Column, Interner().intern_all, Column(["a"]).extend, Interner().get_all):
+                fresh = ["".join(text) for text in map(list, texts)]
+                before = sum(map(sys.getsizeof, fresh))
+                call(fresh)
+                # CPython makes the form of the first one, and of what others hold, too.
+                self.assertLess(sum(map(sys.getsizeof, fresh)) - before, 1024, (letters, call))
+
+    def test_a_text_without_a_form(self):
+        for front in (["a"], ["ß"], ["ß" * 300], ["ß", "a"] * 20):
+            for wrong in ("\ud800", "ß\udfff", "abcd\ud800", "a" * 300 + "\udfff"):
+                texts = [*(f"{text}{row}" for row, text in enumerate(front)), wrong, "語"]
+                with self.subTest(front=front[:2], wrong=wrong[-5:]):
+                    interner, column = Interner(["first"]), Column(["first"])
+                    for call in (interner.intern_all, column.extend, Column):
+                        with self.assertRaises(UnicodeEncodeError) as caught:
+                            call(texts)
+                        self.assertEqual(caught.exception.object, wrong)
+                    self.assertEqual((list(interner), column.dictionary), (["first"], ["first"]))
+                    self.assertEqual(interner.get_all(["first", *texts], missing=-1).tolist(), [0] + [-1] * len(texts))
+
+    def test_a_subclass(self):
+        class Lying(str):
+            __slots__ = ()
+
+            def __len__(self):
+                return 1
+
+            def encode(self, *_):
+                return b"lie"
+
+        texts = [f"ß{number}" for number in range(40)]
+        self.assertEqual(Column(map(Lying, texts)).dictionary, texts)
 
 
 def load_tests(loader, tests, pattern):

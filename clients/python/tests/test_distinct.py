@@ -2,8 +2,10 @@
 Categorical, if it is there; each refusal; and functions that change the column meanwhile."""
 
 import random
+import sys
 import unittest
 from array import array
+from collections import Counter
 
 from test_protocols import Number
 from test_safety import take_back
@@ -260,6 +262,40 @@ class Values(unittest.TestCase):
             self.assertEqual(column.unique(), list(dict.fromkeys(rows)))
         self.assertEqual((Column().value_counts(dropna=False), Column().unique()), ({}, []))
         self.assertEqual(Column.from_parts(["a", "b"], [-1]).value_counts(), {})
+
+    def test_the_most_frequent_values(self):
+        chance = random.Random(2)
+        for _ in range(300):
+            texts = [None, *(f"text {number}" for number in range(chance.randrange(40)))]
+            rows = chance.choices(texts, k=chance.choice((0, 5, 200)))
+            column = Column(["no row has this"] + rows)[1:]
+            for drops in (True, False):
+                whole = list(column.value_counts(dropna=drops).items())
+                self.assertEqual(dict(whole), Counter(row for row in rows if row is not None or not drops))
+                for most in (0, 1, chance.randrange(40), len(whole), len(whole) + 1, 10**30, True):
+                    self.assertEqual(list(column.value_counts(dropna=drops, most=most).items()), whole[:most])
+                self.assertEqual(list(column.value_counts(dropna=drops, most=None).items()), whole)
+
+    def test_what_is_no_number_of_values(self):
+        column = Column(["a", "b", "a"])
+        for most in (-1, -(10**30)):
+            self.assertRaisesRegex(ValueError, "^most is less than 0$", column.value_counts, most=most)
+        for most in ("1", 1.0, [1]):
+            self.assertRaises(TypeError, column.value_counts, most=most)
+
+        class Adds:
+            def __index__(self):
+                column.extend(["c"] * 9)
+                return 1
+
+        self.assertEqual(column.value_counts(most=Adds()), {"c": 9})
+
+    def test_few_values_make_few_strings(self):
+        column = Column([f"text {number}" for number in range(100_000)] + ["text 7"])
+        before = sys.getsizeof(column)
+        self.assertEqual(column.value_counts(most=2), {"text 7": 2, "text 0": 1})
+        # A place for each, and the strings of two.
+        self.assertLess(sys.getsizeof(column) - before, 9 * 100_000 + 1000)
 
     def test_equal_rows_are_one_object(self):
         column = Column(["text a", "text b", "text a"])

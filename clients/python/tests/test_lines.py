@@ -13,7 +13,7 @@ import tempfile
 import threading
 import unittest
 
-from test_safety import take_back
+from test_safety import running, take_back
 
 from string_interner import Column, Interner
 
@@ -86,6 +86,74 @@ class OfBytes(unittest.TestCase):
         closed = Interner()
         closed.close()
         self.assertRaises(ValueError, closed.intern_lines, b"a")
+
+
+class BesideThreads(unittest.TestCase):
+    """Other threads run between the parts of `intern_lines`, and may do anything to the interner."""
+
+    LINES = [f"line {number} of many, which is long enough that a few thousand make a part" for number in range(60_000)]
+    RAW = "\n".join(LINES).encode()
+
+    def count_or_raise(self, interner, raw, known):
+        """Interns lines, whose numbers must be right however others use the interner, or returns what that raised."""
+        try:
+            numbers = interner.intern_lines(raw)
+        except (ValueError, RuntimeError) as error:
+            return error
+        self.assertEqual(interner.resolve_all(numbers), known)
+        return None
+
+    def test_another_thread_runs_meanwhile(self):
+        interner, seen = Interner(["first"]), set()
+        with running(lambda: seen.add(len(interner))):
+            interner.intern_lines(self.RAW)
+        self.assertEqual(len(interner), 1 + len(self.LINES))
+        self.assertTrue([count for count in seen if 1 < count < 1 + len(self.LINES)])
+
+    def test_lines_that_several_threads_have(self):
+        # Those that fail at their last line must not undo lines that others have.
+        for backend in ("string", "buffer"):
+            for _ in range(6):
+                interner, wrong = Interner(backend=backend), []
+                with running(lambda: wrong.append(self.count_or_raise(interner, self.RAW + b"\n\xff", None)),
+                             lambda: wrong.append(self.count_or_raise(interner, self.RAW[: len(self.RAW) // 2] + b"\xff", None))):
+                    for _ in range(3):
+                        self.assertIsNone(self.count_or_raise(interner, self.RAW, self.LINES))
+                self.assertEqual({str(error).split(" ", 2)[2] for error in wrong} - {"is not UTF-8"}, set())
+
+    def test_texts_that_others_intern_or_look_up_stay(self):
+        for _ in range(6):
+            interner, got = Interner(["first"]), {}
+            texts = [self.LINES[5], "other", self.LINES[20_000]]
+            with running(lambda: got.update((text, interner.get(text)) for text in texts if text in interner),
+                         lambda: got.update(zip(texts, interner.intern_all(texts)))):
+                error = self.count_or_raise(interner, self.RAW + b"\n\xff", None)
+            self.assertIsInstance(error, ValueError)
+            self.assertEqual({text: interner.get(text) for text in got}, got)
+
+    def test_an_interner_that_others_close_or_truncate(self):
+        for backend in ("string", "bucket", "buffer"):
+            for change in (lambda it: it.close(), lambda it: it.truncate(len(it) // 2), lambda it: it.truncate(0),
+                           lambda it: it.__init__(["again"])):
+                interner, done = Interner(["first"], backend=backend), []
+
+                def step():
+                    try:
+                        if len(interner) > 1 and not done:
+                            done.append(change(interner))
+                    except ValueError:
+                        pass  # It is closed.
+
+                with running(step), self.subTest(backend):
+                    try:
+                        interner.intern_lines(self.RAW)
+                    except (ValueError, RuntimeError) as error:
+                        self.assertRegex(str(error), "closed|changed this during the call")
+                try:
+                    texts = list(interner)
+                except ValueError:
+                    continue
+                self.assertEqual(interner.intern_all(texts), interner.get_all(texts, missing=0))
 
 
 class Fields(unittest.TestCase):

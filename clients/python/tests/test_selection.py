@@ -155,6 +155,31 @@ class Selections(unittest.TestCase):
                     both = (list(chosen), wanted.tolist()) if isinstance(chosen, Column) else (chosen, wanted)
                     self.assertEqual(*both)
 
+    @unittest.skipUnless(numpy, "no numpy")
+    def test_numbers_of_any_width_and_order(self):
+        source = random.Random(2)
+        for _ in range(2000):
+            rows = [source.choice(("a", "b", "c", None, "é")) for _ in range(source.randrange(1, 40))]
+            column, plain, count = Column(rows), numpy.array(rows, object), len(rows)
+            kind = source.choice(("i1", "i2", "i4", "i8", "u1", "u2", "u4", "u8"))
+            # Sometimes there is one number without a row, at its ends or beyond.
+            numbers = [source.randrange(0 if kind[0] == "u" else -count, count) for _ in range(source.randrange(60))]
+            if source.random() < 0.2:
+                # numpy reads the greatest of 8 bytes without a sign as -1.
+                beyond = source.choice((count, 99, numpy.iinfo(kind).max // 2, numpy.iinfo(kind).min or count))
+                numbers.insert(source.randrange(len(numbers) + 1), beyond)
+            key = numpy.array(numbers, kind)[:: source.choice((1, 1, -1, 2, -3))]
+            try:
+                wanted = plain[key].tolist()
+            except IndexError:
+                with self.assertRaises(IndexError):
+                    column[key]
+                with self.assertRaises(IndexError):
+                    column.take(key)
+            else:
+                self.assertEqual(list(column[key]), wanted)
+                self.assertEqual(list(column.take(key)), wanted)
+
 
 if __name__ == "__main__":
     unittest.main()
