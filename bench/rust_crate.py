@@ -7,6 +7,9 @@ from cycles import count, cycles_in
 from results import HERE, RUST, TOP
 
 OUT = HERE / "out"
+INDEXES = ("Index", "TaggedIndex")
+# How many texts go, and how: as an interner does it, and by filling the index anew. What bench/rust/truncate.rs measures, in order.
+TRUNCATED = ("one", "one refilled", "ninth", "ninth refilled", "half", "half refilled")
 PHASES = ("fill", "known", "unknown", "resolve", "shuffled", "iterate", "loop", "extend", "clone", "again", "tokenizer")
 
 
@@ -17,7 +20,7 @@ def build(done, words, name, crates=()):
     (folder / "Cargo.toml").write_text(
         f'[package]\nname = "{name}"\nversion = "0.0.0"\nedition = "2021"\npublish = false\n\n[[bin]]\nname = "{name}"\n'
         f'path = "{HERE}/{name}/main.rs"\n\n[dependencies]\noriginal = {{ package = "string-interner", path = "{OUT}/original" }}\n'
-        f'ours = {{ package = "string-interner", path = "{TOP}/clients/rust" }}\n{"".join(f"{crate}{chr(10)}" for crate in crates)}\n'
+        f'ours = {{ package = "string-interner", path = "{TOP}/clients/rust", features = ["parts"] }}\n{"".join(f"{crate}{chr(10)}" for crate in crates)}\n'
         '[profile.release]\nlto = "fat"\ncodegen-units = 1\n\n[workspace]\n'
     )
     environment = {**os.environ, "RUSTFLAGS": "-C target-cpu=x86-64-v2"}
@@ -26,8 +29,9 @@ def build(done, words, name, crates=()):
 
 
 def count_rounds(is_quick):
-    """Lines of the estimated cycles of each kind."""
+    """Lines of the estimated cycles of each kind, a text each, and of truncating, a call each."""
     cases = [(kind, texts) for texts in (10_000, 100_000)[: 1 if is_quick else 2] for kind in RUST]
+    truncated = [(index, texts) for texts in (10_000, 100_000, 1_000_000)[: 1 if is_quick else 3] for index in INDEXES]
     program = OUT / "rust/target/release/rust"
     # A part ends before each reading of the clock, so those of the phases are the second, the fourth, and so on.
     run = lambda case: count([program, *map(str, case)], "--dump-before=clock_gettime*")[1::2]
@@ -35,6 +39,23 @@ def count_rounds(is_quick):
         for (kind, texts), parts in zip(cases, pool.map(run, cases)) if shutil.which("valgrind") else ():
             for phase, totals in zip(PHASES, parts):
                 yield "\t".join((*RUST[kind], "identifiers", str(texts), "", f"{phase} cycles", f"{cycles_in(totals) / texts:.1f}"))
+        for (index, texts), parts in zip(truncated, pool.map(run, truncated)) if shutil.which("valgrind") else ():
+            for what, totals in zip(TRUNCATED, parts):
+                yield "\t".join((*truncating(index), "identifiers", str(texts), "", f"{what} cycles", f"{cycles_in(totals):.0f}"))
+
+
+def truncating(index):
+    """The kind of an interner over an index that truncates."""
+    return ("rust", "truncate", index, "-")
+
+
+def truncate_rows(results):
+    """The estimated cycles of truncating over those of filling the index anew, a row for each index and count of texts."""
+    for index in INDEXES:
+        for texts in results.counts["identifiers"]:
+            row = results.values.get((truncating(index), "identifiers", texts), {})
+            if row:
+                yield f"`{index}` | {texts:,}", [row[f"{what} cycles"] / row[f"{what} refilled cycles"] for what in TRUNCATED[::2]]
 
 
 def table_rows(results, phases=PHASES):

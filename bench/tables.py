@@ -10,7 +10,7 @@ import sys
 
 from results import BACKENDS, DEFAULT, DOCS, FAST, FNV, HERE, INPUTS, LINES, MAP, MEASURED, NOUNS, ORIGINAL, PARTS, PHASES, SET
 from results import Results, sum_of
-from rust_crate import PHASES as RUST_PHASES, table_rows
+from rust_crate import PHASES as RUST_PHASES, table_rows, truncate_rows
 import threads
 
 DOCUMENTS = tuple(DOCS.parent / it for it in ("README.md", "docs/PERFORMANCE.md", "docs/python.md", "clients/rust/README.md"))
@@ -82,6 +82,13 @@ def rust(results):
     said = "Estimated cycles divided by those of the original with its own default hasher, identifiers; lower is better"
     rows = list(table_rows(results))
     return table(said, ["", "texts", *RUST_PHASES], rows) if rows else "Not measured."
+
+
+def truncated(results):
+    """What removing texts from an index costs beside filling it anew."""
+    said = "Estimated cycles of `truncate` divided by those of filling the index anew, identifiers; lower is better"
+    rows = list(truncate_rows(results))
+    return table(said, ["", "texts", "one goes", "a ninth", "a half"], rows) if rows else "Not measured."
 
 
 def shared(results):
@@ -185,6 +192,7 @@ def blocks(results):
         "backends": with_backends(results),
         "peers": peers(results),
         "rust": rust(results),
+        "truncate": truncated(results),
         "threads": shared(results),
         "columns": columns(results),
         "picture": PICTURE,

@@ -1,9 +1,12 @@
 //! Measures the crate clients/rust beside the original crate string-interner, each with its own default:
 //!
 //!     rust KIND COUNT     makes each phase once, on one kind of KINDS and so many identifiers
+//!     rust INDEX COUNT    truncates so many identifiers over an index (truncate.rs)
 //!
 //! It prints a line for each phase: its name, the nanoseconds of one call, and a check sum. Each phase lies between two readings
 //! of the clock, where bench/cycles.py cuts what callgrind counts.
+
+mod truncate;
 
 use std::collections::BTreeSet;
 use std::hint::black_box;
@@ -242,10 +245,11 @@ fn main() {
     let [_, kind, count] = &*std::env::args().collect::<Vec<_>>() else {
         panic!("usage: rust KIND COUNT");
     };
-    let measure = KINDS
-        .iter()
-        .find(|(name, _)| name == kind)
-        .expect("no such kind")
-        .1;
-    measure(&inputs(count.parse().expect("COUNT is a number")));
+    let inputs = inputs(count.parse().expect("COUNT is a number"));
+    if let Some((_, measure)) = KINDS.iter().find(|(name, _)| name == kind) {
+        return measure(&inputs);
+    }
+    let mut indexes = truncate::INDEXES.iter();
+    let index = indexes.find(|(name, _)| name == kind);
+    index.expect("no such kind").1(&inputs.new);
 }
