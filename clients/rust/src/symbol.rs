@@ -47,6 +47,13 @@ pub trait Symbol: Copy + Eq {
     fn __keeps_its_number(_: Ours) -> bool {
         false
     }
+
+    /// How many symbols there are, as far as that is known. Their numbers are those below this.
+    #[doc(hidden)]
+    #[inline(always)]
+    fn __count(_: Ours) -> usize {
+        usize::MAX
+    }
 }
 
 /// The symbol type of an interner whose type names none.
@@ -108,6 +115,11 @@ macro_rules! symbol {
             #[inline(always)]
             fn __keeps_its_number(_: Ours) -> bool {
                 true
+            }
+
+            #[inline(always)]
+            fn __count(_: Ours) -> usize {
+                <$number>::MAX as usize
             }
         }
     };

@@ -1,6 +1,6 @@
 //! All that is unsafe of what one thread does, but for calls of `resolve_unchecked` (`backend.rs`) and what is in proved source:
 //! looking a text up in the tagged table without checks of bounds, cutting texts out of a joined one and out of buckets, appending a
-//! short text without a call, comparing sixteen bytes at once, and taking bytes for a text.
+//! short text without a call, making room, counting, comparing sixteen bytes at once, and taking bytes for a text.
 //!
 //! # Looking up
 //!
@@ -62,9 +62,13 @@
 //! a text at most: that is checked before its ends or its entry are read. What then says where to cut is no number that it returned.
 //! `string_entries` reads ends without that check: it tests that there are as many before its loop.
 //!
-//! # Appending
+//! # Appending, and room for it
 //!
-//! `append` tests for itself that there is room. It rests on nothing else.
+//! `append` tests for itself that there is room, and `with_room` that memory was granted. They rest on nothing else.
+//!
+//! # Counting
+//!
+//! `Parts` counts the texts that it yields. While ends of four bytes are left, so many are fewer than there were in all.
 //!
 //! # Bytes as a text
 //!
@@ -78,7 +82,9 @@
 
 use crate::proved::backend::string::ends::span;
 use crate::proved::backend::StringBackend;
+use alloc::alloc::{alloc, Layout};
 use alloc::string::String;
+use alloc::vec::Vec;
 use core::ops::Range;
 use core::slice;
 
@@ -134,6 +140,20 @@ impl<T> Unchecked<T> for [T] {
         // SAFETY: the caller promises that so many elements are there, and an array is laid out as they are.
         unsafe { &*self.as_ptr().add(place).cast() }
     }
+}
+
+/// Makes an empty list with room for so many items, by fewer instructions than `try_reserve_exact`, which has to grow a list, too.
+/// `None` only if the memory is refused, or its size is too large.
+#[inline]
+pub fn with_room<T>(count: usize) -> Option<Vec<T>> {
+    let layout = Layout::array::<T>(count).ok()?;
+    if layout.size() == 0 {
+        return Some(Vec::new());
+    }
+    // SAFETY: the layout has a size.
+    let block = unsafe { alloc(layout) };
+    // SAFETY: the block is of the allocator of lists, and has the layout of so many items, none of which is there.
+    (!block.is_null()).then(|| unsafe { Vec::from_raw_parts(block.cast(), 0, count) })
 }
 
 /// Appends a text. Most texts are short, and a call that copies so few bytes takes longer than the copy.
@@ -215,15 +235,15 @@ impl crate::rt::string::String {
 }
 
 /// Returns where a text begins and ends, if its end is one of those of four bytes.
-///
-/// The part of the list up to that end is taken first, so that the two ends behind it need no further check of bounds.
 #[inline(always)]
 fn narrow_span(narrow: &[u32], number: usize) -> Option<(usize, usize)> {
-    match narrow.get(..=number)? {
-        [.., start, end] => Some((*start as usize, *end as usize)),
-        [end] => Some((0, *end as usize)),
-        [] => None,
-    }
+    let end = *narrow.get(number)?;
+    let start = match number {
+        0 => 0,
+        // SAFETY: this is the place before one that the list has.
+        _ => unsafe { *narrow.at_unchecked(number - 1) },
+    };
+    Some((start as usize, end as usize))
 }
 
 /// Returns the text of a `StringBackend` with a number, if there is one.
@@ -251,60 +271,72 @@ pub fn joined_at(texts: &StringBackend<usize>, number: usize) -> &str {
     unsafe { cut_unchecked(joined, start..end) }
 }
 
-/// All texts of a `StringBackend` in order, as the parts of the joined text from each end to the next.
+/// All texts of a `StringBackend` in order, with their numbers, as the parts of the joined text from each end to the next.
 #[derive(Clone)]
 pub struct Parts<'a> {
     joined: &'a str,
-    /// The ends of the texts that are left: those of four bytes, and after them those of eight.
+    /// The ends of the texts that are left: those of four bytes, of which there were at most `most`, and after them those of eight.
     narrow: slice::Iter<'a, u32>,
     wide: slice::Iter<'a, usize>,
+    most: usize,
+    /// How many texts were yielded.
+    number: usize,
     /// The end of the text before, or 0.
     start: usize,
 }
 
 impl<'a> Parts<'a> {
+    /// The texts of a backend, whose numbers are all below `most`.
     #[inline]
-    pub fn of(texts: &'a StringBackend<usize>) -> Self {
+    pub fn of(texts: &'a StringBackend<usize>, most: usize) -> Self {
         let (joined, ends) = texts.as_parts();
         let (narrow, wide) = ends.as_slices();
         Parts {
             joined,
-            narrow: narrow.iter(),
+            narrow: narrow[..narrow.len().min(most)].iter(),
             wide: wide.iter(),
+            most,
+            number: 0,
             start: 0,
         }
     }
-}
 
-impl<'a> Iterator for Parts<'a> {
-    type Item = &'a str;
-
+    /// Returns how many texts are left.
     #[inline(always)]
-    fn next(&mut self) -> Option<&'a str> {
+    pub fn left(&self) -> usize {
+        self.narrow.len() + self.wide.len()
+    }
+
+    /// Returns the next text and its number.
+    #[inline(always)]
+    pub fn step(&mut self) -> Option<(usize, &'a str)> {
+        let number = self.number;
         let end = match self.narrow.next() {
-            Some(end) => *end as usize,
+            Some(end) => {
+                // SAFETY: of at most `most` texts with such an end, so many came before, and this one is left.
+                unsafe { below_unchecked(number, self.most) };
+                *end as usize
+            }
             None => *self.wide.next()?,
         };
         // SAFETY: these are the end of the text before, or 0, and the next one (G).
         let text = unsafe { cut_unchecked(self.joined, self.start..end) };
+        self.number = number + 1;
         self.start = end;
-        Some(text)
+        Some((number, text))
     }
 
+    /// Folds the texts that are left, with their numbers.
     #[inline(always)]
-    fn size_hint(&self) -> (usize, Option<usize>) {
-        let left = self.narrow.len() + self.wide.len();
-        (left, Some(left))
-    }
-
-    #[inline(always)]
-    fn fold<A, F: FnMut(A, &'a str) -> A>(self, first: A, mut call: F) -> A {
-        let (joined, mut start) = (self.joined, self.start);
+    pub fn fold<A>(self, first: A, mut call: impl FnMut(A, usize, &'a str) -> A) -> A {
+        let (joined, mut number, mut start) = (self.joined, self.number, self.start);
         let mut step = |so_far, end| {
-            // SAFETY: as in `next`.
+            // SAFETY: as in `step`.
             let text = unsafe { cut_unchecked(joined, start..end) };
             start = end;
-            call(so_far, text)
+            let so_far = call(so_far, number, text);
+            number += 1;
+            so_far
         };
         let so_far = self
             .narrow
@@ -313,7 +345,21 @@ impl<'a> Iterator for Parts<'a> {
     }
 }
 
-impl ExactSizeIterator for Parts<'_> {}
+/// Tells the compiler that a number is below another, so that it leaves out tests of that. With `--cfg string_interner_checks` there is
+/// one.
+///
+/// # Safety
+///
+/// It is.
+#[inline(always)]
+unsafe fn below_unchecked(number: usize, bound: usize) {
+    debug_assert!(number < bound);
+    if cfg!(string_interner_checks) {
+        assert!(number < bound);
+    }
+    // SAFETY: the caller promises it.
+    unsafe { core::hint::assert_unchecked(number < bound) }
+}
 
 /// Sixteen bytes as a vector. From some version on the compiler takes calls that only want the vectors for safe.
 #[cfg(all(target_feature = "sse2", not(any(miri, string_interner_words))))]

@@ -2,6 +2,7 @@
 
 use crate::proved::backend as proved;
 use crate::proved::backend::{Backend as _, Store as _};
+use crate::sealed::Ours;
 use crate::symbol::Symbol;
 use crate::unchecked::Parts;
 use core::fmt;
@@ -62,20 +63,10 @@ macro_rules! iterator {
 /// Yields the texts of a `StringBackend`.
 pub struct StringIter<'a, S> {
     parts: Parts<'a>,
-    number: usize,
     symbol: PhantomData<fn() -> S>,
 }
 
 impl<'a, S> StringIter<'a, S> {
-    #[inline]
-    pub(super) fn over(texts: &'a proved::StringBackend<usize>) -> Self {
-        StringIter {
-            parts: Parts::of(texts),
-            number: 0,
-            symbol: PhantomData,
-        }
-    }
-
     fn copy(&self) -> Self {
         StringIter {
             parts: self.parts.clone(),
@@ -85,25 +76,27 @@ impl<'a, S> StringIter<'a, S> {
 
     #[inline(always)]
     fn left(&self) -> usize {
-        self.parts.len()
+        self.parts.left()
     }
 
     #[inline(always)]
     fn step(&mut self) -> Option<(usize, &'a str)> {
-        let text = self.parts.next()?;
-        let number = self.number;
-        self.number += 1;
-        Some((number, text))
+        self.parts.step()
     }
 
     #[inline(always)]
-    fn fold_steps<A>(self, first: A, mut call: impl FnMut(A, usize, &'a str) -> A) -> A {
-        let mut number = self.number;
-        self.parts.fold(first, |so_far, text| {
-            let so_far = call(so_far, number, text);
-            number += 1;
-            so_far
-        })
+    fn fold_steps<A>(self, first: A, call: impl FnMut(A, usize, &'a str) -> A) -> A {
+        self.parts.fold(first, call)
+    }
+}
+
+impl<'a, S: Symbol> StringIter<'a, S> {
+    #[inline]
+    pub(super) fn over(texts: &'a proved::StringBackend<usize>) -> Self {
+        StringIter {
+            parts: Parts::of(texts, S::__count(Ours(()))),
+            symbol: PhantomData,
+        }
     }
 }
 

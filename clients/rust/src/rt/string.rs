@@ -2,7 +2,7 @@
 
 use super::alloc::{AllocError, Global};
 use super::vec::Vec;
-use crate::unchecked::append;
+use crate::unchecked::{append, with_room};
 use core::fmt;
 use core::ops::{Deref, Index, Range};
 
@@ -22,9 +22,8 @@ impl String {
     /// Makes an empty text that has room for `capacity` bytes. `Err` only if the memory is refused, or its size is too large.
     #[inline]
     pub fn with_capacity(_alloc: Global, capacity: usize) -> Result<Self, AllocError> {
-        let mut text = Text::new();
-        text.try_reserve_exact(capacity).map_err(|_| AllocError)?;
-        Ok(String(text))
+        let bytes = with_room(capacity).ok_or(AllocError)?;
+        Ok(String(Text::from_utf8(bytes).unwrap_or_default()))
     }
 
     /// Makes a copy of a text, with no room for more. `Err` only if the memory is refused.

@@ -1,6 +1,7 @@
 //! `Vec`. Items are copied and filled by their bits: no `Clone` of an item runs, since one may be a program's own.
 
 use super::alloc::{AllocError, Global};
+use crate::unchecked::with_room;
 use core::ops::{Deref, DerefMut, Index, IndexMut};
 use core::slice::SliceIndex;
 
@@ -20,9 +21,7 @@ impl<T> Vec<T> {
     /// Makes an empty list that has room for `capacity` items. `Err` only if the memory is refused, or its size is too large.
     #[inline]
     pub fn with_capacity(_alloc: Global, capacity: usize) -> Result<Self, AllocError> {
-        let mut list = List::new();
-        list.try_reserve_exact(capacity).map_err(|_| AllocError)?;
-        Ok(Vec(list))
+        with_room(capacity).map(Vec).ok_or(AllocError)
     }
 
     /// Returns the allocator.
