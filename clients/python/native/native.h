@@ -10,8 +10,9 @@
  *   3. A batch runs under PyGC_Disable, so that no finalizer comes between a failure and its undoing. It is all or nothing:
  *      undone by interner_truncate.
  *   4. A text that the library lends becomes a str before anything else is called.
- *   5. Between the parts of a batch PyErr_CheckSignals runs handlers, and of some other threads run. After it all is tested again
- *      (resume_batch): the handle, the length of the list, the counts of changes. The table of seen objects is cleared, because a handler may have dropped them.
+ *   5. Between the parts of a batch PyErr_CheckSignals runs handlers, and between those of some batches other threads run. After it
+ *      all is tested again (resume_batch): the handle, the length of the list, the counts of changes. The table of seen objects is
+ *      cleared, because a handler may have dropped them.
  *      A loop that only reads lets them run, too (heed_signals). It reads rows that it holds (hold_rows), or memory of C.
  *   6. What `gc.get_objects` finds may be read or changed by others: items of a list or tuple that is being filled are null, and a
  *      list of this module's own may be emptied, or the dict of what is passed by name. So what must not change is in memory of C,
