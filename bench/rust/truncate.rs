@@ -77,8 +77,11 @@ fn measure<I: TextIndex<Symbol>>(texts: &[String]) {
     }
 }
 
+/// What measures these texts, and prints it.
+pub type Measure = fn(&[String]);
+
 /// By the name of an index what measures it.
-pub const INDEXES: [(&str, fn(&[String])); 2] = [
+pub const INDEXES: [(&str, Measure); 2] = [
     ("Index", measure::<Index<Symbol>>),
     ("TaggedIndex", measure::<TaggedIndex<Symbol>>),
 ];
