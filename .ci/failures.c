@@ -149,7 +149,7 @@ long writev(int file, const struct part *parts, int count) {
 /* printf would ask for memory itself. */
 static void tell(const char *format, size_type one, size_type other) {
     char line[64];
-    write(STANDARD_ERROR, line, snprintf(line, sizeof line, format, one, other));
+    write(STANDARD_ERROR, line, (size_type)snprintf(line, sizeof line, format, one, other));
 }
 
 static void tell_of_folders(const char *done) {

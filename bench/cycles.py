@@ -13,6 +13,8 @@ import pathlib
 import subprocess
 import sys
 import tempfile
+from collections.abc import Iterable, Mapping, Sequence
+from typing import Any
 
 from driver import DRIVER, input_of
 from results import PHASES
@@ -21,23 +23,23 @@ SIMULATED = ["--cache-sim=yes", "--branch-sim=yes", "--I1=32768,8,64", "--D1=327
 WEIGHTS = {"Ir": 1, "Bcm": 10, "Bim": 10, "I1mr": 10, "D1mr": 10, "D1mw": 10, "ILmr": 100, "DLmr": 100, "DLmw": 100}
 
 
-def cycles_in(totals):
+def cycles_in(totals: Mapping[str, int]) -> int:
     return sum(weight * totals.get(event, 0) for event, weight in WEIGHTS.items())
 
 
-def totals_in(lines):
+def totals_in(lines: Iterable[str]) -> dict[str, int]:
     """What a file of callgrind's counted in all, by event. It leaves out zeros at the end."""
     fields = dict(line.split(": ", 1) for line in lines if line.startswith(("events: ", "totals: ")))
     return dict(zip(fields["events"].split(), map(int, fields["totals"].split())))
 
 
-def number_of_part(path):
+def number_of_part(path: pathlib.Path) -> int:
     """The number in counts.PROCESS.NUMBER. The part that ends with the process comes last, and has none."""
     numbers = path.name.split(".")[2:]
     return int(numbers[0]) if numbers else sys.maxsize
 
 
-def count(words, *options, **named):
+def count(words: Sequence[str | pathlib.Path], *options: str, **named: Any) -> list[dict[str, int]]:
     """The totals of each part of a run under callgrind, in the order of their numbers."""
     with tempfile.TemporaryDirectory() as folder:
         tool = ["valgrind", "-q", "--tool=callgrind", *SIMULATED, *options, f"--callgrind-out-file={folder}/counts.%p"]
@@ -48,7 +50,7 @@ def count(words, *options, **named):
         return [totals_in(part.read_text().splitlines()) for part in parts]
 
 
-def count_phases(kind, path):
+def count_phases(kind: str, path: str) -> dict[str, dict[str, int]]:
     """The totals of each phase of a round over the texts of a file: a part ends whenever the clock is read, before a phase and
     after it."""
     parts = count([DRIVER, kind, path, "1", "0"], "--dump-before=clock_gettime*")
@@ -56,7 +58,7 @@ def count_phases(kind, path):
     return dict(zip(PHASES, parts[2:-1:2]))
 
 
-def main():
+def main() -> None:
     kind, *cases = sys.argv[1:]
     for case in cases:
         name, _, count = case.partition(":")

@@ -2,6 +2,7 @@
 """pictures.py [--docs]: draws what bench/run measured into bench/out/pictures, or into docs/pictures.
 
 They can be read 480 pixels wide, and in black and white: lines differ in style and marker. On a dark ground they are inverted."""
+import re
 import sys
 import textwrap
 
@@ -22,6 +23,7 @@ STYLES = (
     + cycler(marker=["o", "s", "P", "X", "^", "D", "x", "v", "+"])
     + cycler(color=["black", "black", "0.5", "0.5", "0.3", "0.3", "black", "0.5", "black"])
 )
+OUTLINE = re.compile(r'\bd="[^"]*"')
 # Where the reader's ground is dark.
 DARK = "@media (prefers-color-scheme: dark) { #figure_1 { filter: invert(1); } }"
 TEXTS_IN_ALL, PER_CALL = "texts in the interner (log scale)", "nanoseconds per call (log scale)"
@@ -85,8 +87,9 @@ def save(figure, line, name, folder):
 def write(figure, path):
     figure.savefig(path, metadata={"Date": None})
     plot.close(figure)
-    text = path.read_text(encoding="utf-8")
-    path.write_text(text.replace("</style>", f" {DARK}</style>", 1), encoding="utf-8")
+    text = path.read_text(encoding="utf-8").replace("</style>", f" {DARK}</style>", 1)
+    # Each tag on one line.
+    path.write_text(OUTLINE.sub(lambda it: " ".join(it[0].split()), text), encoding="utf-8")
 
 
 def draw_times(results, folder, file, title, kinds, parts, up=PER_CALL):

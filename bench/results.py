@@ -4,6 +4,7 @@ import hashlib
 import pathlib
 import re
 import sys
+from collections.abc import Iterable, Iterator
 
 HERE = pathlib.Path(__file__).resolve().parent
 TOP = HERE.parent
@@ -20,7 +21,8 @@ PARTS = ("times", "memory", "cycles", "rust", "columns", "threads")
 OF_LIBRARY = ("times", "memory", "cycles")
 TEXTS = ("identifiers", "words", "long")
 # The sources of what each part measures, and of what it is measured by.
-LIBRARY = ("crates/string_interner/src", "crates/handles/src", "crates/string_interner_c/src", "bench/ours", "bench/beside/src", "bench/driver.py")
+LIBRARY = ("crates/string_interner/src", "crates/handles/src", "crates/string_interner_c/src", "bench/ours", "bench/beside/src",
+           "bench/driver.py")
 SOURCES = {
     **dict.fromkeys(OF_LIBRARY, LIBRARY),
     "rust": ("clients/rust/src", "bench/rust"),
@@ -29,6 +31,12 @@ SOURCES = {
 }
 COMMENT = re.compile(r"^ *(?://|# ).*\n|(?<=\S) +//.*$", re.M)
 
+# What a kind is: the first four columns of the files of results.
+Kind = tuple[str, ...]
+# A row of a table: its label, and numbers.
+Row = tuple[str, Iterable[float | None]]
+# The first columns of the files of results, which a row has whatever was measured.
+ROW = ("library", "backend", "index", "hasher", "input", "count", "bytes")
 # The phases, and what each is called where it is shown.
 PHASES = {
     "fill": "fill: get_or_intern of new texts",
@@ -79,18 +87,18 @@ RUST = {kind: ("rust", kind, "-", "-") for kind in ("original", "default", "fixe
 THREADS = ("threads", "-", "-")
 
 
-def summary(name, times):
+def summary(name: str, times: Iterable[float]) -> dict[str, float]:
     """The least and the median of some times."""
-    times = sorted(times)
-    return {name: times[0], f"{name} median": times[(len(times) - 1) // 2]}
+    in_order = sorted(times)
+    return {name: in_order[0], f"{name} median": in_order[(len(in_order) - 1) // 2]}
 
 
-def code_of(text):
+def code_of(text: str) -> str:
     """A source without comments, imports of words, contracts, proofs and layout, of which no machine code is made."""
     return " ".join(CLAUSE.sub("", GHOST_USE.sub("", COMMENT.sub("", text))).split())
 
 
-def sum_of(part, top=TOP):
+def sum_of(part: str, top: pathlib.Path = TOP) -> str:
     """A short sum of the code that a part measures."""
     total = hashlib.sha256()
     for source in SOURCES[part]:
@@ -100,29 +108,43 @@ def sum_of(part, top=TOP):
     return total.hexdigest()[:16]
 
 
+def table_of(lines: Iterable[str]) -> Iterator[str]:
+    """The lines of a file of results, first the names of its columns: a row for each kind, input and count, and a column for each
+    measure. These lines have one value each, behind its row and measure."""
+    rows: dict[tuple[str, ...], dict[str, str]] = {}
+    for line in lines:
+        *row, measure, value = line.split("\t")
+        rows.setdefault(tuple(row), {})[measure] = value
+    measures = list(dict.fromkeys(measure for values in rows.values() for measure in values))
+    yield "\t".join([*ROW, *measures])
+    yield from ("\t".join([*row, *(values.get(it, "") for it in measures)]) for row, values in rows.items())
+
+
 class Results:
     """Values by kind, input, count and measure: nanoseconds, bytes or estimated cycles, a text each."""
 
-    def __init__(self, folder=HERE / "out"):
-        self.heads = {}
-        self.values = collections.defaultdict(dict)
-        self.counts = collections.defaultdict(list)
-        self.bytes = {}
+    def __init__(self, folder: str | pathlib.Path = HERE / "out") -> None:
+        self.heads: dict[str, dict[str, str]] = {}
+        self.values: dict[tuple[Kind, str, int], dict[str, float]] = collections.defaultdict(dict)
+        self.counts: dict[str, list[int]] = collections.defaultdict(list)
+        self.bytes: dict[tuple[str, int], float] = {}
         for part in PARTS:
             self.add(part, pathlib.Path(folder, f"{part}.tsv").read_text(encoding="utf-8").splitlines())
 
-    def add(self, part, lines):
+    def add(self, part: str, lines: list[str]) -> None:
         """Adds the lines of a part's file: of its head, of the names of its columns, and of its values."""
         self.heads[part] = head = dict(line[2:].split(": ", 1) for line in lines if line.startswith("# "))
-        for line in lines[len(head) + 1 :]:
-            *kind, name, count, size, measure, value = line.split("\t")
-            self.values[tuple(kind), name, int(count)][measure] = float(value)
+        names, *rows = (line.split("\t") for line in lines[len(head) :])
+        for row in rows:
+            *kind, name, count, size = row[: len(ROW)]
+            values = zip(names[len(ROW) :], row[len(ROW) :])
+            self.values[tuple(kind), name, int(count)].update((it, float(value)) for it, value in values if value)
             if int(count) not in self.counts[name]:
                 self.counts[name] = sorted([*self.counts[name], int(count)])
             if size:
                 self.bytes[name, int(count)] = float(size)
 
-    def value(self, kind, name, count, measure):
+    def value(self, kind: Kind, name: str, count: int, measure: str) -> float | None:
         """The value, or none. A kind without `try_copy` has that of `clone`, and one without `intern_all` that of known texts."""
         row = self.values.get((kind, name, count), {})
         # The library has all phases, so one that it lacks was not measured.
@@ -131,15 +153,15 @@ class Results:
         phase, *unit = measure.split(" ", 1)
         return row.get(" ".join([IN_PLACE_OF.get(phase, phase), *unit]))
 
-    def ratio(self, kind, other, name, count, measure):
+    def ratio(self, kind: Kind, other: Kind, name: str, count: int, measure: str) -> float | None:
         ours, theirs = self.value(kind, name, count, measure), self.value(other, name, count, measure)
         return ours / theirs if ours is not None and theirs else None
 
-    def counted(self, name):
+    def counted(self, name: str) -> list[int]:
         """The counts of an input whose cycles were estimated."""
         return sorted({count for (_, of, count), row in self.values.items() if of == name and "fill cycles" in row})
 
-    def line(self, *parts):
+    def line(self, *parts: str) -> str:
         """What is said below pictures and above tables of these parts."""
         said = collections.defaultdict(list)
         for part in parts:

@@ -16,12 +16,13 @@ import argparse
 import re
 import sys
 from collections import Counter
+from collections.abc import Iterator
 from itertools import zip_longest
+from pathlib import Path
 from textwrap import dedent
 
-from edits import TOP
-from files import read, write
-from source import CLAUSE, block_around, functions
+from source import CLAUSE, Function, block_around, functions
+from tree import TOP, read, write
 
 PAGE = "docs/CONTRACTS.md"
 LIBRARY = "crates/string_interner/src"
@@ -33,11 +34,11 @@ MOST_REPEATED = 6
 QUOTE = re.compile(r"^<!-- contract: (?P<call>\S+) -->$(?:\n```rattle\n(?P<text>.*?)^```$)?", re.M | re.S)
 
 
-def sources(folder="crates/*/src"):
+def sources(folder: str = "crates/*/src") -> list[Path]:
     return sorted(TOP.glob(f"{folder}/**/*.rt"))
 
 
-def belongs_to(text, function, owner):
+def belongs_to(text: str, function: Function, owner: str) -> bool:
     """Whether a function is a method of this type, and of no trait; without a type, whether it is no method."""
     block = block_around(text, function)
     if not owner or not block:
@@ -45,7 +46,7 @@ def belongs_to(text, function, owner):
     return " for " not in block[0] and bool(re.match(rf"impl(?:<.*>)? {owner}\b", block[0], re.S))
 
 
-def contract_of(call):
+def contract_of(call: str) -> str | None:
     """The signature and the clauses of a call, by its path in the library, or None."""
     module, *owner, name = call.split("::")
     for file in [*(TOP / LIBRARY).glob(f"{module}.rt"), *sources(f"{LIBRARY}/{module}")]:
@@ -56,15 +57,15 @@ def contract_of(call):
     return None
 
 
-def written_anew(page):
-    def quoted(quote):
+def written_anew(page: str) -> str:
+    def quoted(quote: re.Match[str]) -> str:
         contract = contract_of(quote["call"])
         return quote[0] if contract is None else f"<!-- contract: {quote['call']} -->\n```rattle\n{contract}```"
 
     return QUOTE.sub(quoted, page)
 
 
-def stale_quotes(page):
+def stale_quotes(page: str) -> Iterator[str]:
     """What is wrong with the quotes of the page."""
     quotes = list(QUOTE.finditer(page))
     if page.count("contract:") != len(quotes):
@@ -82,20 +83,20 @@ def stale_quotes(page):
             yield f"the quote of {call} is stale: it has `{old or ''}` for `{new or ''}`"
 
 
-def clauses(text):
+def clauses(text: str) -> Iterator[tuple[int, list[str], str]]:
     """The clauses of a source, in order: the number of the first line, the lines, and the text."""
     for it in CLAUSE.finditer(text):
         said = " ".join(it[0].partition("{")[2].split()).removesuffix(";").removesuffix("}").rstrip()
         yield text.count("\n", 0, it.start()) + 1, it[0].splitlines(), said
 
 
-def long_lines(file):
+def long_lines(file: Path) -> list[str]:
     long = ((number, len(line)) for first, lines, _ in clauses(read(file)) for number, line in enumerate(lines, first)
             if len(line) > MOST_COLUMNS and not line.lstrip().startswith("//"))
     return [f"{file.relative_to(TOP)}:{number}: {columns} columns in a clause" for number, columns in long]
 
 
-def repeated():
+def repeated() -> tuple[list[tuple[str, int]], float]:
     """The texts that clauses of the crates repeat, each with its count, most characters first; and their share of all text, in
     percent."""
     counts = Counter(text for file in sources() for _, _, text in clauses(read(file)))
@@ -105,7 +106,7 @@ def repeated():
     return again, 100 * characters / max(1, sum(len(text) * count for text, count in counts.items()))
 
 
-def faults():
+def faults() -> Iterator[str]:
     yield from (f"{PAGE}: {it}" for it in stale_quotes(read(TOP / PAGE)))
     yield from (it for file in sources() for it in long_lines(file))
     share = repeated()[1]
@@ -113,7 +114,7 @@ def faults():
         yield f"{share:.1f} % of the clauses' text is repeated, and {MOST_REPEATED} % may be: tools/contracts.py lists it"
 
 
-def main():
+def main() -> int:
     parser = argparse.ArgumentParser(description=__doc__.partition("\n")[0])
     parser.add_argument("--write", action="store_true", help="write the quotes anew first")
     if parser.parse_args().write:

@@ -9,12 +9,13 @@ run; but not if tools/try_guide.py takes it as a step.
 import re
 import subprocess
 import sys
+from collections.abc import Iterator
 from functools import cached_property
 from pathlib import PurePosixPath
 from textwrap import indent
 
-from edits import TOP, listed
-from files import read
+from needs import TAKES
+from tree import TOP, listed, read
 
 # Where the blocks of each language stand as files that the gate proves or runs.
 EXAMPLES = {
@@ -65,7 +66,7 @@ ROW = re.compile(r"\b[a-z]\w*(?:-\w+)+")
 DEFINED = re.compile(rf"^ *(?:pub )?({ROW.pattern})", re.M)
 
 
-def anchor_of(heading):
+def anchor_of(heading: str) -> str:
     """The name under which a link finds a heading, as GitHub and others make it."""
     return re.sub(r"[^\w\- ]", "", heading.strip().lower()).replace(" ", "-")
 
@@ -74,7 +75,7 @@ class Repository:
     """The files of the repository, without what is built."""
 
     @cached_property
-    def files(self):
+    def files(self) -> list[str]:
         if not (TOP / ".git").exists():  # An unpacked release.
             paths = [path.relative_to(TOP) for path in TOP.rglob("*") if path.is_file()]
             return [path.as_posix() for path in paths if not BUILT & {*path.parts}]
@@ -83,42 +84,42 @@ class Repository:
         return [it for it in listed if (TOP / it).is_file()]
 
     @cached_property
-    def texts(self):
+    def texts(self) -> dict[str, str]:
         named = (name for name in self.files if not name.endswith((".md", ".svg")))
         return {name: (TOP / name).read_text(encoding="utf-8", errors="replace") for name in named}
 
     @cached_property
-    def words(self):
+    def words(self) -> set[str]:
         return {word for text in ("\n".join(self.files), *self.texts.values()) for word in re.findall(r"\w+", text)}
 
     @cached_property
-    def rows(self):
+    def rows(self) -> set[str]:
         """The names with hyphens that proofs define, and those that other files than specs and proofs have."""
         found = ((DEFINED if name.endswith(".antt") else ROW).findall(text) for name, text in self.texts.items())
         return {row for rows in found for row in rows}
 
     @cached_property
-    def ends(self):
+    def ends(self) -> set[str]:
         """The ends of the paths of all files, with and without suffixes, and of all folders."""
         paths = {it for path in map(PurePosixPath, self.files) for it in (path, path.with_suffix(""), *path.parents)}
         return {"/".join(path.parts[i:]) for path in paths for i in range(len(path.parts))}
 
-    def has_file(self, name):
+    def has_file(self, name: str) -> bool:
         """Whether the path of a file or folder ends with these words, or whether they name what is built, or a
         place that a reader chooses, as PREFIX/bin."""
         parts = PurePosixPath(name.removeprefix("./")).parts
         return "out" in parts or parts[0].isupper() or "/".join(parts) in self.ends
 
-    def has_name(self, name):
+    def has_name(self, name: str) -> bool:
         """Whether these words are those of some file, or the beginning of one's name."""
         return all(word in self.words or any(f"/{word}_" in file for file in self.files) for word in name.split("::"))
 
     @cached_property
-    def examples(self):
+    def examples(self) -> dict[str, list[str]]:
         return {language: [read(path) for path in TOP.glob(files)] for language, files in EXAMPLES.items()}
 
 
-def broken_links(page, text):
+def broken_links(page: str, text: str) -> Iterator[str]:
     for target in LINK.findall(text):
         if "://" in target:
             continue
@@ -130,7 +131,7 @@ def broken_links(page, text):
             yield f"the link {target} leads to no heading"
 
 
-def missing_names(page, text, repository):
+def missing_names(page: str, text: str, repository: Repository) -> Iterator[str]:
     for span in SPAN.findall(BLOCK.sub("", text)):
         if FILE.fullmatch(span):
             if not repository.has_file(span):
@@ -145,17 +146,17 @@ def missing_names(page, text, repository):
             yield f"no file {command}"
 
 
-def is_tried(page):
+def is_tried(page: str) -> bool:
     """Whether tools/try_guide.py takes the steps of a page."""
     return re.fullmatch(r"README\.md|docs/\w+\.md", page) is not None
 
 
-def comment_of(source):
+def comment_of(source: str) -> str:
     """What a source says of itself at its top."""
     return "".join(re.findall(r"^//! ?(.*\n)", source, re.M))
 
 
-def untried_blocks(blocks, repository):
+def untried_blocks(blocks: list[tuple[str, str]], repository: Repository) -> Iterator[str]:
     for language, block in blocks:
         written = [f"\n{indent(block, ' ' * width)}" for width in (0, 2, 4)]
         if language not in (*EXAMPLES, "text", "toml"):
@@ -164,7 +165,7 @@ def untried_blocks(blocks, repository):
             yield f"in no {'crate' if language == 'rattle' else 'example'}: {block.splitlines()[0]}"
 
 
-def long_pages(texts):
+def long_pages(texts: dict[str, str]) -> Iterator[str]:
     if (lines := len(texts.get("README.md", "").splitlines())) > MOST_LINES:
         yield f"README.md: {lines} lines, and {MOST_LINES} may be"
     for page, text in texts.items():
@@ -173,7 +174,7 @@ def long_pages(texts):
             yield f"{page}: {words} words, and {most} may be"
 
 
-def other_versions():
+def other_versions() -> Iterator[str]:
     version = read(TOP / "VERSION").strip()
     for name, pattern in VERSIONS.items():
         found = re.search(pattern, read(TOP / name), re.M)
@@ -181,13 +182,13 @@ def other_versions():
             yield f"{name}: names {found[1] if found else 'no version'}, and VERSION names {version}"
 
 
-def used_libraries():
+def used_libraries() -> set[tuple[str, str]]:
     """Each pair of a crate and a library of the toolchain that its line of crates.txt names."""
     lines = listed(TOP)
     return {(crate, it) for crate, line in lines.items() for it in line.partition(":")[2].split() if it not in lines}
 
 
-def other_libraries(text):
+def other_libraries(text: str) -> Iterator[str]:
     """How the libraries in the table of a page differ from those that the crates use."""
     named = {(crate, it) for crate, libraries in TRUSTED.findall(text) for it in SPAN.findall(libraries)}
     used = used_libraries()
@@ -195,7 +196,7 @@ def other_libraries(text):
     yield from (f"names {it}, which {crate} does not use" for crate, it in sorted(named - used))
 
 
-def other_lines(text):
+def other_lines(text: str) -> Iterator[str]:
     """The lines for a reader's crates.txt that name a crate of ours, and other libraries than our line of it. The record of its proof
     does not fit such a line."""
     lines = listed(TOP)
@@ -203,7 +204,14 @@ def other_lines(text):
                 if lines.get(crate, line) != line)
 
 
-def faults():
+def other_times(text: str) -> Iterator[str]:
+    """The commands of the gate of which the front page has another time or memory than they print."""
+    for command, (time, memory) in TAKES.items():
+        if not re.search(rf"^\| `{re.escape(command)}`[^|]*\| {re.escape(time)} \| {re.escape(memory)} \|", text, re.M):
+            yield f"has no row of {command} with {time} and {memory}"
+
+
+def faults() -> Iterator[str]:
     """What is wrong with the documents."""
     repository = Repository()
     if "VERSION" in repository.files:
@@ -212,17 +220,18 @@ def faults():
     yield from long_pages(texts)
     if FRONT_PAGE in repository.files:
         blocks = BLOCK.findall(comment_of(read(TOP / FRONT_PAGE)))
-        found = untried_blocks([(name or "rattle", block) for name, block in blocks], repository)
-        yield from (f"{FRONT_PAGE}: {it}" for it in found)
+        named = [(name or "rattle", block) for name, block in blocks]
+        yield from (f"{FRONT_PAGE}: {it}" for it in untried_blocks(named, repository))
     for page, text in texts.items():
         untried = STEP.sub("", text) if is_tried(page) else text
         found = [*broken_links(page, text), *missing_names(page, untried, repository), *other_lines(text)]
         found += untried_blocks(BLOCK.findall(untried), repository)
-        found += other_libraries(text) if page == NAMES_THE_TRUSTED else []
+        found += other_libraries(text) if page == NAMES_THE_TRUSTED else ()
+        found += other_times(text) if page == "README.md" and "check" in repository.files else ()
         yield from (f"{page}: {it}" for it in dict.fromkeys(found))
 
 
-def main():
+def main() -> int:
     found = list(faults())
     print(*found, sep="\n", end="\n" if found else "")
     return 1 if found else 0

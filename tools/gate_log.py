@@ -10,19 +10,14 @@ import re
 import sys
 from pathlib import Path
 
+from parts import PARTS
+
 # How a part tells what it counted; unittest tells it so, too.
 COUNT = re.compile(r"^(?:Ran )?(\d+) (?:passed, (\d+) failed|tests? in \S+)$", re.M)
 END = "== what it took"
 COMMAND = "./check all"
 # What the gate says of a part at the end.
 TAKEN = re.compile(r"^(.+): (\d+) passed, \d+ seconds, \d+ processor seconds$", re.M)
-# Without these parts it is not whole.
-PARTS = {
-    "proofs", "scenarios", "the program", "the program dictcol", "the program dictcol on large inputs", "records of proofs",
-    "the library for C and its clients", "the steps of the pages for users", "the steps of the pages by cargo", "texts chosen without keys",
-    "what was measured", "tests of the gate's tools", "tests of the benchmark's tools", "planted bugs that the prover refuses",
-    "planted bugs that a run catches",
-}
 
 
 class Refused(Exception):
@@ -45,7 +40,7 @@ def one_line(text: str, word: str) -> str:
 def check_counts(log: str, end: str) -> None:
     """Compares the counts at the end with those of the parts."""
     taken = {name: int(passed) for name, passed in TAKEN.findall(end)}
-    if lacking := sorted(PARTS - taken.keys()):
+    if lacking := sorted({name for name, row in PARTS.items() if "all" in row.forms.split()} - taken.keys()):
         raise Refused(f"has not the parts {', '.join(lacking)}")
     said = sections(log, list(taken))
     for name, passed in taken.items():

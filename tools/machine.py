@@ -6,36 +6,37 @@ import subprocess
 import sys
 from functools import cache
 from pathlib import Path
+from typing import Any
 
 PROCESSORS = len(os.sched_getaffinity(0))
 
 
-def available_bytes():
+def available_bytes() -> int:
     with open("/proc/meminfo", encoding="utf-8") as file:
-        return int(re.search(r"MemAvailable: +(\d+)", file.read())[1]) << 10
+        return int(re.findall(r"MemAvailable: +(\d+)", file.read())[0]) << 10
 
 
-def run_in(folder, *words):
+def run_in(folder: str | Path, *words: object) -> tuple[int, str]:
     """Runs a command in a folder, on no input. Returns its status, and what it printed on both outputs."""
     ran = subprocess.run(list(map(str, words)), cwd=folder, stdin=subprocess.DEVNULL, stdout=subprocess.PIPE,
                          stderr=subprocess.STDOUT, encoding="utf-8", errors="replace", check=False)
     return ran.returncode, ran.stdout
 
 
-def tell_count(passed, failed):
+def tell_count(passed: int, failed: int) -> int:
     """Prints what passed and what failed, as the gate reads it. Returns the status: 1 if anything failed, or nothing was tried."""
     print(f"{passed} passed, {failed} failed", flush=True)
     return 1 if failed or not passed else 0
 
 
 @cache
-def ask_rt(verb):
+def ask_rt(verb: str) -> str:
     """The first line that the toolchain answers: to `doc` the path of its guide, and to `version` what it is."""
     ran = subprocess.run(["rt", verb], stdin=subprocess.DEVNULL, stdout=subprocess.PIPE, encoding="utf-8", check=True)
     return ran.stdout.partition("\n")[0]
 
 
-def has_rt():
+def has_rt() -> bool:
     """Whether the machine has the toolchain. Other programs have the name of its command, too."""
     try:
         return " logic " in ask_rt("version")
@@ -48,7 +49,7 @@ def toolchain_folder() -> Path:
 
 
 @cache
-def toolchain():
+def toolchain() -> Any:
     """The toolchain's own module, which knows how `rt` calls the prover and of what text a library is."""
     sys.path.append(str(toolchain_folder() / "bin"))
     import rtlib

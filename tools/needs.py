@@ -11,6 +11,7 @@ import re
 import shutil
 import subprocess
 import sys
+from collections.abc import Iterable
 from functools import cache
 from pathlib import Path
 
@@ -20,33 +21,42 @@ CRATES = Path("/usr/share/cargo/registry")
 PACKAGES = Path(__file__).resolve().parent.parent / ".ci/packages"
 # What bench/run uses besides.
 ONLY_TO_MEASURE = {"hyperfine": ["hyperfine"], "python matplotlib": ["python3-matplotlib"]}
+# What the commands of the gate take on 4 processors: time, and memory.
+TAKES = {
+    "./check tests": ("5 to 10 minutes", "5 GiB"),
+    "./check": ("20 to 40 minutes", "9 GiB"),
+    "./check quick": ("1 to 30 minutes", "6 GiB"),
+    "./check edits": ("1 to 60 minutes", "6 GiB"),
+    "./check all": ("1.5 to 2.5 hours", "9 GiB"),
+}
 HAS = "import importlib.util, sys; sys.exit(not all(map(importlib.util.find_spec, sys.argv[1:])))"
 # What is said of something that is missing.
 MISSING = re.compile(r"^no .* on this machine: .*$", re.M)
 
 
-def packages():
+def packages() -> dict[str, list[str]]:
     lines = (line.partition(": ") for line in PACKAGES.read_text(encoding="utf-8").splitlines() if not line.startswith("#"))
     return {need: names.split() for need, _, names in lines} | ONLY_TO_MEASURE
 
 
-def needs_of_tests():
+def needs_of_tests() -> list[str]:
     return [need for need in packages() if need not in ONLY_TO_MEASURE]
 
 
-def packages_of(needs):
+def packages_of(needs: Iterable[str]) -> list[str]:
     return [name for need in needs for name in packages()[need]]
 
 
 @cache
-def python_with(*modules):
-    for python in filter(None, map(shutil.which, ("python3", "/usr/bin/python3"))):
-        if subprocess.run([python, "-c", HAS, *modules], capture_output=True, check=False).returncode == 0:
+def python_with(*modules: str) -> str | None:
+    for name in ("python3", "/usr/bin/python3"):
+        python = shutil.which(name)
+        if python and subprocess.run([python, "-c", HAS, *modules], capture_output=True, check=False).returncode == 0:
             return python
     return None
 
 
-def is_there(need):
+def is_there(need: str) -> bool:
     """Reports whether a command is there, or some Python with modules, or the sources of crates; and of `rt`, that it is the
     toolchain's."""
     command, *names = need.split()
@@ -57,12 +67,12 @@ def is_there(need):
     return bool(python_with(*names) if names else shutil.which(command))
 
 
-def missing(needs):
+def missing(needs: Iterable[str]) -> list[str]:
     lacking = (it for it in needs if not is_there(it))
     return [f"no {it} on this machine: what needs it is left out. Debian's packages: {' '.join(packages_of([it]))}" for it in lacking]
 
 
-def main(*words):
+def main(*words: str) -> int:
     match words:
         case ():
             print(*packages_of(it for it in needs_of_tests() if not is_there(it)))

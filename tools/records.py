@@ -19,8 +19,10 @@ import shutil
 import subprocess
 import sys
 import tempfile
+from collections.abc import Iterable, Iterator, Mapping
 from contextlib import contextmanager
 from pathlib import Path
+from typing import Any
 
 from machine import ask_rt, tell_count, toolchain
 
@@ -36,13 +38,14 @@ class Refused(Exception):
     """A tool of the toolchain refuses what it is given."""
 
 
-def folder_of_records(top=TOP):
+def folder_of_records(top: Path = TOP) -> Path:
     return top / "proved" / ask_rt("version").split()[0]
 
 
-def crates_for(names, top=TOP):
+def crates_for(names: Iterable[str], top: Path = TOP) -> list[Any]:
     """What the toolchain knows of these crates and of the libraries below them, each below those that use it."""
-    known, found = {}, []
+    known: dict[str, Any] = {}
+    found: list[Any] = []
     for name in names:
         crate = toolchain().Crate(f"{top}/crates/{name}", str(top), known)
         found += [it for it in (*crate.below(), crate) if it not in found]
@@ -53,7 +56,7 @@ def crates_for(names, top=TOP):
 
 
 @contextmanager
-def no_other_run_in(crates):
+def no_other_run_in(crates: list[Any]) -> Iterator[None]:
     """Waits until no other run works in the folders of these crates, which it says, and lets none in."""
     held = toolchain().lock(crates)
     try:
@@ -63,16 +66,16 @@ def no_other_run_in(crates):
             os.close(it)
 
 
-def words_for(crate):
+def words_for(crate: Any) -> list[str]:
     """The words of `rt` for the prover, less those that say how a check goes."""
-    words = crate.words(["--jobs", "1"])
+    words: list[str] = crate.words(["--jobs", "1"])
     for flag in ("--logic-built", "--jobs"):
         at = words.index(flag)
         del words[at:at + 2]
     return words
 
 
-def run_tool(crate, tool, *words):
+def run_tool(crate: Any, tool: str, *words: str) -> str:
     """Runs a tool of the toolchain in a crate's folder, and returns what it said. It ends when this process does."""
     whole = [*toolchain().guarded(), f"{toolchain().KIT}/bin/{tool}", *words]
     ran = subprocess.run(whole, cwd=crate.folder, stdin=subprocess.DEVNULL, stdout=subprocess.PIPE, stderr=subprocess.STDOUT,
@@ -82,7 +85,7 @@ def run_tool(crate, tool, *words):
     return ran.stdout
 
 
-def stale(crate, record):
+def stale(crate: Any, record: Path) -> str | None:
     """Why a record is not of this crate's files and libraries, or nothing. What else it tells is for the prover to compare."""
     if not Path(record, "inputs").exists():
         return None if record.is_dir() else f"no proof of {crate.name} is recorded"
@@ -100,12 +103,12 @@ def stale(crate, record):
     return f"{crate.name} is not as its proof was recorded: {changed[0]}{more}" if changed else None
 
 
-def made_of(crate):
+def made_of(crate: Any) -> Path:
     """The program or the archive for C that is built of a crate."""
     return Path(crate.folder, "out", f"lib{crate.name}.a" if crate.is_static else crate.name)
 
 
-def build(crate, record, made=None):
+def build(crate: Any, record: Path, made: Path | None = None) -> None:
     """Builds a library, a program or an archive for C from its record: the last two under another name if one is given."""
     made = made or made_of(crate)
     words = ["build", *words_for(crate), "--crate-checked", str(record)]
@@ -121,7 +124,7 @@ def build(crate, record, made=None):
         run_tool(crate, "rattle-link", "--target", "x86_64-unknown-linux-gnu", *by_llvm[:2], "-o", str(made), f"{made}.o", *of_c)
 
 
-def build_library(crate, record, words):
+def build_library(crate: Any, record: Path, words: list[str]) -> None:
     """Builds a library from its record, unless that has been done."""
     stamp, folder = b"".join(it.read_bytes() for it in sorted(record.iterdir())), Path(crate.rlib).parent
     kept = folder / "stamp"
@@ -132,7 +135,7 @@ def build_library(crate, record, words):
         kept.write_bytes(stamp)
 
 
-def build_crate(name, top=TOP):
+def build_crate(name: str, top: Path = TOP) -> int:
     """Builds a crate and what it stands on from their records. Returns the status of this command."""
     if not (top / "proved").is_dir() or not folder_of_records(top).is_dir():
         print(f"{name}: no proof is recorded for this toolchain", file=sys.stderr)
@@ -156,7 +159,7 @@ def build_crate(name, top=TOP):
     return 0
 
 
-def verdicts_in(log):
+def verdicts_in(log: str) -> dict[str, str]:
     """The last verdict of each crate in what `rt ci` printed."""
     found = {}
     for name, said in re.findall(r"^== (\w+)$(.*?)(?=^== |\Z)", log, re.M | re.S):
@@ -166,12 +169,12 @@ def verdicts_in(log):
     return found
 
 
-def facts(verdict):
+def facts(verdict: str) -> set[str]:
     """What a verdict says of a proof, whatever it took from an earlier run."""
     return {it for it in verdict.split() if it.partition("=")[0] not in TRUSTS}
 
 
-def compare_crate(crate, record, verdict):
+def compare_crate(crate: Any, record: Path, verdict: str | None) -> str | None:
     """What of a crate's record is other than the proof made anew, whose program is in the crate's folder, or nothing. There is no
     verdict to compare if `rt ci` took the proof of an earlier run."""
     with tempfile.TemporaryDirectory() as folder:
@@ -190,12 +193,12 @@ def compare_crate(crate, record, verdict):
         return "its code is other than that of the proof made anew" if is_other else None
 
 
-def others_of_records():
+def others_of_records() -> list[str]:
     """What stands in proved/ beside the records of this build of the toolchain: nothing compares it."""
     return sorted(it.name for it in folder_of_records().parent.iterdir() if it.name not in ("README.md", folder_of_records().name))
 
 
-def compare_crates(crates, verdicts):
+def compare_crates(crates: list[Any], verdicts: Mapping[str, str | None]) -> Iterator[tuple[Path, str | None, bool]]:
     """Compares the records of crates, each below those that use it. Yields of each its record, what is wrong with it, or nothing, and
     whether that is only that it is of other sources."""
     left_out = set()
@@ -212,7 +215,7 @@ def compare_crates(crates, verdicts):
         yield record.relative_to(TOP), fault, bool(why)
 
 
-def compare(tree, log, *words):
+def compare(tree: str, log: str, *words: str) -> int:
     """Compares each record that fits a copy of the sources with what `rt ci` proved and built there. Returns the status."""
     if not folder_of_records().is_dir():
         others = " and ".join(others_of_records()) or "none"

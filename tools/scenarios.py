@@ -1,4 +1,4 @@
-"""The files of scenarios, which crates/suite/README.md describes. Bytes are those of files and outputs, cut at newlines."""
+"""The scenarios and their files, which crates/suite/README.md describes. Bytes are those of files and outputs, cut at newlines."""
 
 import hashlib
 import re
@@ -9,7 +9,7 @@ from functools import cache
 from itertools import product
 from pathlib import Path
 
-from edits import TOP
+from tree import TOP
 
 CRATE = TOP / "crates/suite"
 # The scenarios whose requests for memory are refused, and those that are run once each.
@@ -23,7 +23,9 @@ RUNS = (b"run", b"tagged_run")
 COUNT_NOTHING = set(product((b"string", b"bucket", b"buffer"), (b"default", b"constant", b"length", b"salted", b"fold", b"sip")))
 # What the suite's source says that it does for a first line.
 ARM = re.compile(r'^        "(\w+ \w+ \w+ \w+)" => ((?:.+\n(?=        [ )>}]))*.+\n)', re.M)
-# A block of a file: its first lines, and what stands below them. There, what is printed for a call.
+# A scenario of a file: its name, comments, and blocks.
+SCENARIO = re.compile(rb"^scenario (\w+)\n((?:#.*\n)*)((?:(?!scenario ).*\n)*)", re.M)
+# A block: its first lines, and what stands below them. There, what is printed for a call.
 BLOCK = re.compile(rb"^((?:on .*\n)+)((?:.+\n)*)", re.M)
 PRINTED = rb"((?:(?!> ).+\n)*)"
 # What stands in the place of an output that is too long to keep.
@@ -76,16 +78,22 @@ class Part:
         return 2 * sum(line in (b"shrink_to_fit", b"Shrink") for line in self.lines)
 
 
+# A block as it is read: its first lines, and the parts below them.
+Block = tuple[list[bytes], list[Part]]
+
+
 @dataclass(frozen=True)
 class Scenario:
-    """The calls of a file on what a first line names."""
+    """The calls of a name on what a first line names. A large one is run once, and the answers of a given one were asked for."""
 
-    path: Path
+    name: str
     first: bytes
     parts: list[Part]
+    is_large: bool = False
+    is_given: bool = False
 
     def __str__(self) -> str:
-        return f"{self.path.stem} on {self.first.decode()}"
+        return f"{self.name} on {self.first.decode()}"
 
     @property
     def input(self) -> bytes:
@@ -99,7 +107,7 @@ class Scenario:
 
     @property
     def has_sizes(self) -> bool:
-        """Whether the file has the sizes of the allocations."""
+        """Whether it has the sizes of the allocations."""
         return without_asks(self.printed) != self.printed
 
     def end(self) -> tuple[int, bytes, bytes]:
@@ -126,8 +134,8 @@ class Scenario:
                 yield tagged.removesuffix(b"default") + b"fold"
 
 
-def read_blocks(text: bytes) -> Iterator[tuple[list[bytes], list[Part]]]:
-    """The blocks of a file: their first lines, and the parts below them."""
+def read_blocks(text: bytes) -> Iterator[Block]:
+    """The blocks of a scenario."""
     for head, below in BLOCK.findall(text):
         firsts = [line.removeprefix(b"on ") for line in cut(head)]
         is_run = word_of(firsts[0]) in RUNS
@@ -142,40 +150,60 @@ def write_block(firsts: list[bytes], parts: list[Part]) -> bytes:
     return join(b"on " + first for first in firsts) + b"".join(calls)
 
 
+def read_file(text: bytes) -> Iterator[tuple[str, bytes, list[Block]]]:
+    """The scenarios of a file: their names, comments and blocks."""
+    yield from ((name.decode(), comments, list(read_blocks(blocks))) for name, comments, blocks in SCENARIO.findall(text))
+
+
+def write_file(scenarios: Iterable[tuple[str, bytes, list[Block]]]) -> bytes:
+    written = (b"scenario %s\n%s%s" % (name.encode(), comments, b"\n".join(write_block(*block) for block in blocks))
+               for name, comments, blocks in scenarios)
+    return b"\n".join(written)
+
+
 def find_files(crate: Path = CRATE) -> list[Path]:
     """The files of scenarios, large ones first, which take long."""
     return [path for folder in (LARGE, SMALL) for path in sorted((crate / folder).rglob("*.scenario"))]
 
 
 def find_scenarios(name: str = "", *words: str) -> Iterator[Scenario]:
-    """All scenarios, or those of the file of a name whose first lines have these words."""
+    """All scenarios, or those of a name whose first lines have these words."""
     for path in find_files():
-        if name in ("", path.stem):
-            for firsts, parts in read_blocks(path.read_bytes()):
-                yield from (Scenario(path, first, parts) for first in firsts if {*words} <= {*first.decode().split(" ")})
+        is_large = path.parent.parent.name == LARGE
+        for named, comments, blocks in read_file(path.read_bytes()):
+            is_given = b"# Given:" in comments
+            if name in ("", named):
+                for firsts, parts in blocks:
+                    chosen = (it for it in firsts if {*words} <= {*it.decode().split(" ")})
+                    yield from (Scenario(named, first, parts, is_large, is_given) for first in chosen)
 
 
 def file_faults(crate: Path = CRATE) -> Iterator[str]:
-    """What is wrong with the files: one is no scenario, or two have one name, or one says what it must not."""
+    """What is wrong with the files: one has no scenario, or what nothing reads; or two scenarios have one name, or one says what it
+    must not."""
     files = [path for folder in (SMALL, LARGE) for path in sorted((crate / folder).rglob("*")) if path.is_file()]
     yield from (f"{path.name} is no scenario" for path in files if path.suffix not in (".scenario", ".py"))
-    counts = Counter(path.stem for path in find_files(crate))
-    yield from (f"{count} files have the name {name}" for name, count in counts.items() if count > 1)
-    yield from (f"{path.stem} {fault}" for path in find_files(crate) for fault in faults_of(path))
+    names = Counter[str]()
+    for path in find_files(crate):
+        text = path.read_bytes()
+        found = list(read_file(text))
+        if not text or text != write_file(found):
+            yield f"{path.parent.name}/{path.name} is not as it would be written"
+        names.update(name for name, _, _ in found)
+        yield from (f"{name} {fault}" for name, _, blocks in found for fault in faults_of(blocks, path.parent.name))
+    yield from (f"{count} scenarios have the name {name}" for name, count in names.items() if count > 1)
 
 
-def faults_of(path: Path) -> Iterator[str]:
-    """What a file says that it must not: what nothing reads, another list of calls, a level that is not the folder's, or the
-    answer of a call below another one."""
-    text = re.sub(rb"\A(#.*\n)+", b"", path.read_bytes())
-    blocks = list(read_blocks(text))
-    if not blocks or text != b"\n".join(write_block(*block) for block in blocks):
-        yield "is not as it would be written"
+def faults_of(blocks: list[Block], level: str) -> Iterator[str]:
+    """What a scenario says that it must not: nothing, another list of calls, a level that is not the folder's, or the answer of a
+    call below another one."""
+    if not blocks:
+        yield "has no block"
     for firsts, parts in blocks:
         if [part.lines for part in parts if part.lines] != [part.lines for part in blocks[0][1] if part.lines]:
             yield "has more than one list of calls"
-        if {word_of(first).decode() for first in firsts} != {path.parent.name} and not parts[0].is_bad:
-            yield f"is of another level than its folder, {path.parent.name}"
+        if {word_of(first).decode() for first in firsts} != {level} and not parts[0].is_bad:
+            yield f"is of another level than its folder, {level}"
         # A call prints one line that is not indented, at its end.
         yield from (f"has two answers of {part.word.decode()}" for part in parts if part.word != b"run"
                     and not all(line.startswith(b"  ") for line in without_asks(part.printed)[:-1]))

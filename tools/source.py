@@ -26,17 +26,17 @@ class Function:
     text: str
 
     @property
-    def contract(self):
+    def contract(self) -> str:
         """The signature and the clauses."""
-        indent = re.match(" *", self.text)[0]
-        return re.split(rf"^{indent}\{{$", self.text, maxsplit=1, flags=re.M)[0]
+        indent = len(self.text) - len(self.text.lstrip(" "))
+        return re.split(rf"^ {{{indent}}}\{{$", self.text, maxsplit=1, flags=re.M)[0]
 
     @property
-    def is_method(self):
+    def is_method(self) -> bool:
         return self.text.startswith(" ")
 
 
-def functions(text):
+def functions(text: str) -> list[Function]:
     found = []
     for start in FUNCTION.finditer(text):
         head = HEAD_END.search(text, start.end())
@@ -46,17 +46,18 @@ def functions(text):
     return found
 
 
-def start_of(text, function):
+def start_of(text: str, function: Function) -> int:
     """The offset where a function begins, with its attributes."""
-    return re.search(r"(?:^ *#\[.*\]\n)*\Z", text[: function.start], re.M).start()
+    attributes = re.search(r"(?:^ *#\[.*\]\n)*\Z", text[: function.start], re.M)
+    return attributes.start() if attributes else function.start
 
 
-def block_around(text, function):
+def block_around(text: str, function: Function) -> re.Match[str] | None:
     """The line that opens the `impl` or `trait` of a method, as a match with `kind`, or None."""
     return [None, *BLOCK.finditer(text[: function.start])][-1] if function.is_method else None
 
 
-def block_name(text, function):
+def block_name(text: str, function: Function) -> str:
     """What paths call the block of a method: its trait, or the type and the trait that is implemented for it, each with what it is
     applied to. Nothing for a function of no block."""
     block = block_around(text, function)
@@ -65,21 +66,22 @@ def block_name(text, function):
     end = end_of_generics(text, block.end("kind"))
     head, own = text[end : block.end()], re.findall(r"[<,]\s*(\w+)", text[block.end("kind") : end])
     if block["kind"] == "trait":
-        return re.search(r"\w+", head)[0]
+        return "".join(re.findall(r"\w+", head)[:1])
     of_trait, _, of_type = head.rpartition(" for ")
     words = re.findall(r"'\w+|&|\[|\w+(?:::\w+)*", f"{of_type} {of_trait}")
     names = (NAMES.get(it) or it.rpartition("::")[2] for it in words if it[0] != "'" and it.partition("::")[0] not in own)
     return "".join(it[0].upper() + it[1:] for it in names)
 
 
-def find_functions(text, path):
+def find_functions(text: str, path: str) -> list[Function]:
     """The functions of a source text that have this path, whatever the module."""
-    *_, block, name = ["", *path.split("::")]
+    block, _, name = path.rpartition("::")
+    block = block.rpartition("::")[2]
     wanted = block if block[:1].isupper() else ""
     return [it for it in functions(text) if it.name == name and block_name(text, it) == wanted]
 
 
-def end_of_generics(text, at):
+def end_of_generics(text: str, at: int) -> int:
     """The offset behind the generic parameters that stand at an offset, if any."""
     end, depth = at, 0
     while text[at] == "<" and (depth or end == at):
@@ -88,7 +90,7 @@ def end_of_generics(text, at):
     return end
 
 
-def outside_functions(text):
+def outside_functions(text: str) -> list[str]:
     """The lines of a source text outside functions, without comments, imports and modules."""
     for function in functions(text):
         text = text.replace(function.text, "")

@@ -3,8 +3,8 @@
 
 The file tools/tried-in-full has three lines: the last commit on which each planted bug that the prover must refuse was refused,
 either in that run or in an earlier one with no change since then that touches it; the toolchain's logic; and the last commit on
-which one run tried all of them. A planted bug is touched if something of this has changed since the first commit: its lines in
-the table; the text of its function, and what stands outside functions in the same source; a file that its lines name; a proof
+which one run tried all of them. A planted bug is touched if something of this has changed since the first commit: its lines, in
+whichever table; the text of its function, and what stands outside functions in the same source; a file that its lines name; a proof
 file of its function; a file of specs/ of its crate or of one below; or, in a source there, the contract of a function, a type or
 a constant, if the bug's function or what stands outside functions beside it has this name. With no such commit, or under another
 logic, all are. Lemmas are not considered, nor what tries the bugs: the gate proves the ones; after the others run `./check all`.
@@ -12,27 +12,25 @@ logic, all are. Lemmas are not considered, nor what tries the bugs: the gate pro
 
 import re
 import subprocess
+import sys
 
-from edits import TABLES, TOP, below, crates, edits_of, read_table
-from files import read, write
+from bugs.place import text_of
+from bugs.tables import Edit, edits_of, read_table
 from machine import ask_rt
 from source import find_functions, functions, outside_functions
+from tree import TOP, below, crates, read, write
 
 TRIED = TOP / "tools/tried-in-full"
 NAMED = re.compile(r"^(?:pub )?(?:struct|enum|trait|type|const|static) (\w+)", re.M)
 
 
-def git(*words):
+def git(*words: str) -> str | None:
     """What git prints, or None if it fails."""
     ran = subprocess.run(["git", *words], cwd=TOP, capture_output=True, encoding="utf-8", check=False)
     return ran.stdout if ran.returncode == 0 else None
 
 
-def text_of(name):
-    return read(TOP / name) if (TOP / name).exists() else ""
-
-
-def renewed_names(old, new):
+def renewed_names(old: str, new: str) -> set[str]:
     """The functions of a source text that have another contract or are gone, and its types and constants if something outside
     functions is."""
     old_contracts, new_contracts = ({(it.name, it.contract) for it in functions(text)} for text in (old, new))
@@ -40,71 +38,72 @@ def renewed_names(old, new):
     return {name for name, _ in old_contracts - new_contracts}.union(named)
 
 
-def read_by(text, edit):
+def read_by(text: str, edit: Edit) -> str:
     """What of a source text the trial of a bug depends on: the function, and what stands outside functions."""
     return "\n".join([*(it.text for it in find_functions(text, edit.function)), *outside_functions(text)])
 
 
 class Changes:
-    """The files that have changed since a commit, the texts of sources and tables before, and of each source the names that no
-    longer stand for the same."""
+    """The files that have changed since a commit, the texts of sources before, of each the names that no longer stand for the same,
+    and the planted bugs of then by crate and name, whichever table had them."""
 
-    def __init__(self, commit):
+    def __init__(self, commit: str) -> None:
         listed = git("diff", "--name-only", "--no-renames", commit, "--", "crates"), git("ls-files", "-o", "--exclude-standard", "crates")
-        self.files = {name for names in listed for name in names.split()}
-        self.before = {it: git("show", f"{commit}:{it}") or "" for it in self.files if it.endswith((".rt", ".bugs"))}
-        self.names = {it: renewed_names(old, text_of(it)) for it, old in self.before.items() if it.endswith(".rt")}
+        tables = git("ls-tree", "-r", "--name-only", commit, "crates")
+        if tables is None or None in listed:
+            sys.exit(f"git does not tell what changed since {commit}")
+        self.files = {name for names in listed if names for name in names.split()}
+        self.before = {it: git("show", f"{commit}:{it}") or "" for it in self.files if it.endswith(".rt")}
+        self.names = {it: renewed_names(old, text_of(TOP / it)) for it, old in self.before.items()}
+        bugs = (bug for it in tables.split() if it.endswith(".bugs") for bug in read_table(git("show", f"{commit}:{it}") or "", it))
+        self.bugs = {(it.crate, it.name): it for it in bugs}
 
-    def is_new(self, edit):
-        """Reports whether the table of a bug did not have the same one."""
-        table = f"crates/{edit.crate}/{TABLES}/{edit.source.removeprefix('src/').removesuffix('.rt')}.bugs"
-        return table in self.files and edit not in read_table(self.before[table], edit.crate, edit.source, table)
-
-    def touch(self, edit):
+    def touch(self, edit: Edit) -> bool:
         folder, reached = f"crates/{edit.crate}", [f"crates/{it}/" for it in [edit.crate, *below(edit.crate)]]
         source = f"{folder}/{edit.source}"
-        own, text = tuple(f"{folder}/{it.file}" for it in edit.changes if it.file), text_of(source)
+        own, text = tuple(f"{folder}/{it.file}" for it in edit.changes if it.file), text_of(TOP / source)
         own += f"{folder}/proofs/{edit.function.replace('::', '/')}/", *(f"{it}specs/" for it in reached)
         renewed = set().union(*(names for file, names in self.names.items() if file.startswith(tuple(reached))))
         words = set(re.findall(r"\w+", read_by(text, edit)))
+        is_new = self.bugs.get((edit.crate, edit.name)) != edit
         is_other = source in self.files and read_by(self.before[source], edit) != read_by(text, edit)
-        return is_other or self.is_new(edit) or any(it.startswith(own) for it in self.files) or not renewed.isdisjoint(words)
+        return is_other or is_new or any(it.startswith(own) for it in self.files) or not renewed.isdisjoint(words)
 
 
-def logic():
+def logic() -> str:
     """The hash of the toolchain's logic, by which proofs are judged."""
     return ask_rt("version").rpartition("logic")[2].strip()
 
 
-def lines_of_runs():
+def lines_of_runs() -> list[str]:
     """The lines of tools/tried-in-full."""
     return read(TRIED).splitlines() if TRIED.exists() else []
 
 
-def last_run():
+def last_run() -> str | None:
     """The commit of the last run, or None if there is none to compare with."""
-    commit, kit, *_ = [*lines_of_runs(), "", ""]
+    commit, kit = [*lines_of_runs(), "", ""][:2]
     is_there = commit and git("cat-file", "-e", f"{commit}^{{commit}}") is not None
     return commit if is_there and kit.rpartition("logic")[2].strip() == logic() else None
 
 
-def commit_as_it_stands():
+def commit_as_it_stands() -> str | None:
     """The commit that is checked out, or None if the checkout differs from it."""
     commit, status = git("rev-parse", "HEAD"), git("status", "--porcelain")
     return commit.strip() if commit and status == "" else None
 
 
-def note_full_run(commit):
+def note_full_run(commit: str) -> None:
     """Notes that on this commit one run tried all planted bugs, and each was refused."""
     write(TRIED, f"{commit}\nlogic {logic()}\nat once {commit}\n")
 
 
-def note_run(commit):
+def note_run(commit: str) -> None:
     """Notes that on this commit each planted bug that changes since the last run touch was refused."""
     write(TRIED, "".join(f"{line}\n" for line in (commit, f"logic {logic()}", *lines_of_runs()[2:])))
 
 
-def touched():
+def touched() -> dict[str, list[str]]:
     """The names of the planted bugs that are touched, for each crate that has any."""
     commit = last_run()
     changes = Changes(commit) if commit else None

@@ -6,33 +6,39 @@ what is wanted.
 
 import time
 import traceback
+from collections.abc import Iterable, Iterator, Mapping
 from concurrent.futures import ProcessPoolExecutor
 from functools import partial
 from itertools import zip_longest
+from typing import Any
 
 from machine import PROCESSORS, tell_count
 
 SHOWN_FAULTS = 20
+# What a trial sees: a name, what was found, and what is wanted.
+Seen = Iterator[tuple[str, Any, Any]]
+# A function with what it gets after the program.
+Trial = tuple[Any, ...]
 
 
-def lines_of(value):
+def lines_of(value: object) -> list[object]:
     """The lines of a value that are compared: of how a run ended its status, and those of standard error and output."""
     match value:
         case status, bytes(output), bytes(error):
-            return [f"status {status}", *(f"error {line}" for line in error.split(b"\n")), *output.split(b"\n")]
+            return [f"status {status}", *(f"error {line!r}" for line in error.split(b"\n")), *output.split(b"\n")]
         case bytes():
-            return value.split(b"\n")
+            return [*value.split(b"\n")]
     return [value]
 
 
-def difference(found, wanted):
+def difference(found: object, wanted: object) -> str:
     """The first line in which two values differ."""
     pairs = zip_longest(lines_of(found), lines_of(wanted), fillvalue="nothing")
     one, other = next(pair for pair in pairs if pair[0] != pair[1])
     return f"{str(one)[:300]} in the place of {str(other)[:300]}"
 
 
-def outcome(program, trial):
+def outcome(program: object, trial: Trial) -> tuple[list[str], int]:
     """The faults of a trial, and how many things it saw. What keeps it from going on is a fault, too."""
     function, *given = trial
     faults, count, name = [], 0, f"{function.__name__} {given}"[:200]
@@ -46,7 +52,7 @@ def outcome(program, trial):
     return faults, count
 
 
-def chosen(parts, word):
+def chosen(parts: Mapping[str, Iterable[Trial]], word: str) -> Iterable[Trial]:
     """The trials that a word names: those of a part, as `columns`, or of one function of it, as `columns:try_links`."""
     part, _, function = word.partition(":")
     trials = parts.get(part, ())
@@ -56,10 +62,10 @@ def chosen(parts, word):
 class Tally:
     """Counts what passed and what failed, part by part."""
 
-    def __init__(self):
+    def __init__(self) -> None:
         self.passed = self.failed = 0
 
-    def run(self, what, program, trials):
+    def run(self, what: str, program: object, trials: Iterable[Trial]) -> None:
         """Runs a part, and prints its faults and how many things were compared."""
         start = time.monotonic()
         with ProcessPoolExecutor(PROCESSORS) as pool:
@@ -72,5 +78,5 @@ class Tally:
         self.passed += compared - len(faults)
         self.failed += len(faults)
 
-    def end(self):
+    def end(self) -> int:
         return tell_count(self.passed, self.failed)

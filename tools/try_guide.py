@@ -18,14 +18,14 @@ import shutil
 import subprocess
 import sys
 import tempfile
+from collections.abc import Iterable, Iterator
 from pathlib import Path
 from shlex import quote
 
 from documents import STEP, Repository, is_tried
-from edits import TOP
-from files import read
 from machine import tell_count
 from needs import missing, python_with
+from tree import TOP, read
 
 # What a page needs besides a shell and `rt`.
 NEEDS = {
@@ -47,7 +47,8 @@ done
 archive=$1/crates/string_interner_c/out/libstring_interner_c.a
 if [ -e "$archive" ]; then
   clients/build "$archive"
-  sources_of string_interner_c clients/build clients/c/build.c clients/c/string_interner.h VERSION >clients/out/build.stamp
+  by_hand='clients/build clients/c/build.c clients/c/shared.c clients/c/string_interner.h VERSION'
+  sources_of string_interner_c $by_hand >clients/out/build.stamp
 fi
 """
 # What users run, each built as by its first command.
@@ -63,7 +64,7 @@ MARK = "\f"
 UNSET = ("PYTHONPATH", "PKG_CONFIG_PATH", "LD_LIBRARY_PATH", "STRING_INTERNER_LIB")
 
 
-def script_of(text):
+def script_of(text: str) -> tuple[str, list[str | None]]:
     """The steps of a page as a script that prints a mark before each block of commands; and what each of these must print, or
     None. Behind the last step cargo runs each program again, because the page may have put another one into its package since."""
     script, blocks = ["set -eu"], []
@@ -80,13 +81,13 @@ def script_of(text):
     return "\n".join(script), [told for _, told in blocks + again]
 
 
-def copy_sources(folder):
+def copy_sources(folder: Path) -> None:
     for name in Repository().files:
         (folder / name).parent.mkdir(parents=True, exist_ok=True)
         shutil.copy2(TOP / name, folder / name)
 
 
-def hide_rt(folder):
+def hide_rt(folder: Path) -> Path:
     """Makes a folder for the front of the path, with another program in the place of the toolchain's."""
     folder.mkdir()
     (folder / "rt").write_text("#!/bin/sh\nexit 1\n")
@@ -94,7 +95,7 @@ def hide_rt(folder):
     return folder
 
 
-def take_built(clone, folder):
+def take_built(clone: Path, folder: Path) -> None:
     """Copies what is built in a clone."""
     for kept in clone.glob("crates/*/out"):
         (folder / kept.relative_to(clone)).mkdir()
@@ -103,7 +104,7 @@ def take_built(clone, folder):
     subprocess.run(["bash", "-c", TAKE, "take", clone], cwd=folder, check=True, stdout=sys.stderr)
 
 
-def environment_of(page, first=()):
+def environment_of(page: str, first: Iterable[Path] = ()) -> dict[str, str]:
     """The environment in which a page's steps are taken, whose path has these folders first."""
     environment = {name: value for name, value in os.environ.items() if name not in UNSET}
     modules = [name for need in NEEDS.get(page, ()) if need.startswith("python ") for name in need.split()[1:]]
@@ -112,7 +113,7 @@ def environment_of(page, first=()):
     return environment
 
 
-def take_steps(page, text, folder, first=()):
+def take_steps(page: str, text: str, folder: Path, first: Iterable[Path] = ()) -> Iterator[str]:
     """Takes the steps of a page in this folder, with these folders first in the path, and yields what goes otherwise than it says."""
     script, printed = script_of(text)
     ran = subprocess.run(["bash", "-c", script], cwd=folder, env=environment_of(page, first), capture_output=True, text=True, check=False)
@@ -124,12 +125,12 @@ def take_steps(page, text, folder, first=()):
             yield f"{page}: block {number} of the commands prints\n{other}and should print\n{one}"
 
 
-def pages():
+def pages() -> list[str]:
     """The pages that have steps."""
     return [it for it in Repository().files if is_tried(it) and script_of(read(TOP / it))[1]]
 
 
-def main(clone="", *names):
+def main(clone: str = "", *names: str) -> int:
     is_by_cargo = clone == BY_CARGO
     passed = failed = 0
     with tempfile.TemporaryDirectory() as folder:

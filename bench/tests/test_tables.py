@@ -8,7 +8,7 @@ from unittest import mock
 
 sys.path.insert(0, str(Path(__file__).resolve().parents[1]))
 import tables
-from results import DEFAULT, FAST, FNV, MEASURED, ORIGINAL, PARTS, RUST, SOURCES, THREADS, Results, code_of, sum_of
+from results import DEFAULT, FAST, FNV, MAP, MEASURED, ORIGINAL, PARTS, RUST, SET, SOURCES, THREADS, Results, code_of, sum_of, table_of
 
 HEAD = {"commit": "c0ffee", "date": "2026-01-01", "machine": "a machine", "original": "the original", "load": "busy"}
 
@@ -18,9 +18,8 @@ def results_of(*rows):
     with tempfile.TemporaryDirectory() as folder:
         for part in PARTS:
             head = "".join(f"# {key}: {value}\n" for key, value in HEAD.items())
-            Path(folder, f"{part}.tsv").write_text(f"{head}the names of the columns\n")
-        with open(Path(folder, "times.tsv"), "a") as file:
-            file.writelines("\t".join(map(str, (*kind, *row[:2], "", *row[2:]))) + "\n" for kind, *row in rows)
+            lines = ("\t".join(map(str, (*kind, *row[:2], "", *row[2:]))) for kind, *row in (rows if part == "times" else ()))
+            Path(folder, f"{part}.tsv").write_text(head + "".join(f"{line}\n" for line in table_of(lines)))
         return Results(folder)
 
 
@@ -107,6 +106,17 @@ class Tables(unittest.TestCase):
         self.assertEqual(results.value(FAST["string"], "words", 10, "together"), 2)
         self.assertIsNone(results_of((FAST["string"], "words", 10, "known", 5)).value(FAST["string"], "words", 10, "together"))
 
+    def test_a_file_of_results(self):
+        lines = ["a\tb\t-\t-\twords\t10\t4.0\tfill\t2.5", "a\tc\t-\t-\twords\t10\t4.0\tlive\t3", "a\tb\t-\t-\twords\t10\t4.0\tlive\t7"]
+        names, *rows = table_of(lines)
+        self.assertEqual(names, "library\tbackend\tindex\thasher\tinput\tcount\tbytes\tfill\tlive")
+        self.assertEqual(rows, ["a\tb\t-\t-\twords\t10\t4.0\t2.5\t7", "a\tc\t-\t-\twords\t10\t4.0\t\t3"])
+
+    def test_what_was_not_measured_is_no_value(self):
+        results = results_of((MAP, "words", 10, "fill", 2.5), (MAP, "words", 10, "live", 3), (SET, "words", 10, "live", 4))
+        self.assertEqual(results.values[MAP, "words", 10], {"fill": 2.5, "live": 3})
+        self.assertEqual(results.values[SET, "words", 10], {"live": 4})
+
     def test_counts_with_cycles(self):
         rows = [("words", 20, "fill cycles", 1), ("words", 10, "fill cycles", 1), ("long", 5, "fill cycles", 1)]
         results = results_of(*((FAST["string"], *row) for row in (*rows, ("words", 30, "fill", 1))))
@@ -120,12 +130,17 @@ class Tables(unittest.TestCase):
         self.assertEqual(shown[-2:], ["| `rust, default` | 10 |  | 1.50 |  |  |  |  |", "| `rust, fixed` | 10 |  | 0.75 |  |  |  |  |"])
         self.assertEqual(tables.speed(results_of()), "Not measured.")
 
+    def test_in_short_it_has_the_most_texts(self):
+        rows = [(RUST[kind], "identifiers", count, "known cycles", count) for kind in ("original", "default", "fixed") for count in (10, 20)]
+        shown = tables.speed(results_of(*rows), is_short=True).splitlines()
+        self.assertEqual([line.split(" | ")[:2] for line in shown[-2:]], [["| `rust, default`", "20"], ["| `rust, fixed`", "20"]])
+
     def test_a_row_of_python_has_a_range(self):
         figures = {what: {"one": 0.5, "two": 0.251} for what in tables.IN_SHORT}
-        figures["intern_all / a dict"] = {"one": 0.333}
+        figures["memory of a distinct text / a dict"] = {"one": 0.333}
         shown = tables.in_python(figures, tables.IN_SHORT)
         self.assertIn("| `get` of a known text | `d.get(text)` | 0.25 .. 0.50 |", shown)
-        self.assertIn("| a loop that fills a dict | 0.33 |", shown)
+        self.assertIn("| memory of a distinct text | a dict | 0.33 |", shown)
 
     def test_rows_of_python_are_told_apart(self):
         where = {"distinct, ASCII, fresh objects": 0.1, "distinct, not ASCII, fresh objects": 0.2, "repeats, ASCII, fresh objects": 0.3}
@@ -133,6 +148,27 @@ class Tables(unittest.TestCase):
         names = ("intern_all / pandas.factorize", "Column(rows) / pandas.factorize", "intern_all / a dict")
         lines = tables.batches_in_python({name: where for name in names}).splitlines()
         self.assertEqual([line.split(" | ")[1] for line in lines[2:]], ["0.40", "0.30 .. 0.60", "0.50", "0.10", "0.20"])
+
+    def test_keys_of_python_have_a_column_for_each_count(self):
+        calls = ("intern_all / pandas.factorize, keys", "Column(rows) / pandas.factorize, keys")
+        where = ("`a1` .., 1,000", "the same, shuffled, 1,000", "`a1` .., 20,000", "the same, shuffled, 20,000")
+        figures = {call: {it: number / 10 + place for number, it in enumerate(where)} for place, call in enumerate(calls)}
+        lines = tables.keys_in_python(figures).splitlines()
+        self.assertEqual(lines[2].count("1,000"), 2)
+        self.assertEqual(lines[4:], ["| `a1` .. | 0.00 | 1.00 | 0.20 | 1.20 |", "| the same, shuffled | 0.10 | 1.10 | 0.30 | 1.30 |"])
+
+    def test_columns_of_python_are_beside_a_categorical(self):
+        with mock.patch.object(tables, "COLUMN_CALLS", {"a / b": ("`a`", "`b`")}):
+            lines = tables.columns_in_python({"a / b": {"100": 0.254, "1,000,000": 1.5}}).splitlines()
+        self.assertEqual(lines[2:], ["| a column | a Categorical | 100 | 1,000,000 |", "|---|---|---:|---:|", "| `a` | `b` | 0.25 | 1.50 |"])
+
+    def test_what_was_measured_is_shown_again(self):
+        with tempfile.TemporaryDirectory() as folder:
+            page = Path(folder, "PAGE.md")
+            page.write_text("<!-- bench/run: speed -->\nold\n<!-- end: speed -->\n")
+            with mock.patch.object(tables, "DOCUMENTS", (page,)), mock.patch.object(sys, "argv", ["tables.py", "--measured"]):
+                self.assertEqual(tables.main(), 0)
+            self.assertIn(tables.blocks(Results(MEASURED))["speed"], page.read_text())
 
     def test_both_interners_are_beside_the_original_under_a_like_hasher(self):
         kinds = {FAST["string"]: 3, ORIGINAL["string"]: 4, DEFAULT["string"]: 6, FNV["string"]: 2}

@@ -1,12 +1,14 @@
 """Measures calls of the Python package beside what a dict and pandas take, and compares each figure with the most that it may be.
 
-    python.py [calls] [batches] [columns] [memory] [import] [file]    all six if none is named; RUNS=9 takes the median of nine runs
-    python.py --docs                                        all six, into bench/measured, and draws a picture (needs matplotlib)
+    python.py [calls] [batches] [keys] [columns] [memory] [import] [file]    all if none is named; RUNS=9 takes the median of nine runs
+    python.py --docs [PART ..]                              writes bench/measured, tables, and a picture (needs matplotlib); what was
+                                                            measured before of parts that are not named stays
     python.py draw                                          draws the picture of what bench/measured has
     python.py instructions                                  of each call, by callgrind (needs gcc and valgrind)
 
-Each figure but those of the import and of callgrind is a ratio of two medians of processor time, whose runs took turns. The last
-line counts the figures that are too great.
+Each figure but those of the import and of callgrind is a ratio of two medians of processor time, whose runs took turns; of keys and
+columns, where what else the machine does to its caches counts most, of the least of twice as many runs. The last line counts the
+figures that are too great.
 """
 
 import gc
@@ -37,10 +39,10 @@ def tell(what, where, figure, most=None, unit=""):
     print(f"{what + ', ' * bool(where) + where:62} {figure:9.2f}{unit:3} {said}", flush=True)
 
 
-def medians(ways):
-    """The median time of each way, which is a function that prepares an argument and one that takes it. The ways take turns."""
+def times_of(ways, runs):
+    """Some times of each way, which is a function that prepares an argument and one that takes it. The ways take turns."""
     times = {name: [] for name in ways}
-    for _ in range(RUNS):
+    for _ in range(runs):
         for name, (prepare, call) in ways.items():
             given = prepare()
             gc.collect()
@@ -50,7 +52,15 @@ def medians(ways):
             times[name].append(time.process_time() - start)
             gc.enable()
             del given, kept
-    return {name: statistics.median(it) for name, it in times.items()}
+    return times
+
+
+def medians(ways):
+    return {name: statistics.median(times) for name, times in times_of(ways, RUNS).items()}
+
+
+def leasts(ways):
+    return {name: min(times) for name, times in times_of(ways, 2 * RUNS).items()}
 
 
 def words(count, letter):
@@ -59,14 +69,9 @@ def words(count, letter):
 
 
 def rows_of(kind, count, letter):
-    """Distinct rows, also those that a counter makes; or few words that are frequent and many that are rare."""
+    """Distinct rows; or few words that are frequent and many that are rare."""
     if kind == "distinct":
         return words(count, letter)
-    if kind.startswith("keys"):
-        keys = [f"schl{letter}ssel_{number:07}" for number in range(count)]
-        if kind == "keys, shuffled":
-            random.Random(1).shuffle(keys)
-        return keys
     source, some = random.Random(1), words(50_000, letter)
     return [some[min(int(source.paretovariate(0.5)) - 1, len(some) - 1)] for _ in range(count)]
 
@@ -106,7 +111,8 @@ def measure_calls():
                 "intern": (read, looping(interner.intern)), "d.setdefault": (read, setdefault(numbers)),
                 "get": (read, looping(interner.get)), "d.get": (read, looping(numbers.get)),
                 "get, unknown": (lambda: unknown, looping(interner.get)), "d.get, unknown": (lambda: unknown, looping(numbers.get)),
-                "new": (read, lambda rows: looping(Interner().intern)(rows)), "d.setdefault, new": (read, lambda rows: setdefault({})(rows)),
+                "new": (read, lambda rows: looping(Interner().intern)(rows)),
+                "d.setdefault, new": (read, lambda rows: setdefault({})(rows)),
             })
             where = f"{name}, {form}"
             tell("intern of a known text / d.setdefault", where, found["intern"] / found["d.setdefault"], 1.5)
@@ -123,7 +129,6 @@ def measure_batches():
 
     forms = ("same objects", "fresh objects")
     ways = [(kind, letter, name, forms) for kind in ("repeats", "distinct") for letter, name in (("w", "ASCII"), ("ŵ", "not ASCII"))]
-    ways += [(kind, letter, name, forms[1:]) for kind in ("keys", "keys, shuffled") for letter, name in (("u", "ASCII"), ("ü", "not ASCII"))]
     for kind, letter, name, forms in ways:
         rows = rows_of(kind, 1_000_000, letter)
         joined = "\n".join(rows)
@@ -144,6 +149,28 @@ def measure_batches():
             tell("a dict / pandas.factorize", where, found["dict"] / found["factorize"])
 
 
+def measure_keys():
+    """Distinct texts that are not ASCII, as a counter makes them: new strings."""
+    import numpy
+    import pandas
+
+    from string_interner import Column, Interner
+
+    for count in (100_000, 300_000, 1_000_000):
+        keys = [f"schlüssel_{number:07}" for number in range(count)]
+        inputs = {"`schlüssel_0000001` ..": keys, "the same, shuffled": random.Random(1).sample(keys, count)}
+        inputs["`東京都千代田区1` .."] = [f"東京都千代田区{number}" for number in range(count)]
+        for name, rows in inputs.items():
+            joined = "\n".join(rows)
+            found = leasts({
+                "factorize": (lambda: numpy.array(joined.split("\n"), dtype=object), pandas.factorize),
+                "intern_all": (lambda: joined.split("\n"), lambda rows: Interner().intern_all(rows)),
+                "Column(rows)": (lambda: joined.split("\n"), Column),
+            })
+            for call in ("intern_all", "Column(rows)"):
+                tell(f"{call} / pandas.factorize, keys", f"{name}, {count:,}", found[call] / found["factorize"], 0.9)
+
+
 def measure_columns():
     """What reads rows of a column that has a str of each text, as a Categorical has."""
     import numpy
@@ -153,7 +180,7 @@ def measure_columns():
 
     source, count = random.Random(1), 1_000_000
     permuted, chosen = numpy.random.default_rng(1).permutation(count), numpy.flatnonzero(numpy.random.default_rng(2).random(count) < 0.5)
-    for distinct in (50_000, count):
+    for distinct in (100, 50_000, count):
         some = words(distinct, "w")
         rows = some if distinct == count else source.choices(some, k=count)
         column, categorical, wide = Column(rows), pandas.Categorical(rows), numpy.array(rows)
@@ -161,6 +188,7 @@ def measure_columns():
             "unique / that of a Categorical": (column.unique, categorical.unique),
             "value_counts / that of a Categorical": (column.value_counts, categorical.value_counts),
             "value_counts(most=10) / that of a Categorical": (lambda: column.value_counts(most=10), categorical.value_counts),
+            "frequencies / value_counts of a Categorical": (column.frequencies, categorical.value_counts),
             "to_numpy / numpy.asarray of a Categorical": (column.to_numpy, lambda: numpy.asarray(categorical)),
             "column[numbers], permuted / Categorical.take": (lambda: column[permuted], lambda: categorical.take(permuted)),
             "column[numbers], in order / Categorical.take": (lambda: column[chosen], lambda: categorical.take(chosen)),
@@ -168,10 +196,10 @@ def measure_columns():
         }
         for what, (ours, theirs) in calls.items():
             ours()
-            found = medians({"ours": (lambda: None, lambda _: ours()), "theirs": (lambda: None, lambda _: theirs())})
+            found = leasts({"ours": (lambda: None, lambda _: ours()), "theirs": (lambda: None, lambda _: theirs())})
             # A dict of all texts takes longer than codes of pandas in any case.
             most = None if ours == column.value_counts else 1.0
-            tell(what, f"{distinct:,} distinct texts", found["ours"] / found["theirs"], most)
+            tell(what, f"{distinct:,}", found["ours"] / found["theirs"], most)
 
 
 def measure_memory():
@@ -336,32 +364,44 @@ def draw(commit):
     write(figure, PICTURES / "python.svg")
 
 
-def record():
-    """Writes all figures and a picture of them."""
-    commit = subprocess.run(["git", "rev-parse", "--short=12", "HEAD"], cwd=TOP, capture_output=True, text=True, check=True).stdout.strip()
+def record(keeps_others):
+    """Writes the figures, with those that were measured before of other parts if they are kept, and tables and a picture of them."""
+    words_of = ["git", "rev-parse", "--short=12", "HEAD"]
+    commit = subprocess.run(words_of, cwd=TOP, capture_output=True, text=True, check=True).stdout.strip()
+    if keeps_others:
+        before, recorded = read_recorded()
+        figures.update(recorded | figures)
+        commit += f", other parts {before.split(',')[0]}"
     lines = [f"# commit: {commit}", *(f"{what}\t{where}\t{figure:.3f}" for (what, where), figure in figures.items())]
     MEASURED.write_text("\n".join(lines) + "\n")
+    subprocess.run([sys.executable, TOP / "bench/tables.py", "--measured"], check=True)
     draw(commit)
+
+
+def read_recorded():
+    """The commit and the figures that were written before."""
+    head, *lines = MEASURED.read_text().splitlines()
+    rows = (line.split("\t") for line in lines)
+    return head.removeprefix("# commit: "), {(what, where): float(figure) for what, where, figure in rows}
 
 
 def draw_recorded():
     """Draws the figures that were written before."""
-    head, *lines = MEASURED.read_text().splitlines()
-    for what, where, figure in (line.split("\t") for line in lines):
-        figures[what, where] = float(figure)
-    draw(head.removeprefix("# commit: "))
+    commit, recorded = read_recorded()
+    figures.update(recorded)
+    draw(commit)
 
 
 def main(*words):
     if words == ("draw",):
         return draw_recorded()
-    is_recorded = words == ("--docs",)
-    for part in ((not is_recorded and words) or ("calls", "batches", "columns", "memory", "import", "file")):
-        {"calls": measure_calls, "batches": measure_batches, "columns": measure_columns, "memory": measure_memory,
+    is_recorded = words[:1] == ("--docs",)
+    for part in (words[is_recorded:] or ("calls", "batches", "keys", "columns", "memory", "import", "file")):
+        {"calls": measure_calls, "batches": measure_batches, "keys": measure_keys, "columns": measure_columns, "memory": measure_memory,
          "import": measure_import, "file": measure_file, "instructions": measure_instructions}[part]()
     print(f"{len(too_great)} figures are too great")
     if is_recorded:
-        record()
+        record(keeps_others=len(words) > 1)
 
 
 if __name__ == "__main__":

@@ -12,8 +12,9 @@
   CALL(buffer_intern_utf8) CALL(buffer_resolve) CALL(clone) CALL(contains) CALL(copy_text) CALL(entries) CALL(equal) \
   CALL(free) CALL(from_json) CALL(from_json_with) CALL(get) CALL(get_or_intern) CALL(get_or_intern_part) \
   CALL(get_or_intern_static) CALL(get_or_intern_utf8) CALL(get_utf8) CALL(intern_joined) CALL(intern_list) CALL(len) CALL(new) \
-  CALL(new_with) CALL(resolve) CALL(shrink) CALL(string_find_utf8) CALL(string_intern_utf8) CALL(string_joined) \
-  CALL(string_resolve) CALL(to_json) CALL(truncate) CALL(version)
+  CALL(new_with) CALL(resolve) CALL(share) CALL(shared_copy_text) CALL(shared_free) CALL(shared_get) CALL(shared_get_or_intern) \
+  CALL(shared_len) CALL(shared_resolve) CALL(shrink) CALL(string_find_utf8) CALL(string_intern_utf8) CALL(string_joined) \
+  CALL(string_resolve) CALL(to_json) CALL(truncate) CALL(unshare) CALL(version)
 
 enum { HANDLES = 6, MANY = 40, LARGE = (1 << 22) + 1, MOST_BYTES = 4096, MOST_JSON = 1 << 20, MOST_LOGGED = 3 << 20 };
 
@@ -198,8 +199,27 @@ static void read_json(build *it, interner *h, const given *of) {
   keep(it, of, status, made);
 }
 
+/* Makes the same calls on a handle while it is shared. */
+static void share(build *it, interner *h, const given *of) {
+  static char room[MOST_BYTES];
+  interner_shared *shared = NULL;
+  interner_symbol symbol = 7777;
+  interner_text text = {"", 7777};
+  size_t len = 7777;
+  log_number(it, it->share(h, &shared));
+  log_written(it, it->shared_get(shared, of->text.at, of->text.len, &symbol), symbol);
+  log_written(it, it->shared_get_or_intern(shared, of->text.at, of->text.len, &symbol), symbol);
+  log_text(it, it->shared_resolve(shared, of->symbol, &text), &text);
+  memset(room, 'x', of->room);
+  log_written(it, it->shared_copy_text(shared, of->symbol, room, of->room, &len), len);
+  log_bytes(it, room, of->room);
+  log_number(it, it->shared_len(shared));
+  must(it->unshare(shared) == h, "another handle was shared");
+  it->shared_free(NULL);
+}
+
 static void (*const commands[])(build *, interner *, const given *) = {
-    intern_one, intern_one, look_up, resolve, list_all, intern_many, make_another, drop_some, write_json, read_json, read_json, read_json};
+    intern_one, intern_one, look_up, share, resolve, list_all, intern_many, make_another, drop_some, write_json, read_json, read_json, read_json};
 
 /* A part of the pool, of letters of one to four bytes, which may begin and end within one; most texts come again. */
 static bytes some_text(void) {

@@ -208,6 +208,24 @@ static void copy_and_spell(interner *h) {
   interner_free(copy);
 }
 
+/* A handle that was not shared is as it was. */
+static interner *share(interner *h) {
+  interner_shared *shared = NULL;
+  char text[40];
+  size_t len = spell(MANY, text);
+  interner_symbol symbol = 7777777;
+  while (again(interner_share(h, &shared))) {
+    MUST(!shared);
+    has_texts(h, MANY);
+  }
+  while (again(interner_shared_get_or_intern(shared, text, len, &symbol))) {
+    MUST(symbol == 7777777 && interner_shared_len(shared) == MANY);
+  }
+  MUST(interner_unshare(shared) == h && interner_len(h) == MANY + 1);
+  interner_truncate(h, MANY);
+  return h;
+}
+
 /* A refused request of interner_shrink leaves the larger block. */
 static void run(void) {
   interner *h = NULL;
@@ -221,7 +239,7 @@ static void run(void) {
   has_texts(h, MANY);
   intern_all_texts(h);
   intern_list_of_texts(h);
-  copy_and_spell(h);
+  copy_and_spell(share(h));
   intern_parts(h);
   interner_free(h);
 }

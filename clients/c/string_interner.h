@@ -21,7 +21,7 @@
  *      Memory that a call only writes to need not be initialised; the cursor of interner_entries must be.
  *   3. Do not let memory that a call writes to overlap anything else that you pass to that call.
  *   4. While a call may change a handle, make no other call on that handle. Calls that only read a handle may run at the same time.
- *      If threads share a handle, make each change happen before or after every other call on it, for example by a lock. Calls on
+ *      If threads share a handle, make each change happen before or after every other call on it, as interner_share does. Calls on
  *      different handles need no care, because handles share nothing.
  *   5. Read a text that a handle lent only until the next call that may change that handle, and do not pass it to that call. Every
  *      call may change a handle, except those that take it as const. On INTERNER_BUCKET you may read the text until
@@ -32,7 +32,8 @@
  *   7. Pass only UTF-8 to the calls whose name ends in _utf8.
  *   8. Pass to interner_get_or_intern_static only bytes that stay where they are, unchanged, as long as the process runs.
  *
- * What is proved is the source. Rattle's compiler or rustc makes the library of it; interner_build says which.
+ * What is proved is the source. Rattle's compiler or rustc makes the library of it; interner_build says which. interner_share and the
+ * calls on what it makes are not proved themselves: they take a lock, and call what is proved.
  *
  * Three parts of these rules are tested and not proved:
  *
@@ -123,6 +124,9 @@ typedef char interner_enums_take_four_bytes[sizeof(interner_status) == 4 && size
 
 /** A handle: an interner that only the calls below can read and change. */
 typedef struct interner interner;
+
+/** A handle that threads may use at the same time: see interner_share. */
+typedef struct interner_shared interner_shared;
 
 /** A symbol: it stands for a text of its interner. All symbols are below 2^32 - 1. */
 typedef uint32_t interner_symbol;
@@ -365,6 +369,46 @@ interner_status interner_from_json(interner_kind kind, const char *json, size_t 
  * Returns the same; or `out` is unchanged: INTERNER_BAD_HASHER, INTERNER_REPEATED (if it is `exact`). */
 interner_status interner_from_json_with(const interner_options *options, const char *json, size_t json_len, bool exact,
                                         interner **out);
+
+/** Makes a handle that threads may use at the same time, of the texts of another one, and writes its address to `out`. It takes that
+ * one over, for which you make no further call. So first come the texts that all threads know, then the threads:
+ *
+ *     if (interner_share(names, &shared) != INTERNER_OK) return 1;
+ *     // In each thread:
+ *     if (interner_shared_get_or_intern(shared, "Tiger", 5, &tiger) != INTERNER_OK) return 1;
+ *
+ * Each call on it happens before or after each other. A text has one symbol in all threads, and keeps it. Calls for known texts run
+ * side by side; one that adds a text runs alone. Pass one handle of this kind to the calls below only, and from one thread to
+ * another in a way that makes what was written before visible, as starting a thread does.
+ * Returns INTERNER_OK; or `h` and `out` are unchanged: INTERNER_NO_MEMORY. */
+interner_status interner_share(interner *h, interner_shared **out);
+
+/** Returns the handle of the same texts and symbols that a shared one took over, and frees the shared one. No thread may use that
+ * during this call or after it. */
+interner *interner_unshare(interner_shared *shared);
+
+/** The same as interner_unshare, and frees the handle, too. Does nothing if the shared one is null. */
+void interner_shared_free(interner_shared *shared);
+
+/** Returns the number of texts. Other threads may have added more by then. */
+size_t interner_shared_len(interner_shared *shared);
+
+/** The same as interner_get_or_intern. A new text is looked up twice, so it takes longer. */
+interner_status interner_shared_get_or_intern(interner_shared *shared, const char *text, size_t text_len,
+                                              interner_symbol *INTERNER_RESTRICT symbol);
+
+/** The same as interner_get. */
+interner_status interner_shared_get(interner_shared *shared, const char *text, size_t text_len,
+                                    interner_symbol *INTERNER_RESTRICT symbol);
+
+/** The same as interner_bucket_resolve: only texts of the kind INTERNER_BUCKET stay where they are while other threads intern. You may
+ * read the text until interner_unshare or interner_shared_free, but do not pass it or a part of it to a call that may intern.
+ * Returns INTERNER_OK; or `text` is unchanged: INTERNER_NOT_FOUND, INTERNER_BAD_KIND. */
+interner_status interner_shared_resolve(interner_shared *shared, interner_symbol symbol, interner_text *INTERNER_RESTRICT text);
+
+/** The same as interner_copy_text, on any kind. */
+interner_status interner_shared_copy_text(interner_shared *shared, interner_symbol symbol, char *INTERNER_RESTRICT room,
+                                          size_t room_len, size_t *INTERNER_RESTRICT len);
 
 #ifdef __cplusplus
 }

@@ -36,7 +36,7 @@ FLAGS = ["-O2", "-std=c11", "-Wall", "-Wextra", "-Wno-cast-function-type", "-Wno
 
 
 class BuildWithLibrary(build_ext):
-    def build_extensions(self):
+    def build_extensions(self) -> None:
         if sysconfig.get_config_var("Py_GIL_DISABLED"):
             raise SystemExit("setup.py: the module needs the global lock, which this Python is built without")
         headers, archive = find_library() or self.compile_library(Path(self.build_temp).resolve() / "library")
@@ -46,7 +46,7 @@ class BuildWithLibrary(build_ext):
             extension.depends.append(str(archive))
         super().build_extensions()
 
-    def compile_library(self, folder):
+    def compile_library(self, folder: Path) -> tuple[Path, Path]:
         """Returns the folder of the header and the archive that cargo makes in a folder, without a network. It is for this machine,
         whatever target a setting of cargo names."""
         command = ["cargo", "build", "--quiet", "--release", "--offline", "-p", "string-interner-c", "--target-dir", str(folder)]
@@ -66,7 +66,7 @@ class BuildWithLibrary(build_ext):
             raise SystemExit("setup.py: cargo did not compile the library")
         return SOURCES / "clients/c", folder / host / "release" / ARCHIVE
 
-    def run_and_tell(self, command, folder):
+    def run_and_tell(self, command: list[str], folder: Path) -> int:
         """Runs a command, and says each few seconds that it is at work. Returns how it ended."""
         start = time.monotonic()
         with subprocess.Popen(command, cwd=folder) as running:
@@ -78,7 +78,7 @@ class BuildWithLibrary(build_ext):
 
 
 class ManyLinuxWheel(bdist_wheel):
-    def get_tag(self):
+    def get_tag(self) -> tuple[str, str, str]:
         python, abi, platform = super().get_tag()
         # It needs nothing but the C library, of 2.17 or older; clients/check looks, on both processors.
         is_known = platform in ("linux_x86_64", "linux_aarch64")
@@ -86,7 +86,7 @@ class ManyLinuxWheel(bdist_wheel):
 
 
 class SourcesOfAll(sdist):
-    def make_release_tree(self, base_dir, files):
+    def make_release_tree(self, base_dir: str, files: list[str]) -> None:
         super().make_release_tree(base_dir, files)
         # Cargo asks for all packages of a workspace, and builds one.
         workspace = tomllib.loads((SOURCES / "Cargo.toml").read_text(encoding="utf-8"))["workspace"]
@@ -95,7 +95,7 @@ class SourcesOfAll(sdist):
         shutil.copy(SOURCES / "Cargo.toml", Path(base_dir, "library"))
 
 
-def find_library():
+def find_library() -> tuple[Path, Path] | None:
     """Returns the folder of the header and the archive: of what STRING_INTERNER_LIB names, or else of what clients/build made, if it
     did."""
     named = os.environ.get("STRING_INTERNER_LIB")

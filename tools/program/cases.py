@@ -7,7 +7,7 @@ from dataclasses import dataclass
 from pathlib import Path
 from typing import Any, Self
 
-from edits import TOP
+from tree import TOP
 
 # In bytes: the first room that `intern` asks for to read its input.
 FIRST_INPUT = 512
@@ -73,7 +73,7 @@ def try_folder(_: Any, folder: str) -> Iterator[tuple[str, Any, Any]]:
     yield f"there are cases in {folder}", any(it.suffix == ".t" for it in files), True
 
 
-def cases(folder: str, try_case: Callable[..., Any]) -> Iterator[tuple[Any, ...]]:
+def cases(folder: str | Path, try_case: Callable[..., Any]) -> Iterator[tuple[Any, ...]]:
     yield try_folder, folder
     yield from ((try_case, case) for path in sorted((TOP / folder).glob("*.t")) for case in read_cases(path))
 
@@ -82,7 +82,7 @@ def try_table(_: Any, name: str, count: int) -> Iterator[tuple[str, Any, Any]]:
     yield f"{name} has rows", count > 0, True
 
 
-def rows(folder: str, tables: dict[str, Callable[..., Any]]) -> Iterator[tuple[Any, ...]]:
+def rows(folder: str | Path, tables: dict[str, Callable[..., Any]]) -> Iterator[tuple[Any, ...]]:
     """The trials of a folder's tables: what tries a row, by the name of the table."""
     for name, try_row in tables.items():
         found = (TOP / folder / name).read_bytes().split(b"\n")[:-1]

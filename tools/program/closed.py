@@ -5,26 +5,32 @@ import errno
 import os
 import shutil
 import tempfile
+from collections.abc import Collection, Iterable, Iterator
 from itertools import product
 from pathlib import Path
+from typing import Any
 
-from edits import TOP
+from built import Program
 from program.columns import columns_of, files_in, write_files
 from program.reckon import ENCODED as LOOKS_ENCODED
-from program.reckon import answer, failed, misused, skip_invalid, told, unreadable, unwritable, warned
+from program.reckon import Ended, answer, failed, misused, skip_invalid, told, unreadable, unwritable, warned
 from program.shards import shards_of
 from program.streams import run_interrupted
+from tree import TOP
+from trials import Seen, Trial
 
 TEXT, BROKEN, MORE = b"red\ngreen\nred", b"a\n\xff\nb\n\xc3\na\n", b"blue\nred\n"
 ENCODED = answer([b"encode"], TEXT)[1]
 GOOD, SKIPPED = skip_invalid(BROKEN)
 FILES = {"text": TEXT, "broken": BROKEN, "encoded": ENCODED, "empty": b"", "list": b"text\0text\0", "bad list": b"text\0\0"}
+# The files of a folder, by their names.
+Files = dict[str, bytes]
 # What the source of the program has between quotes.
 HELP = (TOP / "crates/dictcol/src/help.rt").read_bytes().split(b'"\\\n')[1].split(b'";')[0]
 SKIP = b"--invalid=skip"
 
 
-def forms():
+def forms() -> Iterator[tuple[list[bytes], bytes | None, Ended, Files | None]]:
     """The arguments, standard input if it is read, how a run ends, and the files of the folder `new` if it makes that."""
     for word in b"encode", b"count":
         yield [word], TEXT, answer([word], TEXT), None
@@ -33,7 +39,7 @@ def forms():
         yield [word, SKIP], BROKEN, answer([word, SKIP], BROKEN), None
         yield [word, SKIP, b"broken"], None, answer([word, SKIP], BROKEN), None
         ended = answer([word], ENCODED)
-        yield [word, b"encoded"], None, (*ended[:2], warned(ENCODED, b"encoded: ")), None
+        yield [word, b"encoded"], None, (ended[0], ended[1], warned(ENCODED, b"encoded: ")), None
         yield [word, b"broken"], None, failed(2, b"broken: line 2 is not UTF-8 (see --invalid)"), None
         yield [word, b"missing"], None, failed(1, b"missing: cannot read input: " + told(errno.ENOENT)), None
         yield [word, b"empty"], None, answer([word], b""), None
@@ -70,37 +76,37 @@ def forms():
     yield [b"count", b"--sort"], None, misused(b"unknown option '--sort'"), None
 
 
-def write_all(folder):
+def write_all(folder: str) -> None:
     """Writes what the forms read."""
     for name, content in FILES.items():
         Path(folder, name).write_bytes(content)
     write_files(f"{folder}/plain", columns_of(TEXT))
 
 
-def all_files(folder):
+def all_files(folder: str) -> dict[str, Any]:
     return {it.name: files_in(it) if it.is_dir() else it.read_bytes() for it in Path(folder).iterdir()}
 
 
-def files_after(made):
+def files_after(made: Files | None) -> dict[str, Any]:
     """All files behind a run that makes these."""
     return FILES | {"plain": columns_of(TEXT)} | ({"new": made} if made else {})
 
 
-def close(numbers):
+def close(numbers: Iterable[int]) -> None:
     for number in numbers:
         os.close(number)
 
 
-def end_with(closed, given, end):
+def end_with(closed: Collection[int], given: bytes | None, end: Ended) -> Ended:
     """How a run ends with these streams closed: what is read or written there fails."""
     if 0 in closed and given is not None:
         end = 1, b"", unreadable(errno.EBADF)
     elif 1 in closed and end[1]:
         end = unwritable(errno.EBADF)[0], b"", unwritable(errno.EBADF)[1]
-    return (*end[:2], b"") if 2 in closed else end
+    return (end[0], end[1], b"") if 2 in closed else end
 
 
-def try_closed(program, words, given, end, made):
+def try_closed(program: Program, words: list[bytes], given: bytes | None, end: Ended, made: Files | None) -> Seen:
     """The status is right, what was read stays as it was, and no file gets a message."""
     for closed in ([it for it, is_closed in enumerate(them) if is_closed] for them in product((False, True), repeat=3)):
         with tempfile.TemporaryDirectory() as folder:
@@ -110,7 +116,7 @@ def try_closed(program, words, given, end, made):
             yield f"{name}, files", all_files(folder), files_after(made if wanted[0] == 0 else None)
 
 
-def try_interrupted(program, words, given, end, made):
+def try_interrupted(program: Program, words: list[bytes], given: bytes | None, end: Ended, made: Files | None) -> Seen:
     """A signal during a read changes nothing, whatever file is read. A warning is of what the first read gives."""
     size = max(5, len(LOOKS_ENCODED) * (b"warning" in end[2]))
     with tempfile.TemporaryDirectory() as folder:
@@ -121,5 +127,5 @@ def try_interrupted(program, words, given, end, made):
             shutil.rmtree(f"{folder}/new", ignore_errors=True)
 
 
-def trials():
+def trials() -> list[Trial]:
     return [(trial, *given) for trial in (try_closed, try_interrupted) for given in forms()]

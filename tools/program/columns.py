@@ -729,8 +729,8 @@ def try_extenders(program):
         yield f"{name}, {ends}", OK in ends and all(it == OK or it[:2] == (1, b"") and it[2].count(b"\n") == 1 for it in ends), True
         # The first one is the last to end if it was stopped.
         order = [(ends[1], b"white"), (ends[0], b"blue")] if run.is_stopped else [(ends[0], b"blue"), (ends[1], b"white")]
-        *before, last = [b"red", b"green", *(line for ended, line in order if ended == OK)]
-        yield f"{name}, files", files_in(f"{folder}/it"), columns_of(last + b"\n", before)
+        lines = [b"red", b"green", *(line for ended, line in order if ended == OK)]
+        yield f"{name}, files", files_in(f"{folder}/it"), columns_of(lines[-1] + b"\n", lines[:-1])
 
 
 def is_locked(path):

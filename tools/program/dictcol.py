@@ -130,6 +130,7 @@ def try_words(program, row):
 
 TABLES = {"damaged_files": try_damaged, "files_that_are_no_json": try_no_json, "wrong_arguments": try_words}
 
+
 def try_both_ways(program, name, data):
     for backend, words in product(BACKENDS, ([b"encode"], [b"count"], [b"count", b"--sorted"])):
         words = [*words, b"--backend", backend]
@@ -220,7 +221,7 @@ def log_lines():
 
 # The most memory in MiB of `encode`, `count`, `decode` and `merge`, with some room for other versions of the C library. This process
 # has up to 64.
-LARGE = {"10 MB of newlines": (newlines, (64, 64, 80, 100)), "100 MiB of lines of a log": (log_lines, (155, 175, 350, 440))}
+LARGE = {"10 MB of newlines": (newlines, (64, 64, 80, 100)), "100 MiB of lines of a log": (log_lines, (155, 155, 350, 440))}
 
 
 def try_large(program, name):

@@ -1,12 +1,16 @@
 """What is tried of the program `intern`."""
 
 import random
+from collections.abc import Iterable, Iterator
+from typing import Any
 
 from asks import COMMAND, REPLY, Calls
-from edits import TOP
-from program.cases import MANY, MEBIBYTE, cases, rooms_of_input, rows
+from built import Program
+from program.cases import MANY, MEBIBYTE, Case, cases, rooms_of_input, rows
 from program.streams import Streams
-from program.texts import BACKENDS, OUT_OF_MEMORY, UNREADABLE, UNWRITABLE, USAGE, answer, bad_line, lines_of
+from program.texts import BACKENDS, OUT_OF_MEMORY, UNREADABLE, UNWRITABLE, USAGE, Ended, answer, bad_line, lines_of
+from tree import TOP
+from trials import Seen, Trial
 
 CASES = "crates/intern/cases"
 VERSION = (TOP / "VERSION").read_bytes().strip()
@@ -15,8 +19,11 @@ OUTPUT_BUFFER, REPLY_BY_RUSTC = 8192, 24
 # The words of lines, as a run of scenarios calls them.
 CALLS = {b"i": b"Intern", b"g": b"Get", b"r": b"Resolve", b"n": b"Number", b"len": b"Len", b"shrink": b"Shrink"}
 
+# What a request is for: a word, or the number of a line.
+Purpose = Any
 
-def asks_of_lines(case):
+
+def asks_of_lines(case: Case) -> Iterator[tuple[int, int]]:
     """The number of a line, and the size of a request that it makes by the model, for each such request in order."""
     model = Calls(b"run %s SymbolU32 default" % case.words[0])
     for number, (line, reply) in enumerate(zip(lines_of(case.data), lines_of(case.end[1])), 1):
@@ -26,11 +33,11 @@ def asks_of_lines(case):
         yield from ((number, size) for size in model.memory.asks)
 
 
-def size_of_reply(program):
+def size_of_reply(program: Program) -> int:
     return REPLY_BY_RUSTC if program.is_by_cargo else REPLY
 
 
-def requests(case, reply):
+def requests(case: Case, reply: int) -> Iterator[tuple[Purpose, int]]:
     """The requests after those for the words: the number of a line, or a word for what it is for, and its size."""
     yield "output", OUTPUT_BUFFER
     if case.end == USAGE:
@@ -45,7 +52,7 @@ def requests(case, reply):
         yield from asks_of_lines(case)
 
 
-def end_when_refused(case, purpose, is_last_of_words):
+def end_when_refused(case: Case, purpose: Purpose, is_last_of_words: bool) -> Ended:
     """How the run must end with a request refused."""
     match purpose:
         case "words" if not is_last_of_words:
@@ -61,7 +68,7 @@ def end_when_refused(case, purpose, is_last_of_words):
     return answer(case.words, case.data, refused=purpose)
 
 
-def asked_again(program, case, number, purpose, asks):
+def asked_again(program: Program, case: Case, number: int, purpose: Purpose, asks: list[int]) -> list[int]:
     """What was asked for after a refused request, by the call that was refused."""
     if purpose in ("input", "commands", "replies"):
         return asks[number:]
@@ -76,7 +83,7 @@ def asked_again(program, case, number, purpose, asks):
     return program.run_with_asks(case.words, data, number)[1][number:]
 
 
-def try_case(program, case):
+def try_case(program: Program, case: Case) -> Seen:
     """A case, and again with each of its requests for memory refused."""
     name = case.name
     yield f"{name}, the case by the rules", answer(case.words, case.data), case.end
@@ -94,7 +101,7 @@ def try_case(program, case):
         yield f"{refused}: asked again", asked_again(program, case, number, purpose, after), []
 
 
-def try_bad_line(program, row):
+def try_bad_line(program: Program, row: bytes) -> Seen:
     for word in BACKENDS:
         for data, number in ((row + b"\n", 1), (row, 1), (b"i a\n" + row + b"\nx\n", 2)):
             # Without a newline the empty line is no line.
@@ -102,7 +109,7 @@ def try_bad_line(program, row):
                 yield f"bad line {row!r}", program.run([word], data), bad_line(number)
 
 
-def try_unknown_word(program, row):
+def try_unknown_word(program: Program, row: bytes) -> Seen:
     # Told before input that is not UTF-8, and before a bad line.
     for data in (b"i a\n", b"\xff", b"x\n", b""):
         yield f"word {row!r}", program.run([row], data), USAGE
@@ -113,7 +120,7 @@ def try_unknown_word(program, row):
 TOLD = {b"--help": USAGE[2] + b"       intern --help | --version\n\n", b"--version": b"intern " + VERSION + b"\n"}
 
 
-def try_told(program, word):
+def try_told(program: Program, word: bytes) -> Seen:
     """Each asks for its text alone, whatever the input is, and is a wrong argument beside another word."""
     ended = program.run([word], b"i a\n")
     yield f"{word}", ended._replace(output=ended.output[:len(TOLD[word])]), (0, TOLD[word], b"")
@@ -127,7 +134,7 @@ def try_told(program, word):
     yield f"{word} and a buffer", program.run_with_asks([word], b"")[0], ended
 
 
-def try_no_text(program, row):
+def try_no_text(program: Program, row: bytes) -> Seen:
     for word in BACKENDS:
         # At the start, in a text, at the end, and after a bad line.
         for data in (row + b"\n", b"i " + row + b"\n", b"i a\ni a" + row, b"x\ni a" + row):
@@ -141,7 +148,7 @@ PIECES = [b"i ", b"g ", b"r ", b"n ", b"i a", b"g a", b"len", b"shrink", b"\n", 
           b"+", "é".encode()]
 
 
-def random_command(source, line):
+def random_command(source: random.Random, line: int) -> bytes:
     """A command of a line of this number, whose text may be long."""
     text = source.choice([*TEXTS, b"%d" % source.randrange(400) + source.choice([b"", b"x", b"\x7f" * 130, "é".encode() * 3])])
     number = source.choice([source.randrange(line + 2), source.randrange(8000), 2**32 - 2, 2**64 - 1])
@@ -149,7 +156,7 @@ def random_command(source, line):
                           b"shrink"])
 
 
-def try_random(program, seed, word):
+def try_random(program: Program, seed: int, word: bytes) -> Seen:
     """Commands, short inputs of pieces of lines and a byte of any value, and bytes of any value or of ASCII; and the commands again
     with the memory of one of their lines refused."""
     source = random.Random(seed)
@@ -169,7 +176,7 @@ def try_random(program, seed, word):
     yield f"random input {seed} over {word}, request {refused} refused", ended, answer([word], data, refused=line)
 
 
-def large_inputs():
+def large_inputs() -> Iterator[tuple[str, bytes, int]]:
     """The name of each, the input, and how many requests its lines may make: none that grows with known texts."""
     texts, known, few = b"".join(b"i %d\n" % number for number in range(MANY)), b"i Tiger\n", 200
     yield "new texts", texts, few
@@ -192,7 +199,7 @@ def large_inputs():
     yield "a bad line at the end", known * (MANY - 1) + b"x\n", 0
 
 
-def try_large(program, name, data, allowed, word):
+def try_large(program: Program, name: str, data: bytes, allowed: int, word: bytes) -> Seen:
     name, wanted = f"{name} over {word}", answer([word], data)
     yield name, program.run([word], data), wanted
     ended, asks = program.run_with_asks([word], data)
@@ -204,11 +211,11 @@ def try_large(program, name, data, allowed, word):
     yield f"{name}: requests for more than {most} bytes", [size for size in asks if size > most], []
 
 
-def unreadable(_):
+def unreadable(_: int) -> bytes:
     return UNREADABLE[2]
 
 
-def unwritable(_):
+def unwritable(_: int) -> tuple[int, bytes]:
     return 1, UNWRITABLE
 
 
@@ -231,7 +238,7 @@ STREAMS = Streams(
 )
 
 
-def parts():
+def parts() -> dict[str, Iterable[Trial]]:
     return {
         "cases": cases(CASES, try_case),
         "tables": rows(CASES, TABLES),

@@ -4,25 +4,31 @@ import random
 import re
 import shutil
 import tempfile
+from collections.abc import Iterable, Iterator
 from itertools import chain, product
 from pathlib import Path
 
-from edits import TOP
+from built import Program
 from program.columns import columns_of, files_in, write_files
-from program.reckon import answer, failed, find_invalid, line_end, mend
+from program.reckon import Ended, answer, failed, find_invalid, line_end, mend
 from program.shards import shards_of
+from tree import TOP
+from trials import Seen, Trial
 
 # Parts of a text in which newlines or zero bytes end lines. Lines go on in the next part, and the most frequent is not the first.
+Parts = tuple[bytes, ...]
 GOOD = b"a\nb\nb", b"\n\0a\0b\0b", "\0é\nc".encode()
 BAD = b"a\nb\nb", b"\n\0a\0b\0b\xff\0\nb\xff\n\xc3", b"\n\xff\0c\n"
 SHARDS, KNOWN = 3, [b"old", b"b"]
 SOURCE = (TOP / "crates/dictcol/src/arguments.rt").read_bytes()
 
-BACKEND = [], [b"--backend=string"], [b"--backend=bucket"], [b"--backend=buffer"]
-INVALID = [], [b"--invalid=error"], [b"--invalid=replace"], [b"--invalid=skip"]
-ENDED = [], [b"-z"], [b"--zero-terminated"]
-SORTED = [], [b"--sorted"]
-PLAIN = [], [b"--plain=new"], [b"--plain=new", b"--onto=old"], [b"--plain=new", b"--onto-dictionary=old"]
+# The words of each choice of an option, also of none.
+Choices = tuple[list[bytes], ...]
+BACKEND: Choices = [], [b"--backend=string"], [b"--backend=bucket"], [b"--backend=buffer"]
+INVALID: Choices = [], [b"--invalid=error"], [b"--invalid=replace"], [b"--invalid=skip"]
+ENDED: Choices = [], [b"-z"], [b"--zero-terminated"]
+SORTED: Choices = [], [b"--sorted"]
+PLAIN: Choices = [], [b"--plain=new"], [b"--plain=new", b"--onto=old"], [b"--plain=new", b"--onto-dictionary=old"]
 MENDING, ONTO = {b"--invalid=replace", b"--invalid=skip"}, {b"--onto=old", b"--onto-dictionary=old"}
 # The choices that a command has, of which each is made beside each of the others.
 COMMANDS = {
@@ -34,7 +40,8 @@ COMMANDS = {
 }
 # Ways to name files: the operands, an option, and the names of what is read.
 FILES, BESIDE_INPUT = [b"0", b"1", b"2"], [b"0", b"-", b"2"]
-WAYS = (
+Way = tuple[list[bytes], list[bytes], list[bytes]]
+WAYS: tuple[Way, ...] = (
     ([], [], [b"-"]),
     ([b"whole"], [], [b"whole"]),
     (FILES, [], FILES),
@@ -45,7 +52,7 @@ WAYS = (
 )
 
 
-def place(operands, options, chance):
+def place(operands: list[bytes], options: Iterable[bytes], chance: random.Random) -> list[bytes]:
     """The words of a run, whose options may be anywhere, and their values behind `=` or in a word of their own."""
     words = [[word] for word in operands]
     for option in options:
@@ -54,7 +61,7 @@ def place(operands, options, chance):
     return [*chain(*words)]
 
 
-def end_with(command, options, names, texts):
+def end_with(command: bytes, options: list[bytes], names: list[bytes], texts: list[bytes]) -> tuple[Ended, dict[str, bytes] | None]:
     """How a run over these texts ends, and the files of the folder `new`, if it makes one."""
     end, whole = line_end(options), b"".join(texts)
     if not MENDING & {*options} and (found := find_invalid(texts, end)):
@@ -72,7 +79,7 @@ def end_with(command, options, names, texts):
     return answer([word, *options], whole), None
 
 
-def write_all(folder, command, option, names, parts):
+def write_all(folder: str, command: bytes, option: list[bytes], names: list[bytes], parts: Parts) -> tuple[list[bytes], bytes]:
     """Writes the parts and the whole text, as `encode` does if the command reads that, with a list of names. Returns what is read by each
     name, and standard input, which no run reads whose files are others."""
     whole = b"".join(parts)
@@ -86,7 +93,7 @@ def write_all(folder, command, option, names, parts):
     return [texts[name] for name in names], given
 
 
-def try_together(program, command, way, parts):
+def try_together(program: Program, command: bytes, way: Way, parts: Parts) -> Seen:
     """Each option does what it does alone, beside whatever others."""
     operands, option, names = way
     chance = random.Random(0)
@@ -102,14 +109,14 @@ def try_together(program, command, way, parts):
             shutil.rmtree(new, ignore_errors=True)
 
 
-def options_of(command):
+def options_of(command: bytes) -> set[bytes]:
     """The options that a command takes, by the table of the program."""
     lists = {name: commands.split(b", ") for name, commands in re.findall(rb"const (\w+): &\[Command\] = &\[(.*?)\];", SOURCE)}
     name = b"Command::" + command.title()
     return {option for option, of in re.findall(rb'\("(-[\w-]+)", Setting::\w+, \w+, (\w+)\)', SOURCE) if name in lists[of]}
 
 
-def tried_options(command):
+def tried_options(command: bytes) -> Iterator[bytes]:
     """The options that are tried of a command, or of each one."""
     for words in (it for it in COMMANDS if it.startswith(command)):
         yield from words.split()
@@ -117,7 +124,7 @@ def tried_options(command):
     yield from chain(*(option for _, option, _ in WAYS))
 
 
-def try_table(_):
+def try_table(_: Program) -> Seen:
     """No option is left out."""
     for command in b"encode", b"count", b"merge", b"shard":
         tried, wanted = {it.partition(b"=")[0] for it in tried_options(command)}, options_of(command)
@@ -125,7 +132,7 @@ def try_table(_):
         yield f"options of {command} that are not tried", wanted - tried, set()
 
 
-def trials():
+def trials() -> list[Trial]:
     """Encoded texts are UTF-8, and `merge` has no list and needs a file."""
     tried = [(command, way, parts) for command, way, parts in product(COMMANDS, WAYS, (GOOD, BAD))
              if (command not in (b"merge", b"count --encoded") or parts == GOOD) and (command != b"merge" or way[0])]

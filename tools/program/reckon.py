@@ -5,30 +5,34 @@ import json
 import os
 import re
 from collections import Counter
+from collections.abc import Sequence
 
 USAGE = b"usage: dictcol encode|decode|count|merge|shard [OPTION ..] [FILE ..] (try dictcol --help)\n"
 
+# The status, standard output and standard error.
+Ended = tuple[int, bytes, bytes]
 
-def failed(status, message):
+
+def failed(status: int, message: bytes) -> Ended:
     return status, b"", b"dictcol: %s\n" % message
 
 
 MEMORY = failed(1, b"out of memory")
 
 
-def misused(message):
+def misused(message: bytes) -> Ended:
     return 2, b"", b"dictcol: %s\n%s" % (message, USAGE)
 
 
-def told(error):
+def told(error: int) -> bytes:
     return b"%s (os error %d)" % (os.strerror(error).encode(), error)
 
 
-def unreadable(error, name=b""):
+def unreadable(error: int, name: bytes = b"") -> bytes:
     return b"dictcol: %scannot read input: %s\n" % (name, told(error))
 
 
-def unwritable(error):
+def unwritable(error: int) -> tuple[int, bytes]:
     """If its reader has left it ends silently, with the status that a shell tells of a program that SIGPIPE ended. A writer that
     takes nothing has no error number."""
     if error == errno.EPIPE:
@@ -36,20 +40,20 @@ def unwritable(error):
     return 1, b"dictcol: cannot write output: %s\n" % (told(error) if error else b"failed to write the buffered data")
 
 
-def unwritten(error, front=b""):
+def unwritten(error: int, front: bytes = b"") -> Ended:
     """How a run ends whose output breaks off by an error behind these bytes."""
     status, message = unwritable(error)
     return status, front, message
 
 
-def is_utf8(line):
+def is_utf8(line: bytes) -> bool:
     try:
         return isinstance(line.decode(), str)
     except UnicodeDecodeError:
         return False
 
 
-def skip_invalid(data, end=b"\n"):
+def skip_invalid(data: bytes, end: bytes = b"\n") -> tuple[bytes, bytes]:
     """The lines that are UTF-8, and how a run tells of the others."""
     lines = re.findall(rb"[^%b]*%b|[^%b]+" % (end, end, end), data)
     good = [line for line in lines if is_utf8(line)]
@@ -60,26 +64,26 @@ def skip_invalid(data, end=b"\n"):
 ENCODED = b'{"dictionary":['
 
 
-def warned(data, name=b""):
+def warned(data: bytes, name: bytes = b"") -> bytes:
     """What is told of an input that looks like what `encode` writes."""
     if not data.startswith(ENCODED):
         return b""
     return b"dictcol: %swarning: lines were read from what encode wrote (see decode, count --encoded)\n" % name
 
 
-def line_end(words):
+def line_end(words: Sequence[bytes]) -> bytes:
     """The byte that ends a line."""
     return b"\0" if {b"-z", b"--zero-terminated"} & {*words} else b"\n"
 
 
-def mend(words, data):
+def mend(words: Sequence[bytes], data: bytes) -> tuple[bytes, bytes]:
     """What `--invalid` makes of an input, and how a run tells of it."""
     if b"--invalid=replace" in words:
         return data.decode(errors="replace").encode(), b""
     return skip_invalid(data, line_end(words)) if b"--invalid=skip" in words else (data, b"")
 
 
-def find_invalid(texts, end):
+def find_invalid(texts: Sequence[bytes], end: bytes) -> tuple[int, int] | None:
     """The place of the text, and the number of the line there, in which the first line that is not UTF-8 begins, if there is one."""
     start = 0
     for line in b"".join(texts).split(end):
@@ -93,7 +97,7 @@ def find_invalid(texts, end):
     return None
 
 
-def answer(words, data):
+def answer(words: Sequence[bytes], data: bytes) -> Ended:
     """How a run of `encode` or `count` on UTF-8 must end, as Python reckons it. With `--invalid` it need not be UTF-8."""
     warning, end = warned(data), line_end(words)
     data, told = mend(words, data)

@@ -13,10 +13,10 @@ from collections import Counter
 from contextlib import suppress
 from pathlib import Path
 
-from edits import TOP
 from program.columns import (NOT_LEFT, OK, UNFINISHED, all_in, columns_of, each_stop, end_early, files_in, is_begun, make_unlike,
                              npy)
 from program.reckon import failed, misused, skip_invalid, told, warned
+from tree import TOP
 
 MULTIPLIER, START = 0x9E3779B97F4A7C15, 0x243F6A8885A308D3
 

@@ -17,11 +17,11 @@ from itertools import product
 from pathlib import Path
 
 from built import end_of, holding
-from edits import TOP
 from program.columns import OK, columns_of, files_in
 from program.reckon import ENCODED, MEMORY, answer, failed, is_utf8, misused, told, unreadable, unwritten, warned
 from program.requests import asks_of_lines
 from program.streams import limit_files
+from tree import TOP
 
 VERSION = (TOP / "VERSION").read_bytes().strip()
 
@@ -300,7 +300,8 @@ BAD_LINES = (
     ((b"a\n\xff\n", b"b"), 0, 2), ((b"a", b"\xff\n"), 0, 1), ((b"a\nb\n", b"", b"c\n\xff", b""), 2, 2),
     ((b"a\n", b"\n\n\xff\n\n"), 1, 3),
     ((b"\xff", b""), 0, 1), ((b"", b"\xff"), 1, 1), ((b"a\n", b"\xc3", b"x\n"), 1, 1), ((b"a\n", b"\xc3\n", b"\xa9\n"), 1, 1),
-    ((b"a\nb", b"\n\xff\n"), 1, 2), ((b"a\nb", b"", b"\xff"), 0, 2), ((b"a\nb", b"c", b"d\xff\n"), 0, 2), ((b"a\nb", b"c", b"d\n\xff"), 2, 2),
+    ((b"a\nb", b"\n\xff\n"), 1, 2), ((b"a\nb", b"", b"\xff"), 0, 2), ((b"a\nb", b"c", b"d\xff\n"), 0, 2),
+    ((b"a\nb", b"c", b"d\n\xff"), 2, 2),
     ((b"a\nb", b"c", b"d\n", b"\xff"), 3, 1), ((b"", b"a", b"", b"\xff\n"), 1, 1), ((b"a\n", b"", b"\xff\n"), 2, 1),
     ((MANY_LINES + b"a", b"b" * 300000 + b"\xff\n"), 0, 200001), ((MANY_LINES + b"a", b"b" * 300000 + b"\n\xff\n"), 1, 2),
     ((b"a\n" * 300, b"b\n" * 200 + b"\xff"), 1, 201),

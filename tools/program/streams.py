@@ -7,24 +7,26 @@ import resource
 import signal
 import subprocess
 import tempfile
+from collections.abc import Callable, Iterator
 from dataclasses import dataclass
 from itertools import product
-from typing import Callable
+from typing import Any
 
-from built import end_of, holding
+from built import End, Program, end_of, holding
+from trials import Seen, Trial
 
 # A writer that takes nothing is an error too.
 ERRORS = (errno.EPIPE, errno.ENOMEM, 0)
 
 
-def packets():
+def packets() -> tuple[int, int]:
     """The two ends of a pipe that hands on each write by itself. Each takes a page of it."""
     reading, writing = os.pipe2(os.O_DIRECT | os.O_CLOEXEC)
     fcntl.fcntl(writing, fcntl.F_SETPIPE_SZ, 1 << 20)
     return reading, writing
 
 
-def limit_files(count):
+def limit_files(count: int) -> None:
     """Lets no file of this process grow beyond so many bytes."""
     signal.signal(signal.SIGXFSZ, signal.SIG_IGN)
     resource.setrlimit(resource.RLIMIT_FSIZE, (count, count))
@@ -39,35 +41,35 @@ class Streams:
     `buffer` is its size.
     """
 
-    answered: tuple
-    failing: tuple
-    long: tuple
+    answered: tuple[Any, ...]
+    failing: tuple[Any, ...]
+    long: tuple[Any, ...]
     unreadable: Callable[[int], bytes]
     unwritable: Callable[[int], tuple[int, bytes]]
     buffer: int | None = None
 
-    def trials(self):
+    def trials(self) -> list[Trial]:
         return [(trial, self) for trial in (
             failing_input, interrupted_input, failing_output, output_of_any_length, output_that_breaks_off, reader_that_leaves,
             input_in_pieces, output_in_pieces, output_in_few_writes, closed_error)]
 
-    def inputs(self):
+    def inputs(self) -> list[Any]:
         """The arguments and inputs, each with how a run over it ends."""
         return [*((words, data, (0, whole, b"")) for words, data, whole in self.answered), *self.failing]
 
-    def buffers(self, program, words, data):
+    def buffers(self, program: Program, words: list[bytes], data: bytes) -> Iterator[dict[str, Any]]:
         """Settings under which the output has its buffer, and those under which it has none."""
         yield {}
         if self.buffer:
             yield {"REFUSE": program.run_with_asks(words, data)[1].index(self.buffer) + 1}
 
-    def unwritten(self, error, front=b""):
+    def unwritten(self, error: int, front: bytes = b"") -> tuple[int, bytes, bytes]:
         """How a run ends whose output breaks off by an error behind these bytes."""
         status, message = self.unwritable(error)
         return status, front, message
 
 
-def failing_input(program, streams):
+def failing_input(program: Program, streams: Streams) -> Seen:
     """A folder, a closed input, and inputs that break off after each byte, and so in characters and behind a bad line."""
     words, folder = streams.inputs()[0][0], os.open("/", os.O_RDONLY)
     yield "a folder as input", program.run(words, folder), (1, b"", streams.unreadable(errno.EISDIR))
@@ -79,7 +81,7 @@ def failing_input(program, streams):
             yield name, program.run(words, data, READ_BYTES=count), (1, b"", streams.unreadable(errno.ECONNRESET))
 
 
-def run_interrupted(program, words, data, size, **settings):
+def run_interrupted(program: Program, words: list[bytes], data: bytes, size: int, **settings: Any) -> Iterator[tuple[str, End]]:
     """How a run ends whose reads take at most so many bytes: with none of them interrupted, and with each in turn."""
     ended = program.run(words, data, READ_AT_ONCE=size, TELL_READS=1, **settings)
     told, _, count = ended.error.rpartition(b"reads ")
@@ -88,14 +90,14 @@ def run_interrupted(program, words, data, size, **settings):
         yield f"{words}, read {number} interrupted", program.run(words, data, READ_AT_ONCE=size, INTERRUPT=number, **settings)
 
 
-def interrupted_input(program, streams):
+def interrupted_input(program: Program, streams: Streams) -> Seen:
     """A signal during a read changes nothing. Lines and characters may be held by halves then."""
     for (words, data, wanted), size in product(streams.inputs(), (1, 4, 1 << 20)):
         for name, ended in run_interrupted(program, words, data, size):
             yield f"{name}, of {data!r}", ended, wanted
 
 
-def failing_output(program, streams):
+def failing_output(program: Program, streams: Streams) -> Seen:
     """A full disk and a closed output, which matter only where there is something to write."""
     for words, data, plain in streams.inputs():
         with open("/dev/full", "wb") as full:
@@ -105,7 +107,7 @@ def failing_output(program, streams):
         yield f"{words}, a closed output after {data!r}", found, streams.unwritten(errno.EBADF) if plain[1] else plain
 
 
-def output_of_any_length(program, streams):
+def output_of_any_length(program: Program, streams: Streams) -> Seen:
     """A file that may grow to so many bytes: it holds the front of what is to be written."""
     for words, data, whole in (*streams.answered, streams.long):
         for count in {*range(60), 8191, 8192, 8193, len(whole) - 1} & {*range(len(whole))}:
@@ -116,10 +118,11 @@ def output_of_any_length(program, streams):
             yield f"{words} {data[:60]!r}, a disk with {count} bytes", found, streams.unwritten(errno.EFBIG, whole[:count])
 
 
-def output_that_breaks_off(program, streams):
+def output_that_breaks_off(program: Program, streams: Streams) -> Seen:
     """After each byte, with the buffer and without it, or after each three."""
     for words, data, whole in streams.answered:
-        for settings in ({"WRITE_BYTES": 3}, *({"WRITE_BYTES": 1, **it} for it in streams.buffers(program, words, data))):
+        every: list[dict[str, Any]] = [{"WRITE_BYTES": 3}, *({"WRITE_BYTES": 1, **it} for it in streams.buffers(program, words, data))]
+        for settings in every:
             size = settings["WRITE_BYTES"]
             for error, count in ((error, count) for error in ERRORS for count in range(0, len(whole), size)):
                 found = program.run(words, data, BROKEN_WRITE=count // size + 1, ERROR=error, **settings)
@@ -127,18 +130,19 @@ def output_that_breaks_off(program, streams):
                 yield name, found, streams.unwritten(error, whole[:count])
 
 
-def reader_that_leaves(program, streams):
+def reader_that_leaves(program: Program, streams: Streams) -> Seen:
     """Its reader closes the output after the first line."""
     words, data, whole = streams.long
     pipe = subprocess.PIPE
     with holding(data) as given, subprocess.Popen([program.path, *words], stdin=given, stdout=pipe, stderr=pipe) as started:
+        assert started.stdout
         line = started.stdout.readline()
         started.stdout.close()
         found = end_of(started)._replace(output=line)
     yield "a reader that leaves", found, streams.unwritten(errno.EPIPE, whole[:whole.index(b"\n") + 1])
 
 
-def input_in_pieces(program, streams):
+def input_in_pieces(program: Program, streams: Streams) -> Seen:
     """A character may come in halves."""
     for words, data, whole in streams.answered:
         for size in range(1, len(data) + 1):
@@ -150,7 +154,7 @@ def input_in_pieces(program, streams):
                 yield f"{words}, input {data!r} of {size} bytes at a time", program.run(words, given), (0, whole, b"")
 
 
-def output_in_pieces(program, streams):
+def output_in_pieces(program: Program, streams: Streams) -> Seen:
     """Each write takes a few bytes. Without the buffer none has bytes of two lines."""
     for words, data, whole in streams.answered:
         for size, without in product((1, 3, 5, 8192), streams.buffers(program, words, data)):
@@ -166,7 +170,7 @@ def output_in_pieces(program, streams):
                 yield f"{name}: writes with bytes of two lines", [it for it in writes if b"\n" in it[:-1]], []
 
 
-def output_in_few_writes(program, streams):
+def output_in_few_writes(program: Program, streams: Streams) -> Seen:
     """A write takes all lines that the buffer has room for. One more write would fail."""
     for words, data, whole in (*streams.answered, streams.long):
         most = len(whole) // (8192 - max(map(len, whole.split(b"\n")))) + 1
@@ -174,7 +178,7 @@ def output_in_few_writes(program, streams):
         yield f"{words}, output of {len(whole)} bytes in at most {most} writes", found, (0, whole, b"")
 
 
-def closed_error(program, streams):
+def closed_error(program: Program, streams: Streams) -> Seen:
     """The status and the output stay."""
     for words, data, (status, whole, _) in streams.inputs():
         found = program.run(words, data, before=lambda: os.close(2))

@@ -1,5 +1,10 @@
 """What the program `intern` answers, reckoned from a list of distinct texts."""
 
+from collections.abc import Iterable, Sequence
+from typing import Any
+
+from program.reckon import is_utf8
+
 BACKENDS = (b"string", b"bucket", b"buffer")
 GREATEST_SYMBOL = 2**32 - 2
 
@@ -8,18 +13,23 @@ UNREADABLE = (1, b"", b"cannot read input\n")
 OUT_OF_MEMORY = (1, b"", b"out of memory\n")
 UNWRITABLE = b"cannot write output\n"
 
+# The status, standard output and standard error.
+Ended = tuple[int, bytes, bytes]
+# A word, and a text or a number.
+Command = tuple[bytes, bytes | int | None]
 
-def bad_line(number):
+
+def bad_line(number: int) -> Ended:
     return 2, b"", b"bad line %d\n" % number
 
 
-def lines_of(data):
+def lines_of(data: bytes) -> list[bytes]:
     """The lines. A newline at the very end begins no further one."""
     lines = data.split(b"\n")
     return lines[:-1] if lines[-1] == b"" else lines
 
 
-def command_of(line):
+def command_of(line: bytes) -> Command | None:
     """The word and the argument of a command, or nothing for a bad line."""
     word, space, rest = line.partition(b" ")
     if not space:
@@ -32,7 +42,7 @@ def command_of(line):
     return None
 
 
-def spelled(length):
+def spelled(length: int) -> bytes:
     """A length in base 128, its lowest digit first, with bit 7 set on all digits but the last."""
     digits = bytearray()
     while length >= 128:
@@ -41,22 +51,15 @@ def spelled(length):
     return bytes([*digits, length])
 
 
-def read_at(entries, number):
+def read_at(entries: bytes | bytearray, number: int) -> bytes | None:
     """The text that is read in a byte buffer at any number: a length of at most ten digits, then its bytes."""
     length = 0
     for count, digit in enumerate(entries[number:number + 10]):
         length += digit % 128 * 128**count
         if digit < 128:
             text = bytes(entries[number + count + 1:number + count + 1 + length])
-            return text if len(text) == length < 2**64 and is_text(text) else None
+            return text if len(text) == length < 2**64 and is_utf8(text) else None
     return None
-
-
-def is_text(data):
-    try:
-        return data.decode("utf-8") is not None
-    except UnicodeDecodeError:
-        return False
 
 
 class Run:
@@ -65,10 +68,13 @@ class Run:
     Of each line it has the reply, and the number that the reply tells.
     """
 
-    def __init__(self, backend, commands, refused=None):
+    def __init__(self, backend: bytes, commands: Iterable[Command], refused: int | None = None) -> None:
         self.is_buffer = backend == b"buffer"
-        self.known, self.texts, self.entries = {}, [], bytearray()
-        self.replies, self.numbers = [], []
+        self.known: dict[bytes, int] = {}
+        self.texts: list[bytes] = []
+        self.entries = bytearray()
+        self.replies: list[bytes] = []
+        self.numbers: list[int | None] = []
         for line, (word, argument) in enumerate(commands, 1):
             number, reply = self.step(word, argument, line == refused)
             if reply is None:
@@ -76,30 +82,29 @@ class Run:
             self.replies.append(reply)
             self.numbers.append(number)
 
-    def step(self, word, argument, is_refused):
+    def step(self, word: bytes, argument: Any, is_refused: bool) -> tuple[int | None, bytes | None]:
         """The number that a command tells, and its reply where it is of another kind."""
         match word:
             case b"i" if argument not in self.known:
                 return (None, b"no memory") if is_refused else (self.intern(argument), None)
             case b"i" | b"g":
                 return self.known.get(argument), None
-            case b"r" if argument >= len(self.numbers) or self.numbers[argument] is None:
-                return None, b"no reply"
             case b"r":
-                return self.read(self.numbers[argument], is_refused)
+                number = self.numbers[argument] if argument < len(self.numbers) else None
+                return (None, b"no reply") if number is None else self.read(number, is_refused)
             case b"n":
                 return self.read(argument, is_refused)
             case b"len":
                 return None, b"len %d" % len(self.texts)
         return None, b"ok"
 
-    def intern(self, text):
+    def intern(self, text: bytes) -> int:
         self.known[text] = len(self.entries) if self.is_buffer else len(self.texts)
         self.texts.append(text)
         self.entries += spelled(len(text)) + text
         return self.known[text]
 
-    def read(self, number, is_refused):
+    def read(self, number: int, is_refused: bool) -> tuple[None, bytes]:
         text = None
         if number <= GREATEST_SYMBOL:
             text = read_at(self.entries, number) if self.is_buffer else [*self.texts[number:number + 1], None][0]
@@ -108,14 +113,17 @@ class Run:
         return None, b"no memory" if is_refused else b"text " + text
 
 
-def answer(words, data, refused=None):
+def answer(words: Sequence[bytes], data: bytes, refused: int | None = None) -> Ended:
     """The status, standard output and standard error. The memory that the line `refused` asks for is refused."""
     if len(words) != 1 or words[0] not in BACKENDS:
         return USAGE
-    if not is_text(data):
+    if not is_utf8(data):
         return UNREADABLE
-    commands = [command_of(line) for line in lines_of(data)]
-    if None in commands:
-        return bad_line(commands.index(None) + 1)
+    commands = []
+    for number, line in enumerate(lines_of(data), 1):
+        command = command_of(line)
+        if not command:
+            return bad_line(number)
+        commands.append(command)
     replies = Run(words[0], commands, refused).replies
     return 0, b"".join(reply + b"\n" for reply in replies), b""

@@ -8,10 +8,9 @@ from pathlib import Path
 from unittest import mock
 
 sys.path.insert(0, str(Path(__file__).resolve().parent.parent))
-import edits
-import plan
+from bugs import batches, place, tables
 import touched
-import trial
+import tree
 
 SHAPE = """\
 pub trait Shape {
@@ -99,19 +98,26 @@ EDITS = {
 }
 
 
+def link_commands(folder: str, without: str) -> None:
+    """Links the commands of this machine into a folder, but for one."""
+    for path in {it.name: it for place in ("/bin", "/usr/bin") for it in Path(place).iterdir()}.values():
+        if path.name != without:
+            Path(folder, path.name).symlink_to(path)
+
+
 class SmallRepository(unittest.TestCase):
     """Makes the repository, of one commit, before each test."""
 
-    def setUp(self):
+    def setUp(self) -> None:
         folder = tempfile.TemporaryDirectory()
         self.addCleanup(folder.cleanup)
         self.top = Path(folder.name)
-        for module in (edits, plan, touched, trial):
+        for module in (batches, place, tables, touched, tree):
             patch = mock.patch.object(module, "TOP", self.top)
             patch.start()
             self.addCleanup(patch.stop)
-        self.addCleanup(edits.crates.cache_clear)
-        edits.crates.cache_clear()
+        self.addCleanup(tree.crates.cache_clear)
+        tree.crates.cache_clear()
         self.write("crates.txt", "low: std_alloc\nhigh: low\n")
         self.write("crates/low/src/lib.rt", SOURCE)
         self.write("crates/low/src/shape.rt", SHAPE)
@@ -123,33 +129,33 @@ class SmallRepository(unittest.TestCase):
         self.git("init", "-q")
         self.commit = self.commit_all()
 
-    def write(self, name, text):
+    def write(self, name: str | Path, text: str) -> None:
         path = self.top / name
         path.parent.mkdir(parents=True, exist_ok=True)
         path.write_text(text, encoding="utf-8")
 
-    def write_edit(self, name, old, new, function, crate="low"):
+    def write_edit(self, name: str, old: str, new: str, function: str, crate: str = "low") -> None:
         """Adds a planted bug to the crate's table."""
         self.write_lines(f"bug: {name}\nfunction: {function}\nold: {old}\nnew: {new}\n", crate)
 
-    def write_caught(self, name, old, new="x", file=None, crate="low"):
+    def write_caught(self, name: str, old: str, new: str = "x", file: str | None = None, crate: str = "low") -> tables.Edit:
         """Adds a planted bug that runs catch, and returns it."""
         in_file = f"file: {file}\n" if file else ""
         self.write_lines(f"bug: {name}\nscenario: cases\n{in_file}old: {old}\nnew: {new}\n", crate)
-        return next(it for it in edits.edits_of(crate, by_runs=True) if it.name == name)
+        return next(it for it in tables.edits_of(crate, by_runs=True) if it.name == name)
 
-    def write_lines(self, lines, crate):
+    def write_lines(self, lines: str, crate: str) -> None:
         table = self.top / f"crates/{crate}/bugs/lib.bugs"
         before = table.read_text(encoding="utf-8") + "\n" if table.exists() else ""
         self.write(table, before + lines)
 
-    def edit(self, name):
-        return next(it for it in edits.edits_of("low") if it.name == name)
+    def edit(self, name: str) -> tables.Edit:
+        return next(it for it in tables.edits_of("low") if it.name == name)
 
-    def commit_all(self):
+    def commit_all(self) -> str:
         self.git("add", "-A")
         self.git("-c", "user.name=t", "-c", "user.email=t@localhost", "commit", "-qm", "next")
         return self.git("rev-parse", "HEAD").strip()
 
-    def git(self, *words):
+    def git(self, *words: str) -> str:
         return subprocess.run(["git", *words], cwd=self.top, check=True, capture_output=True, encoding="utf-8").stdout

@@ -6,21 +6,21 @@ from pathlib import Path
 
 sys.path.insert(0, str(Path(__file__).resolve().parent.parent))
 from asks import reckon, split_asks
-from scenarios import Scenario, find_scenarios, read_blocks
+from scenarios import Scenario, find_scenarios, read_blocks, word_of
 
 
 def asks(first, *calls):
     """What the parts of a scenario ask for, by the model."""
     text = "".join(f"{line}\n" for line in (f"on {first}", *calls))
     [([first], parts)] = read_blocks(text.encode())
-    return reckon(Scenario(Path("it.scenario"), first, parts))
+    return reckon(Scenario("it", first, parts))
 
 
 class ModelTest(unittest.TestCase):
     def test_scenarios_with_sizes(self):
         found = [it for it in find_scenarios() if it.has_sizes]
         levels = {"backend", "index", "interner", "linear", "run", "scopes", "symbol", "tagged"}
-        self.assertEqual({it.path.parent.name for it in found}, levels)
+        self.assertEqual({word_of(it.first).decode() for it in found}, levels)
         for it in found:
             with self.subTest(str(it)):
                 sizes = [[int(line[5:]) for line in part.printed if line.startswith(b"asks ")] for part in it.parts]

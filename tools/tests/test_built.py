@@ -9,7 +9,7 @@ import unittest.mock
 from itertools import count
 from pathlib import Path
 
-import small  # brings the tools into reach
+import small  # noqa: F401 (brings the tools into reach)
 from built import HELD, End, Program, holding, processor_seconds, without_held
 from trials import Tally, outcome
 
@@ -88,11 +88,13 @@ class ScriptTest(unittest.TestCase):
 class FailuresTest(unittest.TestCase):
     """The library that has reading, writing and memory fail, before programs of the system."""
 
+    program: Program
+
     @classmethod
     def setUpClass(cls):
-        cls.folder = tempfile.TemporaryDirectory()
-        cls.addClassCleanup(cls.folder.cleanup)
-        cls.program = Program(shutil.which("cat"), cls.folder.name)
+        folder = tempfile.TemporaryDirectory()
+        cls.addClassCleanup(folder.cleanup)
+        cls.program = Program(str(shutil.which("cat")), folder.name)
 
     def test_input_that_breaks_off(self):
         ended = self.program.run([], b"abcdef", READ_BYTES=3)

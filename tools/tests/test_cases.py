@@ -4,7 +4,7 @@ import tempfile
 import unittest
 from pathlib import Path
 
-import small  # brings the tools into reach
+import small  # noqa: F401 (brings the tools into reach)
 from program.cases import Case, cases, read_cases, rows
 
 

@@ -4,10 +4,10 @@ import runpy
 from pathlib import Path
 from unittest import main, mock
 
-from small import SmallRepository, edits
+from small import SmallRepository, tables, tree
 from built import Program
 
-CATCH = runpy.run_path(str(edits.TOP / "tools/catch-edits"))
+CATCH = runpy.run_path(str(tree.TOP / "tools/catch-edits"))
 NAMES = CATCH["main"].__globals__
 
 
@@ -53,7 +53,7 @@ class CatchTest(SmallRepository):
             self.assertEqual([it.is_good for it in CATCH["try_runs"](self.bugs)], [False] * 3)
 
     def test_batches_are_of_one_crate(self):
-        other = edits.Edit("other", "high", "src/lib.rt", scenario=["it"])
+        other = tables.Edit("other", "high", "src/lib.rt", scenario=["it"])
         with mock.patch.dict(NAMES, TOGETHER=2):
             dealt = CATCH["run_batches"]([*self.bugs, other])
         self.assertEqual([[it.name for it in batch] for batch in dealt], [["half"], ["quarter", "side"], ["other"]])
@@ -80,10 +80,9 @@ class CatchTest(SmallRepository):
         self.assertEqual(CATCH["count_passed"](self.bugs, verdicts), 1)
 
     def test_the_crates_below_are_checked_first(self):
-        checked = []
-        with mock.patch.dict(NAMES, check=lambda _, crate: checked.append(crate) or ""):
+        with mock.patch.dict(NAMES, check=mock.Mock(return_value="")):
             self.assertEqual(CATCH["prepare"](self.top / "copy", ["high", "high"], None), [])
-        self.assertEqual(checked, ["low", "high"])
+            self.assertEqual([crate for (_, crate), _ in NAMES["check"].call_args_list], ["low", "high"])
 
     def test_nothing_is_tried_over_a_tree_that_is_not_proved(self):
         with mock.patch.dict(NAMES, check=lambda _, crate: "not proved"):

@@ -11,10 +11,17 @@ import unittest
 from pathlib import Path
 from unittest import mock
 
-from small import edits
+import small  # noqa: F401 (brings the tools into reach)
 from machine import ask_rt
+from parts import PARTS
+from tree import TOP
 
-CHECK = runpy.run_path(str(edits.TOP / "check"))
+CHECK = runpy.run_path(str(TOP / "check"))
+
+
+def of_table(form):
+    """The parts that a command of the gate has by the table."""
+    return {name for name, row in PARTS.items() if form in row.forms.split()}
 
 
 class PartTest(unittest.TestCase):
@@ -22,7 +29,7 @@ class PartTest(unittest.TestCase):
         """A part that runs a script, whether all was well, and what was printed."""
         self.gate = CHECK["Gate"](None)
         with contextlib.redirect_stdout(io.StringIO()) as printed:
-            is_well = self.gate.begin("it", ["sh", "-c", script]).wait(**named)
+            is_well = self.gate.begin("it", "sh", "-c", script).wait(**named)
         return is_well, self.gate.parts[0], printed.getvalue()
 
     def test_a_count(self):
@@ -76,7 +83,7 @@ class ProofsTest(unittest.TestCase):
             Path(tree, "rt").write_text(f"#!/bin/sh\n{script}")
             Path(tree, "rt").chmod(0o755)
             environment = {"PATH": f"{tree}:{os.environ['PATH']}", "SECONDS": "58", "ahead_seconds": "3"}
-            ran = subprocess.run(["bash", "-c", CHECK["PROVE"], edits.TOP, *ahead], cwd=tree, env=environment, capture_output=True,
+            ran = subprocess.run(["bash", "-c", CHECK["PROVE"], TOP, *ahead], cwd=tree, env=environment, capture_output=True,
                                  encoding="utf-8", check=False)
         return ran.returncode, ran.stdout, ran.stderr
 
@@ -92,7 +99,7 @@ class ProofsTest(unittest.TestCase):
         self.assertRegex(told, r"^proofs: 2 of 3 crates are proved, 1 min \d s\n$")
 
     def test_the_gate_says_it_too(self):
-        words = ["import runpy", f"CHECK = runpy.run_path({str(edits.TOP / 'check')!r})", "gate = CHECK['Gate'](None)",
+        words = ["import runpy", f"CHECK = runpy.run_path({str(TOP / 'check')!r})", "gate = CHECK['Gate'](None)",
                  "CHECK['prove'].__globals__.update(copy_crates=lambda *_: None, PROVE='echo said >&2; echo 0 passed, 1 failed; exit 1')",
                  "CHECK['prove'](gate, '.')"]
         ended = subprocess.run([sys.executable, "-c", "\n".join(words)], capture_output=True, encoding="utf-8", check=True)
@@ -119,10 +126,10 @@ esac
 
 
 class BeforehandTest(unittest.TestCase):
-    def told(self, command, lacking=()):
+    def told(self, command, lacking=(), leaves_out=()):
         found = mock.patch.dict(CHECK["tell_beforehand"].__globals__, {"is_there": lambda need: need not in lacking})
         with found, contextlib.redirect_stdout(io.StringIO()) as printed:
-            CHECK["tell_beforehand"](command)
+            CHECK["tell_beforehand"](command, leaves_out)
         return printed.getvalue().splitlines()
 
     def test_what_a_command_takes(self):
@@ -131,9 +138,26 @@ class BeforehandTest(unittest.TestCase):
             self.assertEqual(len(lines), 1)
             self.assertRegex(lines[0], rf"^{command} takes [\d.]+ to [\d.]+ (minutes|hours) on 4 processors, and \d+ GiB of memory$")
 
-    def test_nothing_begins_without_the_toolchain(self):
-        with self.assertRaisesRegex(SystemExit, "^no rt on this machine: .* Nothing was run$"):
-            self.told("./check", ["rt"])
+    def test_the_first_line_is_what_is_left_out(self):
+        lines = self.told("./check tests", leaves_out=["proofs (./check)", "a thing"])
+        self.assertEqual(lines[0], "./check tests leaves out proofs (./check); a thing")
+        self.assertRegex(lines[1], "^./check tests takes ")
+
+    def run_without_the_toolchain(self, mode):
+        """The status, and what was printed."""
+        found = mock.patch.dict(CHECK["run_mode"].__globals__, {
+            "is_there": lambda need: need != "rt", "tests_by_cargo": lambda gate: gate.run("it", "echo", "1 passed, 0 failed")})
+        with found, mock.patch("signal.signal"), contextlib.redirect_stdout(io.StringIO()) as printed:
+            return CHECK["run_mode"](CHECK["Gate"](None), mode), printed.getvalue().splitlines()
+
+    def test_nothing_begins_without_the_toolchain_but_tests(self):
+        for mode in None, "quick", "edits", "all":
+            with self.assertRaisesRegex(SystemExit, "^no rt on this machine: .* Nothing was run$"):
+                self.run_without_the_toolchain(mode)
+        status, lines = self.run_without_the_toolchain("tests")
+        self.assertEqual((status, lines[-1]), (0, "1 passed, 0 failed"))
+        self.assertIn("left out: proofs (./check)", lines)
+        self.assertRegex(lines[0], r"^\./check tests leaves out the library and the programs that rt builds .*; proofs \(\./check\); ")
 
     def test_what_the_machine_lacks(self):
         with mock.patch("needs.is_there", lambda need: need not in ("cc", "mypy")):
@@ -144,7 +168,7 @@ class BeforehandTest(unittest.TestCase):
     def test_it_comes_before_the_first_part(self):
         """And the command is printed at the end, for tools/release."""
         gate = CHECK["Gate"](None)
-        modes = mock.patch.dict(CHECK["MODES"], {"all": lambda gate: gate.run("it", ["echo", "1 passed, 0 failed"])})
+        modes = mock.patch.dict(CHECK["MODES"], {"all": lambda gate: gate.run("it", "echo", "1 passed, 0 failed")})
         signals = mock.patch("signal.signal")
         with modes, signals, contextlib.redirect_stdout(io.StringIO()) as printed:
             self.assertEqual(CHECK["run_mode"](gate, "all"), 0)
@@ -158,9 +182,9 @@ class BeforehandTest(unittest.TestCase):
 class EndedTest(unittest.TestCase):
     def test_a_gate_that_a_signal_ends(self):
         """The signal comes to a part that waits for one, after a part that has ended."""
-        words = ["import os, runpy, signal, sys", f"CHECK = runpy.run_path({str(edits.TOP / 'check')!r})", "gate = CHECK['Gate'](None)",
-                 "gate.run('one', ['sh', '-c', 'echo 3 passed, 0 failed'])",
-                 "CHECK['MODES']['quick'] = lambda gate: gate.run('two', ['sh', '-c', f'sleep 0.5; kill -TERM {os.getpid()}; sleep 60'])",
+        words = ["import os, runpy, signal, sys", f"CHECK = runpy.run_path({str(TOP / 'check')!r})", "gate = CHECK['Gate'](None)",
+                 "gate.run('one', 'sh', '-c', 'echo 3 passed, 0 failed')",
+                 "CHECK['MODES']['quick'] = lambda gate: gate.run('two', 'sh', '-c', f'sleep 0.5; kill -TERM {os.getpid()}; sleep 60')",
                  "sys.exit(CHECK['run_mode'](gate, 'quick'))"]
         ended = subprocess.run([sys.executable, "-c", "\n".join(words)], capture_output=True, encoding="utf-8", check=False)
         lines = ended.stdout.splitlines()
@@ -169,33 +193,40 @@ class EndedTest(unittest.TestCase):
 
 
 class CheckTest(unittest.TestCase):
-    def parts_of_check(self, is_proved):
-        """The parts that ./check runs in order, and whether the libraries that it proved are kept."""
-        gate, kept = CHECK["Gate"](None), []
+    def parts_of_check(self, is_proved, command="check"):
+        """The parts that ./check or another command runs in order, and whether the libraries that it proved are kept."""
+        gate = CHECK["Gate"](None)
+        kept: list[str] = []
         begun = []
 
-        def begin(name, words, folder=None, tells=False):
+        def part(name, words, **_):
             begun.append((name, words[:2]))
-            return mock.Mock(said="no pip on this machine: it\n", **{"wait.return_value": is_proved})
+            return mock.Mock(said="no pip on this machine: it\nleft out: wasm (its packages)\n", failed=not is_proved, **{"wait.return_value": is_proved})
 
         changed = {"missing": lambda needs: [], "stamp_libraries": kept.append, "take_libraries": lambda tree, top: kept.append(tree)}
-        changed["copy_crates"] = lambda source, into: (into / "crates.txt").touch()
-        with mock.patch.dict(CHECK["check"].__globals__, changed), mock.patch.object(gate, "begin", begin):
-            CHECK["check"](gate)
+        changed |= {"copy_crates": lambda source, into: (into / "crates.txt").touch(), "Part": part, "commit_as_it_stands": lambda: None,
+                    "touched": lambda: {"handles": ["a_bug"]}}
+        with mock.patch.dict(CHECK["check"].__globals__, changed):
+            CHECK[command](gate)
         self.assertEqual(len({*kept}), len(kept) // 2)
-        return [name for name, _ in begun], dict(begun)["proofs"], len(kept), gate.left_out
+        return [name for name, _ in begun], dict(begun).get("proofs"), len(kept), gate.left_out
 
     def test_the_parts(self):
         names, words, kept, left_out = self.parts_of_check(True)
-        self.assertEqual(names, ["texts chosen without keys", "proofs", "the library for C and its clients", "scenarios", "the program",
+        self.assertEqual(names, ["texts chosen without keys", "linters", "proofs", "the library for C and its clients", "scenarios", "the program",
                                  "the program dictcol", "the steps of the pages for users", "the steps of the pages by cargo",
                                  "records of proofs", "what was measured"])
+        self.assertEqual({*names}, of_table("check"))
         self.assertEqual((words, kept), (["bash", "-c"], 2))
-        self.assertIn("no pip on this machine: it", left_out)
+        self.assertLessEqual({"no pip on this machine: it", "wasm (its packages)"}, {*left_out})
+
+    def test_other_commands_have_the_parts_of_the_table(self):
+        for form, command in ("quick", "quick"), ("edits", "edits"), ("all", "everything"):
+            self.assertEqual({*self.parts_of_check(True, command)[0]} & {*PARTS}, of_table(form))
 
     def test_nothing_runs_that_is_not_proved(self):
         names, _, kept, _ = self.parts_of_check(False)
-        self.assertEqual((names, kept), (["texts chosen without keys", "proofs", "what was measured"], 0))
+        self.assertEqual((names, kept), (["texts chosen without keys", "linters", "proofs", "what was measured"], 0))
 
     def test_what_is_proved_ahead(self):
         named = CHECK["names_ahead"].__globals__
@@ -207,30 +238,31 @@ class CheckTest(unittest.TestCase):
 class TestsTest(unittest.TestCase):
     """The tests over what is built from records."""
 
-    def parts_of_tests(self, unrecorded=()):
+    def parts_of_tests(self, unrecorded=(), tests="tests"):
         """The parts that begin, in order, with what follows their first word, and what is left out."""
         gate, begun = CHECK["Gate"](None), []
 
-        def begin(name, words):
+        def part(name, words):
             begun.append((name, [Path(it).name for it in words]))
             status = 3 if words[0] == "tools/records.py" and words[-1] in unrecorded else 0
             return mock.Mock(said="", **{"wait.return_value": True, "process.returncode": status})
 
-        named = mock.patch.dict(CHECK["tests"].__globals__, {"missing": lambda needs: []})
-        with named, mock.patch("try_guide.pages", lambda: ["README.md", "docs/rattle.md"]), mock.patch.object(gate, "begin", begin):
-            CHECK["tests"](gate)
+        named = mock.patch.dict(CHECK["tests"].__globals__, {"missing": lambda needs: [], "Part": part})
+        with named, mock.patch("try_guide.pages", lambda: ["README.md", "docs/rattle.md"]):
+            CHECK[tests](gate)
         return begun, gate.left_out
 
     def test_all_has_a_record(self):
         begun, left_out = self.parts_of_tests()
-        names = ["string_interner_c from its record", "the library for C and its clients", "dictcol from its record",
-                 "the program dictcol", "intern from its record", "the program", "the steps of the pages for users"]
+        names = ["linters", "the Rust crate", "string_interner_c from its record", "the library for C", "from C", "from Python",
+                 "dictcol from its record", "the program dictcol", "intern from its record", "the program", "the steps of the pages for users"]
         self.assertEqual([name for name, _ in begun], names)
-        clients, pages = dict(begun)[names[1]], dict(begun)[names[-1]]
-        self.assertEqual((clients[-1], pages[2:]), ("libstring_interner_c.a", ["README.md"]))
-        self.assertIn("--once", clients)
-        self.assertEqual((left_out[0], left_out[-1]), ("the steps of docs/rattle.md, which prove, and of all pages by cargo (./check)", "proofs (./check)"))
-        self.assertRegex(left_out[1], r"^clients under checkers .* \(\./check\)$")
+        self.assertEqual({*names} & {*PARTS}, of_table("tests"))
+        for name, word in ("the Rust crate", "rust"), ("from C", "c"), ("from Python", "python"):
+            self.assertIn("--once", dict(begun)[name])
+            self.assertEqual(dict(begun)[name][-2:], ["--only", word])
+        self.assertIn("libstring_interner_c.a", dict(begun)["from C"])
+        self.assertEqual((dict(begun)[names[-1]][2:], left_out), (["README.md"], []))
 
     def test_a_program_without_a_record(self):
         begun, left_out = self.parts_of_tests(["dictcol"])
@@ -241,14 +273,27 @@ class TestsTest(unittest.TestCase):
 
     def test_no_library_without_a_record(self):
         begun, left_out = self.parts_of_tests(["string_interner_c"])
-        self.assertEqual(dict(begun)["the library for C and its clients"][-2:], ["--only", "rust"])
+        self.assertEqual([name for name, _ in begun][:4], ["linters", "the Rust crate", "string_interner_c from its record", "dictcol from its record"])
         self.assertRegex(left_out[0], "^the record of a proof of string_interner_c: ")
+
+    def test_by_cargo(self):
+        begun, left_out = self.parts_of_tests(tests="tests_by_cargo")
+        self.assertEqual([name for name, _ in begun], ["linters", "all clients by cargo", "the programs by cargo", "the steps of the pages by cargo"])
+        self.assertEqual({name for name, _ in begun}, of_table("cargo"))
+        self.assertNotIn("--only", dict(begun)["all clients by cargo"])
+        self.assertEqual((dict(begun)["the programs by cargo"][-2:], left_out), (["--only", "programs"], []))
+
+    def test_what_the_machine_lacks(self):
+        gate = CHECK["Gate"](None)
+        with mock.patch.dict(CHECK["tests"].__globals__, {"missing": lambda needs: [f"no {it}" for it in needs]}):
+            self.assertFalse(gate.run("from C"))
+        self.assertEqual((gate.parts, gate.left_out), ([], ["no cc"]))
 
     def test_a_status_that_is_well(self):
         gate = CHECK["Gate"](None)
         with contextlib.redirect_stdout(io.StringIO()):
             for status, is_well in (3, True), (1, False):
-                part = gate.begin("it", ["sh", "-c", f"exit {status}"])
+                part = gate.begin("it", "sh", "-c", f"exit {status}")
                 self.assertEqual(part.wait(is_counted=False, is_well=(0, 3)), is_well)
 
 

@@ -33,7 +33,7 @@ class ClientsCheckTest(unittest.TestCase):
             (self.top / name).chmod(0o755)
         (self.top / "commands").mkdir()
         for command in ("bash", "sh", "dirname", "mktemp", "rm", "tail", "sed", "cat"):
-            (self.top / "commands" / command).symlink_to(shutil.which(command))
+            (self.top / "commands" / command).symlink_to(str(shutil.which(command)))
 
     def wanted(self, *words):
         """What it says that it wants, in order, once it has said that the library is not made."""

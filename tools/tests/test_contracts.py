@@ -79,8 +79,7 @@ LONG = "IsTheSumOf self.now.first self.now.second"
 class ContractsTest(SmallRepository):
     def setUp(self):
         super().setUp()
-        given = {"TOP": self.top, "LIBRARY": LIBRARY, "CALLS": ["rooms::Room::double", "rooms::half"]}
-        patch = mock.patch.multiple(contracts, **given)
+        patch = mock.patch.multiple(contracts, TOP=self.top, LIBRARY=LIBRARY, CALLS=["rooms::Room::double", "rooms::half"])
         patch.start()
         self.addCleanup(patch.stop)
         self.write(f"{LIBRARY}/rooms.rt", ROOMS)

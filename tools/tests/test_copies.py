@@ -5,8 +5,8 @@ import subprocess
 from pathlib import Path
 from unittest import main, mock
 
-from small import SOURCE, SmallRepository, edits
-import copies
+from small import SOURCE, SmallRepository, tables
+from bugs import copies
 import unproved
 
 SCENARIO = """\
@@ -37,7 +37,7 @@ fn choose_run(rt: &HostRuntime, scenario: Scenario<'_>) -> Result<(), Fault> {
 class CopiesTest(SmallRepository):
     def setUp(self):
         super().setUp()
-        for module, name, value in ((copies, "TOP", self.top), (edits, "PROGRAMS", {"low": "high"})):
+        for module, name, value in ((copies, "TOP", self.top), (tables, "PROGRAMS", {"low": "high"})):
             patch = mock.patch.object(module, name, value)
             patch.start()
             self.addCleanup(patch.stop)
@@ -52,7 +52,7 @@ class CopiesTest(SmallRepository):
 
     def test_only_what_a_bug_can_change_is_copied(self):
         self.assertEqual(copies.copied_crates(self.bug), ["high", "low"])
-        self.assertEqual(copies.copied_crates(edits.Edit("bug", "high", "src/lib.rt")), ["high"])
+        self.assertEqual(copies.copied_crates(tables.Edit("bug", "high", "src/lib.rt")), ["high"])
 
     def test_crates_of_the_program(self):
         copies.write_program(self.room, [self.bug])
@@ -72,24 +72,24 @@ class CopiesTest(SmallRepository):
         self.assertEqual(self.written("crates/high_1/src/lib.rt"), wanted)
 
     def test_proofs_are_not_copied(self):
-        self.bug.changes.append(edits.Change("proofs/double/Answers.antt", "refl", "none"))
+        self.bug.changes.append(tables.Change("proofs/double/Answers.antt", "refl", "none"))
         copies.write_program(self.room, [self.bug])
         self.assertEqual([it.name for it in (self.room / "crates/low_1").iterdir()], ["src"])
 
     def test_the_suite_is_cut_to_what_a_bug_runs_on(self):
         kept = copies.cut_suite(SCENARIO, {("tagged_run", "string", "Bit", "default"), ("run", "string", "SymbolU16", "default")})
-        arm = re.search(r'^        "run counting(?s:.*?)>\(rt, scenario\),\n', SCENARIO, re.M)[0]
+        [arm] = re.findall(r'^        "run counting(?s:.*?)>\(rt, scenario\),\n', SCENARIO, re.M)
         self.assertEqual(kept, SCENARIO.replace(arm, ""))
         self.assertEqual(copies.cut_suite(SCENARIO, {("run", "counting", "SymbolU32", "default")}).count(" => "), 2)
 
     def test_the_suite_is_not_cut_to_what_it_is_not_built_for(self):
-        with self.assertRaisesRegex(copies.Unbuilt, "not built for run bucket Even default"):
+        with self.assertRaisesRegex(unproved.Unbuilt, "not built for run bucket Even default"):
             copies.cut_suite(SCENARIO, {("run", "bucket", "Even", "default")})
 
     def test_the_module_of_the_program_is_kept(self):
         kept = unproved.write_toolchain(self.room)
         (self.top / "module.bc").write_bytes(b"BC")
-        words = [kept.with_suffix(""), "-c", "-x", "ir", "module.bc"]
+        words = [str(kept.with_suffix("")), "-c", "-x", "ir", "module.bc"]
         self.assertNotEqual(subprocess.run([*words, "-o", "it"], cwd=self.top, capture_output=True, check=False).returncode, 0)
         self.assertFalse(kept.exists())
         subprocess.run([*words, "-fsanitize=address"], cwd=self.top, check=False)
@@ -97,7 +97,7 @@ class CopiesTest(SmallRepository):
         self.assertTrue(Path(self.room, "bin/ld.lld").samefile(unproved.CLANG))
 
     def test_what_is_not_lowered_is_told(self):
-        with mock.patch.object(unproved, "run_in", return_value=(2, "error: no such name")), self.assertRaises(copies.Unbuilt) as fault:
+        with mock.patch.object(unproved, "run_in", return_value=(2, "error: no such name")), self.assertRaises(unproved.Unbuilt) as fault:
             copies.build_copies(self.room, [self.bug])
         self.assertIn("error: no such name", str(fault.exception))
 

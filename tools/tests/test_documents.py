@@ -1,6 +1,8 @@
 """What is wrong with a document, as tools/documents.py finds it."""
 
 import shutil
+import unittest
+from pathlib import Path
 from unittest import mock
 
 from small import SmallRepository
@@ -198,3 +200,12 @@ class DocumentsTest(SmallRepository):
             self.write(f"{folder}/BUILT.md", "See [nothing](nothing.md).\n")
         self.assertEqual(list(documents.faults()), [])
         self.assertEqual(self.faults_after("src/lib.rt", "src/main.rt"), ["README.md: no file `src/main.rt`"])
+
+
+class TimesTest(unittest.TestCase):
+    def test_the_front_page_has_what_the_gate_prints(self):
+        page = (Path(__file__).parents[2] / "README.md").read_text(encoding="utf-8")
+        self.assertEqual(list(documents.other_times(page)), [])
+        for old, new in ("| 20 to 40 minutes |", "| 20 to 30 minutes |"), ("| 5 GiB |", "| 4 GiB |"), ("`./check quick`", "`./check fast`"):
+            self.assertIn(old, page)
+            self.assertEqual(len(list(documents.other_times(page.replace(old, new)))), 1, old)

@@ -18,7 +18,7 @@ NO_CODE = {"space", "comment", "doc", "inner_doc"}
 
 def code_of(text):
     """The tokens of code of a text, whose comments, docs and ghost parts are left out."""
-    found = []
+    found: list[str] = []
     for token in TOKENS(text):
         if token.kind == "ghost" and found and found[-1] == "pub":
             found.pop()
@@ -168,6 +168,8 @@ class EraseTest(TestCase):
             '#[cfg(feature = "parts")] pub mod json;',
         )
         self.gives("pub mod json;\n", "pub mod json;", place="symbol.rs")
+        self.gives("mod list;\n", "pub use crate::rt::words as list;", place="dedup/words.rs")
+        self.gives("mod list;\n", "pub mod list;", place="dedup/slots.rs")
         self.assertIn("//~ mod tests;\n", ERASE("mod a;\nmod tests;\n", "main.rs", TOOL["INTERN"]))
 
     def test_traits_are_for_sized_types(self):
@@ -250,8 +252,8 @@ class EraseTest(TestCase):
             place="dedup/tagged/tags.rs",
         )
         self.gives(
-            "fn interned_text(it: &'a [u8]) { &bytes[span.from..span.to] }\n",
-            "fn interned_text(it: &'a [u8]) { unsafe { crate::unchecked::cut_unchecked(bytes, span.from..span.to) } }",
+            "fn piece_text(it: &'a [u8]) { &bytes[piece.span.from..piece.span.to] }\n",
+            "fn piece_text(it: &'a [u8]) { unsafe { crate::unchecked::cut_unchecked(bytes, piece.span.from..piece.span.to) } }",
             place="backend/bucket/buckets.rs",
         )
         for place in ("", "dedup/tagged/tags.rs"):
@@ -279,6 +281,14 @@ class EraseTest(TestCase):
         self.gives(source, "#[cold] #[inline(never)]", "pub(super) fn probe_on() {}", "", "#[inline]", "fn f() {}", place="dedup/probe.rs")
         self.gives(source, *source.splitlines(), place="dedup/table.rs")
         self.refuses("#[inline]\nfn f() {}\n\nfn probe_on() {}", 4, "no #.inline. before", place="dedup/probe.rs")
+
+    def test_what_gets_a_body(self):
+        """It is a call in the functions of FILLED alone, which have none."""
+        source = "fn ask_for<T>(_items: &[T], _at: usize) {}\n\nfn f() {}"
+        filled = "fn ask_for<T>(_items: &[T], _at: usize) { crate::unchecked::ask_for(_items, _at) }"
+        self.gives(source, filled, "", "fn f() {}", place="dedup/tagged.rs")
+        self.gives(source, *source.splitlines(), place="dedup/table.rs")
+        self.refuses("fn f() {}\nfn ask_for() { f() }", 2, "a function that gets a body has one", place="dedup/tagged.rs")
 
     def test_the_prelude_is_on_the_line_of_the_first_item(self):
         self.assertEqual(ERASE("//! Docs.\nghost use A;\n\n/// It.\n#[inline]\nfn f() {}\n").splitlines()[3], f"{PRELUDE}/// It.")
@@ -388,12 +398,16 @@ class EraseTest(TestCase):
         taken = dict(re.findall(r"^\w+ (interner_\w+)\((const )?interner \*h\b", header, re.M))
         lent = dict(re.findall(r"fn (interner_\w+)(?:<'a>)?\(\s*(?:/\*.*?\*/\s*|//~.*\n\s*)?h: &(?:'a )?(mut )?Handle\b", exports))
         self.assertGreater(len(lent), 25)
-        del taken["interner_free"]
+        # These take the handle over.
+        del taken["interner_free"], taken["interner_share"]
         self.assertEqual({it: bool(const) for it, const in taken.items()}, {it: not mut for it, mut in lent.items()})
 
 
 class SourcesTest(TestCase):
     """All that is erased."""
+
+    top: Path
+    sources: Path
 
     @classmethod
     def setUpClass(cls):
@@ -432,6 +446,8 @@ class SourcesTest(TestCase):
     def test_without_comments_the_tokens_are_those_of_the_source(self):
         """A few tokens are others, as the tool's page says: both sides are brought to one form."""
         for source, erased, of in self.pairs():
+            for path in of.in_rt.values():
+                erased = erased.replace(f"use {path} as ", "mod ")
             erased = self.with_paths_of_the_source(erased.replace(PRELUDE, "", 1), of)
             erased = re.sub(r"#\[test\] fn holds_at_line_\d+\(\) \{ assert(.*;) \}", r"const _: () = prove\1", erased)
             erased = re.sub(r"^\} impl(<'a>)? ::core::error::Error .*$", "}", erased, flags=re.M)
@@ -440,6 +456,8 @@ class SourcesTest(TestCase):
             erased = erased.replace("crate::unchecked::cut_unchecked", "cut")
             erased = re.sub(r"unsafe \{ cut\(&?([\w.]+), (.*?\.\..*?)\) \}(?!\.as_bytes)", r"&\1[\2]", erased)
             erased = re.sub(r"unsafe \{ cut\((\w+), (.*?)\) \}", r"\1[\2]", erased)
+            for call in (call for calls in TOOL["FILLED"].values() for call in calls.values()):
+                erased = erased.replace(f"{{ {call} }}", "{}")
             erased = re.sub(r"\bpub(?:\(crate\))? mod (\w+;)", r"mod \1", erased)
             erased = erased.replace(": Sized + ", ": ").replace(": Sized ", " ")
             erased = erased.replace("pub fn main(", "fn main(").replace(".try_collect(", ".collect(")
@@ -486,6 +504,12 @@ class SourcesTest(TestCase):
             erased = (self.top / TOOL["LIBRARY"].into / place).read_text(encoding="utf-8")
             found = re.findall(r"^ *#\[cold\] #\[inline\(never\)\]\n *(?:pub(?:\(super\))? )?fn (\w+)", erased, re.M)
             self.assertEqual({*found}, names)
+
+    def test_each_function_that_gets_a_body_is_there(self):
+        for place, calls in TOOL["FILLED"].items():
+            erased = (self.top / TOOL["LIBRARY"].into / place).read_text(encoding="utf-8")
+            for name, call in calls.items():
+                self.assertRegex(erased, rf"\bfn {name}\b[^{{}}]*{{ {re.escape(call)} }}")
 
     def test_a_token_that_changes_is_seen(self):
         """Each number and each operator of a file, changed by itself, changes what is written, on its line alone."""

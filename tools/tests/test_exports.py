@@ -4,12 +4,12 @@ a function that returns what it lends. So each is one call on what `Handle::read
 import re
 import unittest
 
-from small import edits
+from small import tree
 
-from files import read
 from source import functions
+from tree import read
 
-EXPORTS = edits.TOP / "crates/string_interner_c/src/lib.rt"
+EXPORTS = tree.TOP / "crates/string_interner_c/src/lib.rt"
 # A call on what `read` lends, or what `tell` makes of its outcome. Its arguments are parameters.
 CALL = r"h\.read\(\)\.\w+\((?:(?!h\b)\w+(?:, (?!h\b)\w+)*)?\)"
 BODY = re.compile(rf"(?:{CALL}|tell\({CALL}, (?!h\b)\w+\))")

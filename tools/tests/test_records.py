@@ -80,6 +80,8 @@ def where_rt_is():
 
 @unittest.skipUnless(where_rt_is(), "no rt on this machine")
 class Records(unittest.TestCase):
+    model: Path
+
     @classmethod
     def setUpClass(cls):
         """Makes a repository with records of its proofs, and a toolchain, which each test copies."""

@@ -7,12 +7,12 @@ import runpy
 import unittest
 from unittest import mock
 
-from small import SmallRepository, edits
+from small import SmallRepository, tables, tree
+from bugs.place import trials_of
+from bugs.verdicts import BY_FORM_ALONE, LET_THROUGH, REFUSED
 from source import find_functions
-from trial import trials_of
-from verdicts import BY_FORM_ALONE, LET_THROUGH, REFUSED
 
-REFUSE = runpy.run_path(str(edits.TOP / "tools/refuse-edits"))
+REFUSE = runpy.run_path(str(tree.TOP / "tools/refuse-edits"))
 NAMES = REFUSE["main"].__globals__
 # Functions that are right, each by a text that it has.
 RIGHT = {"area": "side * side", "double": "number + number", "half": "number / 2", "quarter": "number / 4"}
@@ -57,7 +57,7 @@ class RefuseTest(SmallRepository):
         said = argparse.Namespace(kept=None, workers=1, outputs=None, thorough=is_thorough)
         bases = {"low": self.top / f"base_{len(self.checks)}"}
         with contextlib.redirect_stdout(io.StringIO()):
-            good, wrong = REFUSE["accept"](bases["low"], trials_of(edits.edits_of("low")), said)
+            good, wrong = REFUSE["accept"](bases["low"], trials_of(tables.edits_of("low")), said)
             found = REFUSE["refuse"](good, bases, said) | wrong
         return {it.name: outcome for it, outcome in found.items()}
 
@@ -85,6 +85,10 @@ class RefuseTest(SmallRepository):
         self.unread.append("nothing / 8")
         outcomes = self.outcomes()
         self.assertEqual({name for name, outcome in outcomes.items() if outcome != REFUSED}, {"halves_oddly"})
+
+    def test_a_bug_that_no_check_tries_is_not_refused(self):
+        with mock.patch.dict(NAMES, batches=lambda trials, _: [[it] for it in trials[:1]]):
+            self.assertEqual(sorted(self.outcomes().values()), ["not tried"] * 3 + [REFUSED])
 
     def test_an_open_goal_shows_a_refusal_if_the_function_has_it(self):
         self.write_edit("doubles_by_another_name", "    number + number", "    renamed(number)", "double")

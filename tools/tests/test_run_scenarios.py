@@ -2,14 +2,13 @@
 
 import runpy
 import unittest
-from pathlib import Path
 
-from small import edits
+from small import tree
 from built import HELD, End
 from scenarios import Scenario, read_blocks
 from trials import outcome
 
-RUN = runpy.run_path(str(edits.TOP / "tools/run-scenarios"))
+RUN = runpy.run_path(str(tree.TOP / "tools/run-scenarios"))
 FILE = b"on backend string SymbolU32 default\n> intern ab\nsymbol 0\n> count\n1\n"
 TOLD = b"asks 8\nasks 16\nsymbol 0\n1\n"
 
@@ -29,7 +28,7 @@ class Model:
 class SmallTest(unittest.TestCase):
     def faults(self, file=FILE, **ends):
         [([first], parts)] = read_blocks(file)
-        faults, self.count = outcome(Model(**ends), (RUN["try_small"], Scenario(Path("it.scenario"), first, parts)))
+        faults, self.count = outcome(Model(**ends), (RUN["try_small"], Scenario("it", first, parts)))
         return [fault.removeprefix("it on backend string SymbolU32 default") for fault in faults]
 
     def test_a_good_program(self):
@@ -61,6 +60,31 @@ class SmallTest(unittest.TestCase):
         for end in End(0, b"symbol 0\n1\n", b""), End(0, b"out of memory\n", HELD):
             [fault] = self.faults(on2=end)
             self.assertTrue(fault.startswith(", request 2 and all after it refused: "), fault)
+
+
+class NarrowTest(unittest.TestCase):
+    """A program with a `usize` of 32 bits, of which no request is looked at."""
+
+    def faults(self, printed=b"symbol 0\n1\n", status=0):
+        [([first], parts)] = read_blocks(FILE)
+        faults, _ = outcome(Model(told=End(status, printed, b"")), (RUN["try_narrow"], Scenario("it", first, parts)))
+        return faults
+
+    def test_a_good_program(self):
+        self.assertEqual(self.faults(), [])
+
+    def test_other_answers(self):
+        self.assertEqual(len(self.faults(b"symbol 1\n1\n")), 1)
+        self.assertEqual(len(self.faults(status=1)), 1)
+
+    def test_scenarios_of_64_bits_are_there(self):
+        self.assertLessEqual(RUN["OF_64_BITS"], {it.name for it in RUN["find_scenarios"]()})
+
+    def test_scenarios_with_greater_numbers_are_left_out(self):
+        for number, is_tried in (b"4294967295", True), (b"4294967296", False), (b"18446744073709551614", False):
+            for file in FILE.replace(b"intern ab", b"resolve " + number), FILE.replace(b"symbol 0", b"symbol " + number):
+                [([first], parts)] = read_blocks(file)
+                self.assertEqual(RUN["is_narrow_too"](Scenario("it", first, parts)), is_tried)
 
 
 if __name__ == "__main__":

@@ -1,23 +1,24 @@
 """What is read from the files of scenarios, and what such a file must not say."""
 
 import hashlib
-import importlib.util
 import os
 import re
+import runpy
 import subprocess
 import sys
 import tempfile
 import unittest
 from itertools import accumulate, combinations, islice, product
 from pathlib import Path
+from types import SimpleNamespace
+from typing import Any
 from unittest import mock
 
 sys.path.insert(0, str(Path(__file__).resolve().parent.parent))
 import scenarios
-from scenarios import CRATE, LARGE, Part, Scenario, cut, digest_of, file_faults, find_scenarios, read_blocks, write_block
+from scenarios import CRATE, LARGE, Part, Scenario, cut, digest_of, file_faults, find_scenarios, read_blocks, read_file, write_file
 
-FILE = b"""\
-# A comment.
+BLOCKS = b"""\
 on interner string SymbolU32 default
 on interner bucket SymbolU32 default
 > get_or_intern a b
@@ -37,6 +38,7 @@ symbol 0
 >\x20
 > len
 """
+FILE = b"scenario one\n# A comment.\n" + BLOCKS + b"\nscenario other\non interner string SymbolU32 default\n> len\n0\n"
 PARTS = [Part(b"get_or_intern", [b"get_or_intern a b"], [b"asks 8", b"symbol 0"]),
          Part(b"iter", [b"iter"], [b"  1 left, symbol 0, text a b", b"0 left"]),
          Part(b"", [b""], [b"line 4: unknown call"]), Part(b"len", [b"len"], [])]
@@ -49,18 +51,23 @@ def pairs_of(first):
 
 def scenario(text, at=0):
     (firsts, parts), *_ = read_blocks(text)
-    return Scenario(Path("it.scenario"), firsts[at], parts)
+    return Scenario("it", firsts[at], parts)
 
 
 class ReadTest(unittest.TestCase):
     def test_blocks(self):
-        one, other = read_blocks(FILE)
+        one, other = read_blocks(BLOCKS)
         self.assertEqual(one, ([b"interner string SymbolU32 default", b"interner bucket SymbolU32 default"], PARTS))
         self.assertEqual(other[1][1:3], [Part(b"iter", [b"iter"], []), Part(b"", [b""], [])])
-        self.assertEqual(b"# A comment.\n" + b"\n".join(write_block(*block) for block in (one, other)), FILE)
+
+    def test_scenarios_of_a_file(self):
+        first, second = found = list(read_file(FILE))
+        self.assertEqual(first, ("one", b"# A comment.\n", list(read_blocks(BLOCKS))))
+        self.assertEqual(second[:2], ("other", b""))
+        self.assertEqual(write_file(found), FILE)
 
     def test_calls(self):
-        it = scenario(FILE, 1)
+        it = scenario(BLOCKS, 1)
         self.assertEqual((str(it), it.has_sizes), ("it on interner bucket SymbolU32 default", True))
         self.assertEqual(it.input, b"interner bucket SymbolU32 default\nget_or_intern a b\niter\n\nlen\n")
         self.assertEqual(it.end(), (2, b"symbol 0\n  1 left, symbol 0, text a b\n0 left\n", b"line 4: unknown call\n"))
@@ -94,13 +101,13 @@ class ReadTest(unittest.TestCase):
         every = {first.encode() for firsts in again.values() for first in firsts.split(", ")}
         for first, firsts in again.items():
             with self.subTest(first), mock.patch.object(scenarios, "built_firsts", return_value=every):
-                found = list(scenario(FILE.replace(b"interner string SymbolU32 default", first.encode())).again())
+                found = list(scenario(BLOCKS.replace(b"interner string SymbolU32 default", first.encode())).again())
                 self.assertEqual(", ".join(it.first.decode() for it in found), firsts)
-                self.assertEqual([(it.has_sizes, it.end()) for it in found], [(False, scenario(FILE).end())] * len(found))
+                self.assertEqual([(it.has_sizes, it.end()) for it in found], [(False, scenario(BLOCKS).end())] * len(found))
 
     def test_not_on_what_the_suite_is_not_built_for(self):
         with mock.patch.object(scenarios, "built_firsts", return_value={b"tagged string SymbolU32 fold"}):
-            self.assertEqual([it.first for it in scenario(FILE).again()], [b"tagged string SymbolU32 fold"])
+            self.assertEqual([it.first for it in scenario(BLOCKS).again()], [b"tagged string SymbolU32 fold"])
 
 
 class BuiltTest(unittest.TestCase):
@@ -133,13 +140,15 @@ class BuiltTest(unittest.TestCase):
 class ChosenTest(unittest.TestCase):
     """The scenarios that large/choose.py wrote. It took the texts that it found first; here they are not searched for again."""
 
+    script = CRATE / LARGE / "choose.py"
+    choose: Any
+    kept: dict[Path, bytes]
+    found: dict[str, Any]
+
     @classmethod
     def setUpClass(cls):
-        cls.script = CRATE / LARGE / "choose.py"
-        spec = importlib.util.spec_from_file_location("choose", cls.script)
-        cls.choose = importlib.util.module_from_spec(spec)
-        spec.loader.exec_module(cls.choose)
-        cls.kept = {path.relative_to(cls.script.parent): path.read_bytes() for path in cls.script.parent.rglob("chosen_*")}
+        cls.choose = SimpleNamespace(**runpy.run_path(str(cls.script)))
+        cls.kept = {path.relative_to(cls.script.parent): path.read_bytes() for path in cls.script.parent.rglob("chosen.scenario")}
         cls.found = {kind: cls.pairs_of(name) for kind, name in (("words", "chosen_texts_string"), ("blocks", "chosen_blocks_string_sip"))}
         letters = [letter - ord("!") for letter in cls.call_of("chosen_numbers_under_other_keys", b"distances")]
         distances = (94 * high + low for high, low in zip(letters[::2], letters[1::2]))
@@ -148,8 +157,8 @@ class ChosenTest(unittest.TestCase):
     @classmethod
     def call_of(cls, name, word):
         """What a scenario gives a call besides its count."""
-        text = b"".join(text for path, text in cls.kept.items() if path.stem == name)
-        return re.search(rb"\b%s \d+ (.*)" % word, text)[1]
+        [text] = re.findall(rb"scenario %s\n(?:.+\n)*?> %s \d+ (.*)" % (name.encode(), word), b"".join(cls.kept.values()))
+        return text
 
     @classmethod
     def pairs_of(cls, name):
@@ -160,7 +169,8 @@ class ChosenTest(unittest.TestCase):
     def test_what_is_written_of_them(self):
         with tempfile.TemporaryDirectory() as folder:
             self.choose.write_scenarios(Path(folder), self.found)
-            written = {path.relative_to(folder): path.read_bytes() for path in Path(folder).rglob("chosen_*")}
+            written = {path.relative_to(folder): path.read_bytes() for path in Path(folder).rglob("*")
+                       if path.is_file()}
         self.assertEqual(sorted(self.kept), sorted(written))
         for name, text in self.kept.items():
             with self.subTest(name):
@@ -203,25 +213,30 @@ class FilesTest(unittest.TestCase):
             return list(file_faults(Path(folder)))
 
     def test_files_as_they_must_be(self):
-        digest = b"on run string\n> Len\n2 lines, SHA-256 12\n"
-        good = {"scenarios/run/a.scenario": RUN, "large/run/b.scenario": digest, "large/choose.py": b"",
-                "scenarios/interner/c.scenario": FILE, "scenarios/run/d.scenario": b"on runs string\nline 1: unknown level\n"}
+        digest = b"scenario digest\non run string\n> Len\n2 lines, SHA-256 12\n"
+        bad = b"scenario bad\non runs string\nline 1: unknown level\n"
+        good = {"scenarios/run/a.scenario": b"scenario good\n" + RUN + b"\n" + bad, "large/run/b.scenario": digest, "large/choose.py": b"",
+                "scenarios/interner/a.scenario": FILE}
         self.assertEqual(self.faults(good), [])
 
     def test_other_files_and_names(self):
         self.assertEqual(self.faults({"scenarios/run/a.calls": b""}), ["a.calls is no scenario"])
-        files = {"scenarios/run/a.scenario": RUN, "large/run/a.scenario": RUN}
-        self.assertEqual(self.faults(files), ["2 files have the name a"])
+        files = {"scenarios/run/a.scenario": b"scenario it\n" + RUN, "large/run/b.scenario": b"scenario it\n" + RUN}
+        self.assertEqual(self.faults(files), ["2 scenarios have the name it"])
 
     def test_what_a_file_must_not_say(self):
-        unread = "is not as it would be written"
+        named = b"scenario it\n" + RUN
+        for text in b"", named[:-1], named + b"\n", b"x\n" + named, RUN, named + b"scenario other\n" + RUN:
+            with self.subTest(text):
+                self.assertIn("run/a.scenario is not as it would be written", self.faults({"scenarios/run/a.scenario": text}))
+
+    def test_what_a_scenario_must_not_say(self):
         answer = b"on run string\n> Len\n0\n"
-        for text, fault in ((b"", unread), (RUN[:-1], unread), (RUN + b"\n", unread), (b"x\n" + RUN, unread),
-                            (RUN.replace(b"run", b"scopes"), "is of another level than its folder, run"),
+        for text, fault in ((b"", "has no block"), (RUN.replace(b"run", b"scopes"), "is of another level than its folder, run"),
                             (RUN + b"\n" + RUN.replace(b" a", b" b"), "has more than one list of calls"),
                             (answer.replace(b"run", b"interner").replace(b"0\n", b"> Len\n0\n0\n"), "has two answers of Len")):
             with self.subTest(text):
-                self.assertIn(f"a {fault}", self.faults({"scenarios/run/a.scenario": text}))
+                self.assertIn(f"it {fault}", self.faults({"scenarios/run/a.scenario": b"scenario it\n" + text}))
 
 
 if __name__ == "__main__":

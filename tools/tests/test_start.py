@@ -9,6 +9,8 @@ import tempfile
 import unittest
 from pathlib import Path
 
+from small import link_commands
+
 TOP = Path(__file__).resolve().parents[2]
 
 # Stands for `rt`: "builds" a program that prints what it was built of, and tells how far it is if a file says how long it takes.
@@ -52,14 +54,14 @@ COMPILED = ("Cargo.toml", "clients/programs/Cargo.toml", "clients/programs/src/l
 
 
 class Start(unittest.TestCase):
+    commands: tempfile.TemporaryDirectory[str]
+
     @classmethod
     def setUpClass(cls):
         """The commands of this machine, but for cargo, which Debian has among them."""
         cls.commands = tempfile.TemporaryDirectory()
         cls.addClassCleanup(cls.commands.cleanup)
-        for path in {it.name: it for place in ("/bin", "/usr/bin") for it in Path(place).iterdir()}.values():
-            if path.name != "cargo":
-                Path(cls.commands.name, path.name).symlink_to(path)
+        link_commands(cls.commands.name, without="cargo")
 
     def setUp(self):
         self.folder = tempfile.TemporaryDirectory()

@@ -3,8 +3,7 @@
 import unittest
 from unittest import mock
 
-from small import EDITS, SOURCE, SmallRepository
-import edits
+from small import EDITS, SOURCE, SmallRepository, tables, tree
 import touched
 
 LIB, ABOVE, WORDS = "crates/low/src/lib.rt", "crates/high/src/lib.rt", "crates/low/specs/Words.antt"
@@ -14,7 +13,7 @@ LOW = {name for name, (crate, *_) in EDITS.items() if crate == "low"}
 class TouchedTest(SmallRepository):
     def touched(self):
         changes = touched.Changes(self.commit)
-        return {it.name for crate in edits.crates() for it in edits.edits_of(crate) if changes.touch(it)}
+        return {it.name for crate in tree.crates() for it in tables.edits_of(crate) if changes.touch(it)}
 
     def touched_by(self, name, old, new):
         """The planted bugs that replacing a text of a file touches."""
@@ -83,6 +82,14 @@ class TouchedTest(SmallRepository):
         self.assertEqual(self.touched_by(table, "new: number / 8", "new: number / 16"), {"halves_twice"})
         self.git("checkout", "-q", table)
         self.assertEqual(self.touched_by(table, "bug: halves_twice", "bug: halves_less"), {"halves_less"})
+
+    def test_its_lines_in_another_table(self):
+        table = self.top / "crates/low/bugs/lib.bugs"
+        bugs = table.read_text(encoding="utf-8")
+        self.write("crates/low/bugs/part/shapes.bugs", f"source: src/lib.rt\n{bugs}")
+        table.unlink()
+        self.assertEqual(self.touched(), set())
+        self.assertEqual(self.touched_by("crates/low/bugs/part/shapes.bugs", "source: src/lib.rt\n", "source: src/shape.rt\n"), LOW)
 
     def test_a_new_bug(self):
         self.write_edit("doubles_never", "number + number", "number", "double")

@@ -3,8 +3,8 @@
 import unittest
 from dataclasses import dataclass, field
 
-import small  # brings the tools into reach
-from verdicts import BY_FORM_ALONE, LET_THROUGH, REFUSED, Verdicts, first_errors, is_complete
+import small  # noqa: F401 (brings the tools into reach)
+from bugs.verdicts import BY_FORM_ALONE, LET_THROUGH, REFUSED, Verdicts, first_errors, is_complete
 
 # A goal that its answer does not prove, another that has none here, and the verdict on the function.
 REFUSAL = """\

@@ -14,3 +14,5 @@ assert list(tidy.dropna() + tidy[:1]) == ["pear", "apple", "pear", "pear"]
 assert tidy.dropna().eq("pear").tolist() == [True, False, True]
 assert list(tidy[tidy.isna() | tidy.eq("pear") & ~fruit.eq("pear")]) == ["pear", None]
 assert tidy.counts(weights=[0.5, 2, 9, 1]).tolist() == [1.5, 2.0]
+texts, counts = tidy.frequencies(most=1)
+assert (list(texts), counts.tolist()) == (["pear"], [2])

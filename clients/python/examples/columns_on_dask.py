@@ -12,9 +12,11 @@ from __future__ import annotations
 import argparse
 from collections.abc import Callable, Iterable
 from dataclasses import dataclass
+from functools import partial
 from heapq import nsmallest
 from itertools import compress
 from operator import getitem
+from sys import getsizeof
 from typing import Any, TypeVar
 from zlib import crc32
 
@@ -23,10 +25,20 @@ import numpy
 from string_interner import Column
 
 Part = TypeVar("Part")
+# How often a task that raised is tried again: a worker that dask ends may take one more, which cannot run there.
+RETRIES = 3
+
+
+class Sized:
+    """Tells dask about how many bytes it takes. By that a worker near its memory limit decides what to move to its disk."""
+
+    def __sizeof__(self) -> int:
+        values = [it for value in vars(self).values() for it in (value if isinstance(value, list) else [value])]
+        return object.__sizeof__(self) + sum(map(getsizeof, values))
 
 
 @dataclass(frozen=True)
-class Split:
+class Split(Sized):
     """The texts of a dictionary by shard."""
 
     shard_of: Any
@@ -36,7 +48,7 @@ class Split:
 
 
 @dataclass(frozen=True)
-class Shard:
+class Shard(Sized):
     """The texts that all parts have of a shard."""
 
     codes: Any
@@ -48,7 +60,7 @@ class Shard:
 
 
 @dataclass(frozen=True)
-class Encoded:
+class Encoded(Sized):
     """A part of a column whose dictionary is on many workers."""
 
     codes: Any
@@ -129,16 +141,16 @@ def encode_on(client: Any, encode: Callable[[Part], Column], parts: Iterable[Par
 
     The texts of all, one part after another, are the dictionary in order of first appearance, as if one process had encoded all
     parts in order. There are as many shards as workers, if you do not say how many. If a worker fails, dask has another one do
-    again what is lost. Each call reads the parts again, because files may have changed.
+    again what is lost, and an error comes after three more attempts. Each call reads the parts again, because files may have changed.
     """
-    run = client.submit
-    columns = client.map(encode, list(parts), pure=False)
+    run = partial(client.submit, retries=RETRIES)
+    columns = client.map(encode, list(parts), pure=False, retries=RETRIES)
     count = shards or max(1, len(client.nthreads()))
     every, each = range(len(columns)), range(count)
-    split = client.map(split_by_shard, columns, shards=count)
+    split = client.map(split_by_shard, columns, shards=count, retries=RETRIES)
     gathered = [run(gather_shard, [run(texts_of_shard, split[part], shard) for part in every]) for shard in each]
     is_new = [run(join_shards, split[part], [run(find_new, gathered[shard], part) for shard in each]) for part in every]
-    starts = run(add_up, client.map(numpy.count_nonzero, is_new))
+    starts = run(add_up, client.map(numpy.count_nonzero, is_new, retries=RETRIES))
     new = [run(number_new, split[part], is_new[part], starts, part) for part in every]
     codes = [run(number_shard, gathered[shard], [run(getitem, new[part], shard) for part in every]) for shard in each]
     return [

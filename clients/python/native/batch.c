@@ -308,6 +308,7 @@ bool encode_rows(Batch *batch, Rows *rows) {
     if (!is_done) break;
     Py_ssize_t n = rows->n - at < AT_ONCE ? rows->n - at : AT_ONCE;
     read_part(rows, at, n, part);
+    utf8.is_asked = utf8.is_kept = false;
     is_done = encode_part(batch, &utf8, part, batch->first + at, n);
     if (batch->column) batch->h = batch->column->dictionary->h;
   }

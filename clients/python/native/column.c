@@ -472,6 +472,7 @@ static PyMethodDef column_methods[] = {
     {"_isin", (PyCFunction)column_isin, METH_O, NULL},
     {"_unique", (PyCFunction)column_unique, METH_NOARGS, NULL},
     {"_value_counts", (PyCFunction)column_value_counts, METH_VARARGS, NULL},
+    {"_frequencies", (PyCFunction)column_frequencies, METH_VARARGS, NULL},
     {"_write", (PyCFunction)column_write, METH_O, NULL},
     {"eq", (PyCFunction)column_eq, METH_O,
      "eq($self, value, /)\n--\n\n"

@@ -193,6 +193,7 @@ enum { BYTES_OF_A_CHARACTER = 4, MOST_CHARACTERS = 256 };
 /** Room for the UTF-8 form of a text of so many characters. */
 typedef struct Utf8 {
   int likely; /* more than 0 if the next text is probably not ASCII; 0 at first */
+  bool is_asked, is_kept; /* whether CPython has forms of these texts, once that is asked; false at first */
   Py_UCS4 characters[MOST_CHARACTERS];
   char bytes[BYTES_OF_A_CHARACTER * MOST_CHARACTERS];
 } Utf8;
@@ -440,6 +441,7 @@ PyObject *column_counts(Column *self, PyObject *args, PyObject *keywords);
 
 PyObject *column_unique(Column *self, PyObject *unused);
 PyObject *column_value_counts(Column *self, PyObject *args);
+PyObject *column_frequencies(Column *self, PyObject *args);
 
 /** Writes the rows into an array of objects of numpy. */
 PyObject *column_write(Column *self, PyObject *array);

@@ -9,15 +9,14 @@ static Block *refuse_row(Block *block, int64_t row, bool is_unsigned) {
   return NULL;
 }
 
-/* Takes rows whose numbers begin at a place and lie `step` bytes apart. Returns how many it took: less than n if the next has no row,
- * which it writes to `wrong`. Each number is read once, because others may change it. One below 0, which counts from the end, is
- * great without a sign. */
-#define TAKE(name, Code) \
-  static inline __attribute__((always_inline)) Py_ssize_t name(const Encoded *from, const char *at, Py_ssize_t n, Py_ssize_t step, \
-                                                               Py_ssize_t width, bool is_unsigned, Block *block, int64_t *wrong) { \
-    const Py_ssize_t rows = from->n; \
-    const Code *codes = rows ? (const Code *)from->block->data : NULL; \
-    Code *to = (Code *)block->data; \
+/* Takes rows whose numbers begin at a place and lie `step` bytes apart, and whose codes are of a type. Returns how many it took: less
+ * than n if the next has no row, which it writes to `wrong`. Each number is read once, because others may change it. One below 0, which
+ * counts from the end, is great without a sign. */
+#define TAKE(name, From, To) \
+  static inline __attribute__((always_inline)) Py_ssize_t name(const From *codes, Py_ssize_t rows, const char *at, Py_ssize_t n, \
+                                                               Py_ssize_t step, Py_ssize_t width, bool is_unsigned, Block *block, \
+                                                               int64_t *wrong) { \
+    To *to = (To *)block->data; \
     for (Py_ssize_t place = 0; place < n; place++, at += step) { \
       const int64_t given = widen(at, width, is_unsigned); \
       uint64_t row = (uint64_t)given; \
@@ -30,18 +29,69 @@ static Block *refuse_row(Block *block, int64_t row, bool is_unsigned) {
     return n; \
   }
 
-TAKE(take_narrow, int32_t)
-TAKE(take_wide, int64_t)
+TAKE(take_bytes, int8_t, int32_t)
+TAKE(take_shorts, int16_t, int32_t)
+TAKE(take_narrow, int32_t, int32_t)
+TAKE(take_wide, int64_t, int64_t)
+
+/* Copies codes into fewer bytes each, in which all of them fit. The compiler makes instructions of the inner loop that copy several. */
+#define SQUEEZE(name, To) \
+  static void name(const int32_t *restrict codes, Py_ssize_t n, To *restrict to) { \
+    enum { AT_ONCE = 16 }; \
+    Py_ssize_t row = 0; \
+    for (; n - row >= AT_ONCE; row += AT_ONCE) \
+      for (int at = 0; at < AT_ONCE; at++) to[row + at] = (To)codes[row + at]; \
+    for (; row < n; row++) to[row] = (To)codes[row]; \
+  }
+
+SQUEEZE(squeeze_to_bytes, int8_t)
+SQUEEZE(squeeze_to_shorts, int16_t)
+
+/* Whether rows are in no order: the numbers of most that are looked at are far from the next ones. There are more than are looked at. */
+static inline __attribute__((always_inline)) bool are_scattered(const char *at, Py_ssize_t n, Py_ssize_t step, Py_ssize_t width) {
+  enum { LOOKS = 32, FAR = 1024 };
+  int far = 0;
+  for (Py_ssize_t look = 0; look < LOOKS; look++, at += n / LOOKS * step) {
+    const uint64_t apart = (uint64_t)widen(at + step, width, false) - (uint64_t)widen(at, width, false);
+    far += apart + FAR > 2 * FAR;
+  }
+  return far > LOOKS / 2;
+}
+
+/* How few bytes a code may have in a copy for n rows in no order. A copy takes one pass, which so many rows are worth: fewer bytes are
+ * in a nearer cache. */
+static int squeezed_width(const Encoded *from, Py_ssize_t n) {
+  enum { FEW_ROWS = 1 << 18, FEW_OF_THEM = 4 };
+  const size_t distinct = interner_len(from->dictionary->h);
+  if (from->n < FEW_ROWS || n < from->n / FEW_OF_THEM || from->block->width != 4) return 4;
+  return distinct <= INT8_MAX + 1 ? 1 : distinct <= INT16_MAX + 1 ? 2 : 4;
+}
+
+/* A copy of the codes in 1 or 2 bytes each, or null if there is no memory for it. */
+static void *squeeze_codes(const Encoded *from, int width) {
+  void *codes = malloc(from->n * width);
+  if (!codes) return NULL;
+  if (width == 1) squeeze_to_bytes((const int32_t *)from->block->data, from->n, codes);
+  else squeeze_to_shorts((const int32_t *)from->block->data, from->n, codes);
+  return codes;
+}
 
 /* The codes of rows whose numbers are in a buffer. */
 static inline __attribute__((always_inline)) Block *take_view(const Encoded *from, const Py_buffer *view, Py_ssize_t step,
                                                               Py_ssize_t width, bool is_unsigned) {
-  const Py_ssize_t n = view->len / width;
-  int64_t wrong;
-  Block *block = new_block(n, from->n ? from->block->width : 4);
+  const Py_ssize_t n = view->len / width, rows = from->n;
+  const char *at = view->buf;
+  int64_t wrong = 0;
+  Block *block = new_block(n, rows ? from->block->width : 4);
   if (!block) return NULL;
-  block->used = block->width == 4 ? take_narrow(from, view->buf, n, step, width, is_unsigned, block, &wrong)
-                                  : take_wide(from, view->buf, n, step, width, is_unsigned, block, &wrong);
+  const int squeezed = squeezed_width(from, n);
+  void *few = squeezed < 4 && are_scattered(at, n, step, width) ? squeeze_codes(from, squeezed) : NULL;
+  const void *codes = few ? few : rows ? from->block->data : NULL;
+  if (few && squeezed == 1) block->used = take_bytes(codes, rows, at, n, step, width, is_unsigned, block, &wrong);
+  else if (few) block->used = take_shorts(codes, rows, at, n, step, width, is_unsigned, block, &wrong);
+  else if (block->width == 4) block->used = take_narrow(codes, rows, at, n, step, width, is_unsigned, block, &wrong);
+  else block->used = take_wide(codes, rows, at, n, step, width, is_unsigned, block, &wrong);
+  free(few);
   return block->used == n ? block : refuse_row(block, wrong, is_unsigned);
 }
 

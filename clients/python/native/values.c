@@ -1,4 +1,5 @@
-/* The values of rows as objects of Python: the distinct ones, these with their counts, and all in an array of numpy. */
+/* The values of rows as objects of Python: the distinct ones, these with their counts, and all in an array of numpy; and counts of
+ * values without objects. */
 #include "native.h"
 
 /* Values that a list or a dict is made of, in memory of C: they are there before what others might find. */
@@ -146,14 +147,26 @@ static PyObject *pair_values(const Values *values, const size_t *counts) {
   return dict;
 }
 
+/* How often each text and None occur, with the codes of the most frequent values, at most so many. The code of None is behind those of
+ * the texts. */
+static size_t *rank_values(const Encoded *rows, bool drops_none, size_t most, Values *values) {
+  const size_t end = interner_len(rows->dictionary->h) + !drops_none;
+  size_t *counts = count_codes(rows);
+  if (counts && reserve_values(values, end < (size_t)rows->n ? end : (size_t)rows->n) && order_codes(counts, end, rows->n, values)) {
+    if (values->n > most) values->n = most;
+    return counts;
+  }
+  PyMem_Free(counts);
+  return NULL;
+}
+
 /* A dict of the most frequent values, at most so many, and their counts. */
 static PyObject *count_values(const Encoded *rows, bool drops_none, size_t most) {
-  const size_t distinct = interner_len(rows->dictionary->h), end = distinct + !drops_none;
-  size_t *counts = count_codes(rows);
+  const size_t distinct = interner_len(rows->dictionary->h);
   Values values = {0};
+  size_t *counts = rank_values(rows, drops_none, most, &values);
   PyObject *dict = NULL;
-  if (counts && reserve_values(&values, end < (size_t)rows->n ? end : (size_t)rows->n) && order_codes(counts, end, rows->n, &values)) {
-    if (values.n > most) values.n = most;
+  if (counts) {
     /* The code of None is -1 to whoever makes the objects. */
     size_t none = 0;
     while (none < values.n && values.codes[none] != (int64_t)distinct) none++;
@@ -167,29 +180,100 @@ static PyObject *count_values(const Encoded *rows, bool drops_none, size_t most)
   return dict;
 }
 
-PyObject *column_value_counts(Column *self, PyObject *args) {
-  PyObject *drops, *most;
-  if (!PyArg_ParseTuple(args, "OO:_value_counts", &drops, &most)) return NULL;
-  const int drops_none = PyObject_IsTrue(drops);
-  if (drops_none < 0) return NULL;
+/* Reads what both calls take: whether None is left out, and how many values are wanted at most. */
+static bool read_wanted(PyObject *args, bool *drops_none, size_t *most) {
+  PyObject *drops, *given;
+  if (!PyArg_ParseTuple(args, "OO", &drops, &given)) return false;
+  const int is_true = PyObject_IsTrue(drops);
+  if (is_true < 0) return false;
   /* A number that is too great means all, too. */
-  const Py_ssize_t number = most == Py_None ? PY_SSIZE_T_MAX : PyNumber_AsSsize_t(most, NULL);
+  const Py_ssize_t number = given == Py_None ? PY_SSIZE_T_MAX : PyNumber_AsSsize_t(given, NULL);
   if (number < 0 && !PyErr_Occurred()) PyErr_SetString(PyExc_ValueError, "most is less than 0");
-  if (PyErr_Occurred() || !is_made(self)) return NULL;
+  *drops_none = is_true, *most = (size_t)number;
+  return !PyErr_Occurred();
+}
+
+PyObject *column_value_counts(Column *self, PyObject *args) {
+  bool drops_none;
+  size_t most;
+  if (!read_wanted(args, &drops_none, &most) || !is_made(self)) return NULL;
   Encoded rows = hold_rows(self);
-  PyObject *dict = count_values(&rows, drops_none, (size_t)number);
+  PyObject *dict = count_values(&rows, drops_none, most);
   drop_rows(&rows);
   return dict;
 }
 
-/* Writes the rows into the places of objects, and lets go of what was there. */
+/* A column of values, under the dictionary of the rows. */
+static Column *make_ranked(Column *like, const Encoded *rows, const Values *values) {
+  const int64_t none = (int64_t)interner_len(rows->dictionary->h);
+  Column *column = make_plain(like);
+  Block *block = column ? new_block(values->n, width_of(none)) : NULL;
+  if (!block) return Py_XDECREF((PyObject *)column), NULL;
+  for (size_t at = 0; at < values->n; at++) set_code(block, at, values->codes[at] == none ? -1 : values->codes[at]);
+  block->used = values->n;
+  begin_column(column, share_dictionary(rows->dictionary), block, values->n);
+  column->is_part = like->is_part || column->n < rows->n;
+  return column;
+}
+
+/* The counts of values, in an array. */
+static PyObject *list_counts(const State *state, const Values *values, const size_t *counts) {
+  Py_buffer view;
+  PyObject *array = new_array(state, "Q", values->n, &view);
+  for (size_t at = 0; array && at < values->n; at++) ((uint64_t *)view.buf)[at] = counts[values->codes[at]];
+  if (array) PyBuffer_Release(&view);
+  return array;
+}
+
+PyObject *column_frequencies(Column *self, PyObject *args) {
+  bool drops_none;
+  size_t most;
+  if (!read_wanted(args, &drops_none, &most) || !is_made(self)) return NULL;
+  Encoded rows = hold_rows(self);
+  Values values = {0};
+  size_t *counts = rank_values(&rows, drops_none, most, &values);
+  Column *column = counts ? make_ranked(self, &rows, &values) : NULL;
+  PyObject *array = column ? list_counts(self->state, &values, counts) : NULL, *pair = array ? PyTuple_Pack(2, column, array) : NULL;
+  Py_XDECREF((PyObject *)column);
+  Py_XDECREF(array);
+  PyMem_Free(counts);
+  drop_values(&values);
+  drop_rows(&rows);
+  return pair;
+}
+
+/* Writes a row into a place, and lets go of what was there, which may run any code. */
+static bool write_row(const Encoded *rows, Py_ssize_t row, PyObject **place) {
+  const int64_t code = code_at(rows->block, row);
+  PyObject *kept = code < 0 ? Py_None : kept_string(rows->dictionary, code), *before = *place;
+  if (!(*place = kept ? Py_NewRef(kept) : keep_string(rows->dictionary, code))) return *place = before, false;
+  Py_XDECREF(before);
+  return true;
+}
+
+/* Writes rows into places from one on, up to the first that has no str yet, or is None, or whose place has another object than None.
+ * So no code runs, and the strings stay where they are. */
+static inline __attribute__((always_inline)) Py_ssize_t write_some(const Encoded *rows, Py_ssize_t row, PyObject **places, bool is_narrow) {
+  PyObject *const *texts = rows->dictionary->texts;
+  const size_t count = rows->dictionary->texts_count;
+  const int32_t *narrow = (const int32_t *)rows->block->data;
+  const int64_t *wide = rows->block->data;
+  for (; row < rows->n; row++) {
+    const size_t code = (size_t)(is_narrow ? narrow[row] : wide[row]);
+    const size_t ahead = row + AHEAD < rows->n ? (size_t)(is_narrow ? narrow[row + AHEAD] : wide[row + AHEAD]) : count;
+    if (ahead < count) __builtin_prefetch(texts[ahead], 1);
+    if (code >= count || !texts[code] || places[row] != Py_None) return row;
+    places[row] = Py_NewRef(texts[code]);
+    Py_DECREF(Py_None);
+  }
+  return row;
+}
+
+/* Writes the rows into the places of objects. */
 static bool write_rows(const Encoded *rows, PyObject **places) {
   for (Py_ssize_t row = 0; row < rows->n; row++) {
-    const int64_t code = code_at(rows->block, row);
-    if (row + AHEAD < rows->n) fetch_string(rows->dictionary, code_at(rows->block, row + AHEAD));
-    PyObject *kept = code < 0 ? Py_None : kept_string(rows->dictionary, code), *before = places[row];
-    if (!(places[row] = kept ? Py_NewRef(kept) : keep_string(rows->dictionary, code))) return places[row] = before, false;
-    Py_XDECREF(before);
+    row = rows->block->width == 4 ? write_some(rows, row, places, true) : write_some(rows, row, places, false);
+    if (row < rows->n && !write_row(rows, row, &places[row])) return false;
   }
   return true;
 }

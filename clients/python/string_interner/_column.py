@@ -133,7 +133,10 @@ class Column(Pickled, _native.Column):
         return self.compact() if self._has_few_rows else self
 
     def to_numpy(self) -> _types.Any:
-        """Returns the rows in an array of objects of numpy. Raises ImportError without numpy."""
+        """Returns the rows in an array of objects of numpy. Raises ImportError without numpy.
+
+        Equal rows are one str. The column keeps these, unless it has few rows of a long one, so it takes longest the first time.
+        """
         import numpy
 
         # As it is now, whatever others add.
@@ -161,20 +164,39 @@ class Column(Pickled, _native.Column):
 
         Counts rows that are None only if `dropna` is false. With `most` it returns at most so many, and raises ValueError for a number
         below 0. It makes a str and an entry of a dict for each text that it returns. So of many distinct texts ask for the first few,
-        or call `counts`, which makes none.
+        or call `frequencies` or `counts`, which make none.
         """
         return self._with_few_texts()._value_counts(dropna, most)
 
+    def frequencies(self, *, dropna: bool = True, most: _types.SupportsIndex | None = None) -> tuple[Column, _types.Numbers]:
+        """Returns the same as `value_counts` in a column of the values, and an array of how often each occurs.
+
+        >>> texts, counts = Column(["red", "green", None, "red"]).frequencies()
+        >>> list(texts), counts.tolist()
+        (['red', 'green'], [2, 1])
+
+        Makes no str: the column has the dictionary of this one, or of few rows of a long column only their texts, as `compact` has.
+        Goes over the rows and over the dictionary. Raises ValueError for a number below 0.
+        """
+        return self._with_few_texts()._frequencies(dropna, most)
+
     def unique(self) -> list[str | None]:
-        """Returns the distinct values of the rows, in order of first appearance. None is one of them if a row is None."""
+        """Returns the distinct values of the rows, in order of first appearance. None is one of them if a row is None.
+
+        Goes over the rows once, and makes a str of each text, which the column keeps: so it takes longest the first time.
+        """
         return self._with_few_texts()._unique()
 
     def isin(self, values: _types.Iterable[object]) -> _native.Mask:
-        """Returns a mask of the rows that are one of the values, of which one may be None."""
+        """Returns a mask of the rows that are one of the values, of which one may be None.
+
+        Looks each value up once, and goes over the rows. A value that is no text is in no row. Raises TypeError for one text in the
+        place of values: write `column.eq(text)`.
+        """
         return self._isin(values)
 
     def isna(self) -> _native.Mask:
-        """Returns a mask of the rows that are None."""
+        """Returns a mask of the rows that are None. Goes over the rows once."""
         return self.eq(None)
 
     def to_buffers(self) -> tuple[bytes, memoryview, memoryview]:

@@ -4,6 +4,7 @@ from __future__ import annotations
 
 TYPE_CHECKING = False
 if TYPE_CHECKING:
+    from array import array
     from collections.abc import Iterable as Iterable
     from os import PathLike
     from typing import Any as Any
@@ -13,6 +14,7 @@ if TYPE_CHECKING:
 
     from . import Hasher as Hasher
 
+    Numbers = array[int]
     Path = str | bytes | PathLike[str] | PathLike[bytes]
 else:
 
@@ -22,6 +24,10 @@ else:
 
         import string_interner
 
+        if name == "Numbers":
+            from array import array as any_array
+
+            return any_array  # 3.11 has no array[int].
         if name == "Path":
             return str | bytes | PathLike[str] | PathLike[bytes]
         return getattr(string_interner if name in string_interner.__all__ else typing, name)

@@ -1,4 +1,5 @@
-"""Tests of examples/columns_on_dask.py with two worker processes: a million rows, and a worker that is killed meanwhile.
+"""Tests of examples/columns_on_dask.py with two worker processes: a million rows, and workers that are killed or stopped meanwhile, or
+are at their memory limit.
 
 It needs dask and pandas, which other tests do without. So unittest does not find it by its name: python3 -m unittest on_dask
 """
@@ -26,6 +27,8 @@ sys.path.insert(0, str(EXAMPLES))
 from columns_on_dask import encode_lines, encode_on  # noqa: E402
 
 ROWS, DISTINCT, PARTS = 1_000_000, 50_000, 9
+# The memory limit of a worker, which takes less than half of it.
+LIMIT = 1 << 30
 
 
 def wait_until(is_so, seconds=600):
@@ -45,6 +48,21 @@ def note_and_encode(folder, last, path):
     with open(folder / "encoded", "a") as file:
         file.write(f"{path}\n")
     return column
+
+
+def take_memory_and_encode(attempts, greedy, path):
+    """Encodes a part. In the first attempt to encode the greedy one, takes memory until dask ends the worker."""
+    if path == greedy and not (attempts / "first").exists():
+        (attempts / "first").touch()
+        # Letters, because the system gives no memory for zeros that nobody reads.
+        taken = b"x" * LIMIT
+        wait_until(lambda: not taken)
+    return encode_lines(path)
+
+
+def count_spilled(dask_worker):
+    """How many of a worker's values are on its disk, and how many in memory."""
+    return len(dask_worker.data.slow), len(dask_worker.data.fast)
 
 
 class OnDask(unittest.TestCase):
@@ -68,9 +86,13 @@ class OnDask(unittest.TestCase):
     def setUp(self):
         # After so long a worker that does not answer counts as dead. On a busy machine one may not answer for a while.
         ends = "10s" if self._testMethodName == "test_a_worker_is_stopped" else "300s"
-        settings = dask.config.set({"distributed.scheduler.worker-ttl": ends})
+        # At this share of its limit a worker begins to move what it holds to its disk.
+        target = 1e-6 if self._testMethodName == "test_workers_at_their_memory_limit" else 0.6
+        settings = dask.config.set({"distributed.scheduler.worker-ttl": ends, "distributed.worker.memory.target": target})
         self.addCleanup(settings.__exit__, None, None, None)
-        self.cluster = LocalCluster(n_workers=2, threads_per_worker=1, dashboard_address=None, silence_logs=logging.CRITICAL)
+        self.cluster = LocalCluster(
+            n_workers=2, threads_per_worker=1, dashboard_address=None, silence_logs=logging.CRITICAL, memory_limit=LIMIT
+        )
         self.addCleanup(self.cluster.close)
         self.client = Client(self.cluster)
         self.addCleanup(self.client.close)
@@ -122,6 +144,20 @@ class OnDask(unittest.TestCase):
 
     def test_a_worker_is_stopped(self):
         self.end_worker(signal.SIGSTOP)
+
+    def test_workers_at_their_memory_limit(self):
+        futures = encode_on(self.client, encode_lines, self.paths)
+        self.check(self.client.gather(futures))
+        # What is on disk was written as pickles are, and read again.
+        spilled, kept = map(sum, zip(*self.client.run(count_spilled).values()))
+        self.assertGreater(spilled, kept)
+
+    def test_a_worker_passes_its_memory_limit(self):
+        attempts = Path(tempfile.mkdtemp(dir=self.folder))
+        before = {*self.client.run(os.getpid).values()}
+        self.check(self.client.gather(encode_on(self.client, partial(take_memory_and_encode, attempts, self.paths[-3]), self.paths)))
+        # Dask ended the worker of the first attempt, and began another.
+        wait_until(lambda: len(after := {*self.client.run(os.getpid).values()}) == 2 and before - after)
 
     def test_a_file_that_has_grown(self):
         path = self.folder / "grown"

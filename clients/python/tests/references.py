@@ -120,6 +120,8 @@ def calls_of_columns():
         lambda: column._write(bytearray(160)), lambda: column._write(array("q", range(20))), lambda: column._write(1),
         lambda: other.unique(),
         lambda: column[:1].unique(), lambda: column.value_counts(dropna=Wrong()),
+        lambda: column.frequencies(), lambda: column.frequencies(dropna=False, most=2), lambda: column.frequencies(most=-1),
+        lambda: column.frequencies(most="1"), lambda: column[:1].frequencies(), lambda: Column.__new__(Column)._frequencies(True, None),
         lambda: column.value_counts(most=1), lambda: column.value_counts(most=-1), lambda: column.value_counts(most="1"), lambda: column[memoryview(array("i", [0, 3]))],
         lambda: column[array("q", [0, 99])], lambda: column[array("Q", [2**64 - 1])],
         lambda: column[memoryview(b"\1\0" * 10).cast("?")],

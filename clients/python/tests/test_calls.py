@@ -367,9 +367,20 @@ class BeyondAscii(unittest.TestCase):
             for call in (Column, Interner().intern_all, Column(["a"]).extend, Interner().get_all):
                 fresh = ["".join(text) for text in map(list, texts)]
                 before = sum(map(sys.getsizeof, fresh))
-                call(fresh)
+                for _ in range(3):
+                    call(fresh)
                 # CPython makes the form of the first one, and of what others hold, too.
                 self.assertLess(sum(map(sys.getsizeof, fresh)) - before, 1024, (letters, call))
+
+    def test_texts_that_keep_their_form(self):
+        """Of all, of none, or of some, of which the first decides for those that follow."""
+        for every in (1, 2, 3, 5000):
+            texts = [f"{'ßa語'[number % 3]}{number}" for number in range(5000)]
+            for text in texts[::every]:
+                Interner().intern(text)
+            for _ in range(3):
+                self.assertEqual(Interner().intern_all(texts).tolist(), [*range(5000)])
+                self.assertEqual(Column(texts).dictionary, texts)
 
     def test_a_text_without_a_form(self):
         for front in (["a"], ["ß"], ["ß" * 300], ["ß", "a"] * 20):

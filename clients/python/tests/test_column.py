@@ -275,6 +275,8 @@ class BesideAList(RuleBasedStateMachine):
         assert list(column.value_counts().items()) == counted
         missing = [(None, rows.count(None))] if None in rows else []
         assert list(column.value_counts(dropna=False).items()) == sorted(counted + missing, key=lambda row: -row[1])
+        assert [*zip(*column.frequencies())] == counted
+        assert [*zip(*column.frequencies(dropna=False, most=2))] == sorted(counted + missing, key=lambda row: -row[1])[:2]
         assert column.unique() == list(dict.fromkeys(rows))
         assert (column.nunique(), column.nunique(dropna=False)) == (len({*rows} - {None}), len({*rows}))
         assert column.isna().tolist() == [row is None for row in rows]
@@ -463,7 +465,8 @@ class Refusals(unittest.TestCase):
                      lambda it: it.extend(map(str, range(9))), lambda it: it.codes, lambda it: it[::2], lambda it: it.counts(),
                      lambda it: it.dictionary, lambda it: it._buffers(), lambda it: it.take([0]), lambda it: it._parts, lambda it: it.compact(),
                      lambda it: it[:1].compact(), lambda it: it[1:].compact(), lambda it: it.shrink(), lambda it: it.isin(["a"]), lambda it: it[1:]._parts.__reduce_ex__(2),
-                     Column.from_arrow, lambda it: it.__arrow_c_stream__(), lambda it: it[[0, 1]], lambda it: it[[True, False]]):
+                     Column.from_arrow, lambda it: it.__arrow_c_stream__(), lambda it: it[[0, 1]], lambda it: it[[True, False]],
+                     lambda it: it.frequencies(dropna=False), lambda it: it.value_counts(), Column.unique):
             for request in range(60):
                 column = Column(["a", None])
                 set_nomemory(request, request + 1)
@@ -661,7 +664,7 @@ class Calls(unittest.TestCase):
 
     def test_what_is_read_in_steps_is_of_the_rows_that_there_were(self):
         """Another thread may add rows after each step."""
-        for read in (Column.unique, lambda it: it.value_counts(dropna=False)):
+        for read in (Column.unique, lambda it: it.value_counts(dropna=False), lambda it: it.frequencies()[0]):
             for step in ("_in_order", "counts", "__contains__"):
                 column = Column(["a", "b"])
                 taken = getattr(Column, step)
@@ -1033,6 +1036,7 @@ class Copies(unittest.TestCase):
                      lambda: column.index("a"), lambda: column.count(None), lambda: column.code("a"), lambda: column.to_buffers(),
                      lambda: column.__arrow_c_stream__(), lambda: Column.from_arrow(column), lambda: column[[0]], lambda: column[[True]],
                      lambda: column.value_counts(), lambda: column.__dask_tokenize__(), lambda: reversed(column), lambda: copy.copy(column),
+                     lambda: column.frequencies(), lambda: column._frequencies(True, None),
                      lambda: column.compact(), lambda: column.shrink(), lambda: column.isin([]), lambda: column.isna(), lambda: column.unique()):
             with self.assertRaisesRegex(ValueError, "^the column was not initialized$"):
                 call()
@@ -1279,6 +1283,42 @@ class Pandas(unittest.TestCase):
         Column.from_pandas(kept).append("b")
         self.assertEqual(kept.tolist(), ["a", None])
         self.assertEqual(list(Column.from_pandas(pandas.Series([], dtype=object))), [])
+
+    def test_each_kind_there_and_back(self):
+        """The rows of the table in docs/pandas.md: what is lost, and how `x` is had again."""
+        texts, same = ["b", None, "a", "b"], pandas.testing
+        categorical = pandas.Categorical(texts, categories=["b", "a", "z"])
+
+        def back(x):
+            return Column.from_pandas(x).to_pandas()
+
+        def check(found, x):
+            same.assert_index_equal(found.categories, x.categories)
+            self.assertEqual((found.codes.tolist(), found.codes.dtype, found.ordered), (x.codes.tolist(), x.codes.dtype, x.ordered))
+
+        for x in (categorical, pandas.Categorical([]), pandas.Categorical(["a"]), pandas.Categorical([f"{number:05}" for number in range(40_000)])):
+            check(back(x), x)
+        x = categorical.as_ordered()
+        self.assertFalse(back(x).ordered)
+        check(back(x).as_ordered(), x)
+        named = pandas.Index(["b", "a"], name="n")
+        for x in (pandas.Categorical(pandas.array(texts, "string")), pandas.Categorical.from_codes([0, -1, 1], named), pandas.Categorical([None])):
+            self.assertEqual((back(x).categories.dtype, back(x).categories.name), (object, None))
+            check(pandas.Categorical.from_codes(back(x).codes, dtype=x.dtype), x)
+        x = pandas.CategoricalIndex(categorical, name="n")
+        same.assert_index_equal(pandas.Index(back(x), name=x.name), x)
+        for x in (pandas.Series(categorical, index=[7, 8, 9, 7], name="n"), pandas.Series(categorical)):
+            same.assert_series_equal(pandas.Series(back(x), x.index, name=x.name), x)
+        for dtype, missing in ((object, None), (object, numpy.nan), (object, pandas.NA), ("string", pandas.NA)):
+            x = pandas.Series(["b", missing, "a", "b"], index=[7, 8, 9, 7], name="n", dtype=dtype)
+            again = pandas.Series(back(x), x.index, x.dtype, x.name)
+            self.assertTrue(pandas.isna(again.iloc[1]))
+            # None and NA of objects are NaN then.
+            same.assert_series_equal(again, x if dtype == "string" else x.fillna(numpy.nan))
+        x = pandas.Index(texts, name="n")
+        same.assert_index_equal(pandas.Index(back(x), x.dtype, name=x.name), pandas.Index(["b", numpy.nan, "a", "b"], name="n"))
+        x = pandas.array(texts, "string")
+        same.assert_extension_array_equal(pandas.array(back(x), x.dtype), x)
 
     def test_categories_stay_in_their_order(self):
         given = pandas.Categorical(["b", None], categories=["z", "b", "a"], ordered=True)

@@ -1,6 +1,7 @@
 """Tests of the calls that change the texts of a column, or their order, over the distinct texts alone: what pandas makes of a
 Categorical, if it is there; each refusal; and functions that change the column meanwhile."""
 
+import pickle
 import random
 import sys
 import unittest
@@ -260,7 +261,11 @@ class Values(unittest.TestCase):
             in_order.remove(None)
             self.assertEqual(list(column.value_counts().items()), [(text, count_of[text]) for text in in_order])
             self.assertEqual(column.unique(), list(dict.fromkeys(rows)))
+            texts, found = column.frequencies(dropna=False)
+            self.assertEqual(dict(zip(texts, found)), count_of)
+            self.assertEqual([*found], sorted(counts, reverse=True))
         self.assertEqual((Column().value_counts(dropna=False), Column().unique()), ({}, []))
+        self.assertEqual(Column().frequencies(dropna=False), (Column(), array("Q")))
         self.assertEqual(Column.from_parts(["a", "b"], [-1]).value_counts(), {})
 
     def test_the_most_frequent_values(self):
@@ -274,14 +279,17 @@ class Values(unittest.TestCase):
                 self.assertEqual(dict(whole), Counter(row for row in rows if row is not None or not drops))
                 for most in (0, 1, chance.randrange(40), len(whole), len(whole) + 1, 10**30, True):
                     self.assertEqual(list(column.value_counts(dropna=drops, most=most).items()), whole[:most])
+                    self.assertEqual([*zip(*column.frequencies(dropna=drops, most=most))], whole[:most])
                 self.assertEqual(list(column.value_counts(dropna=drops, most=None).items()), whole)
+                self.assertEqual([*zip(*column.frequencies(dropna=drops, most=None))], whole)
 
     def test_what_is_no_number_of_values(self):
         column = Column(["a", "b", "a"])
-        for most in (-1, -(10**30)):
-            self.assertRaisesRegex(ValueError, "^most is less than 0$", column.value_counts, most=most)
-        for most in ("1", 1.0, [1]):
-            self.assertRaises(TypeError, column.value_counts, most=most)
+        for call in (column.value_counts, column.frequencies):
+            for most in (-1, -(10**30)):
+                self.assertRaisesRegex(ValueError, "^most is less than 0$", call, most=most)
+            for most in ("1", 1.0, [1]):
+                self.assertRaises(TypeError, call, most=most)
 
         class Adds:
             def __index__(self):
@@ -289,6 +297,24 @@ class Values(unittest.TestCase):
                 return 1
 
         self.assertEqual(column.value_counts(most=Adds()), {"c": 9})
+        texts, counts = column.frequencies(most=Adds())
+        self.assertEqual(([*texts], [*counts]), (["c"], [18]))
+
+    def test_frequencies_make_no_strings_and_share_the_dictionary(self):
+        column = Column([f"text {number}" for number in range(100_000)] + ["text 7"])
+        before = sys.getsizeof(column)
+        texts, counts = column.frequencies()
+        self.assertEqual(sys.getsizeof(column), before)
+        self.assertEqual((len(texts), texts[0], texts[1], counts[0], sum(counts)), (100_000, "text 7", "text 0", 2, 100_001))
+        self.assertEqual(texts.distinct, column.distinct)
+        # They are columns of their own: what one gets, the other has not.
+        texts.append("new")
+        self.assertEqual((len(column), "new" in column, column.distinct), (100_001, False, 100_000))
+        # Of a few rows of a long column only their texts are gone over, and go along.
+        texts, counts = column[-2:].frequencies()
+        self.assertEqual((sorted(texts), [*counts], texts.distinct), (["text 7", "text 99999"], [1, 1], 2))
+        # What goes to another process is few values, without the dictionary.
+        self.assertLess(len(pickle.dumps(column.frequencies(most=3)[0])), 1000)
 
     def test_few_values_make_few_strings(self):
         column = Column([f"text {number}" for number in range(100_000)] + ["text 7"])
@@ -316,6 +342,39 @@ class Values(unittest.TestCase):
             kept = numpy.array([object(), object()])
             column._write(kept)
             self.assertEqual(kept.tolist(), ["a", None])
+
+    @unittest.skipUnless(numpy, "no numpy")
+    def test_rows_are_written_whatever_their_places_have(self):
+        """A place may have an object at whose end code lets go of the strings, or adds texts, or makes the column anew."""
+        chance = random.Random(3)
+
+        class Ends:
+            def __init__(self, act):
+                self.act = act
+
+            def __del__(self):
+                self.act()
+
+        for _ in range(200):
+            rows = chance.choices([None, *(f"text {number}" for number in range(30))], k=chance.randrange(80))
+            column = Column(["no row has this", *rows])[1:]
+            acts = (column.shrink, lambda: column.append("new"), lambda: column.__init__(["x"]), lambda: list(column))
+            places = numpy.empty(len(rows), object)
+            for place in range(len(rows)):
+                if chance.random() < 0.1:
+                    places[place] = Ends(chance.choice(acts))
+            column._write(places)
+            self.assertEqual(places.tolist(), rows)
+
+    @unittest.skipUnless(numpy, "no numpy")
+    def test_an_array_of_rows_leaves_as_many_references(self):
+        column = Column([f"text {number % 300}" if number % 7 else None for number in range(5000)])
+        texts = column.dictionary
+        before = [sys.getrefcount(it) for it in (None, *texts)]
+        for _ in range(5):
+            column.to_numpy()
+        # A few are made of None by what else runs.
+        self.assertLess(max(abs(sys.getrefcount(it) - count) for it, count in zip((None, *texts), before)), 50)
 
 
 class Additions(unittest.TestCase):

@@ -180,6 +180,21 @@ class Selections(unittest.TestCase):
                 self.assertEqual(list(column[key]), wanted)
                 self.assertEqual(list(column.take(key)), wanted)
 
+    def test_many_rows_in_no_order(self):
+        # Codes are copied into 1 or 2 bytes if so few texts are distinct that all fit.
+        count, source = 1 << 18, random.Random(6)
+        numbers = [row - count * source.randrange(2) for row in source.sample(range(count), count)]
+        forms = (array("q", numbers), memoryview(array("i", numbers))[::-1], memoryview(array("q", numbers))[::-2])
+        for distinct in (1, 128, 129, 1 << 15, (1 << 15) + 1):
+            codes = array("i", (row % (distinct + 1) - 1 for row in range(count)))
+            column = Column.from_parts(map(str, range(distinct)), codes)
+            for key in forms:
+                # A list of what differs would take minutes.
+                self.assertTrue(column[key].codes.tolist() == [codes[number] for number in key], f"{distinct} texts")
+            for wrong in (count, -count - 1):
+                with self.assertRaisesRegex(IndexError, f"^there is no row {wrong}$"):
+                    column[array("q", [*numbers, wrong])]
+
 
 if __name__ == "__main__":
     unittest.main()

@@ -26,6 +26,8 @@ use core::fmt;
 use core::hash::BuildHasher;
 use core::marker::PhantomData;
 
+pub(crate) use iter::symbol_of;
+
 /// The backend of an interner whose type names none.
 pub type DefaultBackend = StringBackend<DefaultSymbol>;
 
@@ -226,8 +228,8 @@ impl<B: Backend> proved::Store for As<B> {
         // SAFETY: the index alone calls this, with a symbol that it was given, and the proved interner gives it only what `intern`
         // of this backend returned, or `entry_at` of one of this crate, in which a text begins at each place that it is asked for.
         // It copies symbols by their bits. A clone of an interner has a clone of the backend. Before `truncate` drops a text, its
-        // symbol is out of the index, or else all are before the next is looked at. The crate does not call what would hand on any
-        // other symbol: the proved `resolve_unchecked`, `get_by_guess`, `intern_slice`, `intern_all` and `touch`.
+        // symbol is out of the index, or else all are before the next is looked at. What looks ahead makes symbols of numbers, and
+        // resolves them by `resolve`. The crate does not call what would hand on any other symbol: the proved `resolve_unchecked`.
         unsafe { self.0.resolve_unchecked(symbol.0) }
     }
 

@@ -117,6 +117,10 @@ text_hasher! {
 ///
 /// Without the feature `std` there is nothing to draw from. The keys are then made of the address where the program lies, which
 /// is random only if the system's loader makes it so.
+///
+/// On `wasm32-unknown-unknown` the keys are the same in each run, with `std`, too, which makes them of addresses there: such a program
+/// gets nothing random unless its host hands it over. If strangers choose the texts, have the host draw two numbers, as JavaScript's
+/// `crypto.getRandomValues` does, and take [`KeyedHashBuilder`] under these keys.
 #[derive(Clone, Copy, Debug, Default)]
 pub struct DefaultHashBuilder;
 

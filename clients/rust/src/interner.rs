@@ -1,3 +1,4 @@
+pub(crate) mod block;
 mod many;
 mod traits;
 
@@ -14,10 +15,12 @@ use core::hash::BuildHasher;
 use core::ops::{Bound, RangeBounds};
 
 #[cfg(feature = "std")]
+pub(crate) use many::may_wait;
+#[cfg(feature = "std")]
 pub(crate) use many::reserve;
 
 /// The index of an interner's texts.
-type Index<B> = TaggedIndex<Sym<<B as Backend>::Symbol>>;
+pub(crate) type Index<B> = TaggedIndex<Sym<<B as Backend>::Symbol>>;
 
 /// A list of distinct texts, each with a symbol.
 ///
@@ -65,9 +68,9 @@ impl<B: Backend, H: BuildHasher> StringInterner<B, H> {
         Self::over(backend, hash_builder, index)
     }
 
-    /// Returns an interner over a backend and an index without texts.
+    /// Returns an interner over a backend and an index of its texts.
     #[inline(always)]
-    fn over(backend: B, hash_builder: H, index: Index<B>) -> Self {
+    pub(crate) fn over(backend: B, hash_builder: H, index: Index<B>) -> Self {
         StringInterner {
             proved: proved::StringInterner::from_parts(As(backend), By(hash_builder), index),
         }

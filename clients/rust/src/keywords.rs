@@ -99,11 +99,11 @@ macro_rules! keywords {
 }
 
 /// Returns a number that few other texts have.
-const fn code_of(text: &str) -> usize {
+const fn code_of(text: &str) -> u64 {
     let bytes = text.as_bytes();
-    let (mut code, mut at) = (0_usize, 0);
+    let (mut code, mut at) = (0_u64, 0);
     while at < bytes.len() {
-        code = (code ^ bytes[at] as usize).wrapping_mul(0x100_0000_01b3);
+        code = (code ^ bytes[at] as u64).wrapping_mul(0x100_0000_01b3);
         at += 1;
     }
     code ^ code >> 32
@@ -126,7 +126,7 @@ const fn find_repeated<const N: usize>(texts: &[&str; N]) -> Option<usize> {
     let (mut last, mut before) = ([0; LISTS], [0; N]);
     let mut number = 0;
     while number < N {
-        let list = code_of(texts[number]) % LISTS;
+        let list = code_of(texts[number]) as usize % LISTS;
         before[number] = last[list];
         let mut other = last[list];
         while other > 0 {

@@ -15,7 +15,7 @@
 //!
 //! # What differs from string-interner 0.19
 //!
-//! Programs written for string-interner compile with this crate, on targets whose `usize` has 64 bits. What behaves differently:
+//! Programs written for string-interner compile with this crate, on targets whose `usize` has 32 or 64 bits, with atomic ones. What behaves differently:
 //!
 //! - If interning panics because no symbol is left, the text is not stored, and the panic says so.
 //!   [`try_get_or_intern`](StringInterner::try_get_or_intern) returns an error instead.
@@ -24,7 +24,7 @@
 //! - Interning a new text asks `Symbol::try_from_usize` twice, and the original's once.
 //! - With serde the original reads each symbol as the next one, see below.
 //! - If memory is refused, the backends of this crate panic, and stay as they were. The original aborts the process; here only what
-//!   makes a `String` or a new [`sync::Interner`], and `Debug`, do.
+//!   makes a `String`, and `Debug`, do.
 //! - `extend` of a new interner over a backend of this crate makes room at once for as many texts as the iterator says, up to 4,096,
 //!   and the original's for none.
 //! - `shrink_to_fit` moves the texts to a smaller block, for which there must be memory beside them.
@@ -56,7 +56,7 @@
 //! | `Spur`, `MiniSpur`, `LargeSpur` | [`SymbolU32`](symbol::SymbolU32), [`SymbolU16`](symbol::SymbolU16), [`SymbolUsize`](symbol::SymbolUsize); there is none of one byte |
 //! | the trait `Key` | [`Symbol`], which is safe to implement |
 //! | `rodeo[key]`, and `resolve(&key)`, which panics if the key is of another | `names[symbol]`, and [`resolve(symbol)`](StringInterner::resolve), which returns an `Option` |
-//! | `try_get_or_intern` | the [same](StringInterner::try_get_or_intern); but a memory limit can't be set |
+//! | `try_get_or_intern` | the [same](StringInterner::try_get_or_intern); a memory limit has only a [`sync::Interner`] |
 //! | `contains`, `contains_key` | [`contains`](StringInterner::contains), and `resolve(symbol).is_some()` |
 //!
 //! ```
@@ -96,8 +96,8 @@
 //!
 //! A [`StringInterner`] has one field, which is the proved interner. Each call that finds, interns, resolves, counts, truncates or
 //! copies is a call of that, or a loop of such calls. By hand are the panics in the place of errors, iterators, `==`, `Debug`, JSON,
-//! serde, keywords, how a [`StringBackend`](backend::StringBackend) finds a text, what makes room for many texts at once, and what
-//! truncates a backend of your own. A [`sync::Interner`] is by hand, too: it interns by the proved index.
+//! serde, keywords, how a [`StringBackend`](backend::StringBackend) finds a text, what makes room for many texts and lets them wait for
+//! each other, and what truncates a backend of your own. A [`sync::Interner`] is by hand, too: it interns by the proved index.
 //!
 //! What the proof says of these calls holds for your own backend, symbol and hasher, too, if they keep their laws:
 //!
@@ -108,6 +108,10 @@
 //!
 //! Only of a full backend of your own the index may have grown before an interner returns `NoSymbol`.
 //!
+//! The proof is for a `usize` of 64 bits. That it holds for 32 is argued, operation by operation, and tested, on big-endian machines,
+//! too. There `SymbolUsize` has the numbers below 2³² − 1, and a [`BucketBackend`](backend::BucketBackend) takes no more copies once
+//! a bucket of 1 GiB is full.
+//!
 //! Memory is safe whatever they do. The backends of this crate are such types: by hand, over the proved ones, of whose numbers they make
 //! symbols.
 //!
@@ -117,7 +121,7 @@
 //! # Why it is safe
 //!
 //! A symbol, a hasher, a backend, a text or an iterator of a program's own may return anything, panic or call back. Beside the proved
-//! source, three files have unsafe code, and each `unsafe` there says what it rests on:
+//! source, four files have unsafe code, and each `unsafe` there says what it rests on:
 //!
 //! | Where | Rests on |
 //! |---|---|
@@ -127,6 +131,7 @@
 //! | `unchecked.rs`: a short text is appended by words | there is room, which is tested before |
 //! | `unchecked.rs`: bytes are taken for a text | they are ASCII, which is tested before |
 //! | `unchecked.rs`: vectors | the target has them |
+//! | `rt/words.rs`: a block of words is read and freed | it has so many words and a count of the lists that have it, of which the last one frees it |
 //! | `sync/memory.rs`: texts are lent without a lock | blocks of bytes do not move, and no text is dropped |
 //! | `sync/memory.rs`: what threads read while it grows | it is published by a release, and freed by `&mut` alone |
 //! | `proved`, of a buffer and of buckets: bytes are a text | they are those of a text that was interned: what a number of a program's own symbol type leads to is checked instead |
@@ -153,10 +158,8 @@
     clippy::undocumented_unsafe_blocks
 )]
 
-#[cfg(not(target_pointer_width = "64"))]
-compile_error!(
-    "string-interner needs a target whose `usize` has 64 bits, as the proof of its library assumes"
-);
+#[cfg(not(any(target_pointer_width = "32", target_pointer_width = "64")))]
+compile_error!("string-interner needs a target whose `usize` has 32 or 64 bits");
 
 extern crate alloc;
 #[cfg(any(feature = "std", test))]
@@ -176,6 +179,7 @@ mod proved;
 mod refused;
 // The stand-ins have the names of what they stand for.
 #[allow(
+    clippy::len_without_is_empty,
     clippy::new_without_default,
     clippy::should_implement_trait,
     dead_code,

@@ -112,7 +112,8 @@
 //! }
 //! ```
 //!
-//! No symbol type of a program's own says that it keeps its numbers, because nothing can name the type of the argument:
+//! No symbol type of a program's own says that it keeps its numbers, or how many there are, because nothing can name the type of
+//! the argument:
 //!
 //! ```compile_fail,E0603
 //! use string_interner::sealed::Ours;
@@ -131,6 +132,23 @@
 //!     }
 //!     fn __keeps_its_number(_: impl Sized) -> bool {
 //!         true
+//!     }
+//! }
+//! ```
+//!
+//! ```compile_fail,E0049
+//! use string_interner::Symbol;
+//! #[derive(Clone, Copy, PartialEq, Eq)]
+//! struct Number(usize);
+//! impl Symbol for Number {
+//!     fn try_from_usize(index: usize) -> Option<Self> {
+//!         Some(Number(index))
+//!     }
+//!     fn to_usize(self) -> usize {
+//!         self.0
+//!     }
+//!     fn __count(_: impl Sized) -> usize {
+//!         1
 //!     }
 //! }
 //! ```

@@ -17,45 +17,51 @@
 //!
 //! # What a call costs
 //!
-//! [`resolve`](Interner::resolve) takes no lock, unless it waits long for a text that is just being added. A known text and
-//! [`get`](Interner::get) mostly take none, and then write nothing that another thread reads: by processor time four threads do four
-//! times the work of one. There are 32 locks, and a text's hash code chooses one. It is taken for
-//!
-//! - a new text;
-//! - a text that its index may not show, because all 64 slots for it are taken, or because there are 300 times as many texts as in its
-//!   shard: up to 3 in 10,000, and more by a poor hasher;
-//! - a text whose slots may show one that another thread is adding.
+//! [`get`](Interner::get) takes no lock, nor does a call for a known text, and they write nothing that another thread reads: by
+//! processor time four threads do four times the work of one. [`resolve`](Interner::resolve) takes none, unless it waits long for a text
+//! that is just being added. A new text takes one of 32 locks, which its hash code chooses.
 //!
 //! Beside a plain interner, with one thread and texts of 9 bytes on average, as the repository's `bench/run` measured it:
 //!
 //! | | 10,000 texts | 1,000,000 texts |
 //! |---|---:|---:|
-//! | time of a known text | 1.25 | 1.1 |
-//! | of a new text | 2.3 | 2.3 |
-//! | of resolving | 1.5 | 1.6 |
-//! | memory of a text | 2.0 | 1.75 |
+//! | time of a known text | 1.3 | 1.1 |
+//! | of a new text | 2.2 | 1.9 |
+//! | of resolving | 1.4 | 1.3 |
+//! | memory of a text | 1.2 | 1.6 |
 //!
-//! A new interner takes 12 KB, and one of 100 texts 26 KB, which is nine times as much as a plain one: have one for all threads, and
-//! not one for each file or request. Once all texts are known, [`into_interner`](Interner::into_interner) makes a plain one.
+//! A new interner takes 3 KB where it lies, of bytes that are 0, so that a `static` takes no room in the program's file, and nothing
+//! else until the first text comes. One of 100 texts takes 8 KB, which is 2.6 times as much as a plain one: have one for all threads,
+//! and not one for each file or request. Once all texts are known, [`into_interner`](Interner::into_interner) makes a plain one.
+//!
+//! Indexes that were replaced by larger ones take a third of the memory, or less, until they are freed. There are none if
+//! [`with_capacity`](Interner::with_capacity) makes room at once, or [`extend`](Extend::extend) all the texts.
 //!
 //! # How it works
 //!
-//! - Each shard is an index of the proved library behind a lock, by which the library's own code interns. It alone says whether a
-//!   text is new.
-//! - Beside it is an index that threads read without a lock. What it shows is compared with the text, byte for byte. Whoever interns
-//!   asks the shard about a text that it does not show. So a wrong index would give no wrong symbol. The module `hints` of the
-//!   repository's `crates/examples` proves that of a small model, whatever threads do at the same time.
-//! - `get` believes an index that has an empty slot where the text would be, and otherwise asks the shard, too.
+//! - Each shard is an index of the proved library behind a lock, by which the library's own code interns. It alone says whether a text
+//!   is new.
+//! - A slot of that index is one word of 64 bits. Threads look texts up in the words without the lock. A number that they find there is
+//!   compared by its text, byte for byte.
 //! - One table has the address and the length of each text by its number.
-//! - Indexes and the table grow by memory that is added to them. What threads may still read is freed with the interner, or by a
-//!   call that takes `&mut self`.
+//! - When an index grows, its old words stay, since threads may still read them. They are freed with the interner, or by a call that
+//!   takes `&mut self`. Bytes of texts are never moved.
+//! - On a target without atomics of 64 bits no thread can hand an interner to another: it is not `Send`.
 //!
-//! That these make one interner together is tested, and not proved. Nor is how texts are stored: in blocks of bytes that are never
-//! moved.
+//! # What is proved
+//!
+//! | Proved | Checked by a model | Tested |
+//! |---|---|---|
+//! | An index finds each of its texts, and takes no text twice, as long as one thread at a time calls it. After a new text each filled slot is as before. | Threads see a word that was written, and the text of a number, as the proof of `look` assumes, in each order that the memory allows. | How texts are stored, small indexes grow, and memory is counted and given back. |
+//! | Whatever the words show, a number that `look` finds has the text. If it finds none, no number has it of which the reader was sure. | Each text has one number, and none is left out. What a thread was told stays so. Nobody waits without end. | All of it together: threads compared with a list, under two sanitizers, with memory refused. |
+//!
+//! The model has few texts and threads (`tests/orders.rs`). Each order and each step that it knows is needed: it sees what goes wrong
+//! without.
 
 mod freeze;
 mod index;
 mod iter;
+mod many;
 mod memory;
 mod orders;
 #[cfg(feature = "serde")]
@@ -68,17 +74,21 @@ mod traits;
 
 use crate::error::{expect, InternError};
 use crate::hasher::DefaultHashBuilder;
-use crate::interner::reserve;
+use crate::interner::block::{Block, LEN};
+use crate::interner::{may_wait, reserve};
 use crate::keywords::{check_keyword, Keywords};
 use crate::proved::interner::given::Given;
+use crate::proved::interner::look_ahead::FEWEST_FOR_BLOCKS;
 use crate::symbol::{DefaultSymbol, Symbol};
 use core::hash::BuildHasher;
-use index::Look;
+use index::{glance, look};
 pub use iter::Iter;
 use memory::Memory;
-use shard::Shard;
 use shared::{shard_of, Shared, SHARDS};
 use std::vec::Vec;
+
+/// For fewer texts a block costs more than it saves.
+const FEWEST: usize = 32;
 
 /// A list of distinct texts, each with a symbol, that many threads may read and extend at the same time.
 ///
@@ -87,10 +97,9 @@ use std::vec::Vec;
 /// [`Arc`](std::sync::Arc), in a `static` or on the stack of a [scope](std::thread::scope):
 ///
 /// ```
-/// use std::sync::LazyLock;
 /// use string_interner::sync::Interner;
 ///
-/// static NAMES: LazyLock<Interner> = LazyLock::new(Interner::new);
+/// static NAMES: Interner = Interner::new();
 ///
 /// let tiger = NAMES.get_or_intern("Tiger");
 /// assert_eq!(&NAMES[tiger], "Tiger");
@@ -107,7 +116,7 @@ pub struct Interner<S = DefaultSymbol, H = DefaultHashBuilder> {
 impl Interner {
     /// Returns an interner without texts, whose symbols are of the default type and whose hasher is the default one.
     #[must_use]
-    pub fn new() -> Self {
+    pub const fn new() -> Self {
         Self::with_hasher(DefaultHashBuilder)
     }
 
@@ -138,15 +147,15 @@ impl<S: Symbol, H: BuildHasher> Interner<S, H> {
     /// assert_eq!(names.resolve(names.get_or_intern("Tiger")), Some("Tiger"));
     /// ```
     #[must_use]
-    pub fn with_hasher(hash_builder: H) -> Self {
+    pub const fn with_hasher(hash_builder: H) -> Self {
         Interner {
             shared: Shared::new(hash_builder),
             memory: Memory::new(),
         }
     }
 
-    /// The same, with spare capacity for about `cap` texts: no index grows until there are so many. Only the bytes of texts then
-    /// need more memory.
+    /// The same, with spare capacity for about `cap` texts: until there are so many, an index seldom grows, if the hasher spreads its
+    /// codes. The bytes of texts need more memory.
     ///
     /// ```
     /// use string_interner::{hasher::FixedHashBuilder, symbol::SymbolU16, sync::Interner};
@@ -176,44 +185,37 @@ impl<S: Symbol, H: BuildHasher> Interner<S, H> {
         let part = texts.div_ceil(SHARDS);
         let most = part + 4 * part.isqrt();
         for shard in 0..SHARDS {
-            *self.memory.hold(shard).0 = Shard::with_capacity(most)?;
-            self.shared.indexes[shard].make_first_room(most)?;
+            let (shard, store) = self.memory.hold(shard);
+            shard.make_first_room(most, store)?;
         }
         self.memory.texts().make_room_up_to(last)
     }
 
-    /// Returns the symbol of a text, if it is known. Takes a lock only for the few texts that [an index may not
-    /// show](self#what-a-call-costs).
+    /// Returns the symbol of a text, if it is known. Takes no lock.
     #[inline]
     pub fn get<T: AsRef<str>>(&self, string: T) -> Option<S> {
         let text = string.as_ref();
         let code = self.shared.code_of(text);
-        let number = match self.shared.glance(self.memory.texts(), code, text) {
+        let number = match glance(&self.memory, code, text) {
             Some(number) => number,
             None => self.find(code, text)?,
         };
         S::try_from_usize(number as usize)
     }
 
-    /// Returns the number of a text with this code, if it is known. Asks its shard if the index does not tell.
+    /// Returns the number of a text with this code, if it is known. It is a call, so that its callers save fewer registers.
     #[inline(never)]
     fn find(&self, code: u64, text: &str) -> Option<u32> {
-        match self.shared.find(self.memory.texts(), code, text) {
-            Look::Found(number) => Some(number),
-            Look::Absent => None,
-            Look::Unknown => self.memory.with_locked(shard_of(code), |shard, store| {
-                shard.find(&self.shared, store, code, text)
-            }),
-        }
+        look(&self.memory, code, text)
     }
 
-    /// Reports whether a text is known. Takes a lock when [`get`](Self::get) does.
+    /// Reports whether a text is known. Takes no lock.
     #[inline]
     pub fn contains<T: AsRef<str>>(&self, string: T) -> bool {
         self.get(string).is_some()
     }
 
-    /// Returns the symbol of a text. Appends a text that is not known. Takes a lock then, and when [`get`](Self::get) does.
+    /// Returns the symbol of a text. Appends a text that is not known, and takes a lock for that.
     ///
     /// # Panics
     ///
@@ -244,7 +246,7 @@ impl<S: Symbol, H: BuildHasher> Interner<S, H> {
     pub fn try_get_or_intern<T: AsRef<str>>(&self, string: T) -> Result<S, InternError> {
         let text = string.as_ref();
         let code = self.shared.code_of(text);
-        match self.shared.glance(self.memory.texts(), code, text) {
+        match glance(&self.memory, code, text) {
             Some(number) => self.shared.symbol_of(number),
             None => self.intern(code, text),
         }
@@ -258,14 +260,15 @@ impl<S: Symbol, H: BuildHasher> Interner<S, H> {
     #[inline]
     pub fn try_get_or_intern_static(&self, string: &'static str) -> Result<S, InternError> {
         let code = self.shared.code_of(string);
-        match self.shared.glance(self.memory.texts(), code, string) {
+        match glance(&self.memory, code, string) {
             Some(number) => self.shared.symbol_of(number),
             None => self.intern_static(code, string),
         }
     }
 
-    /// Interns many texts, and returns the symbol of each. Takes the locks that [`get_or_intern`](Self::get_or_intern) of each
-    /// takes, one at a time.
+    /// Interns many texts, and returns the symbol of each. Looks for 512 at a time without a lock, and then takes the lock of each shard
+    /// that new ones among them need, once. Threads that need the same locks wait until these are in. Fewer than 32 texts, and those in
+    /// items that need a drop, as `String`, or take more than 32 bytes, are interned one by one; of others it reads up to 512 ahead.
     ///
     /// ```
     /// let names = string_interner::sync::Interner::new();
@@ -276,7 +279,8 @@ impl<S: Symbol, H: BuildHasher> Interner<S, H> {
     ///
     /// # Panics
     ///
-    /// If no symbol is left for a new text, or an allocation fails. The texts before it stay.
+    /// If no symbol is left for a new text, or an allocation fails. The texts before it stay, and the iterator may be up to 511 texts
+    /// past it.
     #[track_caller]
     pub fn intern_all<I>(&self, strings: I) -> Vec<S>
     where
@@ -285,13 +289,60 @@ impl<S: Symbol, H: BuildHasher> Interner<S, H> {
     {
         let strings = strings.into_iter();
         let mut symbols = Vec::new();
-        expect(reserve(&mut symbols, strings.size_hint().0));
+        let (least, most) = strings.size_hint();
+        expect(reserve(&mut symbols, least));
+        if most.is_none_or(|most| most >= FEWEST) && may_wait::<I::Item>() {
+            self.intern_blocks(strings, &mut symbols);
+            return symbols;
+        }
         // A closure would hide from the panic who called.
         for string in strings {
             expect(reserve(&mut symbols, 1));
             symbols.push(self.get_or_intern(string));
         }
         symbols
+    }
+
+    /// Interns all texts, in blocks that begin with one which is not found at once, and appends their symbols to a list. It is a call,
+    /// because a block takes much of the stack.
+    #[inline(never)]
+    #[track_caller]
+    fn intern_blocks<T: AsRef<str>>(
+        &self,
+        mut strings: impl Iterator<Item = T>,
+        symbols: &mut Vec<S>,
+    ) {
+        let mut shared = self;
+        let mut numbers = [0; LEN];
+        while let Some(string) = strings.next() {
+            expect(reserve(symbols, 1));
+            let text = string.as_ref();
+            if let Some(symbol) = self.get_soon(text) {
+                symbols.push(symbol);
+                continue;
+            }
+            let mut places = [const { None }; LEN - 1];
+            let mut block = Block::new(&mut shared);
+            block.push(text);
+            let is_more = block.fill(&mut places, &mut strings);
+            expect(reserve(symbols, block.len()));
+            for number in expect(block.intern(&mut numbers)) {
+                symbols.push(expect(self.shared.symbol_of(*number as u32)));
+            }
+            if !is_more {
+                break;
+            }
+        }
+    }
+
+    /// Returns the symbol of a text that is found at once in a small interner. In a large one texts are looked for together.
+    #[inline(always)]
+    fn get_soon(&self, text: &str) -> Option<S> {
+        if self.len() >= FEWEST_FOR_BLOCKS {
+            return None;
+        }
+        let number = glance(&self.memory, self.shared.code_of(text), text)?;
+        S::try_from_usize(number as usize)
     }
 
     /// Interns [keywords](crate::keywords), so that each has the symbol of its constant. Nothing changes if all have it.
@@ -335,23 +386,25 @@ impl<S: Symbol, H: BuildHasher> Interner<S, H> {
 
     #[inline(always)]
     fn intern_given(&self, code: u64, given: Given<'_>) -> Result<S, InternError> {
-        if let Look::Found(number) = self.shared.find(self.memory.texts(), code, given.text()) {
+        if let Some(number) = self.find(code, given.text()) {
             return self.shared.symbol_of(number);
         }
-        self.memory.with_locked(shard_of(code), |shard, store| {
+        let interned = self.memory.with_locked(shard_of(code), |shard, store| {
             shard.intern(&self.shared, store, code, given)
-        })
+        })?;
+        interned.symbol(&self.shared)
     }
 
     /// Interns a text for who has the interner alone: no lock is taken.
     #[inline]
     fn intern_alone(&mut self, text: &str) -> Result<S, InternError> {
         let code = self.shared.code_of(text);
-        if let Some(number) = self.shared.glance(self.memory.texts(), code, text) {
+        if let Some(number) = glance(&self.memory, code, text) {
             return self.shared.symbol_of(number);
         }
         let (shard, store) = self.memory.hold(shard_of(code));
-        shard.intern(&self.shared, store, code, Given::Copied(text))
+        let interned = shard.intern(&self.shared, store, code, Given::Copied(text))?;
+        interned.symbol(&self.shared)
     }
 }
 
@@ -389,7 +442,38 @@ impl<S, H> Interner<S, H> {
     /// Frees the indexes that were replaced by larger ones, which other threads might still have read. They take as much memory as
     /// those that count, or less.
     pub fn shrink_to_fit(&mut self) {
-        self.shared.forget_old_indexes();
+        self.memory.forget_old_words();
+    }
+
+    /// Returns how many bytes of memory the texts take: their own bytes, the indexes and the table, with what is spare.
+    ///
+    /// ```
+    /// let names = string_interner::sync::Interner::new();
+    /// assert_eq!(names.memory_used(), 0);
+    /// names.get_or_intern("Tiger");
+    /// assert!(names.memory_used() < 2_000);
+    /// ```
+    #[inline]
+    pub fn memory_used(&self) -> usize {
+        self.memory.used()
+    }
+
+    /// Lets [`memory_used`](Self::memory_used) become no greater than `bytes` from now on. A new text for which more is needed fails
+    /// with [`InternError::Memory`]; known texts are found as before, and nothing is freed.
+    ///
+    /// ```
+    /// use string_interner::{sync::Interner, InternError};
+    ///
+    /// let names = Interner::new();
+    /// let tiger = names.get_or_intern("Tiger");
+    /// names.set_memory_limit(names.memory_used());
+    /// let many = "t".repeat(1_000);
+    /// assert_eq!(names.try_get_or_intern(many), Err(InternError::Memory));
+    /// assert_eq!(names.try_get_or_intern("Tiger"), Ok(tiger));
+    /// ```
+    #[inline]
+    pub fn set_memory_limit(&self, bytes: usize) {
+        self.memory.set_limit(bytes);
     }
 }
 

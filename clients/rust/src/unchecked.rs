@@ -1,6 +1,7 @@
-//! All that is unsafe of what one thread does, but for calls of `resolve_unchecked` (`backend.rs`) and what is in proved source:
-//! looking a text up in the tagged table without checks of bounds, cutting texts out of a joined one and out of buckets, appending a
-//! short text without a call, making room, counting, comparing sixteen bytes at once, and taking bytes for a text.
+//! All that is unsafe of what one thread does, but for calls of `resolve_unchecked` (`backend.rs`), the block of a table's words
+//! (`rt/words.rs`) and what is in proved source: looking a text up in the tagged table without checks of bounds, cutting texts out of
+//! a joined one and out of buckets, appending a short text without a call, asking for memory ahead, making room, counting, comparing
+//! sixteen bytes at once, and taking bytes for a text.
 //!
 //! # Looking up
 //!
@@ -8,7 +9,7 @@
 //! that. So the eraser takes a check out of these functions of proved code alone, and what they rest on holds whatever such types do:
 //!
 //! - `item_with` and `lanes_with`, which read slots and tags in a look-up;
-//! - `interned_text`, which cuts a text out of a bucket;
+//! - `piece_text`, which cuts a text out of a bucket;
 //! - `text_at` and `narrow_text`, and in the library for C `text_by_narrow_ends` and `string_entries`, which cut one out of the joined
 //!   texts.
 //!
@@ -41,6 +42,7 @@
 //! |---|---|---|
 //! | `Backend::resolve_unchecked` | a look, in `entry` and `find` | nothing |
 //! | `Symbol::try_from_usize`, `to_usize` | the backend, in `is_full`, `intern` and each look | nothing |
+//! | `Symbol::try_from_usize`, `to_usize`, `Backend::resolve` | `intern_slice`, which looks ahead | nothing |
 //! | `Backend::intern`, `intern_static` | `intern_coded`, before `insert_at` | there is room for one more slot; all slots are in the table |
 //! | `Hasher`, `Backend::resolve_unchecked` | `rehash` above 2^32 slots | the new slots, which are dropped |
 //! | `Hasher`, `Symbol::try_from_usize`, `to_usize` | `truncate` over a backend of this crate, which empties slots of texts that go, or empties all and fills them anew | some texts have no slot; the table counts at least as many as have one |
@@ -61,6 +63,10 @@
 //! that of ends or entries, and the proved backends number texts by symbols of the library. What such a type returns is the number of
 //! a text at most: that is checked before its ends or its entry are read. What then says where to cut is no number that it returned.
 //! `string_entries` reads ends without that check: it tests that there are as many before its loop.
+//!
+//! # Asking for memory
+//!
+//! `ask_for` tells the processor an address, and reads nothing there. A search asks before it has read a tag, so the slot may be empty.
 //!
 //! # Appending, and room for it
 //!
@@ -190,6 +196,20 @@ unsafe fn append_ends<const N: usize>(text: &mut String, more: &str) {
         to.add(len - N).cast::<[u8; N]>().write(last);
         bytes.set_len(at + len);
     }
+}
+
+/// Has the processor fetch the line of an item, so that whoever reads it soon waits less. Reads nothing, whatever the place is.
+#[inline(always)]
+pub fn ask_for<T>(items: &[T], at: usize) {
+    #[cfg(all(target_arch = "x86_64", target_feature = "sse", not(miri)))]
+    {
+        use core::arch::x86_64::{_mm_prefetch, _MM_HINT_T0};
+        let line = items.as_ptr().wrapping_add(at);
+        // SAFETY: the target has SSE, and a hint reads nothing and never faults, so any address is fine.
+        unsafe { _mm_prefetch::<_MM_HINT_T0>(line.cast()) }
+    }
+    #[cfg(not(all(target_arch = "x86_64", target_feature = "sse", not(miri))))]
+    let _ = (items, at);
 }
 
 /// The high bit of each byte of a word, which no ASCII byte has.
@@ -365,7 +385,12 @@ unsafe fn below_unchecked(number: usize, bound: usize) {
 #[cfg(all(target_feature = "sse2", not(any(miri, string_interner_words))))]
 #[allow(unused_unsafe)]
 pub mod lanes {
-    use core::arch::x86_64::{
+    #[cfg(target_arch = "x86")]
+    use core::arch::x86 as arch;
+    #[cfg(target_arch = "x86_64")]
+    use core::arch::x86_64 as arch;
+
+    use arch::{
         __m128i, _mm_cmpeq_epi8, _mm_loadu_si128, _mm_max_epu8, _mm_movemask_epi8, _mm_set1_epi8,
     };
 
@@ -396,8 +421,12 @@ pub mod lanes {
     }
 }
 
-/// The same.
-#[cfg(all(target_feature = "neon", not(any(miri, string_interner_words))))]
+/// The same. On 32 bits this processor's vectors are not the same in Rust.
+#[cfg(all(
+    target_arch = "aarch64",
+    target_feature = "neon",
+    not(any(miri, string_interner_words))
+))]
 #[allow(unused_unsafe)]
 pub mod lanes {
     use core::arch::aarch64::{

@@ -70,6 +70,29 @@ fn blocks_of_a_shared_interner() {
     }
 }
 
+/// A shared interner of few texts takes at most three times the memory of a plain one, where it lies and on the heap.
+#[test]
+fn few_texts_of_a_shared_interner() {
+    let texts: Vec<String> = (0..100).map(|i| format!("text {:04}", i * i)).collect();
+    let before = HELD.get();
+    let mut plain = StringInterner::<StringBackend, _>::with_hasher(FixedHashBuilder);
+    let plain_size = size_of_val(&plain);
+    texts.iter().for_each(|text| _ = plain.get_or_intern(text));
+    let of_plain = plain_size + usize::try_from(HELD.get() - before).unwrap();
+    let before = HELD.get();
+    let shared = Interner::<DefaultSymbol, _>::with_hasher(FixedHashBuilder);
+    assert_eq!(HELD.get(), before);
+    texts.iter().for_each(|text| _ = shared.get_or_intern(text));
+    let held = usize::try_from(HELD.get() - before).unwrap();
+    assert_eq!(held, shared.memory_used());
+    let of_shared = size_of_val(&shared) + held;
+    println!(
+        "{of_plain} {of_shared}, {} of which where it lies",
+        size_of_val(&shared)
+    );
+    assert!(of_shared <= 3 * of_plain, "{of_shared} and {of_plain}");
+}
+
 /// For texts that are not copied, an interner with capacity asks for nothing more until there are so many.
 #[test]
 fn capacity_of_a_shared_interner() {

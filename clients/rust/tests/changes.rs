@@ -260,8 +260,8 @@ fn numbers_without_a_text() {
             len + 1,
             1 << 20,
             u32::MAX as usize,
-            1 << 32,
-            1 << 40,
+            1 << (usize::BITS / 2),
+            1 << (usize::BITS - 2),
             usize::MAX,
         ] {
             assert_eq!(interner.resolve(number), None);

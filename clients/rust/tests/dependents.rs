@@ -365,7 +365,7 @@ fn symbols_in_options_and_tokens() {
         Sign(char),
         End,
     }
-    assert!(size_of::<Token>() <= 8 && size_of::<Option<SymbolUsize>>() == 8);
+    assert!(size_of::<Token>() <= 8 && size_of::<Option<SymbolUsize>>() == size_of::<usize>());
     let mut names = DefaultStringInterner::default();
     let tokens: Vec<Token> = "a+b"
         .chars()

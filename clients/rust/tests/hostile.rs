@@ -8,7 +8,7 @@ use string_interner::sync::Interner;
 use string_interner::{DefaultStringInterner, StringInterner, Symbol};
 
 use std::cell::{Cell, RefCell};
-use std::hash::{BuildHasher, Hasher};
+use std::hash::{BuildHasher, DefaultHasher, Hasher};
 use std::mem;
 use std::panic::{catch_unwind, AssertUnwindSafe};
 use std::thread;
@@ -46,7 +46,7 @@ impl Symbol for Liar {
     }
 
     fn to_usize(self) -> usize {
-        self.0.wrapping_mul(0x9E37_79B9) ^ usize::MAX >> (self.0 % 64)
+        self.0.wrapping_mul(0x9E37_79B9) ^ usize::MAX >> (self.0 % usize::BITS as usize)
     }
 }
 
@@ -66,7 +66,7 @@ fn symbols_that_lie<B: Backend<Symbol = Liar>>() {
         for liar in [
             Liar(number),
             Liar(usize::MAX - number),
-            Liar(1 << (number % 64)),
+            Liar(1 << (number % usize::BITS as usize)),
         ] {
             assert!(interner
                 .resolve(liar)
@@ -329,9 +329,129 @@ fn a_symbol_type_that_wraps() {
     assert_eq!(interner.get_or_intern("text 0"), OfFour(0));
 }
 
+/// What the symbols of a [`Moody`] type do.
+#[derive(Clone, Copy, PartialEq)]
+enum Mood {
+    Honest,
+    OtherNumber,
+    OtherSymbol,
+    NoSymbol,
+    PanicsOfNumber,
+    PanicsOfSymbol,
+}
+
+thread_local! {
+    static MOOD: Cell<(Mood, usize)> = const { Cell::new((Mood::Honest, 0)) };
+}
+
+/// A symbol that is honest until its mood changes.
+#[derive(Clone, Copy, PartialEq, Eq)]
+struct Moody(usize);
+
+impl Moody {
+    /// The mood, which is honest in most calls.
+    fn mood() -> Mood {
+        let (mood, calls) = MOOD.get();
+        MOOD.set((mood, calls + 1));
+        if calls % 1000 == 999 || mood == Mood::OtherNumber {
+            mood
+        } else {
+            Mood::Honest
+        }
+    }
+}
+
+impl Symbol for Moody {
+    fn try_from_usize(index: usize) -> Option<Self> {
+        match Moody::mood() {
+            Mood::OtherSymbol => Some(Moody(usize::MAX - index)),
+            Mood::NoSymbol => None,
+            Mood::PanicsOfSymbol => panic!("no symbol"),
+            _ => Some(Moody(index)),
+        }
+    }
+
+    fn to_usize(self) -> usize {
+        match Moody::mood() {
+            Mood::OtherNumber => self.0 ^ 5,
+            Mood::PanicsOfNumber => panic!("no number"),
+            _ => self.0,
+        }
+    }
+}
+
+/// In an interner so large that texts wait to be interned together.
+fn moods_in_a_large_interner<B: Backend<Symbol = Moody>>() {
+    MOOD.set((Mood::Honest, 0));
+    let large: StringInterner<B> = (0..33_000).map(spell).collect();
+    for mood in [
+        Mood::OtherNumber,
+        Mood::OtherSymbol,
+        Mood::NoSymbol,
+        Mood::PanicsOfNumber,
+        Mood::PanicsOfSymbol,
+    ] {
+        let mut interner = large.clone();
+        let spelled: Vec<String> = (32_000..34_000).map(spell).collect();
+        let texts = || spelled.iter();
+        MOOD.set((mood, 0));
+        let _ = catch_unwind(AssertUnwindSafe(|| interner.extend(texts())));
+        let listed = catch_unwind(AssertUnwindSafe(|| interner.intern_all(texts())));
+        MOOD.set((Mood::Honest, 0));
+        assert!(interner.iter().all(|(_, text)| text.starts_with("text ")));
+        for symbol in listed.unwrap_or_default() {
+            assert!(interner
+                .resolve(symbol)
+                .is_none_or(|text| text.chars().count() <= 10));
+        }
+        let again = catch_unwind(AssertUnwindSafe(|| {
+            interner.extend(texts());
+            assert!(texts().all(|text| interner.get(text).is_some()));
+        }));
+        // A symbol that lies stays in the index, and a look at its text may panic.
+        assert!(again.is_ok() || mood == Mood::OtherSymbol);
+        assert!(interner.iter().all(|(_, text)| text.starts_with("text ")));
+    }
+}
+
+/// Makes a number of hashers, and then none.
+#[derive(Clone)]
+struct Tired(Cell<usize>);
+
+impl Default for Tired {
+    fn default() -> Self {
+        Tired(Cell::new(usize::MAX))
+    }
+}
+
+impl BuildHasher for Tired {
+    type Hasher = DefaultHasher;
+
+    fn build_hasher(&self) -> DefaultHasher {
+        self.0.set(self.0.get().checked_sub(1).expect("no hasher"));
+        DefaultHasher::new()
+    }
+}
+
+/// A hasher that panics, after an iterator that panicked.
+fn two_panics_in_a_block<B: Backend>() {
+    let mut interner: StringInterner<B, Tired> = (0..33_000).map(spell).collect();
+    let texts: Vec<String> = (40_000..40_500).map(spell).collect();
+    let items = texts.iter().enumerate().map(|(place, text)| {
+        assert!(place < 450, "no more");
+        text
+    });
+    interner.hasher().0.set(300);
+    assert!(panics(|| interner.extend(items)));
+    interner.hasher().0.set(usize::MAX);
+    assert!(interner.len() < 33_450);
+    assert!(texts[..128].iter().all(|text| interner.get(text).is_some()));
+    assert!(interner.iter().all(|(_, text)| text.starts_with("text ")));
+}
+
 #[test]
 fn programs() {
-    let programs: [fn(); 11] = [
+    let programs: [fn(); 13] = [
         || {
             symbols_that_lie::<StringBackend<Liar>>();
             symbols_that_lie::<BucketBackend<Liar>>();
@@ -359,6 +479,16 @@ fn programs() {
             odd_and_huge_texts::<BufferBackend>();
         },
         a_symbol_type_that_wraps,
+        || {
+            moods_in_a_large_interner::<StringBackend<Moody>>();
+            moods_in_a_large_interner::<BucketBackend<Moody>>();
+            moods_in_a_large_interner::<BufferBackend<Moody>>();
+        },
+        || {
+            two_panics_in_a_block::<StringBackend>();
+            two_panics_in_a_block::<BucketBackend>();
+            two_panics_in_a_block::<BufferBackend>();
+        },
     ];
     for program in programs {
         program();

@@ -129,7 +129,7 @@ impl Symbol for Lies {
         tick();
         assert!(*self.0 < NUMBERS.len());
         if random() % 20 == 0 {
-            [usize::MAX, 1 << 32, random()][random() % 3]
+            [usize::MAX, 1 << (usize::BITS / 2), random()][random() % 3]
         } else {
             *self.0
         }

@@ -58,7 +58,7 @@ impl Random {
     /// A number of a text, or one that no text has.
     fn number(&mut self) -> usize {
         let near = self.below(1 << 12);
-        [near, near << 10, usize::MAX - near, 1 << 32][self.below(4)]
+        [near, near << 10, usize::MAX - near, 1 << (usize::BITS / 2)][self.below(4)]
     }
 }
 

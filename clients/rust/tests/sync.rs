@@ -194,7 +194,7 @@ fn a_text_is_lent_while_others_come() {
 
 #[test]
 fn in_an_arc_and_in_a_static() {
-    static NAMES: LazyLock<Interner> = LazyLock::new(Interner::new);
+    static NAMES: Interner = Interner::new();
     let shared = Arc::new(Interner::from_iter(["Tiger", "Horse", "Tiger"]));
     let threads = [(); 3].map(|()| {
         let shared = Arc::clone(&shared);

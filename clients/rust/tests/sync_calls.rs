@@ -10,7 +10,7 @@ use string_interner::backend::{Backend, BucketBackend, StringBackend};
 use string_interner::hasher::FixedHashBuilder;
 use string_interner::symbol::{SymbolU16, SymbolUsize};
 use string_interner::sync::Interner;
-use string_interner::{DefaultHashBuilder, DefaultSymbol, StringInterner, Symbol};
+use string_interner::{DefaultHashBuilder, DefaultSymbol, InternError, StringInterner, Symbol};
 
 /// Texts with repeats, of which some are too long for an entry of the table.
 fn spell(number: usize) -> String {
@@ -61,7 +61,7 @@ impl Hasher for Constant {
     }
 }
 
-/// A hasher whose codes have the same low bits, so that an index has no place for most texts.
+/// A hasher whose codes have the same low bits, so that all texts of a shard have one home.
 #[derive(Default)]
 struct SameLowBits(u64);
 
@@ -77,7 +77,7 @@ impl Hasher for SameLowBits {
     }
 }
 
-/// A hasher that puts nearly all texts into one shard, so that the numbers of the others are too large for the slots of theirs.
+/// A hasher that puts nearly all texts into one shard.
 #[derive(Default)]
 struct OneShard(u64);
 
@@ -97,7 +97,7 @@ impl Hasher for OneShard {
     }
 }
 
-/// Each text is found that was interned, also one for which its index had no place.
+/// Each text is found that was interned.
 fn all_are_found<H: BuildHasher + Default>(count: usize) {
     let names = Interner::<DefaultSymbol, H>::with_hasher(H::default());
     let spell = |number: usize| format!("text{number}");
@@ -111,7 +111,6 @@ fn all_are_found<H: BuildHasher + Default>(count: usize) {
     assert!((count..2 * count).all(|number| names.get(spell(number)).is_none()));
 }
 
-/// A few of so many texts have no place in an index.
 #[test]
 fn many_texts_are_found() {
     all_are_found::<FixedHashBuilder>(100_000);
@@ -175,11 +174,36 @@ fn iterating_over_a_snapshot() {
         .eq((0..100).map(|number| number.to_string())));
 }
 
+/// The greatest numbers have no text, however few bits a `usize` has.
+#[test]
+fn numbers_without_a_text() {
+    let names: Interner<usize> = (0..70).map(|number| number.to_string()).collect();
+    for bits in 0..usize::BITS {
+        for number in [usize::MAX >> bits, usize::MAX << bits] {
+            for behind in 0..130 {
+                let number = number.wrapping_sub(behind);
+                assert_eq!(names.resolve(number).is_some(), number < 70, "{number}");
+            }
+        }
+    }
+    assert_eq!(names.resolve(70), None);
+}
+
 /// What is new since a number, however many texts came before.
 #[test]
 fn iterating_from_a_number() {
     let names: Interner = (0..1_000).map(|number| number.to_string()).collect();
-    for from in [0, 1, 63, 64, 999, 1_000, 1_001, 1 << 32, usize::MAX] {
+    for from in [
+        0,
+        1,
+        63,
+        64,
+        999,
+        1_000,
+        1_001,
+        1 << (usize::BITS / 2),
+        usize::MAX,
+    ] {
         let walk = names.iter_from(from);
         let numbers = from.min(1_000)..1_000;
         assert_eq!(walk.len(), numbers.len());
@@ -287,6 +311,8 @@ fn many_texts_at_once() {
     let names = Interner::new();
     assert_eq!(names.intern_all(&texts), wanted);
     assert_eq!(names.intern_all(&texts[3_000..]), wanted[3_000..]);
+    assert_eq!(names.intern_all(&texts[..31]), wanted[..31]);
+    assert_eq!(Interner::new().intern_all(&texts[..31]), wanted[..31]);
     assert!(names.intern_all([""; 0]).is_empty() && names.len() == plain.len());
     let shared = Interner::new();
     let all = thread::scope(|scope| {
@@ -298,6 +324,27 @@ fn many_texts_at_once() {
         .iter()
         .zip(&texts)
         .all(|(symbol, text)| shared[*symbol] == **text));
+}
+
+/// Threads intern the same texts together in different orders, and wait for no lock without end.
+#[test]
+fn many_texts_at_once_in_each_order() {
+    let texts: Vec<String> = (0..6_000).map(text_of).collect();
+    let names = Interner::new();
+    let all = thread::scope(|scope| {
+        let threads = [1, 7, 11, 5_999].map(|step| {
+            let (names, texts) = (&names, &texts);
+            scope.spawn(move || {
+                let order = (0..texts.len()).map(|number| number * step % texts.len());
+                let symbols = names.intern_all(order.clone().map(|number| &texts[number]));
+                let resolved = symbols.iter().map(|symbol| &names[*symbol]);
+                assert!(resolved.eq(order.map(|number| &texts[number])));
+            })
+        });
+        threads.map(|thread| thread.join().is_ok())
+    });
+    assert_eq!((all, names.len()), ([true; 4], 6_000));
+    assert_eq!(names.iter().count(), 6_000);
 }
 
 /// A shared interner that is made of a plain one has its texts under its symbols, and goes on counting.
@@ -339,6 +386,48 @@ fn the_hasher_goes_along() {
     let plain = StringInterner::<StringBackend, _>::with_hasher(keys.clone());
     let shared = Interner::from(plain);
     assert_eq!(shared.hasher().hash_one("Tiger"), keys.hash_one("Tiger"));
+}
+
+fn text_of(number: usize) -> String {
+    format!("text {number}")
+}
+
+/// Beyond its limit an interner takes no new text, and finds those that it has.
+#[test]
+fn memory_has_a_limit() {
+    const LIMIT: usize = 100_000;
+    let names = Interner::new();
+    names.set_memory_limit(LIMIT);
+    let is_refused = |number: &usize| names.try_get_or_intern(text_of(*number)).is_err();
+    let count = (0..).find(is_refused).unwrap();
+    assert!(count > 500 && names.len() == count);
+    assert!((LIMIT / 2..=LIMIT).contains(&names.memory_used()));
+    let long = "long ".repeat(LIMIT / 5);
+    assert_eq!(names.try_get_or_intern(long), Err(InternError::Memory));
+    assert!(names
+        .iter()
+        .all(|(symbol, text)| names.try_get_or_intern(text) == Ok(symbol)));
+    names.set_memory_limit(usize::MAX);
+    assert_eq!(names.get_or_intern(text_of(count)).to_usize(), count);
+}
+
+/// What was shared is the same afterwards, in a plain interner and for whoever goes on with it.
+#[test]
+fn many_texts_are_frozen() {
+    fn freeze<H: BuildHasher + Default>(count: usize) {
+        let parsed: Interner<DefaultSymbol, H> = (0..count).map(text_of).collect();
+        let mut names = parsed.into_interner();
+        assert_eq!(names.len(), count);
+        for number in 0..2 * count {
+            assert_eq!(names.get_or_intern(text_of(number)).to_usize(), number);
+        }
+    }
+    for count in [0, 1, 6, 7, 8, 1_000] {
+        freeze::<FixedHashBuilder>(count);
+        freeze::<DefaultHashBuilder>(count);
+        freeze::<RandomState>(count);
+        freeze::<BuildHasherDefault<Constant>>(count.min(100));
+    }
 }
 
 /// A plain interner that was made of a shared one goes on counting.

@@ -72,8 +72,33 @@ fn memory_is_refused() {
         }
     }
     holds(&names, 2_000);
-    // Each of 32 shards grew several times, and so did the table.
-    assert!(refusals > 300, "{refusals}");
+    // Each of 32 shards made an index about three times, and the table has several parts.
+    assert!(refusals > 32 * 3, "{refusals}");
+}
+
+/// Each request of a call that interns many texts is refused once, behind one for the symbols. The texts before the one that lacked it
+/// stay, in their order.
+#[test]
+fn memory_is_refused_to_many_texts() {
+    let mut refusals = 0;
+    let names = loop {
+        let names = Interner::<DefaultSymbol, _>::with_hasher(FixedHashBuilder);
+        REFUSED.set(0);
+        let texts: Vec<String> = (0..700).map(spell).collect();
+        REFUSED.set(refusals + 1);
+        let interned = catch_unwind(AssertUnwindSafe(|| names.intern_all(&texts)));
+        if REFUSED.replace(0) > 0 {
+            assert_eq!(interned.unwrap().len(), 700);
+            break names;
+        }
+        let message = interned.err().unwrap();
+        assert_eq!(message.downcast_ref::<String>().unwrap(), "out of memory");
+        holds(&names, names.len());
+        refusals += 1;
+    };
+    holds(&names, 700);
+    // Each of 32 shards made an index about twice.
+    assert!(refusals > 32 * 2, "{refusals}");
 }
 
 /// Each request for capacity is refused once, behind those of a new interner, which end the process.
@@ -93,8 +118,8 @@ fn capacity_is_refused() {
         assert_eq!(message.downcast_ref::<String>().unwrap(), "out of memory");
         refusals += 1;
     };
-    // Each of 32 shards asks for two indexes and a list.
-    assert!(refusals > 96, "{refusals}");
+    // Each of 32 shards asks for an index, and the table of texts for more than one part.
+    assert!(refusals > 32, "{refusals}");
     (&names).extend((0..1_000).map(spell));
     holds(&names, 1_000);
 }
@@ -111,8 +136,8 @@ fn a_part_of_the_table_is_made_once() {
             scope.spawn(move || {
                 let text = spell(64 + thread);
                 start.wait();
-                // The table has eight bytes for each of 64 texts, and then of 128 more.
-                ALONE.set(8 * 128);
+                // The table has eight bytes for each of 64 texts, and then of 64 more.
+                ALONE.set(8 * 64);
                 let returned = names.try_get_or_intern(&text);
                 ALONE.set(0);
                 returned
@@ -179,7 +204,9 @@ fn a_call_that_fails_gives_its_memory_back() {
     symbols_fail::<true>();
 }
 
-/// A long text is copied, and then the list of long texts is refused memory: the last of the requests of this call.
+/// A long text is copied, and then the list of long texts is refused memory: the last of the requests of this call. There is one only
+/// where an entry has no room for the address and the length of any text.
+#[cfg(target_pointer_width = "64")]
 #[test]
 fn a_long_text_that_is_refused_gives_its_memory_back() {
     let names = Interner::<DefaultSymbol, _>::with_hasher(FixedHashBuilder);
@@ -197,6 +224,36 @@ fn a_long_text_that_is_refused_gives_its_memory_back() {
     assert_eq!(names.iter().last().unwrap().1, long);
 }
 
+/// What is counted is what is held, but for lists of blocks, which are small.
+#[test]
+fn memory_is_counted() {
+    let before = HELD.get();
+    let mut names = Interner::<DefaultSymbol, _>::with_hasher(FixedHashBuilder);
+    let is_counted = |names: &Interner<_, _>| {
+        let held = usize::try_from(HELD.get() - before).unwrap();
+        let spare = held.checked_sub(names.memory_used()).unwrap();
+        assert!(spare <= held / 20 + 10_000, "{spare} of {held}");
+    };
+    assert_eq!((HELD.get(), names.memory_used()), (before, 0));
+    for number in 0..20_000 {
+        let text = spell(number);
+        if number % 50 == 0 {
+            REFUSED.set(1 + number % 3);
+            let _ = names.try_get_or_intern(&text);
+            REFUSED.set(0);
+        }
+        names.get_or_intern(text);
+        if number % 100 == 0 {
+            is_counted(&names);
+        }
+    }
+    let used = names.memory_used();
+    names.shrink_to_fit();
+    assert!(names.memory_used() < used);
+    is_counted(&names);
+    holds(&names, 20_000);
+}
+
 /// A known text needs no memory.
 #[test]
 fn known_texts_allocate_nothing() {
@@ -209,6 +266,65 @@ fn known_texts_allocate_nothing() {
         );
         assert!(REFUSED.replace(0) == 1 && found == (true, true));
     }
+}
+
+/// Gives all texts one code.
+#[derive(Default)]
+struct OneCode;
+
+impl Hasher for OneCode {
+    fn write(&mut self, _: &[u8]) {}
+
+    fn finish(&self) -> u64 {
+        0
+    }
+}
+
+/// One of six symbols.
+#[derive(Clone, Copy, Debug, PartialEq, Eq)]
+struct OfSix(usize);
+
+impl Symbol for OfSix {
+    fn try_from_usize(index: usize) -> Option<Self> {
+        (index < 6).then_some(OfSix(index))
+    }
+
+    fn to_usize(self) -> usize {
+        self.0
+    }
+}
+
+/// The index of a shard is full with six texts, and a look at the first words misses the last of them.
+const FIVE: [&str; 5] = ["a", "b", "c", "d", "e"];
+
+#[test]
+fn a_known_text_needs_no_symbol_in_a_full_index() {
+    let mut names = Interner::<OfSix, BuildHasherDefault<OneCode>>::default();
+    names.intern_all(FIVE);
+    // One of them is new.
+    assert_eq!(names.intern_all(["x"; 40]), [OfSix(5); 40]);
+    names.extend(["x"]);
+    assert_eq!(names.get_or_intern("x"), OfSix(5));
+    assert_eq!(names.try_get_or_intern("y"), Err(InternError::NoSymbol));
+    assert_eq!(names.len(), 6);
+}
+
+#[test]
+fn a_known_text_needs_no_memory_in_a_full_index() {
+    let mut names = Interner::<DefaultSymbol, BuildHasherDefault<OneCode>>::default();
+    names.intern_all(FIVE);
+    names.intern_all(["x"; 40]);
+    let (held, used) = (HELD.get(), names.memory_used());
+    REFUSED.set(1);
+    names.extend(["x"]);
+    assert_eq!(
+        (HELD.get(), names.memory_used(), REFUSED.replace(0)),
+        (held, used, 1)
+    );
+    names.set_memory_limit(used);
+    names.extend(["x"]);
+    assert!(names.try_get_or_intern("y").is_err());
+    assert_eq!(names.get_or_intern("x").to_usize(), 5);
 }
 
 /// Threads intern more texts than there are symbols. As many get one as there are, and each text has one symbol or none.

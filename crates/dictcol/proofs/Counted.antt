@@ -103,6 +103,14 @@ counted-new entries counts total lines line new has =
     read : (k : ℕ) → slice_get (dictionary_of lines) k ≡ Some line → get_or (dictionary_of lines) k line ≡ line
     read k at = get_or_from_slice_get (dictionary_of lines) k line line at
 
+-- there is a count for each entry
+pub counted-long : (entries : List Text) (counts : List ℕ) (total : ℕ) (lines : List Text) → HasCounted (contents_of entries counts total) lines → length counts ≡ length entries
+counted-long entries counts total lines has = ap length has.counts_are ∙ length-map (dictionary_of lines) (count_in lines) ∙ ap length (sym has.entries_are)
+
+-- the same of what contracts see
+pub counted-each : (contents : CountsContents) (lines : List Text) → HasCounted contents lines → length contents.counts ≡ length contents.entries
+counted-each contents lines has = counted-long contents.entries contents.counts contents.total lines has
+
 -- no count is above the lines
 pub count-below : (entries : List Text) (counts : List ℕ) (total : ℕ) (lines : List Text) (index d : ℕ) → index < length counts → HasCounted (contents_of entries counts total) lines → get_or counts index d ≤ total
 count-below entries counts total lines index d within has =

@@ -20,6 +20,7 @@ pub mod TrimEnd
 pub mod AreGood
 pub mod IsLineOf
 pub mod Counted
+pub mod CountBlocks
 pub mod CountRows
 pub mod Places
 pub mod PlainColumns

@@ -1,12 +1,12 @@
 -- How often each line occurs, and what is written of it.
 -- Cited by `count` and `merge`.
-use Rattle.std.specs.Prelude.{◌≡◌, ℕ, List, [], ◌∷◌, ◌++◌, Bool, true, false, length, map, decimal, nat_lt}
+use Rattle.std.specs.Prelude.{◌≡◌, ◌<◌, ◌^◌, ℕ, List, [], ◌∷◌, ◌++◌, Bool, true, false, length, map, decimal, nat_lt}
 use Rattle.std.specs.Borrow.{Bor}
 use Rattle.std.specs.List.{count_by, flat_map}
 use Rattle.std.specs.List.Sorted.{IsPermutation, IsSortedBy, IsStableBy}
 use Rattle.std.specs.Str.{bytes_eq}
 use Rattle.string_interner.specs.Text.{Text}
-use Rattle.string_column.specs.Column.{counts_of, dictionary_of}
+use Rattle.string_column.specs.Column.{AreCodes, counts_of, dictionary_of}
 
 -- what contracts see of counts
 pub record CountsContents : Type 0 where
@@ -26,6 +26,12 @@ pub record HasCounted (contents : CountsContents) (lines : List Text) : Type 0 w
   pub entries_are : contents.entries ≡ dictionary_of lines
   pub counts_are : contents.counts ≡ counts_of lines
   pub total_is : contents.total ≡ length lines
+
+-- the counts are those of some lines, and the codes those of more lines behind them, where all have one dictionary
+pub record IsCountedBy (lines more : List Text) (counts codes : List ℕ) : Type 0 where
+  pub counts_are : counts ≡ counts_of lines
+  pub codes_are : AreCodes (dictionary_of (lines ++ more)) codes more
+  pub fits : length (lines ++ more) < 2 ^ 64
 
 -- each distinct line behind how often it occurs, in the order of first appearance
 abbrev pub counted : List Text → List (ℕ × Text)

@@ -8,14 +8,12 @@
 //! | [`lexer`] | a lexer whose keywords are told by number |
 //! | [`blocks`] | names in nested blocks |
 //! | [`column`] | rows that are compared, merged and counted by code |
-//! | [`hints`] | texts that threads find without a lock, by hints that may be wrong |
 //!
 //! What is generic over the backend or the hasher is proved for all of them.
 #![tactic(auto)]
 
 pub mod blocks;
 pub mod column;
-pub mod hints;
 pub mod lexer;
 pub mod lines;
 pub mod same_text;

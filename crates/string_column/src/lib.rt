@@ -26,5 +26,5 @@ mod rows;
 mod symbols;
 
 pub use code_list::Codes;
-pub use dictionary::Dictionary;
+pub use dictionary::{BLOCK_LEN, Dictionary, FEWEST_FOR_BLOCKS};
 pub use rows::{Column, Iter, PartsError};

@@ -11,7 +11,7 @@ ghost use Rattle.string_interner.specs.InternAll.{Lists};
 ghost use Rattle.string_column.specs.Column.{dictionary_of, counts_of, AreCodes, AppendsRow, AppendsYielded};
 
 use crate::code_list::Codes;
-use crate::dictionary::{BLOCK_LEN, Dictionary, TextList};
+use crate::dictionary::{BLOCK_LEN, Dictionary, FEWEST_FOR_BLOCKS, TextList};
 pub use iter::Iter;
 pub use parts::PartsError;
 use std::alloc::{AllocError, Global};
@@ -19,10 +19,6 @@ use std::marker::Model;
 use string_interner::StringInterner;
 use string_interner::backend::{Backend, DefaultBackend, InternError, Store};
 use string_interner::dedup::{FoldState, TaggedIndex, TextHasher, TextIndex};
-
-/// A dictionary of fewer texts is taken to fit the processor's cache. There a block takes longer than its texts one by one. These are
-/// more texts than those from which on `intern_slice` looks ahead, because the codes of a block take a pass of their own.
-const FEWEST_FOR_BLOCKS: usize = 1 << 16;
 
 /// A list of texts, the rows. It stores equal rows once.
 ///

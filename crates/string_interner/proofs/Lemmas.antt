@@ -9,7 +9,9 @@ pub mod Json
 pub mod Results
 pub mod Run
 pub mod Scopes
+pub mod Shown
 pub mod StringBackend
 pub mod Texts
 pub mod Table
 pub mod TaggedSlots
+pub mod WordSlots

@@ -12,3 +12,4 @@ pub mod Spelling
 pub mod StdHasher
 pub mod Strings
 pub mod Tagged
+pub mod Words

@@ -1,14 +1,14 @@
 -- How texts lie in buckets: where the text of an entry is stored, how a text is appended, and what bounds the
 -- capacities.
 -- Cited by the model and the contracts of `BucketBackend`.
-use Rattle.std.specs.Prelude.{◌≡◌, ℕ, ◌+◌, ◌-◌, ◌*◌, ◌^◌, ◌<◌, ◌≤◌, min, max, List, [], ◌∷◌, ◌++◌, length, map, sum_by, slice_index_or, slice_range, All, Bool, true, false, Option, Result}
+use Rattle.std.specs.Prelude.{◌≡◌, ℕ, ◌+◌, ◌-◌, ◌*◌, ◌^◌, ◌<◌, ◌≤◌, min, max, List, [], ◌∷◌, ◌++◌, length, map, sum_by, slice_index_or, slice_get, slice_range, All, Bool, true, false, Option, Some, Result}
 use Rattle.std.specs.Str.{IsUtf8, IsCharBoundary}
 use Rattle.std.specs.Int.{IsNextPowerOfTwo}
 use Rattle.string_interner.specs.Text.{Text}
 use Rattle.string_interner.specs.Numbering.{Numbering, by_index}
 use Rattle.string_interner.specs.Backend.{AppendsInto, Bucket, IsValidList}
 use Rattle.string_interner.specs.declared.backend.InternError.{InternError}
-use Rattle.string_interner.specs.declared.backend.bucket.copies.Piece.{Piece}
+use Rattle.string_interner.specs.declared.backend.bucket.interned_str.Piece.{Piece}
 use Rattle.string_interner.specs.declared.backend.bucket.interned_str.InternedStr.{InternedStr}
 use Rattle.string_interner.specs.declared.backend.bucket.interned_str.InternedStr.TheVariants.{InBucket, Static}
 
@@ -22,6 +22,10 @@ pub record BucketContents : Type 0 where
   -- the bucket to which texts are appended
   pub head : Bucket
   pub room : ℕ
+
+-- the entry with this index has this text
+abbrev pub HasTextAt : BucketContents → ℕ → Text → Type 0
+HasTextAt contents index text = slice_get contents.texts index ≡ Some text
 
 -- How many more entries there is room for. More than 2^32 - 1 count only as far as each may be long, since a text that takes
 -- as many bytes is.

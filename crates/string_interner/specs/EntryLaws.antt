@@ -7,7 +7,7 @@ use Rattle.std.proofs.lemmas.List.{append_assoc, append-nil, length_push, take-a
 use Rattle.std.proofs.lemmas.Bool.Decides.{nat_tests}
 use Rattle.std.proofs.lemmas.Option.{slice_get_within}
 use Rattle.string_interner.specs.Text.{Text}
-use Rattle.string_interner.specs.Backend.{BeginsAt, IsPlace}
+use Rattle.string_interner.specs.Backend.{BeginsAt, IsPlace, IsValidList}
 use Rattle.string_interner.specs.Entry.{text_ahead, entry_text}
 use Rattle.string_interner.specs.TextIndex.{Adds}
 use Rattle.string_interner.specs.Numbering.{Numbering}
@@ -74,6 +74,14 @@ module _ {S : Type 0} (numbering : Numbering S) where
       → ((i : ℕ) → BeginsAt numbering.place texts (numbering.number symbol) i → slice_get texts i ≡ Some text) → entry_text numbering texts symbol ≡ Some text
   entry_text-resolved texts symbol text h each =
       let t = some_value (entry_text numbering texts symbol) h in let r = entry_text-is texts symbol t.0 t.1 in t.1 ∙ sym r.2 ∙ each r.0 r.1
+
+  -- what is read at the number of an entry's symbol is the entry's text
+  pub entry_text-read : ((texts : List Text) (i : ℕ) → IsValidList numbering.symbol_of numbering.place texts → i < length texts → numbering.read texts (numbering.place (take i texts)) ≡ slice_get texts i)
+      → (texts : List Text) (symbol : S) → IsValidList numbering.symbol_of numbering.place texts → IsSome (entry_text numbering texts symbol)
+      → entry_text numbering texts symbol ≡ numbering.read texts (numbering.number symbol)
+  entry_text-read reads texts symbol valid h =
+      let t = some_value (entry_text numbering texts symbol) h in let r = entry_text-is texts symbol t.0 t.1 in
+      t.1 ∙ sym r.2 ∙ sym (reads texts r.0 valid r.1.within) ∙ ap (numbering.read texts) r.1.begins
 
   -- the symbol of the place of an entry has that entry's text
   pub entry_text-at : ((texts : List Text) (text : Text) → numbering.place texts < numbering.place (texts ++ text ∷ [])) → (texts : List Text) (symbol : S) (i : ℕ)

@@ -39,6 +39,11 @@ module _ {S L : Type 0} (layout : SlotLayout S L) where
     pub stored : layout.stored new slot.at ≡ layout.stores code
     pub others : (k : ℕ) → k ≢ slot.at → layout.stored new k ≡ layout.stored old k
 
+  -- A filled slot stays as it is.
+  abbrev pub KeepsFilled : L → L → Type 0
+  KeepsFilled old new = (k : ℕ) (symbol : S) → slice_index_or (layout.slots old) k None ≡ Some symbol
+      → (slice_index_or (layout.slots new) k None ≡ Some symbol) × (layout.stored new k ≡ layout.stored old k)
+
   -- The slots fit the entries and a hasher that gives this text this code.
   abbrev pub FitsCode : (S → Option Text) → L → ℕ → Text → Type 0
   FitsCode entry x code text = (of : Text → ℕ) × (layout.fits entry of x × (code ≡ of text))

@@ -29,7 +29,9 @@ pub mod Probe
 pub mod TextIndex
 pub mod Layout
 pub mod Tagged
+pub mod Words
 pub mod LayoutLaws
+pub mod Shown
 pub mod Table
 pub mod Interner
 pub mod Extend

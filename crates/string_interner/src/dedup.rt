@@ -15,10 +15,12 @@ mod count;
 mod index;
 mod layout;
 mod probe;
+mod shown;
 mod slots;
 mod table;
 mod tagged;
 mod text_index;
+mod words;
 
 pub use crate::hash::{
     CopyHasher, DefaultHashBuilder, FixedState, FoldState, SeededHasher, SeededState, StdHasher,

@@ -11,7 +11,7 @@ use core::marker::PhantomData;
 
 /// Returns the symbol of a text that is there.
 #[inline(always)]
-pub(super) fn symbol_of<S: Symbol>(number: usize) -> S {
+pub(crate) fn symbol_of<S: Symbol>(number: usize) -> S {
     S::try_from_usize(number).expect("each text has a symbol")
 }
 

@@ -15,10 +15,12 @@ use crate::rt::prelude::*; pub mod count;
 pub mod index;
 pub mod layout;
 pub mod probe;
+pub mod shown;
 pub mod slots;
 pub mod table;
 pub mod tagged;
 pub mod text_index;
+pub mod words;
 
 pub use crate::proved::hash::{
     CopyHasher, DefaultHashBuilder, FixedState, FoldState, SeededHasher, SeededState, StdHasher,

@@ -1,5 +1,5 @@
-//! Rattle's std as the proved code uses it, over Rust's own, and its JSON (`serde_json`, `tokens`, `memchr`). It is written by hand,
-//! and not proved.
+//! Rattle's std as the proved code uses it, over Rust's own, its JSON (`serde_json`, `tokens`, `memchr`), and the words of a table that
+//! threads share (`words`). It is written by hand, and not proved.
 //!
 //! Each item has the name that it has there, and its comment says which contract of Rattle's it stands for. There a collection is
 //! passed the allocator and says if memory was refused. Here the allocator is Rust's global one, and what would end the process
@@ -19,6 +19,7 @@ pub mod string;
 mod tests;
 pub mod tokens;
 pub mod vec;
+pub mod words;
 
 // What these have means the same in both.
 pub use core::{fmt, iter, mem, slice};

@@ -59,7 +59,10 @@ impl u8x16 {
 }
 
 #[cfg(all(
-    any(target_feature = "sse2", target_feature = "neon"),
+    any(
+        target_feature = "sse2",
+        all(target_arch = "aarch64", target_feature = "neon")
+    ),
     not(any(miri, string_interner_words))
 ))]
 use crate::unchecked::lanes;
@@ -67,7 +70,10 @@ use crate::unchecked::lanes;
 #[cfg(any(
     miri,
     string_interner_words,
-    not(any(target_feature = "sse2", target_feature = "neon"))
+    not(any(
+        target_feature = "sse2",
+        all(target_arch = "aarch64", target_feature = "neon")
+    ))
 ))]
 mod lanes {
     pub type Lanes = [u8; 16];

@@ -9,7 +9,8 @@ use super::numbers::{Chunks, Product};
 use super::simd::{equal_by_words, u8x16};
 use super::string::String;
 use super::vec::Vec;
-use allocator::refused;
+use super::words::{size_of_words, Words, LINE};
+use allocator::{refused, HELD};
 use std::hash::DefaultHasher;
 use std::panic::{catch_unwind, AssertUnwindSafe};
 
@@ -165,6 +166,61 @@ fn texts_of_each_length_are_appended() {
 }
 
 /// Sixteen random bytes, of which some are alike.
+/// The words of a list, read one by one.
+fn words_of(words: &Words) -> std::vec::Vec<u64> {
+    (0..words.len()).map(|at| words.get(at)).collect()
+}
+
+#[test]
+fn words_have_what_was_written() {
+    let mut words = Words::zeros(Global, 8).unwrap();
+    assert_eq!(words_of(&words), [0; 8]);
+    assert_eq!(words.as_slice().as_ptr().addr() % LINE, 0);
+    words.set(0, u64::MAX);
+    words.set(7, 3);
+    assert_eq!(words_of(&words), [u64::MAX, 0, 0, 0, 0, 0, 0, 3]);
+    let copy = words.try_copy().unwrap();
+    words.clear();
+    assert_eq!(words_of(&words), [0; 8]);
+    assert_eq!(words_of(&copy), [u64::MAX, 0, 0, 0, 0, 0, 0, 3]);
+    assert!(catch_unwind(AssertUnwindSafe(|| words.get(8))).is_err());
+    assert!(catch_unwind(AssertUnwindSafe(|| words.set(8, 1))).is_err());
+}
+
+/// The words stay until the last list of them is dropped.
+#[test]
+fn words_are_shared() {
+    let before = HELD.get();
+    let mut words = Words::zeros(Global, 16).unwrap();
+    assert_eq!(HELD.get() - before, size_of_words(16) as isize);
+    let shared = words.share();
+    words.set(5, 9);
+    assert_eq!(shared.get(5), 9);
+    drop(words);
+    assert_eq!((shared.len(), shared.get(5)), (16, 9));
+    drop((shared.share(), shared));
+    assert_eq!(HELD.get(), before);
+}
+
+#[test]
+fn words_to_which_memory_is_refused() {
+    let words = Words::zeros(Global, 8).unwrap();
+    refused(|| {
+        assert!(Words::zeros(Global, 8).is_err() && words.try_copy().is_err());
+        let none = Words::new(Global);
+        assert_eq!((none.share().len(), none.as_slice().len()), (0, 0));
+        assert_eq!(
+            Words::zeros(Global, 0).unwrap().try_copy().unwrap().len(),
+            0
+        );
+    });
+    assert!(Words::zeros(Global, usize::MAX / 8).is_err());
+    assert_eq!(
+        (size_of_words(0), size_of_words(usize::MAX)),
+        (0, usize::MAX)
+    );
+}
+
 fn bytes(state: &mut u64) -> [u8; 16] {
     [(); 16].map(|()| {
         *state = state

@@ -2,9 +2,13 @@
 
 use super::Interner;
 use crate::backend::{As, Backend, BucketBackend, StringBackend};
+use crate::error::expect;
 use crate::hasher::By;
-use crate::interner::StringInterner;
-use crate::symbol::Symbol;
+use crate::interner::{Index, StringInterner};
+use crate::proved::dedup::probe::Vacancy;
+use crate::proved::dedup::TextIndex;
+use crate::rt::alloc::Global;
+use crate::symbol::{Sym, Symbol};
 use core::hash::BuildHasher;
 
 impl<S: Symbol, H: BuildHasher> Interner<S, H> {
@@ -19,7 +23,7 @@ impl<S: Symbol, H: BuildHasher> Interner<S, H> {
     }
 
     /// Returns a plain interner with the same texts under the same symbols. Threads may read it at the same time through a `&`, and
-    /// a call takes less time and memory there. It interns each text once more.
+    /// a call takes less time and memory there. It copies each text, and hashes and compares none.
     ///
     /// ```
     /// use string_interner::sync::Interner;
@@ -36,14 +40,21 @@ impl<S: Symbol, H: BuildHasher> Interner<S, H> {
     #[must_use]
     #[track_caller]
     pub fn into_interner(self) -> StringInterner<StringBackend<S>, H> {
-        let count = self.shared.count();
-        // What is left of `self` stays until all texts are copied.
-        let hasher = self.shared.hasher.0;
-        let mut interner = StringInterner::with_capacity_and_hasher(count as usize, hasher);
-        for number in 0..count {
-            interner.get_or_intern(self.memory.wait_for(number));
+        let codes = expect(self.memory.codes(self.shared.count() as usize));
+        let mut texts = StringBackend::with_capacity(codes.len());
+        let mut index: Index<StringBackend<S>> =
+            expect(TextIndex::with_capacity(Global, codes.len()));
+        let is_wider_than_codes = index.slots() as u64 > 1 << 32;
+        for (number, code) in (0..).zip(codes) {
+            let text = self.memory.wait_for(number);
+            let code = match is_wider_than_codes {
+                true => self.shared.code_of(text),
+                false => code.into(),
+            };
+            // The texts are distinct, and there is room for all.
+            index.insert_at(Vacancy::by_code(code), Sym(texts.intern(text)));
         }
-        interner
+        StringInterner::over(texts, self.shared.hasher.0, index)
     }
 }
 

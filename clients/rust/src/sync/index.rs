@@ -1,176 +1,69 @@
-//! The index of a shard: from hash codes to numbers of texts. Threads read it without a lock, and one that has the shard's lock
-//! extends it.
+//! Looking a text up without a lock, in the words of its shard's proved index.
 //!
-//! To whoever interns it is a hint. What it shows is compared with the text, and what it does not show is asked of the shard. So
-//! whatever it shows, no text gets two symbols, and none gets that of another text. Only a text that is looked up, and not interned,
-//! is unknown because an index says so. It says so where it has an empty slot for the text: whoever adds a text takes the first
-//! empty slot that it may have.
+//! The library's own code does that, over the two traits here, which say what threads are shown. Whatever that is, a number that is
+//! found has the text. A text that is not found was not known when the look began: that rests on how threads see each other's writes
+//! ([`orders`](super::orders)).
 
-use super::memory::{Table, Tables, Texts};
-use crate::error::InternError;
-use crate::proved::equal_texts::texts_are_equal;
-use std::sync::atomic::Ordering::Relaxed;
+use super::memory::{Memory, Store, Table, Texts};
+use super::shared::shard_of;
+use crate::proved::dedup::probe::home_of;
+use crate::proved::dedup::shown::{self, ShownTexts, ShownWords};
+use crate::proved::symbol::{Symbol as _, SymbolU32};
 
-/// So many slots from its home on may have a text's number. A text that comes when they are full is not in the index.
-const WINDOW: usize = 64;
-
-/// A text by its number, with its hash code.
-#[derive(Clone, Copy)]
-pub(super) struct Coded {
-    pub(super) code: u32,
-    pub(super) number: u32,
-}
-
-/// What an index shows of a text.
-pub(super) enum Look {
-    Found(u32),
-    /// It was not known when the look began.
-    Absent,
-    /// Its shard has to be asked.
-    Unknown,
-}
-
-/// From hash codes to numbers. A slot is 0, or has the highest bits of a text's code, and below them, in `Table::number_bits`, the text's
-/// number plus one, or ones alone if that is too large.
-pub(super) struct Index {
-    tables: Tables,
-}
-
-/// Reports whether the slot of a text with this code may have this content.
-#[inline(always)]
-fn is_alike(table: Table, content: u32, code: u32) -> bool {
-    (content ^ code) & !table.number_bits() == 0
-}
-
-/// Returns the number of a text whose slot has this content. If it is too large, this is the number of another text.
-#[inline(always)]
-fn number_of(table: Table, content: u32) -> u32 {
-    (content & table.number_bits()).wrapping_sub(1)
-}
-
-/// Reports whether the number of a text whose slot has this content is too large.
-#[inline]
-fn is_too_large(table: Table, content: u32) -> bool {
-    content & table.number_bits() == table.number_bits()
-}
-
-/// Puts a text into the first empty slot that it may have, if there is one.
-#[inline]
-fn put(table: Table, text: Coded) {
-    let home = text.code as usize;
-    let mut window = (home..home + WINDOW).map(|place| table.slot(place));
-    if let Some(slot) = window.find(|slot| slot.load(Relaxed) == 0) {
-        let bits = table.number_bits();
-        slot.store(text.code & !bits | bits.min(text.number + 1), Relaxed);
-    }
-}
-
-/// Looks for a text with this code in the first two slots that it may have, where most are. Both are read, so that nothing branches by
-/// which of them it is.
-#[inline(always)]
-fn glance(table: Table, code: u32, texts: &Texts, text: &str) -> Option<u32> {
-    let home = code as usize;
-    let first = table.slot(home).load(Relaxed);
-    let second = table.slot(home + 1).load(Relaxed);
-    let content = if is_alike(table, first, code) {
-        first
-    } else {
-        second
-    };
-    match look_at(table, content, code, texts, text) {
-        Look::Found(number) => Some(number),
-        _ => None,
-    }
-}
-
-/// Looks for a text with this code in all slots that it may have.
-pub(super) fn look(table: Table, code: u32, texts: &Texts, text: &str) -> Look {
-    let home = code as usize;
-    for place in home..home + WINDOW {
-        let content = table.slot(place).load(Relaxed);
-        if content == 0 {
-            return Look::Absent;
-        }
-        if is_alike(table, content, code) && is_too_large(table, content) {
-            return Look::Unknown;
-        }
-        match look_at(table, content, code, texts, text) {
-            Look::Absent => {}
-            shown => return shown,
-        }
-    }
-    Look::Unknown
-}
-
-/// Returns what a slot shows of a text with this code. Its text may be about to be published: its shard is locked until then.
-#[inline(always)]
-fn look_at(table: Table, content: u32, code: u32, texts: &Texts, text: &str) -> Look {
-    if !is_alike(table, content, code) {
-        return Look::Absent;
-    }
-    let number = number_of(table, content);
-    match texts.get(number) {
-        // The length of the text that is looked for is known first.
-        Some(found) if texts_are_equal(text, found) => Look::Found(number),
-        Some(_) => Look::Absent,
-        None => Look::Unknown,
-    }
-}
-
-impl Index {
-    pub(super) const fn new() -> Self {
-        Index {
-            tables: Tables::new(),
-        }
-    }
-
-    /// Returns the table that counts, if there is one.
+impl ShownWords for Table<'_> {
     #[inline(always)]
-    pub(super) fn table(&self) -> Option<Table<'_>> {
-        self.tables.present()
+    fn len(&self) -> usize {
+        Table::len(*self)
     }
 
-    /// Returns the number of a text with this code, if the index shows it at once.
     #[inline(always)]
-    pub(super) fn glance(&self, code: u32, texts: &Texts, text: &str) -> Option<u32> {
-        glance(self.table()?, code, texts, text)
+    fn load(&self, at: usize) -> u64 {
+        Table::load(*self, at)
     }
+}
 
-    /// Looks for a text with this code.
-    #[inline]
-    pub(super) fn find(&self, code: u32, texts: &Texts, text: &str) -> Look {
-        match self.table() {
-            Some(table) => look(table, code, texts, text),
-            None => Look::Absent,
-        }
+impl ShownTexts for Texts {
+    #[inline(always)]
+    fn get(&self, number: SymbolU32) -> Option<&str> {
+        Texts::get(self, number.to_usize() as u32)
     }
+}
 
-    /// Makes room for one text more beside these, which are all of the shard. The caller has its lock.
-    #[inline]
-    pub(super) fn make_room(&self, texts: &[Coded]) -> Result<(), InternError> {
-        let has_room = |table: Table| texts.len() < table.len() / 4 * 3;
-        if self.table().is_some_and(has_room) {
-            return Ok(());
-        }
-        self.tables
-            .grow(0, |larger| texts.iter().for_each(|text| put(larger, *text)))
+/// Returns the number of a text with this code, if its shard shows it at once. Few known texts it does not.
+#[inline(always)]
+pub(super) fn glance(memory: &Memory, code: u64, text: &str) -> Option<u32> {
+    let words = memory.table(shard_of(code));
+    shown::glance(&words, memory.texts(), code, text).map(|number| number.to_usize() as u32)
+}
+
+/// Returns the number of a text with this code, if it was known when this was called, and perhaps if it came meanwhile.
+#[inline]
+pub(super) fn look(memory: &Memory, code: u64, text: &str) -> Option<u32> {
+    let words = memory.table(shard_of(code));
+    shown::look(&words, memory.texts(), code, text).map(|number| number.to_usize() as u32)
+}
+
+/// Returns the number of a text with this code, if the shard whose lock is taken has it.
+#[cold]
+pub(super) fn look_under_lock(store: &Store<'_>, code: u64, text: &str) -> Option<u32> {
+    shown::look(&store.table(), store.texts(), code, text).map(|number| number.to_usize() as u32)
+}
+
+/// Has the processor fetch the first word of a text with this code.
+#[inline(always)]
+pub(super) fn ask_for_word(memory: &Memory, code: u64) {
+    let words = memory.table(shard_of(code));
+    if words.len() > 0 {
+        words.ask_for(home_of(code, words.len()));
     }
+}
 
-    /// Makes room for so many texts, before the first one comes. The caller has the shard's lock.
-    pub(super) fn make_first_room(&self, texts: usize) -> Result<(), InternError> {
-        self.tables.grow(texts.div_ceil(3) * 4, |_| {})
-    }
-
-    /// Adds a text. The caller has the shard's lock.
-    #[inline]
-    pub(super) fn insert(&self, text: Coded) {
-        if let Some(table) = self.table() {
-            put(table, text);
-        }
-    }
-
-    /// Frees the tables that no longer count.
-    pub(super) fn forget_old_tables(&mut self) {
-        self.tables.forget_old();
+/// Has the processor fetch the entry of the number in that word, whose text it may be.
+#[inline(always)]
+pub(super) fn ask_for_entry(memory: &Memory, code: u64) {
+    let words = memory.table(shard_of(code));
+    if words.len() > 0 {
+        let word = words.load(home_of(code, words.len()));
+        memory.texts().ask_for((word as u32).wrapping_sub(1));
     }
 }

@@ -43,6 +43,7 @@ impl<'de, S: Symbol, H: BuildHasher + Default> Visitor<'de> for OfTexts<S, H> {
         let mut interner = Interner::with_hasher(H::default());
         let mut intern = |text: &str| interner.intern_alone(text).map(drop);
         while texts.next_element_seed(OneText(&mut intern))?.is_some() {}
+        interner.shrink_to_fit();
         Ok(interner)
     }
 }

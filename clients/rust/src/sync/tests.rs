@@ -3,11 +3,12 @@
 use super::shared::{shard_of, SHARDS};
 use super::*;
 use crate::hasher::By;
+use crate::proved::dedup::shown;
 use crate::proved::hash::TextHasher as _;
+use crate::proved::symbol::Symbol as _;
 use std::boxed::Box;
 use std::format;
 use std::string::{String, ToString as _};
-use std::sync::atomic::Ordering::Relaxed;
 use std::thread;
 use std::time::{Duration, Instant};
 use std::vec::Vec;
@@ -32,24 +33,20 @@ impl Writer {
 
     /// Takes the next of three steps, in the order in which `Shard::intern` takes them.
     fn step(&mut self, names: &Interner) {
-        let (shared, shard) = (&names.shared, shard_of(self.code));
+        let shard = shard_of(self.code);
         match self.steps {
             0 => {
-                let index = &shared.indexes[shard];
-                index.make_room(&[]).unwrap();
-                let taken = shared.take_number(names.memory.texts());
-                self.number = Some(taken.unwrap().0);
+                let taken = names.shared.take_number(names.memory.texts());
+                self.number = Some(taken.unwrap().number);
             }
-            1 => {
-                let (code, number) = (self.code as u32, self.number.unwrap());
-                shared.indexes[shard].insert(index::Coded { code, number });
-            }
-            _ => {
-                names.memory.with_locked(shard, |_, mut store| {
-                    let (entry, ()) = store.keep(self.text, || Ok(())).unwrap();
-                    entry.publish(self.number.unwrap());
-                });
-            }
+            1 => names.memory.with_locked(shard, |shard, mut store| {
+                store.show(shard.insert(self.code, self.number.unwrap()));
+            }),
+            _ => names.memory.with_locked(shard, |_, mut store| {
+                let (entry, ()) = store.keep(self.text, || Ok(())).unwrap();
+                let room = store.texts().make_room(self.number.unwrap());
+                entry.publish(room.unwrap());
+            }),
         }
         self.steps += 1;
     }
@@ -65,12 +62,8 @@ impl Writer {
             _ => names.memory.texts().get(self.number.unwrap()),
         };
         assert_eq!(resolved, (self.steps > 2).then_some(self.text));
+        // A number that has no text yet is passed.
         assert_eq!(names.get(self.text), number.filter(|_| self.steps > 2));
-        // Its shard is asked, and answers once the text is published.
-        let shown = names
-            .shared
-            .find(names.memory.texts(), self.code, self.text);
-        assert_eq!(matches!(shown, Look::Unknown), self.steps == 2);
     }
 }
 
@@ -107,22 +100,40 @@ fn a_number_that_is_taken_is_waited_for() {
         let reader = names.memory.with_locked(0, |_, mut store| {
             let texts = store.texts();
             let kept = store.keep("Tiger", || names.shared.take_number(texts));
-            let (entry, (number, symbol)) = kept.unwrap();
+            let (entry, taken) = kept.unwrap();
+            let symbol = taken.symbol;
             let reader = scope.spawn(move || names.resolve(symbol));
             thread::sleep(Duration::from_millis(100));
             assert!(!reader.is_finished());
-            entry.publish(number);
+            entry.publish(taken.room);
             reader
         });
         assert_eq!(reader.join().unwrap(), Some("Tiger"));
     });
 }
 
+/// Many known texts are found together while another thread has each lock.
+#[test]
+fn many_known_texts_take_no_lock() {
+    let texts: [String; 700] = std::array::from_fn(|number| format!("text {number}"));
+    let names: &'static Interner = Box::leak(Box::default());
+    let symbols = names.intern_all(&texts);
+    let _held = names.memory.lock(u32::MAX);
+    let reader = thread::spawn(move || names.intern_all(texts));
+    let until = Instant::now() + Duration::from_secs(600);
+    while !reader.is_finished() {
+        assert!(Instant::now() < until, "it waits");
+        thread::sleep(Duration::from_millis(5));
+    }
+    assert_eq!(reader.join().unwrap(), symbols);
+}
+
 /// No thread that has a shard will publish a text of this number. Who waits for it has had the lock of each, and does not go on waiting.
 #[test]
 fn nothing_is_waited_for_without_end() {
     let names: &'static Interner = Box::leak(Box::default());
-    let (_, symbol) = names.shared.take_number(names.memory.texts()).unwrap();
+    let taken = names.shared.take_number(names.memory.texts()).unwrap();
+    let symbol = taken.symbol;
     let readers = [
         thread::spawn(move || names.resolve(symbol).is_some()),
         thread::spawn(move || names.iter().next().is_some()),
@@ -145,41 +156,17 @@ fn a_look_goes_on_while_the_index_grows() {
         let text = text_of(number);
         names.get_or_intern(&text);
         let code = names.shared.code_of(&text);
-        let index = &names.shared.indexes[shard_of(code)];
-        // The table that the look has loaded when the other thread goes on.
-        looks.push((index.table().unwrap(), code, text));
+        // The words that the look has when the other thread goes on.
+        looks.push((names.memory.table(shard_of(code)), code, text));
     }
+    let texts = names.memory.texts();
     for (number, (table, code, text)) in looks.iter().enumerate() {
-        let found = index::look(*table, *code as u32, names.memory.texts(), text);
-        assert!(matches!(found, Look::Found(found) if found as usize == number));
-        let unknown = index::look(*table, *code as u32, names.memory.texts(), "unknown");
-        assert!(!matches!(unknown, Look::Found(_)));
+        let found = shown::look(table, texts, *code, text);
+        assert_eq!(found.map(|symbol| symbol.to_usize()), Some(number));
+        assert_eq!(shown::look(table, texts, *code, "unknown"), None);
     }
-}
-
-/// A table of 16 slots has numbers of 12 bits, and one of 64 slots those of 14.
-#[test]
-fn too_large_numbers_are_asked_for() {
-    let (names, index) = (Interner::new(), index::Index::new());
-    let text_of = |number| index::Coded {
-        code: number,
-        number,
-    };
-    let look = |code| index.find(code, names.memory.texts(), "unknown");
-    index.make_room(&[]).unwrap();
-    // Of no number is there a text in the table of texts.
-    (4_093..4_096).for_each(|number| index.insert(text_of(number)));
-    assert!((4_093..4_096).all(|code| matches!(look(code), Look::Unknown)));
-    assert!(matches!(look(4_096), Look::Absent));
-    let slots = |code: u32| (0..4).map(move |turn| (code + turn) as usize);
-    let has_number = |code| {
-        let table = index.table().unwrap();
-        slots(code).any(|place| table.slot(place).load(Relaxed) & table.number_bits() == code + 1)
-    };
-    assert!(has_number(4_093) && !has_number(4_095));
-    let all: Vec<_> = (4_084..4_096).map(text_of).collect();
-    index.make_room(&all).unwrap();
-    assert!((4_084..4_096).all(has_number));
+    // The first words of a shard were replaced many times.
+    assert!(looks[0].0.len() < names.memory.table(shard_of(looks[0].1)).len());
 }
 
 #[test]

@@ -110,7 +110,8 @@ impl<S: Symbol, H: BuildHasher + Default, T: AsRef<str>> FromIterator<T> for Int
 }
 
 impl<S: Symbol, H: BuildHasher, T: AsRef<str>> Extend<T> for Interner<S, H> {
-    /// Interns all texts, and takes no lock.
+    /// Interns all texts, takes no lock, and then frees the indexes that were replaced, as
+    /// [`shrink_to_fit`](Interner::shrink_to_fit) does.
     ///
     /// # Panics
     ///
@@ -121,6 +122,7 @@ impl<S: Symbol, H: BuildHasher, T: AsRef<str>> Extend<T> for Interner<S, H> {
         for string in iter {
             expect(self.intern_alone(string.as_ref()));
         }
+        self.shrink_to_fit();
     }
 }
 

@@ -6,13 +6,12 @@
 use std::cell::UnsafeCell;
 use std::env;
 use std::ops::{Deref, DerefMut};
-use std::sync::atomic::{AtomicBool, Ordering};
+use std::sync::atomic::{AtomicBool, AtomicU8, Ordering};
 pub use std::sync::PoisonError;
 use std::thread;
 
 pub struct Mutex<T> {
     is_locked: AtomicBool,
-    locks: bool,
     value: UnsafeCell<T>,
 }
 
@@ -22,17 +21,30 @@ impl<T> std::panic::RefUnwindSafe for Mutex<T> {}
 
 pub struct MutexGuard<'a, T>(&'a Mutex<T>);
 
+/// Reports whether locks lock: asks for the variable once.
+fn locks() -> bool {
+    const UNKNOWN: u8 = 2;
+    static LOCKS: AtomicU8 = AtomicU8::new(UNKNOWN);
+    match LOCKS.load(Ordering::Relaxed) {
+        UNKNOWN => {
+            let locks = env::var_os("NO_LOCK").is_none();
+            LOCKS.store(locks.into(), Ordering::Relaxed);
+            locks
+        }
+        known => known == 1,
+    }
+}
+
 impl<T> Mutex<T> {
-    pub fn new(value: T) -> Self {
+    pub const fn new(value: T) -> Self {
         Mutex {
             is_locked: AtomicBool::new(false),
-            locks: env::var_os("NO_LOCK").is_none(),
             value: UnsafeCell::new(value),
         }
     }
 
     pub fn lock(&self) -> Result<MutexGuard<'_, T>, PoisonError<MutexGuard<'_, T>>> {
-        while self.locks && self.is_locked.swap(true, Ordering::Acquire) {
+        while locks() && self.is_locked.swap(true, Ordering::Acquire) {
             thread::yield_now();
         }
         Ok(MutexGuard(self))

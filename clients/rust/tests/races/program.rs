@@ -52,7 +52,18 @@ fn read_what_others_intern(names: &Interner, number: usize) {
     }
 }
 
+/// Interns many texts at once, which other threads do in another order.
+fn intern_many(task: &Task) {
+    let mut texts: Vec<String> = (1_000..2_400).map(spell).collect();
+    texts.rotate_left(40 * task.step);
+    for some in texts.chunks(700) {
+        let symbols = task.names.intern_all(some);
+        assert!(symbols.iter().map(|symbol| &task.names[*symbol]).eq(some));
+    }
+}
+
 fn run(task: &Task) {
+    intern_many(task);
     let mut kept = Vec::new();
     for number in (0..CALLS).map(|number| number * task.step % (CALLS / 2)) {
         let symbol = task.names.get_or_intern(spell(number));

@@ -9,7 +9,7 @@ ghost use Rattle.string_interner.specs.Entry.{entry_text};
 ghost use Rattle.string_interner.specs.Slots.{symbols};
 ghost use Rattle.string_interner.specs.SlotRule.{IsLeastSlotCount};
 ghost use Rattle.string_interner.specs.LoadFactor.{GrowsTo, rule_by};
-ghost use Rattle.string_interner.specs.Layout.{FitsCode, IsTable};
+ghost use Rattle.string_interner.specs.Layout.{FitsCode, IsTable, KeepsFilled};
 ghost use Rattle.string_interner.specs.Index.{IsAbsent, SameMap};
 ghost use Rattle.string_interner.specs.Probe.{IsVacant};
 ghost use Rattle.string_interner.specs.TextIndex.{IfVacant, found_by};
@@ -107,6 +107,15 @@ impl<S: Symbol, L: Find<S>> Table<S, L> {
             alloc,
             of: PhantomData,
         })
+    }
+
+    /// Lends the slots, for what their layout does beside a search. Of every table holds what its clause `bounded` says.
+    #[inline(always)]
+    pub(super) fn as_slots(&self) -> &L
+        ensures value { result.now ≡ self.now.slots }
+        ensures bounded { IsBounded L.layout self.now }
+    {
+        &self.slots
     }
 
     /// Returns how many slots there are.
@@ -327,6 +336,7 @@ impl<S: Symbol, L: Find<S>> Table<S, L> {
         requires room { HasRoom L.layout self.old }
         requires vacant { IsVacant (L.layout.slots self.old.slots) vacancy.code vacancy }
         ensures inserts { InsertsByCode L.layout vacancy.code self.old self.new symbol }
+        ensures kept { KeepsFilled L.layout self.old.slots self.new.slots }
         ensures count { entry_count L.layout self.new ≡ entry_count L.layout self.old + 1 }
         ensures slots { slot_count L.layout self.new ≡ slot_count L.layout self.old }
     {

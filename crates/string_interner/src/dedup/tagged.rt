@@ -1,6 +1,6 @@
 //! Slots with a tag and 32 bits of a code beside each symbol.
 
-mod tags;
+pub(super) mod tags;
 
 ghost use Rattle.std.specs.Prelude.{◌≡◌, ◌≢◌, ◌+◌, ◌<◌, ◌≤◌, ◌%◌, ℕ, length, slice_index_or, replicate, vec_capacity, vec_len, IfNone, IfSome, None, Some};
 ghost use Rattle.string_interner.specs.Entry.{entry_text};
@@ -22,13 +22,13 @@ use std::marker::Model;
 use tags::{LANES, lanes_passed, stored_code, tag_of};
 
 /// Up to this slot count a home is known by the 32 bits of a stored code.
-const MOST_SLOTS_BY_STORED_CODE: usize = 0x1_0000_0000;
+pub(super) const MOST_SLOTS_BY_STORED_CODE: u64 = 0x1_0000_0000;
 
 /// A symbol and the stored code of its text, which lie together because whoever writes or moves one does so with both.
 #[derive(Clone, Copy)]
-struct CodedSymbol<S> {
-    symbol: S,
-    code: u32,
+pub(super) struct CodedSymbol<S> {
+    pub(super) symbol: S,
+    pub(super) code: u32,
 }
 
 /// Slots with a tag and 32 bits of a code beside each symbol, at most seven eighths of which are filled.
@@ -81,6 +81,10 @@ fn fill_items<S: Symbol>(items: &mut Vec<CodedSymbol<S>>, count: usize, item: Co
         fill_empty(items, count, item);
     }
 }
+
+/// Has the processor fetch an item, so that whoever reads it soon waits less. Does nothing here: `tools/erase` gives it a body.
+#[inline(always)]
+fn ask_for<T>(_items: &[T], _at: usize) {}
 
 impl<S: Symbol> TaggedSlots<S> {
     /// Returns what is in a slot, if anything.
@@ -144,6 +148,38 @@ impl<S: Symbol> TaggedSlots<S> {
             } else {
                 at = slot_after(reached, count);
             }
+        }
+    }
+
+    /// Takes the step that [`Probe::step`] promises. Slots of other tags are passed without a look, up to sixteen at once.
+    #[inline(always)]
+    fn reach<B: Store<Symbol = S>>(
+        &self,
+        at: usize,
+        code: u64,
+        looks: &mut Looks<'_, B>,
+        text: &str,
+    ) -> Step<S>
+        requires within { at < length (symbols_in self.now) }
+        requires fits { FitsCode tagged_layout
+            (entry_text B.numbering (B.texts looks.old.backend)) self.now code text.now }
+        ensures leads { StepsTo
+            (has_text (entry_text B.numbering (B.texts looks.old.backend)) text.now)
+            (symbols_in self.now) at result }
+        ensures backend { looks.new.backend ≡ looks.old.backend }
+        ensures counts { looks.old.count ≤ looks.new.count }
+        ensures looks { looks.new.count ≤ looks.old.count + 1 }
+    {
+        let count = self.len();
+        let tag = tag_of(stored_code(code));
+        let reached = self.pass(at, tag);
+        // A known text is most often here, so what else may stop a step is tested behind it.
+        match self.item_with(reached, tag) {
+            Some(item) if looks.has_text(item.symbol, text) => Step::Found(item.symbol),
+            Some(_) => Step::On(slot_after(reached, count)),
+            None if reached == count => Step::On(0),
+            None if self.item_at(reached).is_none() => Step::Free(reached),
+            None => Step::On(slot_after(reached, count)),
         }
     }
 
@@ -232,7 +268,7 @@ impl<S: Symbol> Layout<S> for TaggedSlots<S> {
         backend: &B,
     ) -> Option<(u64, S)> {
         let item = self.item_at(at)?;
-        if count <= MOST_SLOTS_BY_STORED_CODE {
+        if count as u64 <= MOST_SLOTS_BY_STORED_CODE {
             return Some((u64::from(item.code), item.symbol));
         }
         Some((
@@ -280,7 +316,7 @@ impl<S: Symbol> Layout<S> for TaggedSlots<S> {
 }
 
 impl<S: Symbol> Probe<S> for TaggedSlots<S> {
-    /// Slots of other tags are passed without a look, up to sixteen at once.
+    /// Asks for the symbol of the first slot before the tags are read: of a known text it is most often the one that is compared.
     #[inline(always)]
     fn step<B: Store<Symbol = S>>(
         &self,
@@ -289,17 +325,8 @@ impl<S: Symbol> Probe<S> for TaggedSlots<S> {
         looks: &mut Looks<'_, B>,
         text: &str,
     ) -> Step<S> {
-        let count = self.len();
-        let tag = tag_of(stored_code(code));
-        let reached = self.pass(at, tag);
-        // A known text is most often here, so what else may stop a step is tested behind it.
-        match self.item_with(reached, tag) {
-            Some(item) if looks.has_text(item.symbol, text) => Step::Found(item.symbol),
-            Some(_) => Step::On(slot_after(reached, count)),
-            None if reached == count => Step::On(0),
-            None if self.item_at(reached).is_none() => Step::Free(reached),
-            None => Step::On(slot_after(reached, count)),
-        }
+        ask_for(&self.items, at);
+        self.reach(at, code, looks, text)
     }
 }
 
@@ -313,7 +340,8 @@ impl<S: Symbol> Find<S> for TaggedSlots<S> {
         text: &str,
     ) -> Option<S> {
         let count = self.len();
-        match self.step(home_of(code, count), code, looks, text) {
+        // An unknown text most often ends here by the tags alone, so nothing else is asked for.
+        match self.reach(home_of(code, count), code, looks, text) {
             Step::Found(symbol) => Some(symbol),
             Step::Free(_) => None,
             Step::On(from) => {

@@ -1,14 +1,16 @@
 //! `count`: how often each line occurs.
 
-//~ ghost use Rattle.std.specs.Prelude.{◌≡◌, ℕ, List, [], ◌∷◌, ◌++◌, IfOk, IfErr, IfSome, OnOk, length, map};
+//~ ghost use Rattle.std.specs.Prelude.{◌≡◌, ◌≤◌, ℕ, List, [], ◌∷◌, ◌++◌, IfOk, IfErr, IfSome, OnOk, length, map};
 //~ ghost use Rattle.std.specs.Io.KnownBytes.{Appends};
 //~ ghost use Rattle.std.specs.List.{flat_map, zip};
 //~ ghost use Rattle.string_interner.specs.Text.{Text};
+//~ ghost use Rattle.string_interner.specs.Extend.{texts_of};
+//~ ghost use Rattle.string_column.specs.Column.{counts_of};
 //~ ghost use Rattle.dictcol.specs.Blocks.{IsLinesFault, IsLinesTaskFault};
-//~ ghost use Rattle.dictcol.specs.Counts.{AreSorted, HasCounted, IsCountsText, counted, count_line, row_of};
+//~ ghost use Rattle.dictcol.specs.Counts.{AreSorted, HasCounted, IsCountedBy, IsCountsText, counted, count_line, row_of};
 //~ ghost use Rattle.dictcol.specs.Fault.{IsOutputFault, IsTakeFault, IsWriteFault, WritesLast};
 //~ ghost use Rattle.dictcol.specs.Lines.{lines_of};
-//~ ghost use Rattle.dictcol.specs.TooMany.{LacksCount};
+//~ ghost use Rattle.dictcol.specs.TooMany.{HasRefused, LacksCount};
 //~ ghost use Rattle.dictcol.specs.Writes.{Writes};
 //~ ghost use Rattle.dictcol.specs.declared.fault.Fault.TheVariants.{Memory};
 
@@ -19,10 +21,10 @@ use crate::dictcol::input::blocks::TakesLines;
 use crate::dictcol::input::split::Lines;
 use crate::dictcol::json_form::file::write;
 use crate::itoa::Buffer;
-use crate::rt::alloc::Global;
+use crate::rt::alloc::{AllocError, Global};
 use crate::rt::io::{Read, Write};
 use crate::rt::marker::Model;
-use crate::string_column::{Column, Dictionary};
+use crate::string_column::{BLOCK_LEN, Codes, Column, Dictionary, FEWEST_FOR_BLOCKS};
 use crate::proved::StringInterner;
 use crate::proved::backend::Backend;
 use crate::proved::dedup::TaggedIndex;
@@ -35,19 +37,36 @@ struct Counts<B: Backend> {
     counts: Vec<usize>,
     /// How many lines were counted.
     total: usize,
+    /// The codes of the lines of a block, while these are counted.
+    codes: Codes,
 }
 
 //~ /// Contracts see the distinct lines, the counts and the total.
 //~ impl<B: Backend> Model for Counts<B> {
-//~     ghost use Rattle.std.specs.Prelude.{◌≡◌, length};
 //~     ghost use Rattle.dictcol.specs.Counts.{CountsContents, contents_of};
 //~
 //~     ghost Value = { CountsContents };
 //~
 //~     ghost view = { λ c. contents_of c.lines c.counts.items c.total };
-//~
-//~     ghost invariant = { λ c. length c.counts.items ≡ length c.lines };
 //~ }
+
+/// Counts a line for each code, which is the index of its entry: an entry without a count is that of the first code from then on.
+fn count_codes(counts: &mut Vec<usize>, codes: &Codes) -> Result<(), AllocError>
+    //~ ensures { OnOk result ((lines more : List Text)
+    //~     → IsCountedBy lines more counts.old.items codes.now.items
+    //~     → counts.new.items ≡ counts_of (lines ++ more)) }
+{
+    for at in 0..codes.len() {
+        let code = codes.at(at);
+        if code < counts.len() {
+            // No count is above the number of lines.
+            counts[code] = counts[code].saturating_add(1);
+            continue;
+        }
+        counts.push(1)?;
+    }
+    Ok(())
+}
 
 impl<B: Backend> Counts<B> {
     /// Makes counts of no lines.
@@ -58,6 +77,7 @@ impl<B: Backend> Counts<B> {
             lines: Dictionary::with_hasher(alloc, hasher),
             counts: Vec::new(alloc),
             total: 0,
+            codes: Codes::new(alloc),
         }
     }
 
@@ -70,8 +90,6 @@ impl<B: Backend> Counts<B> {
         //~     → IfErr result (IsTakeFault (LacksCount B.numbering lines line.now)) }
     {
         let total = self.total.checked_add(1).ok_or(Fault::TooMany)?;
-        // Before the line is interned, so that nothing has to be undone.
-        self.counts.reserve(1).map_err(|_| Fault::Memory)?;
         let index = self.lines.intern(line).map_err(Fault::of_intern)?;
         self.total = total;
         if index < self.counts.len() {
@@ -79,7 +97,26 @@ impl<B: Backend> Counts<B> {
             self.counts[index] = self.counts[index].saturating_add(1);
             return Ok(());
         }
-        self.counts.push_reserved(1);
+        self.counts.push(1).map_err(|_| Fault::Memory)?;
+        Ok(())
+    }
+
+    /// Counts the lines of a block, which are looked for together.
+    #[inline(never)]
+    fn add_block(&mut self, block: &[&str]) -> Result<(), Fault>
+        //~ requires { length block.now ≤ 256 }
+        //~ ensures counted { OnOk result ((lines : List Text) → HasCounted self.old lines
+        //~     → HasCounted self.new (lines ++ texts_of block.now)) }
+        //~ ensures fault { (lines : List Text) → HasCounted self.old lines → IfErr result
+        //~     (IsTakeFault (HasRefused (LacksCount B.numbering) (lines ++ texts_of block.now))) }
+    {
+        let total = self.total.checked_add(block.len()).ok_or(Fault::TooMany)?;
+        self.codes.truncate(0);
+        self.lines
+            .intern_block(block, &mut self.codes)
+            .map_err(Fault::of_intern)?;
+        count_codes(&mut self.counts, &self.codes).map_err(|_| Fault::Memory)?;
+        self.total = total;
         Ok(())
     }
 }
@@ -93,10 +130,22 @@ impl<B: Backend> TakesLines for Counts<B> {
     //~ ghost refuses = { LacksCount B.numbering };
 
     fn take_lines(&mut self, text: &str) -> Result<(), Fault> {
+        let mut block = [""; BLOCK_LEN];
+        let mut len = 0;
         for line in Lines::new(text) {
-            self.add(line)?;
+            // A block that has begun is filled first, so that lines stay in order.
+            if len == 0 && self.counts.len() < FEWEST_FOR_BLOCKS {
+                self.add(line)?;
+                continue;
+            }
+            block[len] = line;
+            len += 1;
+            if len == BLOCK_LEN {
+                self.add_block(&block)?;
+                len = 0;
+            }
         }
-        Ok(())
+        self.add_block(&block[..len])
     }
 
     fn count_lines(&self) -> usize {
@@ -112,6 +161,7 @@ fn count_input<B: Backend + Drop, R: Read>(
 ) -> Result<Counts<B>, Fault>
     //~ ensures ok { IfOk result (λ counts. IfSome (R.remaining input.old)
     //~     (λ all. HasCounted counts (lines_of all))) }
+    //~ ensures each { IfOk result (λ counts. length counts.counts ≡ length counts.entries) }
     //~ ensures fault { IfErr result
     //~     (IsLinesFault (LacksCount B.numbering) (R.remaining input.old)) }
 {
@@ -153,7 +203,25 @@ fn list_rows<'t, B: Backend>(
     Ok(rows)
 }
 
-/// Writes a line for each row: the count, a space, and the text.
+/// Writes a row: the count, a space, and the text.
+#[inline]
+fn write_row<W: Write>(
+    digits: &mut Buffer,
+    count: usize,
+    text: &str,
+    output: &mut W,
+) -> Result<(), Fault>
+    //~ ensures written { OnOk result (Appends (W.contents output.old) (W.contents output.new)
+    //~     (count_line (count, text.now))) }
+    //~ ensures fault { IfErr result IsWriteFault }
+{
+    write(output, digits.format(count).as_bytes())?;
+    write(output, b" ")?;
+    write(output, text.as_bytes())?;
+    write(output, b"\n")
+}
+
+/// Writes rows, a line each.
 fn write_rows<W: Write>(rows: &[(usize, &str)], output: &mut W) -> Result<(), Fault>
     //~ ensures written { OnOk result (Appends (W.contents output.old) (W.contents output.new)
     //~     (flat_map count_line (map row_of rows.now))) }
@@ -161,29 +229,52 @@ fn write_rows<W: Write>(rows: &[(usize, &str)], output: &mut W) -> Result<(), Fa
 {
     let mut digits = Buffer::new();
     for (count, text) in rows {
-        write(output, digits.format(*count).as_bytes())?;
-        write(output, b" ")?;
-        write(output, text.as_bytes())?;
-        write(output, b"\n")?;
+        write_row(&mut digits, *count, text, output)?;
+    }
+    output.flush().map_err(Fault::of_write)
+}
+
+/// Writes each text behind its count, a line each, in their order. Makes no list of the rows.
+fn write_texts<B: Backend, W: Write>(
+    counts: &[usize],
+    texts: &StringInterner<B, LineHasher, TaggedIndex<B::Symbol>>,
+    output: &mut W,
+) -> Result<(), Fault>
+    //~ requires { length counts.now ≡ length texts.now.texts }
+    //~ ensures written { OnOk result (Appends (W.contents output.old) (W.contents output.new)
+    //~     (flat_map count_line (zip counts.now texts.now.texts))) }
+    //~ ensures fault { IfErr result IsWriteFault }
+{
+    let mut digits = Buffer::new();
+    let mut at = 0;
+    for (_, text) in texts {
+        let count = counts[at];
+        write_row(&mut digits, count, text, output)?;
+        at += 1;
     }
     output.flush().map_err(Fault::of_write)
 }
 
 /// Writes the rows of counted lines, sorted if it says so. Nothing is written before they are sorted.
-fn write_sorted<W: Write>(
-    mut rows: Vec<(usize, &str)>,
+fn write_counted<B: Backend, W: Write>(
+    alloc: Global,
+    counts: &[usize],
+    texts: &StringInterner<B, LineHasher, TaggedIndex<B::Symbol>>,
     is_sorted: bool,
     output: &mut W,
 ) -> Result<(), Fault>
-    //~ ensures written { (lines : List Text) → map row_of rows.entry.items ≡ counted lines
+    //~ requires { length counts.now ≡ length texts.now.texts }
+    //~ ensures written { (lines : List Text) → zip counts.now texts.now.texts ≡ counted lines
     //~     → OnOk result (Writes (IsCountsText is_sorted lines)
     //~     (W.contents output.old) (W.contents output.new)) }
     //~ ensures silent { WritesLast result output.old output.new }
     //~ ensures fault { IfErr result IsOutputFault }
 {
-    if is_sorted {
-        sort_rows(&mut rows)?;
+    if !is_sorted {
+        return write_texts(counts, texts, output);
     }
+    let mut rows = list_rows(alloc, counts, texts)?;
+    sort_rows(&mut rows)?;
     write_rows(&rows, output)
 }
 
@@ -206,8 +297,13 @@ pub fn count<B: Backend + Drop, R: Read, W: Write>(
     //~     (IsLinesTaskFault (LacksCount B.numbering) (R.remaining input.old)) }
 {
     let counts = count_input::<B, R>(alloc, hasher, input)?;
-    let rows = list_rows(alloc, &counts.counts, counts.lines.interner())?;
-    write_sorted(rows, is_sorted, output)
+    write_counted(
+        alloc,
+        &counts.counts,
+        counts.lines.interner(),
+        is_sorted,
+        output,
+    )
 }
 
 /// Writes how often each row of a column occurs, and the row, in the order that `count` has. Nothing is written before all
@@ -224,6 +320,5 @@ pub fn write_column_counts<B: Backend, W: Write>(
     //~ ensures fault { IfErr result IsOutputFault }
 {
     let counts = lines.counts(alloc).map_err(|_| Fault::Memory)?;
-    let rows = list_rows(alloc, &counts, lines.dictionary())?;
-    write_sorted(rows, is_sorted, output)
+    write_counted(alloc, &counts, lines.dictionary(), is_sorted, output)
 }

@@ -1,7 +1,7 @@
 //! The dictionary of a column: distinct texts, each with its index.
 
 //~ ghost use Rattle.std.specs.Prelude.{◌≡◌, ◌≤◌, ◌<◌, List, [], length, slice_get, Some, Ok, Err, IfOk, MatchResult};
-//~ ghost use Rattle.string_interner.specs.Text.{Text, IsDistinct};
+//~ ghost use Rattle.string_interner.specs.Text.{Text};
 //~ ghost use Rattle.string_interner.specs.Extend.{texts_of};
 //~ ghost use Rattle.string_column.specs.Ahead.{IsAhead, PutsRows, TakesRows};
 //~ ghost use Rattle.string_column.specs.Entries.{FindsIndex};
@@ -17,6 +17,10 @@ use crate::proved::{Stopped, StringInterner, Symbol};
 /// How many texts a block has at most. Interning looks for 32 of them at a time, or leaves that if it finds few; with more texts
 /// in a block it does so less often, with fewer they stay in the processor's cache.
 pub const BLOCK_LEN: usize = 256;
+
+/// A dictionary of fewer texts is taken to fit the processor's cache. There a block takes longer than its texts one by one. These are
+/// more texts than those from which on `intern_slice` looks ahead, because the codes of a block take a pass of their own.
+pub const FEWEST_FOR_BLOCKS: usize = 1 << 16;
 
 /// A list of texts that are read by their indexes.
 pub trait TextList: Sized {
@@ -172,20 +176,23 @@ impl<B: Backend, H: TextHasher, I: TextIndex<B::Symbol>> Dictionary<B, H, I> {
         }
     }
 
-    /// Appends the index of each text to codes. Appends the texts that are new. Stops at the first text that `intern` fails for, or
-    /// whose index cannot be stored.
+    /// Appends the index of each of at most [`BLOCK_LEN`] texts to codes. Appends the texts that are new. Stops at the first text
+    /// that `intern` fails for, or whose index cannot be stored.
     ///
-    /// In a large dictionary the texts are looked for together.
-    pub(crate) fn intern_block(
-        &mut self,
-        texts: &[&str],
-        codes: &mut Codes,
-    ) -> Result<(), InternError>
-        //~ requires few { length texts.now ≤ 256 }
-        //~ requires distinct { IsDistinct self.old }
+    /// In a large dictionary the texts are looked for together. From [`FEWEST_FOR_BLOCKS`] texts on this takes less time than
+    /// `intern` of each.
+    ///
+    /// ```ignore
+    /// let mut codes = Codes::new(alloc);
+    /// words.intern_block(&["red", "green", "red"], &mut codes)?; // 0, 1, 0
+    /// ```
+    pub fn intern_block(&mut self, texts: &[&str], codes: &mut Codes) -> Result<(), InternError>
+        //~ requires { length texts.now ≤ 256 }
         //~ ensures { PutsRows B.numbering texts.now (self.old, codes.old.items) result
         //~     (self.new, codes.new.items) }
     {
+        // For the proof: states that the texts are distinct.
+        let _ = self.interner.len();
         let mut numbers = [0; BLOCK_LEN];
         let ended = self.interner.intern_slice(texts, &mut numbers);
         let (done, outcome) = count_done(texts.len(), ended);

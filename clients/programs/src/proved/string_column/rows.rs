@@ -11,7 +11,7 @@ pub mod parts;
 //~ ghost use Rattle.string_column.specs.Column.{dictionary_of, counts_of, AreCodes, AppendsRow, AppendsYielded};
 
 use crate::string_column::code_list::Codes;
-use crate::string_column::dictionary::{BLOCK_LEN, Dictionary, TextList};
+use crate::string_column::dictionary::{BLOCK_LEN, Dictionary, FEWEST_FOR_BLOCKS, TextList};
 pub use iter::Iter;
 pub use parts::PartsError;
 use crate::rt::alloc::{AllocError, Global};
@@ -19,10 +19,6 @@ use crate::rt::marker::Model;
 use crate::proved::StringInterner;
 use crate::proved::backend::{Backend, DefaultBackend, InternError, Store};
 use crate::proved::dedup::{FoldState, TaggedIndex, TextHasher, TextIndex};
-
-/// A dictionary of fewer texts is taken to fit the processor's cache. There a block takes longer than its texts one by one. These are
-/// more texts than those from which on `intern_slice` looks ahead, because the codes of a block take a pass of their own.
-const FEWEST_FOR_BLOCKS: usize = 1 << 16;
 
 /// A list of texts, the rows. It stores equal rows once.
 ///

@@ -4,26 +4,24 @@ use crate::rt::prelude::*; pub mod buckets;
 pub mod copies;
 pub mod entries;
 pub mod fixed_str;
-pub mod full_bucket;
 pub mod interned_str;
 pub mod lasting;
 
-//~ ghost use Rattle.std.specs.Prelude.{◌≡◌, ◌+◌, ◌^◌, ◌<◌, ◌≤◌, [], ◌∷◌, ◌++◌, length, take, map, slice_get, true, false, Some, IfOk, OnOk, OnErr, refl};
+//~ ghost use Rattle.std.specs.Prelude.{◌≡◌, ◌+◌, ◌^◌, ◌<◌, ◌≤◌, [], ◌∷◌, ◌++◌, length, take, map, true, false, IfOk, OnOk, OnErr, refl};
 //~ ghost use Rattle.std.specs.Cmp.{partial_equiv_from_equiv, on_equiv};
 //~ ghost use Rattle.std.proofs.Common.{rules};
 //~ ghost use Rattle.string_interner.specs.Backend.{IsValidList};
 //~ ghost use Rattle.string_interner.specs.Text.{texts_eq, texts_eq-IsEquivalence};
 //~ ghost use Rattle.string_interner.specs.Iter.{iter_over};
 //~ ghost use Rattle.string_interner.specs.ByIndexLaws.{length_grows, reads_at_length};
-//~ ghost use Rattle.string_interner.specs.BucketBackend.{BucketContents, bucket_numbering, empty_contents, buckets_of, AppendsText, AreBounded, CopiesBuckets, JoinsBuckets, KeepsBuckets, Puts, Stays, interned_text};
+//~ ghost use Rattle.string_interner.specs.BucketBackend.{BucketContents, bucket_numbering, empty_contents, buckets_of, AppendsText, AreBounded, CopiesBuckets, HasTextAt, JoinsBuckets, KeepsBuckets, Puts, Stays, interned_text};
 
 use crate::proved::backend::{Backend, CopyBackend, InternError, Iter, Store};
 use crate::proved::symbol::{DefaultSymbol, Symbol};
-use buckets::{interned_text, store};
+use buckets::{interned_text, piece_text, store};
 use copies::{copies_of, joint_capacity};
 use entries::{Entries, is_long};
 use fixed_str::FixedString;
-use full_bucket::FullBucket;
 use interned_str::InternedStr;
 use crate::rt::alloc::{AllocError, Global};
 use crate::rt::marker::{Model, PhantomData};
@@ -44,7 +42,7 @@ use crate::rt::marker::{Model, PhantomData};
 //~ #[derive(Drop)]
 pub struct BucketBackend<S: Symbol = DefaultSymbol> {
     entries: Entries,
-    full: Vec<FullBucket>,
+    full: Vec<FixedString>,
     head: FixedString,
     symbols: PhantomData<S>,
 }
@@ -74,8 +72,21 @@ impl<S: Symbol> BucketBackend<S> {
     #[inline]
     fn text_at(&self, index: usize) -> &str
         //~ requires { index < length self.now.texts }
-        //~ ensures text { slice_get self.now.texts index ≡ Some result.now }
+        //~ ensures text { HasTextAt self.now index result.now }
         //~ ensures valid { IsValidList S.symbol_of length self.now.texts }
+    {
+        // Of most entries this is all that is read.
+        match self.entries.piece(index) {
+            Some(piece) => piece_text(&self.full, &self.head, piece),
+            None => self.other_text(index),
+        }
+    }
+
+    /// Returns the text of an entry of any kind. It is a call, so that `text_at` stays short where it is used.
+    #[inline(never)]
+    fn other_text(&self, index: usize) -> &str
+        //~ requires { index < length self.now.texts }
+        //~ ensures { HasTextAt self.now index result.now }
     {
         interned_text(&self.full, &self.head, self.entries.get(index))
     }

@@ -3,6 +3,7 @@
 use crate::rt::prelude::*; use crate::proved::dedup::slots::Slots;
 use crate::proved::dedup::table::Table;
 use crate::proved::dedup::tagged::TaggedSlots;
+use crate::proved::dedup::words::WordSlots;
 
 /// A hash index that holds symbols alone.
 ///
@@ -37,6 +38,12 @@ pub type Index<S> = Table<S, Slots<S>>;
 /// let width = names.get_or_intern("width")?;
 /// ```
 pub type TaggedIndex<S> = Table<S, TaggedSlots<S>>;
+
+/// A hash index whose words other threads may read while one thread has it.
+///
+/// A slot takes 8 bytes: 32 bits of the code of the symbol's text, and the symbol's number. The load factor is at most three
+/// quarters. Growth hashes no text as long as there are at most 2^32 slots.
+pub type WordIndex<S> = Table<S, WordSlots<S>>;
 
 /// The index that an interner has if no other is named.
 pub type DefaultIndex<S> = Index<S>;

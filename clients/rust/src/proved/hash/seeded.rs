@@ -11,7 +11,7 @@ use crate::rt::hash::{BuildHasher, Hasher};
 ///
 /// If the keys are random and secret, no way is known to choose many texts that share a code: both operands of each product
 /// hold a secret. This was measured, and is not proved. So draw the keys once a process, or once an interner, from the
-/// system.
+/// system. Keys of few bits, such as 1 and 2, make a poor hash: many texts share a slot, and each call takes longer.
 ///
 /// Some pairs of texts share a code more often than by chance:
 ///

@@ -257,6 +257,7 @@ fn check_each<B: Store>(backend: &B, texts: &[&str], guesses: &mut [Option<usize
 #[inline(always)]
 fn resolve_each<'b, B: Store>(backend: &'b B, guesses: &[Option<usize>], found: &mut [&'b str])
     //~ requires count { length found.old ≡ length guesses.now }
+    //~ requires texts { IsInternerList B.numbering (B.texts backend.now) }
     //~ requires guesses { AreGuesses B.Symbol.symbol_of
     //~     (entry_text B.numbering (B.texts backend.now)) guesses.now }
     //~ ensures count { length found.new ≡ length found.old }
@@ -269,9 +270,14 @@ fn resolve_each<'b, B: Store>(backend: &'b B, guesses: &[Option<usize>], found: 
 }
 
 /// Returns the text of the symbol of a guess, or the empty text if there is none.
+///
+/// The symbol is resolved with a check, because it is made of a number: a symbol type without its laws may make another one of it
+/// than the backend gave.
 #[inline(always)]
 fn resolve_guess<B: Store>(backend: &B, guess: Option<usize>) -> &str
-    //~ requires { IsGuess B.Symbol.symbol_of (entry_text B.numbering (B.texts backend.now)) guess }
+    //~ requires texts { IsInternerList B.numbering (B.texts backend.now) }
+    //~ requires guess { IsGuess B.Symbol.symbol_of (entry_text B.numbering (B.texts backend.now))
+    //~     guess }
     //~ ensures { IsResolved B.Symbol.symbol_of (entry_text B.numbering (B.texts backend.now)) guess
     //~     result.now }
 {
@@ -281,7 +287,10 @@ fn resolve_guess<B: Store>(backend: &B, guess: Option<usize>) -> &str
     let Some(symbol) = B::Symbol::try_from_usize(number) else {
         return "";
     };
-    backend.resolve_unchecked(symbol)
+    match backend.resolve(symbol) {
+        Some(text) => text,
+        None => "",
+    }
 }
 
 /// Returns the symbol with this number, if any.

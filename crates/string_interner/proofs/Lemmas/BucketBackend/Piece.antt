@@ -7,7 +7,7 @@ use Rattle.std.proofs.lemmas.List.{append_assoc, length-append, length_push, dro
 use Rattle.std.proofs.lemmas.Str.{IsCharBoundary-start}
 use Rattle.string_interner.specs.Backend.{Bucket}
 use Rattle.string_interner.specs.BucketBackend.{buckets_of, bucket_at, interned_text, IsPart, IsPiece, after_piece, IsBucketCopy, AreCopies}
-use Rattle.string_interner.specs.declared.backend.bucket.copies.Piece.{Piece}
+use Rattle.string_interner.specs.declared.backend.bucket.interned_str.Piece.{Piece}
 use Rattle.string_interner.specs.declared.backend.bucket.fixed_str.Span.{Span}
 use Rattle.string_interner.specs.declared.backend.bucket.interned_str.InternedStr.{InternedStr}
 use Rattle.string_interner.specs.declared.backend.bucket.interned_str.InternedStr.TheVariants.{InBucket}

@@ -7,7 +7,7 @@ use Rattle.std.specs.List.{Contains}
 use Rattle.string_interner.specs.Text.{Text}
 use Rattle.string_interner.specs.Slots.{symbols}
 use Rattle.string_interner.specs.Index.{Fits, text_of}
-use Rattle.string_interner.specs.Layout.{Fills, IsCoded, SlotLayout}
+use Rattle.string_interner.specs.Layout.{Fills, IsCoded, KeepsFilled, SlotLayout}
 use Rattle.string_interner.specs.Probe.{FillsSlot, IsFree}
 use Rattle.string_interner.proofs.Lemmas.Index.Slots.{none, Contains-symbols}
 use Rattle.string_interner.proofs.Lemmas.Index.Inserts.{text_of_is}
@@ -63,6 +63,12 @@ module _ {S L : Type 0} (layout : SlotLayout S L) where
             let b : None ≡ Some symbol = sym a ∙ here in cc)
       ] in
       record { slot = p; stored = ap (layout.stored new) same ∙ stored; others = λ k ne. others k (subst (λ n. k ≢ n) same ne) }
+
+  -- a put writes an empty slot, and no other
+  pub Fills-keeps : (old new : L) (home : ℕ) (symbol : S) (code : ℕ) → Fills layout old new home symbol code → KeepsFilled layout old new
+  Fills-keeps old new home symbol code p k s e =
+      let other : k ≢ p.slot.at = λ q. (let empty : Some s ≡ None = sym e ∙ ap (λ j. get_or (layout.slots old) j None) q ∙ p.slot.was_empty in cc) in
+      (ap (λ xs. get_or xs k None) p.slot.written ∙ get_or-set_other (layout.slots old) p.slot.at k (Some symbol) None other ∙ e, p.others k other)
 
   -- a symbol that is put with what its text's code stores
   pub IsCoded-put : (entry : S → Option Text) (code : Text → ℕ) (old new : L) (home : ℕ) (symbol : S) (c : ℕ) → Fills layout old new home symbol c

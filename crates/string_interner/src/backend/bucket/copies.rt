@@ -4,37 +4,29 @@ ghost use Rattle.std.specs.Prelude.{◌≡◌, ◌+◌, ◌^◌, ◌<◌, ◌≤
 ghost use Rattle.std.specs.Str.{IsUtf8};
 ghost use Rattle.string_interner.specs.BucketBackend.{buckets_of, byte_count, interned_text, interned_len, IsPart, IsEntry, IsPiece, after_piece, PushesCopy, AreCopies};
 
-use crate::backend::bucket::buckets::{bucket_text, interned_text};
+use crate::backend::bucket::buckets::{bucket_text, piece_text};
 use crate::backend::bucket::entries::Entries;
 use crate::backend::bucket::fixed_str::{FixedString, Span};
-use crate::backend::bucket::full_bucket::FullBucket;
-use crate::backend::bucket::interned_str::InternedStr;
+use crate::backend::bucket::interned_str::{InternedStr, Piece};
 use std::alloc::{AllocError, Global};
 
 /// Returns the capacity of a head that holds the bytes of all buckets and keeps this head's spare bytes: `None` exactly
 /// if it does not fit a `usize`.
-pub fn joint_capacity(full: &[FullBucket], head: &FixedString) -> Option<usize>
+pub fn joint_capacity(full: &[FixedString], head: &FixedString) -> Option<usize>
     ensures value { IfSome result (λ capacity. capacity ≡ head.now.capacity + byte_count full.now) }
     ensures fits { IsSome result ↔ (head.now.capacity + byte_count full.now < 2 ^ 64) }
 {
     let mut capacity = head.capacity();
     for bucket in full {
-        capacity = capacity.checked_add(bucket.as_str().len())?;
+        capacity = capacity.checked_add(bucket.len())?;
     }
     Some(capacity)
 }
 
-/// A byte range of a bucket: adjacent texts that are still to be copied.
-#[derive(Clone, Copy)]
-struct Piece {
-    bucket: u8,
-    span: Span,
-}
-
-/// Appends the texts of a piece to `bucket`.
+/// Appends the texts of a piece to `bucket`: adjacent ones, which are copied together.
 fn copy_piece(
     piece: Piece,
-    full: &[FullBucket],
+    full: &[FixedString],
     head: &FixedString,
     bucket: &mut FixedString,
 ) -> Result<(), AllocError>
@@ -44,12 +36,7 @@ fn copy_piece(
     ensures { OnOk result (bucket.new
         ≡ after_piece (buckets_of full.now head.now) piece bucket.old) }
 {
-    let whole = InternedStr::InBucket {
-        bucket: piece.bucket,
-        span: piece.span,
-    };
-    let text = interned_text(full, head, whole);
-    let _ = bucket.push_str(text)?;
+    let _ = bucket.push_str(piece_text(full, head, piece))?;
     Ok(())
 }
 
@@ -58,7 +45,7 @@ fn copy_piece(
 fn lead_to(
     number: u8,
     from: usize,
-    full: &[FullBucket],
+    full: &[FixedString],
     head: &FixedString,
     bucket: &mut FixedString,
     piece: &mut Piece,
@@ -88,7 +75,7 @@ fn lead_to(
 fn push_copy(
     copies: &mut Entries,
     interned: InternedStr,
-    full: &[FullBucket],
+    full: &[FixedString],
     head: &FixedString,
     bucket: &mut FixedString,
     piece: &mut Piece,
@@ -128,7 +115,7 @@ fn push_copy(
 pub fn copies_of(
     alloc: Global,
     entries: &Entries,
-    full: &[FullBucket],
+    full: &[FixedString],
     head: &FixedString,
     capacity: usize,
 ) -> Result<(Entries, FixedString), AllocError>

@@ -3,17 +3,18 @@
 ghost use Rattle.std.specs.Prelude.{◌≡◌, ◌↔◌, ◌+◌, ◌^◌, ◌<◌, ◌≤◌, List, [], ◌∷◌, ◌++◌, length, take, slice_index_or, true, false, IsOk, IsSome, IfOk, IfSome, OnOk, OnErr};
 ghost use Rattle.string_interner.specs.BucketEntries.{long_count, HasSpan, Packs};
 ghost use Rattle.string_interner.specs.declared.backend.bucket.interned_str.InternedStr.{InternedStr};
+ghost use Rattle.string_interner.specs.declared.backend.bucket.interned_str.InternedStr.TheVariants.{InBucket};
 
 use crate::backend::bucket::fixed_str::Span;
-use crate::backend::bucket::interned_str::InternedStr;
+use crate::backend::bucket::interned_str::{InternedStr, Piece};
 use crate::backend::bucket::lasting::Lasting;
 use crate::backend::reserve::reserve_items;
 use std::alloc::{AllocError, Global};
 use std::marker::{Model, Send, Sync};
 use std::mem::size_of;
 
-/// A text of so many bytes is long: its length does not fit the entry.
-const LONG: usize = 1 << 32;
+/// A text of more bytes is long: its length does not fit the entry.
+const LONGEST: usize = u32::MAX as usize;
 
 /// A packed entry. The fields of each kind lie around its tag, so that it takes 16 bytes.
 #[derive(Drop)]
@@ -35,7 +36,7 @@ enum Packed {
     },
 }
 
-const _: () = prove!(size_of::<Packed>() == 16);
+const _: () = prove!(size_of::<Packed>() <= 16);
 
 /// What a static text's address leads to is only read.
 unsafe impl Send for Packed {}
@@ -89,7 +90,7 @@ pub fn is_long(len: usize) -> bool
     ensures short { result ≡ false → len < 2 ^ 32 }
     ensures long { result ≡ true → 2 ^ 32 ≤ len }
 {
-    len >= LONG
+    len > LONGEST
 }
 
 /// The entries, in order.
@@ -177,6 +178,26 @@ impl Entries {
             }
             Packed::Long(at) => self.long[*at],
         }
+    }
+
+    /// Returns the part of a bucket that the entry `index` is. Returns `None` if its text is static or long.
+    #[inline(always)]
+    pub fn piece(&self, index: usize) -> Option<Piece>
+        requires { index < length self.now.items }
+        ensures { IfSome result (λ piece. slice_index_or self.now.items index
+            (InBucket piece.bucket piece.span) ≡ InBucket piece.bucket piece.span) }
+    {
+        if let Packed::Copied { bucket, len, from } = &self.packed[index] {
+            let span = Span {
+                from: *from,
+                to: *from + *len as usize,
+            };
+            return Some(Piece {
+                bucket: *bucket,
+                span,
+            });
+        }
+        None
     }
 
     /// Makes room for one more entry, and for one more long one if `is_long`.

@@ -1,7 +1,6 @@
 //! A string that never grows beyond the capacity that was requested for it.
 
 ghost use Rattle.std.specs.Prelude.{◌≡◌, ◌+◌, ◌<◌, ◌≤◌, [], ◌++◌, length, IfOk, None, Ok};
-ghost use Rattle.std.specs.String.{string_bytes};
 
 use std::alloc::{AllocError, Global};
 use std::marker::Model;
@@ -79,13 +78,6 @@ impl FixedString {
         ensures { result.now ≡ self.now.bytes }
     {
         self.contents.as_str()
-    }
-
-    /// Turns the bucket into its text.
-    pub fn finish(self) -> String
-        ensures { string_bytes result ≡ self.bytes }
-    {
-        self.contents
     }
 
     /// Appends a text and returns its span. Returns `None`, and changes nothing, exactly if the capacity is too small.

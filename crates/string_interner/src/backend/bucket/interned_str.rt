@@ -4,6 +4,13 @@ ghost use Rattle.std.specs.Prelude.{◌≡◌};
 
 use crate::backend::bucket::fixed_str::Span;
 
+/// A byte range of a bucket, by the bucket's number.
+#[derive(Clone, Copy)]
+pub struct Piece {
+    pub bucket: u8,
+    pub span: Span,
+}
+
 /// Where the text of an entry is stored: in a bucket, or, if it is static, outside all buckets.
 #[derive(Clone, Copy)]
 pub enum InternedStr {

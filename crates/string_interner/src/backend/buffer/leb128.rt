@@ -65,15 +65,20 @@ pub(super) fn number_at(bytes: &[u8]) -> Option<Spelled>
 fn long_number_at(bytes: &[u8]) -> Option<Spelled>
     ensures { DecodesFront bytes.now result }
 {
-    let mut number = 0;
-    let mut unit = 1;
+    let mut number: u64 = 0;
+    let mut unit: u64 = 1;
     for (i, byte) in bytes.iter().enumerate() {
         // A greater last digit does not fit, and a marked one has another behind it.
         if i == LAST && *byte > 1 {
             return None;
         }
-        number += usize::from(*byte % 128) * unit;
+        number += u64::from(*byte % 128) * unit;
         if *byte < 128 {
+            // This is so only on targets with 32 bits, where no text has so many bytes.
+            if number > usize::MAX as u64 {
+                return None;
+            }
+            let number = number as usize;
             return Some(Spelled { number, len: i + 1 });
         }
         unit *= 128;

@@ -2,17 +2,17 @@
 
 //~ ghost use Rattle.std.specs.Prelude.{◌≡◌, ◌+◌, max, ◌<◌, ◌≤◌, length, IsOk, IfOk, OnOk, OnErr};
 //~ ghost use Rattle.std.specs.Int.{IsNextPowerOfTwo};
-//~ ghost use Rattle.string_interner.specs.BucketBackend.{AreFew, buckets_of, bucket_at, interned_text, IsEntry, IsLast, Puts};
+//~ ghost use Rattle.string_interner.specs.declared.backend.bucket.interned_str.InternedStr.TheVariants.{InBucket};
+//~ ghost use Rattle.string_interner.specs.BucketBackend.{AreFew, buckets_of, bucket_at, interned_text, IsEntry, IsLast, IsPiece, Puts};
 
 use crate::rt::prelude::*; use crate::proved::backend::bucket::fixed_str::{FixedString, Span};
-use crate::proved::backend::bucket::full_bucket::FullBucket;
-use crate::proved::backend::bucket::interned_str::InternedStr;
+use crate::proved::backend::bucket::interned_str::{InternedStr, Piece};
 use crate::rt::alloc::{AllocError, Global};
 use crate::rt::{mem, str};
 
 /// Returns the text of a bucket by its number: the older buckets come first, then the head.
 #[inline]
-pub fn bucket_text<'a>(full: &'a [FullBucket], head: &'a FixedString, bucket: u8) -> &'a str
+pub fn bucket_text<'a>(full: &'a [FixedString], head: &'a FixedString, bucket: u8) -> &'a str
     //~ requires { bucket < length (buckets_of full.now head.now) }
     //~ ensures { result.now ≡ (bucket_at (buckets_of full.now head.now) bucket).bytes }
 {
@@ -22,10 +22,21 @@ pub fn bucket_text<'a>(full: &'a [FullBucket], head: &'a FixedString, bucket: u8
     }
 }
 
+/// Returns the text of a part of a bucket.
+#[inline(always)]
+pub fn piece_text<'a>(full: &'a [FixedString], head: &'a FixedString, piece: Piece) -> &'a str
+    //~ requires { IsPiece (buckets_of full.now head.now) piece }
+    //~ ensures { result.now ≡ interned_text (buckets_of full.now head.now)
+    //~     (InBucket piece.bucket piece.span) }
+{
+    let bytes = bucket_text(full, head, piece.bucket);
+    unsafe { crate::unchecked::cut_unchecked(bytes, piece.span.from..piece.span.to) }
+}
+
 /// Returns the text of an entry.
 #[inline]
 pub fn interned_text<'a>(
-    full: &'a [FullBucket],
+    full: &'a [FixedString],
     head: &'a FixedString,
     interned: InternedStr,
 ) -> &'a str
@@ -33,10 +44,7 @@ pub fn interned_text<'a>(
     //~ ensures { result.now ≡ interned_text (buckets_of full.now head.now) interned }
 {
     match interned {
-        InternedStr::InBucket { bucket, span } => {
-            let bytes = bucket_text(full, head, bucket);
-            unsafe { crate::unchecked::cut_unchecked(bytes, span.from..span.to) }
-        }
+        InternedStr::InBucket { bucket, span } => piece_text(full, head, Piece { bucket, span }),
         // The text is UTF-8, which the contract asks, so it is not tested again.
         InternedStr::Static(text) => unsafe { str::from_utf8_unchecked(text) },
     }
@@ -63,7 +71,7 @@ fn new_head(alloc: Global, before: usize, text: &str) -> Result<(FixedString, Sp
 /// Returns the number of the head, which comes after the older buckets.
 #[inline]
 //~ #[tactic(auto, using(crate::proofs::Lemmas::BucketBackend::IsTight::few_below))]
-fn head_number(full: &[FullBucket], head: &FixedString) -> u8
+fn head_number(full: &[FixedString], head: &FixedString) -> u8
     //~ requires { AreFew full.now head.now }
     //~ ensures value { result ≡ length full.now }
     //~ ensures few { result < 64 }
@@ -79,7 +87,7 @@ fn head_number(full: &[FullBucket], head: &FixedString) -> u8
 #[inline(always)]
 //~ #[tactic(auto, using(crate::proofs::Lemmas::BucketBackend::IsTight::few_begins))]
 pub fn store(
-    full: &mut Vec<FullBucket>,
+    full: &mut Vec<FixedString>,
     head: &mut FixedString,
     text: &str,
 ) -> Result<InternedStr, AllocError>
@@ -96,7 +104,7 @@ pub fn store(
     }
     full.reserve(1)?;
     let (next, span) = new_head(*full.allocator(), head.capacity(), text)?;
-    full.push_reserved(FullBucket::new(mem::replace(head, next)));
+    full.push_reserved(mem::replace(head, next));
     let bucket = head_number(full, head);
     Ok(InternedStr::InBucket { bucket, span })
 }

@@ -1,5 +1,4 @@
-use Rattle.std.proofs.Common.{rules, ◌≡◌, Ok, Err, length, length-set, ◌+◌, ◌^◌, ◌<◌, ◌≤◌, IfErr, inl, inr, sym, ap, subst, ◌∙◌, arith}
-use Rattle.std.proofs.lemmas.List.{length_push}
+use Rattle.std.proofs.Common.{rules, ◌≡◌, Ok, Err, [], ◌∷◌, ◌++◌, length, ◌+◌, ◌^◌, ◌<◌, ◌≤◌, IfErr, inl, inr, sym, subst, arith}
 use Rattle.std.proofs.lemmas.Result.{IfErr-weaker}
 use Rattle.string_interner.specs.declared.backend.InternError.{InternError}
 use Rattle.string_column.specs.Entries.{FindsIndex}
@@ -7,30 +6,9 @@ use Rattle.dictcol.specs.Counts.{HasCounted, contents_of}
 use Rattle.dictcol.specs.Fault.{IsTakeFault, intern_fault}
 use Rattle.dictcol.specs.TooMany.{LacksCount}
 use Rattle.dictcol.specs.declared.fault.Fault.TheVariants.{TooMany}
-use Rattle.dictcol.proofs.Counted.{counted-again, counted-new, index-known, index-new}
+use Rattle.dictcol.proofs.Counted.{counted-again, counted-long, counted-new, index-known, index-new}
 use Rattle.dictcol.proofs.TooMany.{counted-refused}
 use Rattle.dictcol.proofs.count.Counts.add.Goals as goal
-
-pub invariant_of-self-then-index-len : goal.invariant_of-self-then-index-len
-invariant_of-self-then-index-len g c =
-    let old = c.self.inside.lines in
-    let index = c.in_ok-index.index in
-    let given : c.intern.result ≡ Ok c.in_ok-index.index = search rules in
-    let found : FindsIndex g.B.Store.numbering old c.args.line.now (Ok index) c.intern.new.self = rw given at c.intern.ensures in
-    let within : index < length old = search rules in
-    let known = index-known old c.intern.new.self c.args.line.now index found.0 found.1 within in
-    length-set c.reserve.new.self.items index c.saturating_add.result ∙ ap length c.reserve.ensures.items ∙ c.self.invariant ∙ sym (ap length known.1)
-
-pub invariant_of-self-2 : goal.invariant_of-self-2
-invariant_of-self-2 g c =
-    let old = c.self.inside.lines in
-    let index = c.in_ok-index.index in
-    let given : c.intern.result ≡ Ok c.in_ok-index.index = search rules in
-    let found : FindsIndex g.B.Store.numbering old c.args.line.now (Ok index) c.intern.new.self = rw given at c.intern.ensures in
-    let behind : length old ≤ index = search rules in
-    let new = index-new old c.intern.new.self c.args.line.now index found.0 found.1 behind in
-    let longer = length_push c.reserve.new.self.items 1 in
-    omega (arith, ap length c.push_reserved.ensures.items, longer, ap length c.reserve.ensures.items, c.self.invariant, ap length new.1, length_push old c.args.line.now)
 
 pub returns-then-index-len-clause-counted : goal.returns-then-index-len-clause-counted
 returns-then-index-len-clause-counted g c = λ lines has.
@@ -39,14 +17,13 @@ returns-then-index-len-clause-counted g c = λ lines has.
     let index = c.in_ok-index.index in
     let given : c.intern.result ≡ Ok c.in_ok-index.index = search rules in
     let found : FindsIndex g.B.Store.numbering old c.args.line.now (Ok index) c.intern.new.self = rw given at c.intern.ensures in
-    let within : index < length old = search rules in
-    let known = index-known old c.intern.new.self c.args.line.now index found.0 found.1 within in
-    let read = rw c.reserve.ensures.items at c.index.ensures in
+    let within : index < length counts = search rules in
     let total : c.in_ok-total.total ≡ c.self.inside.total + 1 = search rules in
     let fits : c.self.inside.total + 1 < 2 ^ 64 = search rules in
     let counted : HasCounted (contents_of old counts c.self.inside.total) lines = subst (λ contents. HasCounted contents lines) (sym c.self.view_is) has in
-    rw (known.1, c.reserve.ensures.items, total) (counted-again old counts c.self.inside.total lines c.args.line.now index c.index.result.now c.saturating_add.result known.0
-    (omega (arith, within, c.self.invariant)) read c.saturating_add.ensures fits counted)
+    let known = index-known old c.intern.new.self c.args.line.now index found.0 found.1 (omega (arith, within, counted-long old counts c.self.inside.total lines counted)) in
+    rw (known.1, total) (counted-again old counts c.self.inside.total lines c.args.line.now index c.index.result.now c.saturating_add.result known.0
+    within c.index.ensures c.saturating_add.ensures fits counted)
 
 pub returns-clause-counted : goal.returns-clause-counted
 returns-clause-counted g c = λ lines has.
@@ -55,11 +32,12 @@ returns-clause-counted g c = λ lines has.
     let index = c.in_ok-index.index in
     let given : c.intern.result ≡ Ok c.in_ok-index.index = search rules in
     let found : FindsIndex g.B.Store.numbering old c.args.line.now (Ok index) c.intern.new.self = rw given at c.intern.ensures in
-    let behind : length old ≤ index = search rules in
-    let new = index-new old c.intern.new.self c.args.line.now index found.0 found.1 behind in
+    let behind : length counts ≤ index = search rules in
     let total : c.in_ok-total.total ≡ c.self.inside.total + 1 = search rules in
     let counted : HasCounted (contents_of old counts c.self.inside.total) lines = subst (λ contents. HasCounted contents lines) (sym c.self.view_is) has in
-    rw (new.1, c.push_reserved.ensures.items, c.reserve.ensures.items, total) (counted-new old counts c.self.inside.total lines c.args.line.now new.0 counted)
+    let new = index-new old c.intern.new.self c.args.line.now index found.0 found.1 (omega (arith, behind, counted-long old counts c.self.inside.total lines counted)) in
+    let put : c.push.new.self.items ≡ counts ++ 1 ∷ [] = search rules in
+    rw (new.1, put, total) (counted-new old counts c.self.inside.total lines c.args.line.now new.0 counted)
 
 pub returns-in_err-total-clause-fault : goal.returns-in_err-total-clause-fault
 returns-in_err-total-clause-fault g c = λ lines has.

@@ -1,11 +1,5 @@
-use Rattle.std.proofs.Common.{sym, subst}
-use Rattle.string_interner.specs.Text.{IsDistinct}
-use Rattle.string_column.proofs.Lemmas.Counts.{dictionary-distinct}
 use Rattle.string_column.proofs.Lemmas.Blocks.{rows-put}
 use Rattle.string_column.proofs.rows.Column.push_block.Goals as goal
-
-pub intern_block-requires-clause-distinct : goal.intern_block-requires-clause-distinct
-intern_block-requires-clause-distinct g c = subst IsDistinct (sym c.self.invariant.dictionary_is) (dictionary-distinct _)
 
 pub invariant_of-self : goal.invariant_of-self
 invariant_of-self g c =

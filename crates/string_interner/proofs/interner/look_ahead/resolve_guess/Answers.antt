@@ -1,11 +1,20 @@
-use Rattle.std.proofs.Common.{sym, ◌∙◌}
-use Rattle.string_interner.specs.EntryLaws.{entry_text-IsPlace, entry_text-resolved}
+use Rattle.std.proofs.Common.{◌≡◌, true, false, None, sym, ap, ◌∙◌}
+use Rattle.std.specs.Option.{option_copied}
+use Rattle.string_interner.specs.Entry.{entry_text}
+use Rattle.string_interner.specs.EntryLaws.{entry_text-read}
 use Rattle.string_interner.proofs.interner.look_ahead.resolve_guess.Goals as goal
 
-pub resolve_unchecked-requires : goal.resolve_unchecked-requires
-resolve_unchecked-requires g c = entry_text-IsPlace g.B.Store.numbering _ c.in-Some-try_from_usize.symbol (rw (sym c.try_from_usize.ensures ∙ c.in-Some-try_from_usize.is) at (rw c.in-Some.is at c.requires))
-
-pub returns : goal.returns
-returns g c =
+pub returns-in-Some-resolve : goal.returns-in-Some-resolve
+returns-in-Some-resolve g c =
     let found = sym c.try_from_usize.ensures ∙ c.in-Some-try_from_usize.is in
-    rw (c.in-Some.is, found) (entry_text-resolved g.B.Store.numbering _ c.in-Some-try_from_usize.symbol _ (rw found at (rw c.in-Some.is at c.requires)) c.resolve_unchecked.ensures)
+    let there = rw found at (rw c.in-Some.is at c.requires.guess) in
+    rw (c.in-Some.is, found) (entry_text-read g.B.Store.numbering g.met.B.Store.reads _ c.in-Some-try_from_usize.symbol c.requires.texts.valid there ∙ sym c.resolve.ensures ∙ ap option_copied c.in-Some-resolve.is)
+
+-- an entry's symbol reads a text
+pub returns-in-None : goal.returns-in-None
+returns-in-None g c =
+    let found = sym c.try_from_usize.ensures ∙ c.in-Some-try_from_usize.is in
+    let there = rw found at (rw c.in-Some.is at c.requires.guess) in
+    let none : entry_text g.B.Store.numbering (g.B.Store.texts c.args.backend.now) c.in-Some-try_from_usize.symbol ≡ None =
+    entry_text-read g.B.Store.numbering g.met.B.Store.reads _ c.in-Some-try_from_usize.symbol c.requires.texts.valid there ∙ sym c.resolve.ensures ∙ ap option_copied c.in-None.is in
+    absurd (let e : false ≡ true = rw none at there in cc)

@@ -29,3 +29,7 @@ loop-i-preserved c = record {
 
 pub returns : goal.returns
 returns c = λ is. let f = front_there c.args.bytes.now is in omega (arith, f.0, front_len_goes c.args.bytes.now c.loop-i.i (omega arith) c.loop-i.invariant.marked)
+
+-- a number of at most ten digits, the last of which is at most one, fits
+pub returns-then-number : goal.returns-then-number
+returns-then-number c = λ is. omega (arith, digit_fits c.args.bytes.now c.loop-i.i c.loop-i.unit c.loop-i.number c.from.result c.loop-i.invariant.few c.loop-i.auto.i-end (tenth (goal.at.returns-then-number c).After-from) c.loop-i.invariant.number c.loop-i.invariant.unit c.from.ensures, c.if-number.true)

@@ -1,6 +1,8 @@
 use Rattle.std.proofs.Common.{◌+◌, arith, refl, ap, subst, sym, ◌∙◌, length}
+use Rattle.string_interner.specs.Layout.{KeepsFilled}
 use Rattle.string_interner.specs.Slots.{symbols}
 use Rattle.string_interner.specs.Table.{HasRoom}
+use Rattle.string_interner.proofs.Lemmas.Table.IsCoded.{Fills-keeps}
 use Rattle.string_interner.proofs.Lemmas.Table.IsSoundTable.{HasFreeSlot-sound, IsSoundTable-filled, entries-lt}
 use Rattle.string_interner.proofs.Lemmas.Table.IsTable.{inserted}
 use Rattle.string_interner.proofs.Lemmas.Index.LookUp.{FillsSlot-symbols, FillsSlot-length}
@@ -26,6 +28,9 @@ invariant_of-self g c =
 pub returns-clause-inserts : goal.returns-clause-inserts
 returns-clause-inserts g c =
     rw (← c.self.view_is) (inserted g.L.Layout.layout g.met.L.Layout.layout_laws _ _ _ _ c.occupy.ensures.puts refl (let n = c.self.invariant.counted in omega arith))
+
+pub returns-clause-kept : goal.returns-clause-kept
+returns-clause-kept g c = subst (λ x. KeepsFilled g.L.Layout.layout x.slots c.occupy.new.slots) c.self.view_is (Fills-keeps g.L.Layout.layout _ _ _ _ _ c.occupy.ensures.puts)
 
 pub returns-clause-count : goal.returns-clause-count
 returns-clause-count g c = FillsSlot-symbols _ _ _ _ c.occupy.ensures.puts.slot ∙ ap (λ x. length (symbols (g.L.Layout.layout.slots x.slots)) + 1) c.self.view_is
