@@ -780,16 +780,24 @@ def unread(pipe):
     return int.from_bytes(fcntl.ioctl(pipe.fileno(), termios.FIONREAD, bytes(4)), sys.byteorder)
 
 
+def is_read_by(run, data):
+    """Whether a run reads what it is given, rather than ends before."""
+    try:
+        os.write(run.stdin.fileno(), data)
+    except BrokenPipeError:
+        # The run is ending. For a moment more, it may look as if it went on.
+        return False
+    wait_for(lambda: not unread(run.stdin) or run.poll() is not None)
+    return not unread(run.stdin)
+
+
 def try_late_writers(program):
     """Wherever a run is stopped, one that begins then and reads has the folder, unless the first one has it: whoever does not, fails
     at once."""
     for name, folder, first in each_stop(program, WRITE, FIRST, THIRD):
         pipe = subprocess.PIPE
         with subprocess.Popen([program.path, *WRITE], stdin=pipe, stdout=pipe, stderr=pipe, cwd=folder) as second:
-            with suppress(BrokenPipeError):
-                os.write(second.stdin.fileno(), SECOND)
-            wait_for(lambda: not unread(second.stdin) or second.poll() is not None)
-            is_second = second.poll() is None
+            is_second = is_read_by(second, SECOND)
             ends = [first.end(), end_of(second)]
         busy = failed(1, b"it: cannot write files: resource busy")
         # Without a stop the first one has ended before.
