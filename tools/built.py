@@ -13,7 +13,7 @@ from machine import toolchain_folder
 from needs import is_there
 from tree import TOP
 
-# A run hangs that takes so much processor time, or none for so long: on a busy machine, others take longer by the clock.
+# A run hangs that takes so much processor time, or waits for so long and takes none: on a busy machine, others take longer by the clock.
 SECONDS = 60
 # What the library says at the end of a run that gave back all memory, and what stands for that line where it is missing.
 HELD_NOTHING, HELD = b"holds 0\n", b"not all memory was given back\n"
@@ -44,6 +44,11 @@ def processor_seconds(process: int) -> float:
     return (int(words[11]) + int(words[12])) / os.sysconf("SC_CLK_TCK")
 
 
+def is_held_up(process: int) -> bool:
+    """Whether a process waits for a processor or a disk, and so goes on by itself."""
+    return Path(f"/proc/{process}/stat").read_bytes().rpartition(b")")[2].split()[0] in (b"R", b"D")
+
+
 def end_of(started: subprocess.Popen[bytes], seconds: float | None = SECONDS) -> End:
     """How a process ends. One that hangs is killed, and has no status."""
     used = -1.0
@@ -53,7 +58,7 @@ def end_of(started: subprocess.Popen[bytes], seconds: float | None = SECONDS) ->
             return End(started.returncode, printed or b"", told or b"")
         except subprocess.TimeoutExpired:
             before, used = used, processor_seconds(started.pid)
-        if seconds is None or used >= seconds or used == before:
+        if seconds is None or used >= seconds or used == before and not is_held_up(started.pid):
             started.kill()
             return End(None, b"", b"hangs after %g seconds of processor time\n" % used)
 

@@ -10,7 +10,7 @@ from itertools import count
 from pathlib import Path
 
 import small  # noqa: F401 (brings the tools into reach)
-from built import HELD, End, Program, holding, processor_seconds, without_held
+from built import HELD, End, Program, holding, is_held_up, processor_seconds, without_held
 from trials import Tally, outcome
 
 
@@ -45,25 +45,28 @@ class ScriptTest(unittest.TestCase):
         self.assertEqual(program.run([]).output, b" \n")
 
     def test_a_run_without_end(self):
+        # One that gets no processor for a while does not hang.
         for script, seconds, least in ("exec sleep 60", 0.1, 0), ("while :; do :; done", 1, 1):
-            # On a busy machine a process may get no time for a second.
-            for _ in range(9):
-                ended = self.program(script).run([], seconds=seconds, TELL_HELD=1)
-                self.assertIsNone(ended.status)
-                self.assertRegex(ended.error, rb"\Ahangs after [\d.]+ seconds of processor time\n\Z")
-                used = float(ended.error.split()[2])
-                if used >= least:
-                    break
-            self.assertGreaterEqual(used, least)
+            ended = self.program(script).run([], seconds=seconds, TELL_HELD=1)
+            self.assertIsNone(ended.status)
+            self.assertRegex(ended.error, rb"\Ahangs after [\d.]+ seconds of processor time\n\Z")
+            self.assertGreaterEqual(float(ended.error.split()[2]), least)
 
     def test_a_run_that_takes_long_by_the_clock(self):
-        with unittest.mock.patch("built.processor_seconds", side_effect=count(0.001, 0.001)):
+        with unittest.mock.patch("built.processor_seconds", side_effect=count(0.001, 1e-6)):
+            self.assertEqual(self.program("sleep 0.3; echo done").run([], seconds=0.1), (0, b"done\n", b""))
+
+    def test_a_run_that_a_busy_machine_holds_up(self):
+        held_up = unittest.mock.patch("built.is_held_up", return_value=True)
+        with held_up, unittest.mock.patch("built.processor_seconds", return_value=0.05):
             self.assertEqual(self.program("sleep 0.3; echo done").run([], seconds=0.1), (0, b"done\n", b""))
 
     def test_processor_time(self):
-        while time.process_time() < 0.2:
+        while (before := time.process_time()) < 0.2:
             pass
-        self.assertAlmostEqual(processor_seconds(os.getpid()), time.process_time(), delta=0.1)
+        found = processor_seconds(os.getpid())
+        self.assertTrue(before - 0.1 < found < time.process_time() + 0.1, found)
+        self.assertTrue(is_held_up(os.getpid()))
 
     def test_asks(self):
         program = self.program("printf 'asks 8\\nword\\nasks 16\\nrequest refused\\nholds 0\\n' >&2")
