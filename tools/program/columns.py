@@ -707,8 +707,11 @@ def lock_shortly(path):
     """Locks a folder, if there is one that nobody has, for a moment and beside others, as a run does that looks whether it is taken."""
     with suppress(OSError):
         folder = os.open(path, os.O_RDONLY)
-        threading.Timer(0.02, os.close, [folder]).start()
-        fcntl.flock(folder, fcntl.LOCK_SH | fcntl.LOCK_NB)
+        try:
+            fcntl.flock(folder, fcntl.LOCK_SH | fcntl.LOCK_NB)
+        finally:
+            # The moment begins once the lock is there, and is long enough for a run on a busy machine to come to it.
+            threading.Timer(0.2, os.close, [folder]).start()
 
 
 def try_looks_beside(program):
@@ -747,7 +750,8 @@ def is_locked(path):
 
 
 def wait_for(is_there):
-    end = time.monotonic() + SECONDS
+    # By the clock, so for much longer than a busy machine takes.
+    end = time.monotonic() + 10 * SECONDS
     while not is_there() and time.monotonic() < end:
         time.sleep(0.001)
     return is_there()
