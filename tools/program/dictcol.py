@@ -281,29 +281,39 @@ CHOSEN, FLOODED = 80000, 3
 KNOWN = ((START + 32, MULTIPLIER), (0, 0))
 
 
-def least_seconds(program, words, data, **settings):
-    """The least processor time of three runs, and their statuses. Other work of the machine leaves it alone."""
-    times, statuses = [], set()
-    for _ in range(3):
-        before = resource.getrusage(resource.RUSAGE_CHILDREN)
-        statuses.add(program.run(words, data, **settings).status)
-        after = resource.getrusage(resource.RUSAGE_CHILDREN)
-        times.append(after.ru_utime - before.ru_utime + after.ru_stime - before.ru_stime)
-    return min(times), statuses
+# So many runs are compared, and more if a machine that is slow for a while may be why they differ.
+RUNS, MOST_RUNS = 3, 9
+
+
+def least_seconds(program, words, inputs, is_right, **settings):
+    """The least processor time of some runs over each input, which take turns, and their statuses. Other work of the machine leaves
+    it alone."""
+    times, statuses = [float("inf")] * len(inputs), [set() for _ in inputs]
+    for number in range(1, MOST_RUNS + 1):
+        for place, data in enumerate(inputs):
+            before = resource.getrusage(resource.RUSAGE_CHILDREN)
+            statuses[place].add(program.run(words, data, **settings).status)
+            after = resource.getrusage(resource.RUSAGE_CHILDREN)
+            times[place] = min(times[place], after.ru_utime - before.ru_utime + after.ru_stime - before.ru_stime)
+        if number >= RUNS and is_right(times):
+            break
+    return times, statuses
+
+
+def are_alike(times):
+    return max(times[1:]) <= FLOODED * times[0]
 
 
 def try_chosen_lines(program):
     """Lines that were chosen against a hasher whose keys are known take no longer than others: at most three times as long, in
-    the best of three runs."""
-    usual = [b"%032d" % number for number in range(CHOSEN)]
+    the best of some runs."""
+    every = [[b"%032d" % number for number in range(CHOSEN)], *(chosen_lines(CHOSEN, *known) for known in KNOWN)]
     for word in b"encode", b"count", b"decode":
-        times = []
-        for lines in usual, *(chosen_lines(CHOSEN, *known) for known in KNOWN):
-            texts = [b'"%s"' % line for line in lines]
-            least, statuses = least_seconds(program, [word], file_of(texts, [b"0"]) if word == b"decode" else b"\n".join(lines))
-            times.append(least)
+        inputs = [file_of([b'"%s"' % line for line in lines], [b"0"]) if word == b"decode" else b"\n".join(lines) for lines in every]
+        times, every_status = least_seconds(program, [word], inputs, are_alike)
+        for statuses in every_status:
             yield f"{word} of {CHOSEN} lines", statuses, {0}
-        yield f"chosen lines do not slow {word}: {times}", max(times[1:]) <= FLOODED * times[0], True
+        yield f"chosen lines do not slow {word}: {times}", are_alike(times), True
 
 
 # The keys if random bytes are 1, 2, 3 and so on. Over so many lines that have one code a run takes at least so many times as long.
@@ -311,15 +321,19 @@ DRAWN = tuple(int.from_bytes(range(first, first + 8), "little") for first in (1,
 FEW, SLOWED = 10000, 10
 
 
+def are_slowed(times):
+    return times[1] > SLOWED * times[0]
+
+
 def try_drawn_keys(program):
     """Both keys that are drawn are those of the hasher, each in its place: lines that are chosen under them slow a run down."""
     one, other = DRAWN
     start = one ^ (other << 32 | other >> 32) % 2**64
-    usual, chosen = [b"%032d" % number for number in range(FEW)], chosen_lines(FEW, start, other)
+    inputs = [b"\n".join(it) for it in ([b"%032d" % number for number in range(FEW)], chosen_lines(FEW, start, other))]
     for words in [b"encode"], [b"count"]:
-        (usually, _), (slowly, statuses) = (least_seconds(program, words, b"\n".join(it), COUNT_RANDOM=1) for it in (usual, chosen))
+        (usually, slowly), (_, statuses) = least_seconds(program, words, inputs, are_slowed, COUNT_RANDOM=1)
         yield f"{words} of {FEW} lines", statuses, {0}
-        yield f"lines chosen under the keys slow {words}: {usually}, {slowly}", slowly > SLOWED * usually, True
+        yield f"lines chosen under the keys slow {words}: {usually}, {slowly}", are_slowed((usually, slowly)), True
 
 
 def try_lines_and_keys(program):
