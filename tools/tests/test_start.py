@@ -1,5 +1,6 @@
 """How bin/ starts a program: current, stale or missing, with rt, by cargo, and with neither."""
 
+import contextlib
 import os
 import pty
 import re
@@ -132,9 +133,13 @@ class Start(unittest.TestCase):
         words, environment = [str(self.top / "bin/intern"), "string"], {"PATH": f"{self.top}/rt:/usr/bin:/bin", "TERM": "xterm"}
         subprocess.run(words, env=environment, stdin=subprocess.DEVNULL, stdout=subprocess.DEVNULL, stderr=theirs, check=True)
         os.close(theirs)
-        said = os.read(ours, 1 << 16).decode()
+        said = b""
+        # A read may give less than what is there. Behind all of it there is an error, because nobody has the other end any more.
+        with contextlib.suppress(OSError):
+            while piece := os.read(ours, 1 << 16):
+                said += piece
         os.close(ours)
-        return said
+        return said.decode()
 
     def test_tells_each_second_on_a_terminal(self):
         said = self.build_again(self.run_on_a_terminal, *(
