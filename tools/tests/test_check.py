@@ -182,11 +182,18 @@ class BeforehandTest(unittest.TestCase):
 class EndedTest(unittest.TestCase):
     def test_a_gate_that_a_signal_ends(self):
         """The signal comes to a part that waits for one, after a part that has ended."""
-        words = ["import os, runpy, signal, sys", f"CHECK = runpy.run_path({str(TOP / 'check')!r})", "gate = CHECK['Gate'](None)",
-                 "gate.run('one', 'sh', '-c', 'echo 3 passed, 0 failed')",
-                 "CHECK['MODES']['quick'] = lambda gate: gate.run('two', 'sh', '-c', f'sleep 0.5; kill -TERM {os.getpid()}; sleep 60')",
-                 "sys.exit(CHECK['run_mode'](gate, 'quick'))"]
-        ended = subprocess.run([sys.executable, "-c", "\n".join(words)], capture_output=True, encoding="utf-8", check=False)
+        # It waits until the gate has noted the part.
+        script = "until [ -e begun ]; do sleep 0.1; done; sleep 0.5; kill -TERM $PPID; sleep 60"
+        with tempfile.TemporaryDirectory() as folder:
+            words = ["import runpy, sys", f"CHECK = runpy.run_path({str(TOP / 'check')!r})", "gate = CHECK['Gate'](None)",
+                     "gate.run('one', 'sh', '-c', 'echo 3 passed, 0 failed')",
+                     "def quick(gate):",
+                     f"    part = gate.begin('two', 'sh', '-c', {script!r}, folder={folder!r})",
+                     f"    open({folder + '/begun'!r}, 'w').close()",
+                     "    gate.wait_for(part)",
+                     "CHECK['MODES']['quick'] = quick",
+                     "sys.exit(CHECK['run_mode'](gate, 'quick'))"]
+            ended = subprocess.run([sys.executable, "-c", "\n".join(words)], capture_output=True, encoding="utf-8", check=False)
         lines = ended.stdout.splitlines()
         self.assertEqual((ended.returncode, lines[-1]), (1, "3 passed, 1 failed"), ended.stderr)
         self.assertIn("ended by SIGTERM. Cut: two. What comes after was not begun", lines)
