@@ -1,6 +1,7 @@
 """Tests of the calls that change the texts of a column, or their order, over the distinct texts alone: what pandas makes of a
 Categorical, if it is there; each refusal; and functions that change the column meanwhile."""
 
+import gc
 import pickle
 import random
 import sys
@@ -370,6 +371,8 @@ class Values(unittest.TestCase):
     def test_an_array_of_rows_leaves_as_many_references(self):
         column = Column([f"text {number % 300}" if number % 7 else None for number in range(5000)])
         texts = column.dictionary
+        # What a collection frees meanwhile has some, too.
+        gc.collect()
         before = [sys.getrefcount(it) for it in (None, *texts)]
         for _ in range(5):
             column.to_numpy()
