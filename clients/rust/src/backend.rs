@@ -227,6 +227,7 @@ impl<B: Backend> proved::Store for As<B> {
     fn resolve_unchecked(&self, symbol: Self::Symbol) -> &str {
         // SAFETY: the index alone calls this, with a symbol that it was given, and the proved interner gives it only what `intern`
         // of this backend returned, or `entry_at` of one of this crate, in which a text begins at each place that it is asked for.
+        // `sync::Interner::into_interner` fills one for a `StringBackend`, which trusts no symbol.
         // It copies symbols by their bits. A clone of an interner has a clone of the backend. Before `truncate` drops a text, its
         // symbol is out of the index, or else all are before the next is looked at. What looks ahead makes symbols of numbers, and
         // resolves them by `resolve`. The crate does not call what would hand on any other symbol: the proved `resolve_unchecked`.
