@@ -20,7 +20,7 @@ use crate::proved::dedup::TextIndex;
 use crate::rt::alloc::{AllocError, Global};
 use crate::sealed::Ours;
 use crate::symbol::{DefaultSymbol, Sym, Symbol};
-use crate::unchecked::{find_joined, joined_at};
+use crate::unchecked::{find_bucketed, find_joined, joined_at};
 use alloc::vec::Vec;
 use core::fmt;
 use core::hash::BuildHasher;
@@ -457,7 +457,7 @@ backend! {
 }
 backend! {
     /// Texts in blocks that never move. Symbols number 0, 1, 2, ..
-    BucketBackend, BucketIter, proved::Store::resolve, proved::Store::resolve_unchecked, true
+    BucketBackend, BucketIter, find_bucketed, proved::Store::resolve_unchecked, true
 }
 backend! {
     /// Texts in one buffer of bytes. The number of a symbol is where its entry begins.
