@@ -10,7 +10,7 @@ use std::collections::BTreeSet;
 use std::hash::BuildHasher;
 use std::hint::{black_box, spin_loop};
 use std::sync::atomic::{AtomicU32, AtomicUsize, Ordering::SeqCst};
-use std::sync::RwLock;
+use std::sync::{Mutex, RwLock};
 use std::{mem, slice, str, thread};
 
 use dashmap::{DashMap, SharedValue};
@@ -385,6 +385,27 @@ fn rows_of<C: Contestant + 'static>(name: &str, texts: &'static Texts) -> Vec<Ro
     rows
 }
 
+/// Returns the row of making a plain interner of a shared one: to it all texts are new.
+fn row_of_freezing(texts: &'static Texts) -> Row {
+    let round = move || {
+        let filled = Mutex::new(None);
+        let fill = |_, _| {
+            let names = ours::sync::Interner::from_iter(&texts.new);
+            *filled.lock().unwrap() = Some(names);
+        };
+        let freeze = |_, _| {
+            let names = filled.lock().unwrap().take();
+            names.map(ours::sync::Interner::into_interner)
+        };
+        run(1, texts.new.len(), fill, freeze)
+    };
+    Row {
+        name: "plain, by into_interner\tnew 1".into(),
+        round: Box::new(round),
+        times: Vec::new(),
+    }
+}
+
 /// The bytes that malloc has given and not got back.
 fn live() -> usize {
     // SAFETY: the call takes nothing.
@@ -429,6 +450,7 @@ fn main() {
     }
     measure!(Plain, "plain");
     measure!(ours::sync::Interner, "sync::Interner");
+    rows.push(row_of_freezing(texts));
     measure!(
         RwLock<original::DefaultStringInterner>,
         "RwLock of the original"

@@ -20,7 +20,7 @@ use crate::proved::dedup::TextIndex;
 use crate::rt::alloc::{AllocError, Global};
 use crate::sealed::Ours;
 use crate::symbol::{DefaultSymbol, Sym, Symbol};
-use crate::unchecked::{find_joined, joined_at};
+use crate::unchecked::{find_bucketed, find_joined, joined_at};
 use alloc::vec::Vec;
 use core::fmt;
 use core::hash::BuildHasher;
@@ -227,6 +227,7 @@ impl<B: Backend> proved::Store for As<B> {
     fn resolve_unchecked(&self, symbol: Self::Symbol) -> &str {
         // SAFETY: the index alone calls this, with a symbol that it was given, and the proved interner gives it only what `intern`
         // of this backend returned, or `entry_at` of one of this crate, in which a text begins at each place that it is asked for.
+        // `sync::Interner::into_interner` fills one for a `StringBackend`, which trusts no symbol.
         // It copies symbols by their bits. A clone of an interner has a clone of the backend. Before `truncate` drops a text, its
         // symbol is out of the index, or else all are before the next is looked at. What looks ahead makes symbols of numbers, and
         // resolves them by `resolve`. The crate does not call what would hand on any other symbol: the proved `resolve_unchecked`.
@@ -456,7 +457,7 @@ backend! {
 }
 backend! {
     /// Texts in blocks that never move. Symbols number 0, 1, 2, ..
-    BucketBackend, BucketIter, proved::Store::resolve, proved::Store::resolve_unchecked, true
+    BucketBackend, BucketIter, find_bucketed, proved::Store::resolve_unchecked, true
 }
 backend! {
     /// Texts in one buffer of bytes. The number of a symbol is where its entry begins.

@@ -1,7 +1,7 @@
 //! All that is unsafe of what one thread does, but for calls of `resolve_unchecked` (`backend.rs`), the block of a table's words
 //! (`rt/words.rs`) and what is in proved source: looking a text up in the tagged table without checks of bounds, cutting texts out of
-//! a joined one and out of buckets, appending a short text without a call, asking for memory ahead, making room, counting, comparing
-//! sixteen bytes at once, and taking bytes for a text.
+//! a joined one and out of buckets, telling the compiler that a text has an address, appending a short text without a call, asking for
+//! memory ahead, making room, counting, comparing sixteen bytes at once, and taking bytes for a text.
 //!
 //! # Looking up
 //!
@@ -64,6 +64,10 @@
 //! a text at most: that is checked before its ends or its entry are read. What then says where to cut is no number that it returned.
 //! `string_entries` reads ends without that check: it tests that there are as many before its loop.
 //!
+//! # Addresses
+//!
+//! `find_bucketed` tells the compiler that a reference is not null. None is.
+//!
 //! # Asking for memory
 //!
 //! `ask_for` tells the processor an address, and reads nothing there. A search asks before it has read a tag, so the slot may be empty.
@@ -87,10 +91,11 @@
 #![allow(unsafe_code)]
 
 use crate::proved::backend::string::ends::span;
-use crate::proved::backend::StringBackend;
+use crate::proved::backend::{Backend as _, BucketBackend, Store as _, StringBackend};
 use alloc::alloc::{alloc, Layout};
 use alloc::string::String;
 use alloc::vec::Vec;
+use core::hint::assert_unchecked;
 use core::ops::Range;
 use core::slice;
 
@@ -266,6 +271,19 @@ fn narrow_span(narrow: &[u32], number: usize) -> Option<(usize, usize)> {
     Some((start as usize, end as usize))
 }
 
+/// Returns the text of a `BucketBackend` with a number, if there is one.
+#[inline(always)]
+pub fn find_bucketed(texts: &BucketBackend<usize>, number: usize) -> Option<&str> {
+    if number >= texts.count() {
+        return None;
+    }
+    let text = texts.resolve_unchecked(number);
+    // SAFETY: no reference is null. The compiler does not know that of one that a call may have returned, and would test it to tell
+    // whether there is a text.
+    unsafe { assert_unchecked(text.as_ptr().addr() != 0) };
+    Some(text)
+}
+
 /// Returns the text of a `StringBackend` with a number, if there is one.
 #[inline(always)]
 pub fn find_joined(texts: &StringBackend<usize>, number: usize) -> Option<&str> {
@@ -378,7 +396,7 @@ unsafe fn below_unchecked(number: usize, bound: usize) {
         assert!(number < bound);
     }
     // SAFETY: the caller promises it.
-    unsafe { core::hint::assert_unchecked(number < bound) }
+    unsafe { assert_unchecked(number < bound) }
 }
 
 /// Sixteen bytes as a vector. From some version on the compiler takes calls that only want the vectors for safe.

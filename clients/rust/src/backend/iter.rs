@@ -1,10 +1,10 @@
 //! Iterators over the texts of the three backends. Each is a plain struct, so that its lifetime may shrink.
 
 use crate::proved::backend as proved;
-use crate::proved::backend::{Backend as _, Store as _};
+use crate::proved::backend::Backend as _;
 use crate::sealed::Ours;
 use crate::symbol::Symbol;
-use crate::unchecked::Parts;
+use crate::unchecked::{find_bucketed, Parts};
 use core::fmt;
 use core::iter::FusedIterator;
 use core::marker::PhantomData;
@@ -132,18 +132,19 @@ impl<'a, S> BucketIter<'a, S> {
     #[inline(always)]
     fn step(&mut self) -> Option<(usize, &'a str)> {
         // That there is no such text also ends the walk, so there is nothing else to test.
-        let text = self.texts.resolve(self.number)?;
+        let text = find_bucketed(self.texts, self.number)?;
         let number = self.number;
         self.number += 1;
         Some((number, text))
     }
 
     #[inline(always)]
-    fn fold_steps<A>(self, first: A, mut call: impl FnMut(A, usize, &'a str) -> A) -> A {
-        let numbers = self.number..self.texts.count();
-        numbers.fold(first, |so_far, number| {
-            call(so_far, number, self.texts.resolve_unchecked(number))
-        })
+    fn fold_steps<A>(mut self, first: A, mut call: impl FnMut(A, usize, &'a str) -> A) -> A {
+        let mut so_far = first;
+        while let Some((number, text)) = self.step() {
+            so_far = call(so_far, number, text);
+        }
+        so_far
     }
 }
 

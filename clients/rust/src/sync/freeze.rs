@@ -1,7 +1,7 @@
 //! Making a shared interner of a plain one, and something smaller and faster of a shared one, once all texts are known.
 
 use super::Interner;
-use crate::backend::{As, Backend, BucketBackend, StringBackend};
+use crate::backend::{symbol_of, As, Backend, BucketBackend, StringBackend};
 use crate::error::expect;
 use crate::hasher::By;
 use crate::interner::{Index, StringInterner};
@@ -40,20 +40,19 @@ impl<S: Symbol, H: BuildHasher> Interner<S, H> {
     #[must_use]
     #[track_caller]
     pub fn into_interner(self) -> StringInterner<StringBackend<S>, H> {
-        let codes = expect(self.memory.codes(self.shared.count() as usize));
-        let mut texts = StringBackend::with_capacity(codes.len());
+        let texts = self.copy_texts();
         let mut index: Index<StringBackend<S>> =
-            expect(TextIndex::with_capacity(Global, codes.len()));
+            expect(TextIndex::with_capacity(Global, self.len()));
         let is_wider_than_codes = index.slots() as u64 > 1 << 32;
-        for (number, code) in (0..).zip(codes) {
-            let text = self.memory.wait_for(number);
+        // In the order of the words, which is nearly that of the slots, so that few lines of the index are far from the last ones.
+        self.memory.items().for_each(|(number, code)| {
             let code = match is_wider_than_codes {
-                true => self.shared.code_of(text),
+                true => self.shared.code_of(self.memory.wait_for(number)),
                 false => code.into(),
             };
             // The texts are distinct, and there is room for all.
-            index.insert_at(Vacancy::by_code(code), Sym(texts.intern(text)));
-        }
+            index.insert_at(Vacancy::by_code(code), Sym(symbol_of(number as usize)));
+        });
         StringInterner::over(texts, self.shared.hasher.0, index)
     }
 }
@@ -105,11 +104,18 @@ impl<S: Symbol, H> Interner<S, H> {
     #[must_use]
     #[track_caller]
     pub fn into_backend(self) -> StringBackend<S> {
-        let mut backend = StringBackend::with_capacity(self.len());
-        for number in 0..self.shared.count() {
-            backend.intern(self.memory.wait_for(number));
-        }
+        let mut backend = self.copy_texts();
         backend.shrink_to_fit();
         backend
+    }
+
+    /// Returns copies of all texts under their symbols.
+    #[track_caller]
+    fn copy_texts(&self) -> StringBackend<S> {
+        let mut texts = StringBackend::with_capacity(self.len());
+        for number in 0..self.shared.count() {
+            texts.intern(self.memory.wait_for(number));
+        }
+        texts
     }
 }

@@ -40,7 +40,6 @@ use std::sync::atomic::{
 };
 use std::sync::{Mutex, MutexGuard, PoisonError};
 use std::thread;
-use std::vec::Vec;
 
 /// How many bytes are in use, and how many of all may not be.
 pub(super) struct Budget {
@@ -1054,19 +1053,10 @@ impl Memory {
         }
     }
 
-    /// Returns the low 32 bits of the codes of so many texts by their numbers, which are all that there are.
-    pub(super) fn codes(&self, count: usize) -> Result<Vec<u32>, InternError> {
-        let mut codes = Vec::new();
-        codes
-            .try_reserve_exact(count)
-            .map_err(|_| InternError::Memory)?;
-        codes.resize(count, 0);
-        for table in self.shown.iter().map(Shown::table) {
-            for (number, code) in items_in((0..table.len()).map(|at| table.load(at))) {
-                codes[number as usize] = code;
-            }
-        }
-        Ok(codes)
+    /// Returns the numbers of all texts, with the low 32 bits of their codes, in the order of the words of each shard.
+    pub(super) fn items(&self) -> impl Iterator<Item = (u32, u32)> + '_ {
+        let tables = self.shown.iter().map(Shown::table);
+        tables.flat_map(|table| items_in((0..table.len()).map(move |at| table.load(at))))
     }
 
     /// Returns how many bytes are in use.
