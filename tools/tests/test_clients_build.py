@@ -145,7 +145,7 @@ class ClientsBuild(unittest.TestCase):
 
     def test_makes_the_module_again_after_an_edit(self):
         self.build()
-        self.edit(self.top / "clients/python/setup.py")
+        self.edit(self.top / "clients/python/setup.py", stamp="module.stamp")
         self.assertRegex(self.build().stderr, f"making the module for Python by {self.commands}/python3\n")
         self.assertEqual((self.proofs, self.modules), (1, 2))
 
