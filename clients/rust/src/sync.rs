@@ -26,8 +26,8 @@
 //! | | 10,000 texts | 1,000,000 texts |
 //! |---|---:|---:|
 //! | time of a known text | 1.3 | 1.1 |
-//! | of a new text | 2.2 | 1.9 |
-//! | of resolving | 1.4 | 1.3 |
+//! | of a new text | 2.1 | 2.2 |
+//! | of resolving | 1.6 | 1.3 |
 //! | memory of a text | 1.2 | 1.6 |
 //!
 //! A new interner takes 3 KB where it lies, of bytes that are 0, so that a `static` takes no room in the program's file, and nothing
