@@ -180,8 +180,8 @@ static double time_of(int call, interner_kind kind, interner_hasher hasher, cons
   return took / CLOCKS_PER_SEC;
 }
 
-/* How many times as long as others the texts take that were chosen: the least time of five rounds beside the least of others, in turn,
- * because a machine may be slow for a while, which one of the two alone must not see. */
+/* How many times as long as others the texts take that were chosen, by the least times of five rounds. They take turns, so that a
+ * machine that is slow for a while slows both. */
 static double slowness(int call, interner_kind kind, interner_hasher hasher, size_t count) {
   double least = 1e9, usual = 1e9;
   int round;
