@@ -171,6 +171,11 @@ pub trait Backend: Default {
     /// Iterates over all texts with their symbols, in the order in which they came.
     fn iter(&self) -> Self::Iter<'_>;
 
+    /// Returns how many bytes of memory the texts take, with what is spare. What is provided returns 0.
+    fn memory_used(&self) -> usize {
+        0
+    }
+
     /// Reports whether no symbol is left, if that is known before the next text is stored.
     #[doc(hidden)]
     #[inline(always)]
@@ -346,6 +351,10 @@ macro_rules! backend {
             #[inline]
             fn iter(&self) -> Self::Iter<'_> {
                 iter::$iter::over(&self.texts)
+            }
+
+            fn memory_used(&self) -> usize {
+                self.texts.memory_used()
             }
 
             #[inline(always)]

@@ -12,12 +12,16 @@ use crate::rt::alloc::Global;
 use crate::sealed::Ours;
 use crate::symbol::Sym;
 use core::hash::BuildHasher;
+use core::mem;
 use core::ops::{Bound, RangeBounds};
 
 #[cfg(feature = "std")]
 pub(crate) use many::may_wait;
 #[cfg(feature = "std")]
 pub(crate) use many::reserve;
+
+/// Beside a tag for each slot, and a symbol with 32 bits of its code, an index that has slots has so many tags more.
+const TAGS_BEHIND: usize = 16;
 
 /// The index of an interner's texts.
 pub(crate) type Index<B> = TaggedIndex<Sym<<B as Backend>::Symbol>>;
@@ -237,6 +241,32 @@ impl<B: Backend, H> StringInterner<B, H> {
     #[inline]
     pub fn is_empty(&self) -> bool {
         self.proved.is_empty()
+    }
+
+    /// Returns how many bytes of memory the texts and their index take, with what is spare. Of a backend of a program's own it counts
+    /// what that says by [`Backend::memory_used`].
+    ///
+    /// Nobody else adds texts to an interner, so a limit is a test before a text comes. A call exceeds it by no more than the memory
+    /// doubles.
+    ///
+    /// ```
+    /// let mut names = string_interner::StringInterner::default();
+    /// assert_eq!(names.memory_used(), 0);
+    /// for word in ["Tiger", "Horse", "Tiger"] {
+    ///     if names.memory_used() < 1_000_000 || names.contains(word) {
+    ///         names.get_or_intern(word);
+    ///     }
+    /// }
+    /// assert_eq!(names.len(), 2);
+    /// ```
+    #[must_use]
+    pub fn memory_used(&self) -> usize {
+        let slots = self.proved.index().slots();
+        let of_index = match slots {
+            0 => 0,
+            _ => slots * (1 + mem::size_of::<(Sym<B::Symbol>, u32)>()) + TAGS_BEHIND,
+        };
+        of_index + self.backend().memory_used()
     }
 
     /// Releases memory of the backend that no text needs. The index keeps its room, and a bucket its spare bytes. For a moment this

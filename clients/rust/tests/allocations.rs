@@ -8,6 +8,7 @@ use common::Backend;
 use string_interner::backend::{BucketBackend, BufferBackend, StringBackend};
 use string_interner::hasher::FixedHashBuilder;
 use string_interner::sync::Interner;
+use string_interner::symbol::SymbolUsize;
 use string_interner::{DefaultSymbol, StringInterner};
 
 /// Returns how often the call asked for memory, with what it returned.
@@ -68,6 +69,27 @@ fn blocks_of_a_shared_interner() {
         let held = (HELD.get() - before) as f64 / (len * count) as f64;
         assert!(held < 1.25, "{held} bytes for each byte of texts of {len}");
     }
+}
+
+/// What an interner says of its memory is what it asked for.
+#[test]
+fn memory_of_a_plain_interner() {
+    fn check<B: Backend>() {
+        let before = HELD.get();
+        let mut names = StringInterner::<B, _>::with_hasher(FixedHashBuilder);
+        for count in [0, 1, 7, 8, 100, 10_000] {
+            (names.len()..count).for_each(|i| _ = names.get_or_intern(format!("text {i}")));
+            let held = usize::try_from(HELD.get() - before).unwrap();
+            assert_eq!((names.len(), names.memory_used()), (count, held));
+        }
+        names.shrink_to_fit();
+        let held = usize::try_from(HELD.get() - before).unwrap();
+        assert_eq!(names.memory_used(), held);
+    }
+    check::<StringBackend>();
+    check::<StringBackend<SymbolUsize>>();
+    check::<BucketBackend>();
+    check::<BufferBackend>();
 }
 
 /// A shared interner of few texts takes at most three times the memory of a plain one, where it lies and on the heap.

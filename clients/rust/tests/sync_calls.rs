@@ -2,7 +2,7 @@
 //! iterating, and making a plain interner of it.
 
 use std::cell::Cell;
-use std::hash::{BuildHasher, BuildHasherDefault, Hasher, RandomState};
+use std::hash::{BuildHasher, BuildHasherDefault, DefaultHasher, Hasher, RandomState};
 use std::panic::catch_unwind;
 use std::thread;
 
@@ -390,6 +390,36 @@ fn the_hasher_goes_along() {
 
 fn text_of(number: usize) -> String {
     format!("text {number}")
+}
+
+thread_local! {
+    /// How many hashers [`Counting`] made.
+    static MADE: Cell<usize> = const { Cell::new(0) };
+}
+
+/// Counts the texts that are hashed.
+#[derive(Clone, Default)]
+struct Counting;
+
+impl BuildHasher for Counting {
+    type Hasher = DefaultHasher;
+
+    fn build_hasher(&self) -> DefaultHasher {
+        MADE.set(MADE.get() + 1);
+        DefaultHasher::new()
+    }
+}
+
+/// What is made of the other has the codes that it had, and hashes no text again.
+#[test]
+fn no_text_is_hashed_again() {
+    let plain: StringInterner<StringBackend, Counting> = (0..3_000).map(text_of).collect();
+    assert_eq!(MADE.get(), 3_000);
+    let shared = Interner::from(plain);
+    assert!(shared.contains(text_of(7)) && !shared.contains("text"));
+    let again = shared.into_interner();
+    assert!(again.contains(text_of(7)) && !again.contains("text"));
+    assert_eq!((again.len(), MADE.get()), (3_000, 3_004));
 }
 
 /// Beyond its limit an interner takes no new text, and finds those that it has.

@@ -30,6 +30,10 @@ abbrev pub code_in : {S : Type 0} → Option (CodedSymbol S) → ℕ
 code_in None = 0
 code_in (Some item) = item.code
 
+-- a symbol and its stored code
+abbrev pub pair_of : {S : Type 0} → CodedSymbol S → S × ℕ
+pair_of item = (item.symbol, item.code)
+
 abbrev pub symbols_in : {S : Type 0} → TaggedContents S → List (Option S)
 symbols_in tagged = map symbol_in tagged
 

@@ -9,6 +9,7 @@
 use crate::rt::prelude::*; use crate::proved::backend::reserve::reserve_items;
 use crate::rt::alloc::{AllocError, Global};
 use crate::rt::marker::Model;
+use crate::rt::mem::size_of;
 
 /// A list of numbers: four bytes each until one does not fit 32 bits, and eight from that one on.
 ///
@@ -122,6 +123,13 @@ impl NumberList {
         //~ ensures { self.now.items ≡ result.0.now ++ result.1.now }
     {
         (&self.narrow, &self.wide)
+    }
+
+    /// Returns how many bytes of memory the list takes, with what is spare.
+    pub fn memory_used(&self) -> usize {
+        let narrow = self.narrow.capacity().saturating_mul(size_of::<u32>());
+        let wide = self.wide.capacity().saturating_mul(size_of::<usize>());
+        narrow.saturating_add(wide)
     }
 
     /// Makes sure that `push_reserved` can store this number or a smaller one. Allocates only if it goes beyond what is spare.

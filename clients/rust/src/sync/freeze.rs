@@ -4,21 +4,55 @@ use super::Interner;
 use crate::backend::{symbol_of, As, Backend, BucketBackend, StringBackend};
 use crate::error::expect;
 use crate::hasher::By;
-use crate::interner::{Index, StringInterner};
+use crate::interner::{reserve, Index, StringInterner};
 use crate::proved::dedup::probe::Vacancy;
+use crate::proved::dedup::tagged::coded_symbol;
 use crate::proved::dedup::TextIndex;
 use crate::rt::alloc::Global;
 use crate::symbol::{Sym, Symbol};
 use core::hash::BuildHasher;
+use std::vec::Vec;
+
+/// For no more texts the index of a shard has more than 2³² slots, and 32 bits of a code tell which slot is the home of its text.
+const MOST_BY_CODES: u64 = 3 << 30;
+
+/// Returns the code of each text that the index of an interner keeps, by the number of its symbol.
+#[track_caller]
+fn codes_of<B: Backend, H: BuildHasher>(plain: &StringInterner<B, H>) -> Vec<Option<u32>> {
+    let (count, index) = (plain.len(), plain.proved.index());
+    let mut codes = Vec::new();
+    expect(reserve(&mut codes, count));
+    codes.resize(count, None);
+    if count as u64 > MOST_BY_CODES {
+        return codes;
+    }
+    for slot in 0..index.slots() {
+        let Some((Sym(symbol), code)) = coded_symbol(index, slot) else {
+            continue;
+        };
+        // A program's own type may make up a number that is none of these.
+        if let Some(place) = codes.get_mut(symbol.to_usize()) {
+            *place = Some(code);
+        }
+    }
+    codes
+}
 
 impl<S: Symbol, H: BuildHasher> Interner<S, H> {
     /// Returns an interner of the texts of a plain one whose symbols number 0, 1, 2, ..
     #[track_caller]
     fn of_plain<B: Backend<Symbol = S>>(plain: StringInterner<B, H>) -> Self {
-        let count = plain.len();
+        let codes = codes_of(&plain);
         let (As(texts), By(hasher)) = plain.proved.into_parts();
-        let mut interner = Self::with_capacity_and_hasher(count, hasher);
-        interner.extend(texts.iter().map(|(_, text)| text));
+        let mut interner = Self::with_capacity_and_hasher(codes.len(), hasher);
+        for ((_, text), code) in texts.iter().zip(codes) {
+            let code = match code {
+                Some(code) => code.into(),
+                None => interner.shared.code_of(text),
+            };
+            expect(interner.intern_alone(code, text));
+        }
+        interner.shrink_to_fit();
         interner
     }
 
@@ -58,7 +92,7 @@ impl<S: Symbol, H: BuildHasher> Interner<S, H> {
 }
 
 impl<S: Symbol, H: BuildHasher> From<StringInterner<StringBackend<S>, H>> for Interner<S, H> {
-    /// Returns a shared interner with the same texts under the same symbols. It interns each text once more, and takes no lock.
+    /// Returns a shared interner with the same texts under the same symbols. It copies each text, and hashes none.
     ///
     /// ```
     /// use string_interner::{sync::Interner, StringInterner};

@@ -9,8 +9,11 @@ use core::hash::BuildHasher;
 use core::marker::PhantomData;
 use std::sync::atomic::{AtomicU32, Ordering::Relaxed};
 
-/// So many of the highest bits of a hash code choose the shard.
+/// There are so many bits in the number of a shard.
 const SHARD_BITS: u32 = 5;
+
+/// 2³² by the golden ratio, the factor of Fibonacci hashing: the high bits of a product with it depend on all bits.
+const SPREAD: u32 = 0x9E37_79B9;
 
 pub(super) const SHARDS: usize = 1 << SHARD_BITS;
 
@@ -33,11 +36,11 @@ pub(super) struct Shared<S, H> {
     symbol: PhantomData<fn() -> S>,
 }
 
-/// Returns the number of the shard of a text with this code. If a hasher's highest bits are poor, few shards have texts, and threads
-/// that intern new ones wait longer.
+/// Returns the number of the shard of a text with this code, of which it takes the 32 bits that an index stores. If a hasher has few
+/// codes, few shards have texts, and threads that intern new ones wait longer.
 #[inline(always)]
 pub(super) fn shard_of(code: u64) -> usize {
-    (code >> (u64::BITS - SHARD_BITS)) as usize
+    ((code as u32).wrapping_mul(SPREAD) >> (u32::BITS - SHARD_BITS)) as usize
 }
 
 impl<S, H> Shared<S, H> {

@@ -120,7 +120,9 @@ impl<S: Symbol, H: BuildHasher, T: AsRef<str>> Extend<T> for Interner<S, H> {
     fn extend<I: IntoIterator<Item = T>>(&mut self, iter: I) {
         // A closure would hide from the panic who called.
         for string in iter {
-            expect(self.intern_alone(string.as_ref()));
+            let text = string.as_ref();
+            let code = self.shared.code_of(text);
+            expect(self.intern_alone(code, text));
         }
         self.shrink_to_fit();
     }

@@ -66,6 +66,17 @@ impl<S: Symbol> StringBackend<S> {
         (&self.joined, &self.ends)
     }
 
+    /// Returns how many bytes of memory the texts and their ends take, with what is spare. Takes constant time.
+    ///
+    /// ```
+    /// let bytes = names.backend().memory_used();
+    /// ```
+    pub fn memory_used(&self) -> usize {
+        self.joined
+            .capacity()
+            .saturating_add(self.ends.memory_used())
+    }
+
     /// Returns the text of entry `index`.
     #[inline(always)]
     fn text_at(&self, index: usize) -> &str

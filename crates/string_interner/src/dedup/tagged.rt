@@ -2,16 +2,18 @@
 
 pub(super) mod tags;
 
-ghost use Rattle.std.specs.Prelude.{◌≡◌, ◌≢◌, ◌+◌, ◌<◌, ◌≤◌, ◌%◌, ℕ, length, slice_index_or, replicate, vec_capacity, vec_len, IfNone, IfSome, None, Some};
+ghost use Rattle.std.specs.Prelude.{◌≡◌, ◌≢◌, ◌+◌, ◌<◌, ◌≤◌, ◌%◌, ℕ, length, slice_index_or, replicate, vec_capacity, vec_len, IfNone, IfSome, None, Some, option_map};
 ghost use Rattle.string_interner.specs.Entry.{entry_text};
 ghost use Rattle.string_interner.specs.Slots.{probe_cluster, symbols};
 ghost use Rattle.string_interner.specs.Index.{has_text};
 ghost use Rattle.string_interner.specs.Layout.{Fills, FitsCode};
 ghost use Rattle.string_interner.specs.Probe.{FindsFirst, HasFreeSlot, StepsTo};
-ghost use Rattle.string_interner.specs.Tagged.{HasAnotherTag, symbols_in, tag_of, tagged_layout};
+ghost use Rattle.string_interner.specs.Tagged.{HasAnotherTag, pair_of, symbols_in, tag_of, tagged_layout};
+ghost use Rattle.string_interner.specs.Table.{slot_count};
 ghost use Rattle.string_interner.specs.declared.dedup.probe.Step.TheVariants.{On};
 
 use crate::backend::Store;
+use crate::dedup::index::TaggedIndex;
 use crate::dedup::layout::Layout;
 use crate::dedup::probe::{Find, Probe, Step, home_of, probe_on, slot_after};
 use crate::dedup::slots::Looks;
@@ -208,6 +210,22 @@ impl<S: Symbol> TaggedSlots<S> {
             ≤ looks.old.count + length (probe_cluster (symbols_in self.now) code) }
     {
         probe_on(self, from, code, looks, text).symbol()
+    }
+}
+
+/// Returns what is in a slot of an index, if anything: a symbol, and the low 32 bits of the hash code of its text. With these another
+/// index of the same texts, of at most 2^32 slots, is filled without hashing them.
+///
+/// ```
+/// let coded = coded_symbol(names.index(), 0); // None, or a symbol with its code
+/// ```
+pub fn coded_symbol<S: Symbol>(index: &TaggedIndex<S>, at: usize) -> Option<(S, u32)>
+    requires { at < slot_count tagged_layout index.now }
+    ensures { result ≡ option_map pair_of (slice_index_or index.now.slots at None) }
+{
+    match index.as_slots().item_at(at) {
+        Some(item) => Some((item.symbol, item.code)),
+        None => None,
     }
 }
 

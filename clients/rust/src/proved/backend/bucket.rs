@@ -25,6 +25,7 @@ use fixed_str::FixedString;
 use interned_str::InternedStr;
 use crate::rt::alloc::{AllocError, Global};
 use crate::rt::marker::{Model, PhantomData};
+use crate::rt::mem::size_of;
 
 /// Stores texts in append-only buckets of bytes, and static texts by reference.
 ///
@@ -68,6 +69,21 @@ pub struct BucketBackend<S: Symbol = DefaultSymbol> {
 //~ }
 
 impl<S: Symbol> BucketBackend<S> {
+    /// Returns how many bytes of memory the entries and the buckets take, with what is spare. Reads the capacity of each bucket.
+    ///
+    /// ```ignore
+    /// let bytes = names.backend().memory_used();
+    /// ```
+    pub fn memory_used(&self) -> usize {
+        let mut bytes = self.full.capacity().saturating_mul(size_of::<FixedString>());
+        for bucket in self.full.iter() {
+            bytes = bytes.saturating_add(bucket.memory_used());
+        }
+        bytes
+            .saturating_add(self.head.memory_used())
+            .saturating_add(self.entries.memory_used())
+    }
+
     /// Returns the text of entry `index`.
     #[inline]
     fn text_at(&self, index: usize) -> &str

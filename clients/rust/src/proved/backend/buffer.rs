@@ -102,6 +102,17 @@ impl<S: Symbol> BufferBackend<S> {
         &self.bytes
     }
 
+    /// Returns how many bytes of memory the texts take, with what is spare. Takes constant time.
+    ///
+    /// ```ignore
+    /// let bytes = names.backend().memory_used();
+    /// ```
+    pub fn memory_used(&self) -> usize
+        //~ ensures { result ≡ place_of self.now.texts + self.now.room }
+    {
+        self.bytes.capacity()
+    }
+
     /// Returns how many bytes an entry takes whose text has this length, if a `usize` can hold that. So the next place is so
     /// much greater.
     #[inline(always)]

@@ -64,6 +64,13 @@ impl FixedString {
         self.capacity
     }
 
+    /// Returns how many bytes of memory the bucket takes: those that were granted.
+    pub fn memory_used(&self) -> usize
+        ensures { self.now.capacity ≤ result }
+    {
+        self.contents.capacity()
+    }
+
     /// Returns the length of the bucket's text in bytes.
     pub fn len(&self) -> usize
         ensures value { result ≡ length self.now.bytes }

@@ -152,6 +152,16 @@ impl Entries {
         self.packed.len()
     }
 
+    /// Returns how many bytes of memory the entries take, with what is spare.
+    pub fn memory_used(&self) -> usize {
+        let packed = self.packed.capacity().saturating_mul(size_of::<Packed>());
+        let long = self
+            .long
+            .capacity()
+            .saturating_mul(size_of::<InternedStr>());
+        packed.saturating_add(long)
+    }
+
     /// Returns how many of the entries are long.
     pub fn long_len(&self) -> usize
         //~ ensures { result ≤ length self.now.items }
