@@ -23,6 +23,10 @@ pub record InternerContents : Type 0 where
 abbrev pub contents_of : List Text → List Bucket → ℕ → ℕ → InternerContents
 contents_of texts buckets room slot_count = record { texts = texts; buckets = buckets; room = room; slot_count = slot_count }
 
+-- the same of a backend and an index, by what contracts see of each
+abbrev pub contents_in : {B I : Type 0} → (B → List Text) → (B → List Bucket) → (B → ℕ) → (I → ℕ) → B → I → InternerContents
+contents_in texts buckets room slots backend index = contents_of (texts backend) (buckets backend) (room backend) (slots index)
+
 -- a new interner
 pub record IsNew (interner : InternerContents) : Type 0 where
   pub texts : interner.texts ≡ []

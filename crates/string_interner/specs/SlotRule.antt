@@ -1,6 +1,6 @@
 -- How an index counts its slots: which counts there are, how many entries these hold, and how they grow.
 -- Cited by the trait `TextIndex`, by `Table`, and by all that stands on an interner.
-use Rattle.std.specs.Prelude.{◌≡◌, ℕ, ◌+◌, ◌≤◌, ◌⊎◌}
+use Rattle.std.specs.Prelude.{◌≡◌, ℕ, ◌+◌, ◌≤◌, ◌⊎◌, Result, IsOk, OnOk, OnErr}
 
 pub record SlotRule : Type 1 where
   -- an allowed slot count
@@ -33,6 +33,15 @@ module _ (rule : SlotRule) where
   pub record GrowsFor (len old new : ℕ) : Type 0 where
     pub allowed : rule.holds old len → new ≡ old
     pub least : ¬ rule.holds old len → IsLeastSlotCount len new
+
+  -- Room is made for one entry more: nothing changes if the load factor allows one, and else the slots grow once. A refusal changes
+  -- nothing.
+  pub record Reserves {X E : Type 0} (slots entries : X → ℕ) (old : X) (outcome : Result (Unit {0}) E) (new : X) : Type 0 where
+    pub count : entries new ≡ entries old
+    pub room : OnOk outcome (rule.holds (slots new) (entries new + 1))
+    pub had_room : rule.holds (slots old) (entries old + 1) → IsOk outcome × (new ≡ old)
+    pub grown : ¬ rule.holds (slots old) (entries old + 1) → OnOk outcome (rule.grows_to (slots old) (slots new))
+    pub err : OnErr outcome (new ≡ old)
 
   -- the laws of a rule
   pub record IsSlotRule : Type 0 where

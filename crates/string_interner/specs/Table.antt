@@ -3,7 +3,7 @@
 -- has, and `code` the code of a text under a hasher.
 use Rattle.std.specs.Prelude.{◌≡◌, ℕ, ◌+◌, ◌*◌, ◌≤◌, ◌%◌, max, length, Option}
 use Rattle.string_interner.specs.Text.{Text}
-use Rattle.string_interner.specs.LoadFactor.{GrowsTo, IsSlotCount}
+use Rattle.string_interner.specs.LoadFactor.{IsSlotCount}
 use Rattle.string_interner.specs.Slots.{LooksContents, IsProbeCluster, symbols}
 use Rattle.string_interner.specs.Index.{AddsPair, IsAbsent, RemovesPair, look_up, text_of}
 use Rattle.string_interner.specs.Layout.{IsTable, SlotLayout}
@@ -60,9 +60,8 @@ module _ {S L : Type 0} (layout : SlotLayout S L) where
     pub found_is : found ≡ look_up entry (layout.slots table.slots) text
     pub looks : CountsLooks table code old new
 
-  -- the slots grow, and all symbols are moved
-  pub record Grows (old new : TableContents L) : Type 0 where
-    pub slots : GrowsTo (slot_count old) (slot_count new)
+  -- growth moved all symbols
+  pub record Moves (old new : TableContents L) : Type 0 where
     pub put_back : new.put_back ≡ old.put_back + entry_count old
     pub greatest : new.greatest ≡ old.greatest
 

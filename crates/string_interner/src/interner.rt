@@ -26,6 +26,7 @@ use crate::hash::{CopyHasher, DefaultHashBuilder, TextHasher};
 use crate::symbol::Symbol;
 use given::Given;
 pub use intern_slice::Stopped;
+pub use look_ahead::{BLOCK_LEN, FEWEST_FOR_BLOCKS};
 use new_text::intern_coded;
 use std::alloc::{AllocError, Global};
 use std::marker::Model;

@@ -26,6 +26,7 @@ use crate::proved::hash::{CopyHasher, DefaultHashBuilder, TextHasher};
 use crate::proved::symbol::Symbol;
 use given::Given;
 pub use intern_slice::Stopped;
+pub use look_ahead::{BLOCK_LEN, FEWEST_FOR_BLOCKS};
 use new_text::intern_coded;
 use crate::rt::alloc::{AllocError, Global};
 use crate::rt::marker::Model;

@@ -93,7 +93,7 @@ pub use dedup::DefaultIndex;
 use dedup::TaggedIndex;
 pub use hash::DefaultHashBuilder;
 use hash::FoldState;
-pub use interner::{Stopped, StringInterner};
+pub use interner::{BLOCK_LEN, FEWEST_FOR_BLOCKS, Stopped, StringInterner};
 pub use symbol::{DefaultSymbol, Symbol};
 
 /// An interner over the default backend, under the default hasher.

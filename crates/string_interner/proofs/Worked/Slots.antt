@@ -7,7 +7,7 @@ use Rattle.string_interner.specs.Text.{Text}
 use Rattle.string_interner.specs.Slots.{symbols}
 use Rattle.string_interner.specs.LoadFactor.{GrowsTo}
 use Rattle.string_interner.specs.Layout.{plain_layout}
-use Rattle.string_interner.specs.Table.{TableContents, entry_count, HasRoom, Grows, Inserts, Refills}
+use Rattle.string_interner.specs.Table.{TableContents, entry_count, slot_count, HasRoom, Inserts, Moves, Refills}
 
 -- what contracts see of an `Index`
 abbrev IndexContents : Type 0 → Type 0
@@ -20,7 +20,7 @@ pub data Filled {S : Type 0} : ℕ → IndexContents S → Type 0 where
   had_room : {n : ℕ} {old new : IndexContents S} (entry : S → Option Text) (code : Text → ℕ) (symbol : S)
       → Filled n old → HasRoom plain_layout old → Inserts plain_layout entry code old new symbol → Filled (suc n) new
   grew : {n : ℕ} {old bigger new : IndexContents S} (entry : S → Option Text) (code : Text → ℕ) (symbol : S)
-      → Filled n old → (¬ HasRoom plain_layout old) → Grows plain_layout old bigger → entry_count plain_layout bigger ≡ entry_count plain_layout old → Inserts plain_layout entry code bigger new symbol → Filled (suc n) new
+      → Filled n old → (¬ HasRoom plain_layout old) → GrowsTo (slot_count plain_layout old) (slot_count plain_layout bigger) → Moves plain_layout old bigger → entry_count plain_layout bigger ≡ entry_count plain_layout old → Inserts plain_layout entry code bigger new symbol → Filled (suc n) new
 
 -- What so many slots grow to, and what slots and symbols put back come to as one entry joins so many others.
 abbrev grown : ℕ → ℕ
@@ -68,13 +68,13 @@ counts (had_room {n = n} {old = old} {new = new} entry code symbol before room i
     let s = stay n (slots_after n) (put_back_after n) (subst (λ len. 4 * (n + 1) ≤ 3 * len) b (subst (λ count. 4 * (count + 1) ≤ 3 * length old.slots) a room)) in
     let count = inserts.count in let most = inserts.greatest in
     (omega arith, inserts.slots ∙ b ∙ sym s.0, inserts.put_back ∙ h.2 ∙ sym s.1, omega arith)
-counts (grew {n = n} {old = old} {bigger = bigger} {new = new} entry code symbol before none grows same inserts) =
+counts (grew {n = n} {old = old} {bigger = bigger} {new = new} entry code symbol before none grows moves same inserts) =
     let h = counts before in
     let a = h.0 in let b = h.1 in let d = h.3 in
     let left = no_room_left n (slots_after n) (λ room. none (rw (a, b) room)) in
-    let s = grow n (slots_after n) (put_back_after n) (length bigger.slots) left (subst (λ len. GrowsTo len (length bigger.slots)) b grows.slots) in
-    let count = inserts.count in let most = inserts.greatest in let kept = grows.greatest in
-    let back : bigger.put_back ≡ put_back_after n + n = grows.put_back ∙ (let p = h.2 in omega arith) in
+    let s = grow n (slots_after n) (put_back_after n) (length bigger.slots) left (subst (λ len. GrowsTo len (length bigger.slots)) b grows) in
+    let count = inserts.count in let most = inserts.greatest in let kept = moves.greatest in
+    let back : bigger.put_back ≡ put_back_after n + n = moves.put_back ∙ (let p = h.2 in omega arith) in
     (omega arith, inserts.slots ∙ sym s.0, inserts.put_back ∙ back ∙ sym s.1, omega arith)
 
 -- Of an index with so many entries: its slots, and how many symbols were put back.

@@ -75,7 +75,10 @@ impl<S: Symbol> BucketBackend<S> {
     /// let bytes = names.backend().memory_used();
     /// ```
     pub fn memory_used(&self) -> usize {
-        let mut bytes = self.full.capacity().saturating_mul(size_of::<FixedString>());
+        let mut bytes = self
+            .full
+            .capacity()
+            .saturating_mul(size_of::<FixedString>());
         for bucket in self.full.iter() {
             bytes = bytes.saturating_add(bucket.memory_used());
         }

@@ -7,13 +7,13 @@ ghost use Rattle.std.specs.Prelude.{◌≡◌, ℕ, ◌+◌, ◌<◌, ◌≤◌,
 ghost use Rattle.string_interner.specs.Text.{IsDistinct};
 ghost use Rattle.string_interner.specs.Entry.{entry_text};
 ghost use Rattle.string_interner.specs.Slots.{symbols};
-ghost use Rattle.string_interner.specs.SlotRule.{IsLeastSlotCount};
+ghost use Rattle.string_interner.specs.SlotRule.{IsLeastSlotCount, Reserves};
 ghost use Rattle.string_interner.specs.LoadFactor.{GrowsTo, rule_by};
 ghost use Rattle.string_interner.specs.Layout.{FitsCode, IsTable, KeepsFilled};
 ghost use Rattle.string_interner.specs.Index.{IsAbsent, SameMap};
 ghost use Rattle.string_interner.specs.Probe.{IsVacant};
 ghost use Rattle.string_interner.specs.TextIndex.{IfVacant, found_by};
-ghost use Rattle.string_interner.specs.Table.{FitsAll, Grows, HasRoom, Inserts, InsertsByCode, IsBounded, Refills, Removes, Seeks, entry_count, slot_count};
+ghost use Rattle.string_interner.specs.Table.{FitsAll, HasRoom, Inserts, InsertsByCode, IsBounded, Moves, Refills, Removes, Seeks, entry_count, slot_count};
 
 use crate::backend::{Backend, Store};
 use crate::dedup::layout::Layout;
@@ -217,12 +217,10 @@ impl<S: Symbol, L: Find<S>> Table<S, L> {
             (H.code hasher.now) self.new.slots }
         ensures same { SameMap (entry_text B.numbering (B.texts backend.now))
             (L.layout.slots self.old.slots) (L.layout.slots self.new.slots) }
-        ensures count { entry_count L.layout self.new ≡ entry_count L.layout self.old }
-        ensures room { OnOk result (HasRoom L.layout self.new) }
-        ensures had_room { HasRoom L.layout self.old → IsOk result × (self.new ≡ self.old) }
-        ensures grown { ¬ HasRoom L.layout self.old
-            → OnOk result (Grows L.layout self.old self.new) }
-        ensures err { OnErr result (self.new ≡ self.old) }
+        ensures reserves { Reserves (rule_by L.layout.holds) (slot_count L.layout)
+            (entry_count L.layout) self.old result self.new }
+        ensures moved { ¬ HasRoom L.layout self.old
+            → OnOk result (Moves L.layout self.old self.new) }
 
         // An interner makes room between a look-up and the insertion.
         ensures vacant { (code : ℕ) (vacancy : Vacancy)
@@ -361,7 +359,7 @@ impl<S: Symbol, L: Find<S>> Table<S, L> {
             ≡ entry_count L.layout self.old }
         requires small { length (L.layout.slots bigger) < 2 ^ 64 }
         ensures slots { self.new.slots ≡ bigger }
-        ensures grown { Grows L.layout self.old self.new }
+        ensures moved { Moves L.layout self.old self.new }
         ensures room { HasRoom L.layout self.new }
     {
         self.slots = bigger;

@@ -18,9 +18,8 @@ use crate::proved::{Stopped, StringInterner, Symbol};
 /// in a block it does so less often, with fewer they stay in the processor's cache.
 pub const BLOCK_LEN: usize = 256;
 
-/// A dictionary of fewer texts is taken to fit the processor's cache. There a block takes longer than its texts one by one. These are
-/// more texts than those from which on `intern_slice` looks ahead, because the codes of a block take a pass of their own.
-pub const FEWEST_FOR_BLOCKS: usize = 1 << 16;
+/// From so many texts on a block pays. Its codes take a pass of their own.
+pub const FEWEST_FOR_BLOCKS: usize = 2 * crate::proved::FEWEST_FOR_BLOCKS;
 
 /// A list of texts that are read by their indexes.
 pub trait TextList: Sized {

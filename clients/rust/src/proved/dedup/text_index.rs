@@ -3,7 +3,7 @@
 //~ ghost use Rattle.std.specs.Prelude.{◌≡◌, ℕ, ◌+◌, ◌<◌, ◌≤◌, ◌^◌, length, take, Option, None, IsOk, IsSome, IsTrue, IfOk, IfSome, OnOk, OnErr};
 //~ ghost use Rattle.string_interner.specs.Text.{Text, IsDistinct};
 //~ ghost use Rattle.string_interner.specs.Entry.{entry_text};
-//~ ghost use Rattle.string_interner.specs.SlotRule.{SlotRule, IsLoaded, IsLeastSlotCount, IsSlotRule};
+//~ ghost use Rattle.string_interner.specs.SlotRule.{SlotRule, IsLoaded, IsLeastSlotCount, IsSlotRule, Reserves};
 //~ ghost use Rattle.string_interner.specs.TextIndex.{AddsEntry, FindsEntry, HasCode, IfVacant, found_by};
 
 use crate::rt::prelude::*; use crate::proved::backend::{Backend, Store};
@@ -137,13 +137,7 @@ pub trait TextIndex<S: Symbol>: Sized {
         //~     (H.code hasher.now) }
         //~ ensures same { indexes self.new (entry_text B.numbering (B.texts backend.now))
         //~     (H.code hasher.now) }
-        //~ ensures count { entries self.new ≡ entries self.old }
-        //~ ensures room { OnOk result (rule.holds (slots self.new) (entries self.new + 1)) }
-        //~ ensures had_room { rule.holds (slots self.old) (entries self.old + 1)
-        //~     → IsOk result × (self.new ≡ self.old) }
-        //~ ensures grown { ¬ rule.holds (slots self.old) (entries self.old + 1)
-        //~     → OnOk result (rule.grows_to (slots self.old) (slots self.new)) }
-        //~ ensures err { OnErr result (self.new ≡ self.old) }
+        //~ ensures reserves { Reserves rule slots entries self.old result self.new }
 
         // An interner makes room between a look-up and the insertion.
         //~ ensures vacant { (code : ℕ) (vacancy : Self.Vacancy) → is_vacant self.old code vacancy

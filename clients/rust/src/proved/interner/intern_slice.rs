@@ -1,7 +1,7 @@
 //! Interning the texts of a slice.
 
 //~ ghost use Rattle.std.specs.Prelude.{◌≡◌, ◌≤◌, length};
-//~ ghost use Rattle.string_interner.specs.Interner.{IsSoundIndex, contents_of};
+//~ ghost use Rattle.string_interner.specs.Interner.{IsSoundIndex, contents_in};
 //~ ghost use Rattle.string_interner.specs.InternAll.{InternsSlice, LooksAtNone};
 
 use crate::rt::prelude::*; use super::StringInterner;
@@ -68,15 +68,9 @@ pub fn intern_front<B: Store, H: TextHasher, I: TextIndex<B::Symbol>>(
     //~     index.old (B.texts backend.old) }
     //~ requires room { length texts.now ≤ length numbers.old }
     //~ requires none_ahead { LooksAtNone ahead.old }
-    //~ ensures interns { InternsSlice B.numbering I.rule texts.now (
-    //~   contents_of (B.texts backend.old) (B.buckets backend.old) (B.room backend.old)
-    //~       (I.slots index.old),
-    //~   numbers.old,
-    //~ ) result (
-    //~   contents_of (B.texts backend.new) (B.buckets backend.new) (B.room backend.new)
-    //~       (I.slots index.new),
-    //~   numbers.new,
-    //~ ) }
+    //~ ensures interns { InternsSlice B.numbering I.rule texts.now
+    //~     (contents_in B.texts B.buckets B.room I.slots backend.old index.old, numbers.old) result
+    //~     (contents_in B.texts B.buckets B.room I.slots backend.new index.new, numbers.new) }
     //~ ensures sound { IsSoundIndex B.numbering I.indexes (H.code hasher.now) I.entries
     //~     index.new (B.texts backend.new) }
 {

@@ -19,10 +19,12 @@ use crate::proved::dedup::TextIndex;
 use crate::proved::hash::TextHasher;
 use crate::proved::symbol::Symbol;
 
-/// An interner of fewer texts is taken to fit the processor's cache. There a block takes longer than its texts one by one.
+/// From so many texts on it pays to look texts up together. An interner of fewer is taken to fit the processor's cache, where a block
+/// takes longer than its texts one by one. What adds work of its own to each block begins at a multiple of this: at twice as many
+/// texts where the symbols of a block take a second pass, and at four times as many where a known text takes one comparison alone.
 pub const FEWEST_FOR_BLOCKS: usize = 1 << 15;
 
-/// How many texts a block has at most.
+/// How many texts are looked up together at most.
 pub const BLOCK_LEN: usize = 32;
 
 /// So many texts after a block of which few were found are looked up one by one, which makes the cost of trying blocks small.

@@ -3,7 +3,7 @@
 //~ ghost use Rattle.std.specs.Prelude.{◌≡◌, IfSome};
 //~ ghost use Rattle.string_interner.specs.StandsFor.{StandsFor};
 //~ ghost use Rattle.string_interner.specs.Given.{given_text};
-//~ ghost use Rattle.string_interner.specs.Interner.{InternsInto, IsSoundIndex, contents_of};
+//~ ghost use Rattle.string_interner.specs.Interner.{InternsInto, IsSoundIndex, contents_in};
 
 use crate::rt::prelude::*; use super::given::Given;
 use crate::proved::backend::{InternError, Store};
@@ -27,10 +27,9 @@ pub fn intern_coded<B: Store, H: TextHasher, I: TextIndex<B::Symbol>>(
     //~ requires known { IfSome known (λ symbol.
     //~     StandsFor B.numbering (B.texts backend.old) symbol (given_text given)) }
     //~ ensures interns { InternsInto B.numbering I.rule
-    //~     (contents_of (B.texts backend.old) (B.buckets backend.old) (B.room backend.old)
-    //~     (I.slots index.old)) (given_text given.entry) result
-    //~     (contents_of (B.texts backend.new) (B.buckets backend.new) (B.room backend.new)
-    //~     (I.slots index.new)) }
+    //~     (contents_in B.texts B.buckets B.room I.slots backend.old index.old)
+    //~     (given_text given.entry) result
+    //~     (contents_in B.texts B.buckets B.room I.slots backend.new index.new) }
     //~ ensures sound { IsSoundIndex B.numbering I.indexes (H.code hasher.now) I.entries
     //~     index.new (B.texts backend.new) }
 {

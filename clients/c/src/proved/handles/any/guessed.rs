@@ -6,6 +6,7 @@
 use crate::rt::prelude::*; use super::HashedInterner;
 use super::intern_many::Texts;
 use crate::handles::status::Status;
+use crate::proved::BLOCK_LEN;
 use crate::proved::backend::{Backend, InternError};
 use crate::proved::symbol::SymbolU32;
 
@@ -68,11 +69,8 @@ pub fn are_likely_known<B: Backend<Symbol = SymbolU32>, T: Texts>(
     is_found(interner, texts.text_at(0)) && is_found(interner, texts.text_at(count / 2))
 }
 
-/// So many texts are looked for together in a large interner: as many as `touch` takes.
-const BLOCK_LEN: usize = 32;
-
-/// An interner of fewer texts is taken to fit the processor's caches. To look for its texts together takes longer than it saves.
-const FEWEST_FOR_BLOCKS: usize = 1 << 17;
+/// From so many texts on a block pays. A known text that a guess finds takes one comparison alone.
+const FEWEST_FOR_BLOCKS: usize = 4 * crate::proved::FEWEST_FOR_BLOCKS;
 
 /// Returns the index of the first text for which `touch_block` is called: 0 if the interner is large and guesses are asked for, and
 /// else `usize::MAX`, behind all texts.

@@ -31,7 +31,7 @@ pub returns-in_err-reserve_one-clause-interns : goal.returns-in_err-reserve_one-
 returns-in_err-reserve_one-clause-interns g c =
     let error = Memory c.in_err-reserve_one.field-0.0 in let is : c.from_residual.result ≡ Err error = search rules in
     rw is (into-refused g.B.Store.numbering g.I.TextIndex.rule _ _ _ error c.requires.sound.texts (is_new g (goal.at.returns-in_err-reserve_one-clause-interns g c).In-Vacant) (search rules, refl)
-    (λ some h. let e = (c.in_err-reserve_one.ensures.had_room (subst (λ n. g.I.TextIndex.rule.holds (g.I.TextIndex.slots c.args.index.now) (n + 1)) (sym c.requires.sound.count) h)).0 in cc) (ap g.I.TextIndex.slots c.in_err-reserve_one.ensures.err))
+    (λ some h. let e = (c.in_err-reserve_one.ensures.reserves.had_room (subst (λ n. g.I.TextIndex.rule.holds (g.I.TextIndex.slots c.args.index.now) (n + 1)) (sym c.requires.sound.count) h)).0 in cc) (ap g.I.TextIndex.slots c.in_err-reserve_one.ensures.reserves.err))
 
 -- a refusal leaves the slots
 unchanged : {T E I : Type 0} (slots : I → ℕ) (old new : I) (outcome : Result T E) → OnErr outcome (new ≡ old) → OnErr outcome (slots new ≡ slots old)
@@ -41,7 +41,7 @@ unchanged slots old new (Err error) same = ap slots same
 -- the slots grew, if they were full
 grown : (g : Over) (c : After-reserve_one g) → GrowsIfFull g.I.TextIndex.rule (length (g.B.Store.texts c.args.backend.now)) (g.I.TextIndex.slots c.args.index.now) (g.I.TextIndex.slots c.reserve_one.new.self)
 grown g c = subst (λ n. GrowsIfFull g.I.TextIndex.rule n (g.I.TextIndex.slots c.args.index.now) (g.I.TextIndex.slots c.reserve_one.new.self)) c.requires.sound.count
-    (GrowsIfFull-reserved g.I.TextIndex.rule g.met.I.TextIndex.rule_laws _ _ _ c.reserve_one.result (λ room. ap g.I.TextIndex.slots (c.reserve_one.ensures.had_room room).1) c.reserve_one.ensures.grown (unchanged g.I.TextIndex.slots _ _ c.reserve_one.result c.reserve_one.ensures.err))
+    (GrowsIfFull-reserved g.I.TextIndex.rule g.met.I.TextIndex.rule_laws _ _ _ c.reserve_one.result (λ room. ap g.I.TextIndex.slots (c.reserve_one.ensures.reserves.had_room room).1) c.reserve_one.ensures.reserves.grown (unchanged g.I.TextIndex.slots _ _ c.reserve_one.result c.reserve_one.ensures.reserves.err))
 
 pub returns-in_err-symbol-clause-interns : goal.returns-in_err-symbol-clause-interns
 returns-in_err-symbol-clause-interns g c = let at = goal.at.returns-in_err-symbol-clause-interns g c in let put = c.in_err-symbol.ensures in
@@ -50,7 +50,7 @@ returns-in_err-symbol-clause-interns g c = let at = goal.at.returns-in_err-symbo
 pub returns-clause-sound : goal.returns-clause-sound
 returns-clause-sound g c = let at = goal.at.returns-clause-sound g c in let put = c.in_ok-symbol.ensures in
     interned-added g.B.Store.numbering (numbered g.B.Store.numbering g.met.B.Store.symbols g.met.B.Symbol.Symbol.numbered) (injective g.B.Store.numbering g.met.B.Store.symbols g.met.B.Symbol.Symbol.injective) g.met.B.Store.grows _ c.requires.sound.texts.distinct c.requires.sound.texts.valid (λ entry. g.I.TextIndex.indexes c.reserve_one.new.self entry (g.H.TextHasher.code c.args.hasher.now)) (λ entry. g.I.TextIndex.indexes c.insert_at.new.self entry (g.H.TextHasher.code c.args.hasher.now)) _ _ _ _ _
-    c.requires.sound.count c.reserve_one.ensures.same (is_new g at.In-Vacant) put.appends put.valid (c.insert_at.ensures.count ∙ ap (λ n. n + 1) c.reserve_one.ensures.count)
+    c.requires.sound.count c.reserve_one.ensures.same (is_new g at.In-Vacant) put.appends put.valid (c.insert_at.ensures.count ∙ ap (λ n. n + 1) c.reserve_one.ensures.reserves.count)
     (λ adds has. c.insert_at.ensures.adds _ _ (g.H.TextHasher.code c.args.hasher.now) _ adds has (c.reserve_one.ensures.vacant _ _ (rw (← c.requires.code) c.in-Vacant.ensures.vacant)))
 
 pub returns-clause-interns : goal.returns-clause-interns
