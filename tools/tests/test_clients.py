@@ -1,6 +1,7 @@
-"""How clients/build makes the library and the module for Python: once, again after an edit, and of an archive without rt."""
+"""How clients/build makes the library and the module for Python, what clients/check wants, and that exports which lend change nothing."""
 
 import os
+import re
 import shutil
 import subprocess
 import tempfile
@@ -8,8 +9,8 @@ import unittest
 from pathlib import Path
 
 from small import link_commands
-
-TOP = Path(__file__).resolve().parents[2]
+from source import functions
+from tree import TOP, read
 
 # Stands for `rt lib`, `rt doc` and `rt version`: makes an archive of a crate in C, and says where and what the toolchain is.
 RT = """#!/bin/sh
@@ -224,6 +225,99 @@ class ClientsBuild(unittest.TestCase):
             ran = subprocess.run([self.top / "clients/build", *words], capture_output=True, encoding="utf-8", check=False)
             self.assertEqual((ran.returncode, ran.stdout), (2, ""), words)
             self.assertIn("usage", ran.stderr)
+
+
+# Stands for what names a missing package: all is missing but a shell's own commands.
+NEEDS = """#!/bin/sh
+echo "wants $1"
+exit 1
+"""
+
+CRATES = "crates serde serde_derive serde_json bincode"
+CRATES_OF_BENCH = "crates ahash dashmap hashbrown indexmap libc string_cache"
+
+
+class ClientsCheckTest(unittest.TestCase):
+    """In a folder where no command is there that a test needs, so that each language says no more than what it wants."""
+
+    def setUp(self):
+        folder = tempfile.TemporaryDirectory()
+        self.addCleanup(folder.cleanup)
+        self.top = Path(folder.name)
+        for name in ("clients/check", "clients/tally", "clients/rust/Cargo.toml"):
+            (self.top / name).parent.mkdir(parents=True, exist_ok=True)
+            shutil.copy(TOP / name, self.top / name)
+        for name, text in (("clients/build", "#!/bin/sh\necho 'not made'\nexit 1\n"), ("tools/needs.py", NEEDS)):
+            (self.top / name).parent.mkdir(exist_ok=True)
+            (self.top / name).write_text(text)
+            (self.top / name).chmod(0o755)
+        (self.top / "commands").mkdir()
+        for command in ("bash", "sh", "dirname", "mktemp", "rm", "tail", "sed", "cat"):
+            (self.top / "commands" / command).symlink_to(str(shutil.which(command)))
+
+    def wanted(self, *words):
+        """What it says that it wants, in order, once it has said that the library is not made."""
+        ran = subprocess.run([self.top / "clients/check", *words], env={"PATH": f"{self.top}/commands"}, capture_output=True,
+                             encoding="utf-8", check=False)
+        lines = ran.stdout.splitlines()
+        self.assertEqual((ran.returncode, lines[:2]), (1, ["the library: failed", "    not made"]), ran.stderr)
+        return [line for line in lines if line.startswith("wants ")]
+
+    def test_rust_and_the_programs_are_tested(self):
+        rust = ["cargo", "cargo-clippy", "rustfmt", CRATES, CRATES_OF_BENCH]
+        self.assertEqual(self.wanted(), [f"wants {it}" for it in ("cc", *rust, "cargo")])
+
+    def test_once_leaves_the_programs_out(self):
+        self.assertEqual(self.wanted("--once")[-1], f"wants {CRATES_OF_BENCH}")
+
+
+EXPORTS = TOP / "crates/string_interner_c/src/lib.rt"
+# A call on what `read` lends, or what `tell` makes of its outcome. Its arguments are parameters.
+CALL = r"h\.read\(\)\.\w+\((?:(?!h\b)\w+(?:, (?!h\b)\w+)*)?\)"
+BODY = re.compile(rf"(?:{CALL}|tell\({CALL}, (?!h\b)\w+\))")
+LENDS = re.compile(r"\bh: &'\w+ mut Handle\b")
+LIFETIME = re.compile(r"\bfn \w+<'")
+
+
+def bodies(text):
+    """The body of each function that lends what a handle holds, by its name."""
+    lending = (it for it in functions(text) if LENDS.search(it.contract))
+    return {it.name: " ".join(it.text.removeprefix(it.contract).strip("{}\n").split()) for it in lending}
+
+
+class LendingTest(unittest.TestCase):
+    def test_each_export_that_lends_is_one_call_that_reads(self):
+        found = bodies(read(EXPORTS))
+        self.assertEqual({*found}, {
+            "interner_resolve", "interner_string_resolve", "interner_bucket_resolve", "interner_buffer_resolve", "interner_string_joined",
+            "interner_entries"})
+        for name, body in found.items():
+            with self.subTest(name):
+                self.assertRegex(body, f"^{BODY.pattern}$")
+
+    def test_what_lends_has_its_lifetime(self):
+        """No other export writes something that borrows."""
+        for it in functions(read(EXPORTS)):
+            with self.subTest(it.name):
+                self.assertEqual(bool(LIFETIME.search(it.contract)), bool(LENDS.search(it.contract)))
+
+    def test_bodies_that_change_the_handle(self):
+        """Each is proved, although texts are gone."""
+        for body in (
+            "if h.read().lend(symbol).is_err() { h.interner().truncate(1 << 20); return 4; } tell(h.read().lend(symbol), text)",
+            "if symbol == u32::MAX { h.interner().truncate(0); } tell(h.read().lend(symbol), text)",
+            "let len = h.interner().len(); h.interner().truncate(len / 2); tell(h.read().lend(symbol), text)",
+            "tell(lose(h, symbol), text)",
+            "tell(h.read().lend(lose(h)), text)",
+            "tell(h.read().lend(symbol), lose(h, text))",
+            "h.interner().entries(cursor, entries)",
+            "h.read().entries(cursor, h)",
+            "h.read().entries(cursor, entries); h.interner().truncate(0)",
+        ):
+            with self.subTest(body):
+                text = f"pub extern \"C\" fn f<'a>(h: &'a mut Handle, text: &mut Text<'a>) -> u32\n    ensures {{ x }}\n{{\n    {body}\n}}\n"
+                self.assertEqual([*bodies(text)], ["f"])
+                self.assertNotRegex(bodies(text)["f"], f"^{BODY.pattern}$")
 
 
 if __name__ == "__main__":
