@@ -98,7 +98,7 @@ class LintTest(unittest.TestCase):
         for name, text in BAD.values():
             (self.top / name).parent.mkdir(parents=True, exist_ok=True)
             (self.top / name).write_text(text)
-        for name in (".flake8", "mypy.ini", ".shellcheckrc"):
+        for name in ("setup.cfg", ".shellcheckrc"):
             shutil.copy(TOP / name, self.top)
 
     def test_each_finds_what_is_wrong(self) -> None:
