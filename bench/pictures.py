@@ -1,5 +1,5 @@
 #!/usr/bin/env python3
-"""pictures.py [--docs]: draws what bench/run measured into bench/out/pictures, or into docs/pictures.
+"""pictures.py [--docs]: draws what bench/run measured into bench/out/pictures, or into docs/use/pictures.
 
 They can be read 480 pixels wide, and in black and white: lines differ in style and marker. On a dark ground they are inverted."""
 import re

@@ -12,7 +12,7 @@ sys.path.append(str(TOP / "tools"))
 from source import CLAUSE, GHOST_USE
 
 DOCS = TOP / "docs"
-PICTURES = {"out": HERE / "out/pictures", "docs": DOCS / "pictures"}
+PICTURES = {"out": HERE / "out/pictures", "docs": DOCS / "use/pictures"}
 # The results that the documents show.
 MEASURED = HERE / "measured"
 # What is measured by itself, each with a file of results.

@@ -15,12 +15,12 @@ from results import Results, Row, sum_of
 from rust_crate import PHASES as RUST_PHASES, table_rows, truncate_rows
 import threads
 
-PAGES = ("README.md", "docs/PERFORMANCE.md", "docs/python.md", "docs/pandas.md", "clients/rust/README.md")
+PAGES = ("README.md", "docs/use/PERFORMANCE.md", "docs/use/python.md", "docs/use/pandas.md", "clients/rust/README.md")
 DOCUMENTS = tuple(DOCS.parent / it for it in PAGES)
 CALLS = ("fill", "known", "unknown")
 # What was measured in Python, each of some texts.
 Figures = dict[str, dict[str, float]]
-PICTURE = "![Time per call of four calls, by the count of texts](docs/pictures/interning.svg)"
+PICTURE = "![Time per call of four calls, by the count of texts](docs/use/pictures/interning.svg)"
 
 
 def short(value: float | None) -> str:

@@ -1,5 +1,5 @@
 #!/usr/bin/env python3
-"""Prints what is wrong with the contracts and their quotes in docs/CONTRACTS.md, and fails if anything is:
+"""Prints what is wrong with the contracts and their quotes in docs/inside/CONTRACTS.md, and fails if anything is:
 
 - a call that a user makes first and that the page does not quote;
 - a quote, which is the fenced block behind a line like <!-- contract: interner::StringInterner::get -->, that is not the
@@ -24,7 +24,7 @@ from textwrap import dedent
 from source import CLAUSE, Function, block_around, functions
 from tree import TOP, read, write
 
-PAGE = "docs/CONTRACTS.md"
+PAGE = "docs/inside/CONTRACTS.md"
 LIBRARY = "crates/string_interner/src"
 METHODS = "new with_capacity len get get_or_intern resolve iter truncate extend intern_all"
 CALLS = [*(f"interner::StringInterner::{name}" for name in METHODS.split()), "run::run"]

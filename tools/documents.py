@@ -1,7 +1,7 @@
 #!/usr/bin/env python3
 """Prints what is wrong with the documents, and fails if anything is. CONTRIBUTING.md says under "Documents" what is looked for.
 
-A name in a code span is looked for if it has a capital or two words, except what docs/PORTING.md names of the original. A block
+A name in a code span is looked for if it has a capital or two words, except what docs/use/PORTING.md names of the original. A block
 of a language has to stand to the word in a crate or in an example, at the margin or indented as a body, so that it is proved or
 run; but not if tools/try_guide.py takes it as a step.
 """
@@ -27,9 +27,9 @@ EXAMPLES = {
     "sh": "clients/c/examples/*.sh",
 }
 FRONT_PAGE = "crates/string_interner/src/lib.rt"
-NAMES_THE_ORIGINAL = "docs/PORTING.md"
+NAMES_THE_ORIGINAL = "docs/use/PORTING.md"
 # The page with a table of the toolchain's libraries that each crate uses, whose contracts are trusted, and a row of it.
-NAMES_THE_TRUSTED = "docs/promises.md"
+NAMES_THE_TRUSTED = "docs/use/promises.md"
 TRUSTED = re.compile(r"^\| `(\w+)` \| ((?:`\w+`(?:, )?)+) \|$", re.M)
 # A line for the crates.txt of a reader's project.
 LISTED = re.compile(r"^ *((\w+)(?: staticlib)?:(?: \w+)*)$", re.M)
@@ -44,10 +44,11 @@ VERSIONS = {
 }
 # Folders of what is built, as .gitignore has them.
 BUILT = {"out", "target", "__pycache__"}
-# How long a page may be: the front page fits on two screens, and a user's page is read at one sitting.
+# How long a page may be: the front page fits on two screens, and a user's page is read at one sitting, unless its name in capitals
+# says that one looks something up in it.
 MOST_LINES = 120
-USERS_PAGE = re.compile(r"docs/[a-z]+\.md")
-MOST_WORDS = {"README.md": 900, "docs/promises.md": 1_800, "docs/tests.md": 1_800}
+USERS_PAGE = re.compile(r"docs/use/[a-z]+\.md")
+MOST_WORDS = {"README.md": 900, "docs/use/promises.md": 1_800, "docs/inside/tests.md": 1_800}
 MOST_WORDS_OF_USERS_PAGE, MOST_WORDS_OF_OTHERS = 1_250, 2_500
 LINK = re.compile(r"\]\(([^)\s]+)\)")
 SPAN = re.compile(r"(?<!`)`([^`\n]+)`(?!`)")
@@ -148,7 +149,7 @@ def missing_names(page: str, text: str, repository: Repository) -> Iterator[str]
 
 def is_tried(page: str) -> bool:
     """Whether tools/try_guide.py takes the steps of a page."""
-    return re.fullmatch(r"README\.md|docs/\w+\.md", page) is not None
+    return re.fullmatch(r"README\.md|docs/use/\w+\.md", page) is not None
 
 
 def comment_of(source: str) -> str:

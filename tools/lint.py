@@ -1,6 +1,6 @@
 #!/usr/bin/env python3
 """Has linters look at what is written by hand: flake8 and mypy at Python, shellcheck at shell, and the warnings of a compiler at C.
-.flake8, mypy.ini and .shellcheckrc say what they ask for. Of Rust clients/check does so, and of Rattle `rt`.
+setup.cfg and .shellcheckrc say what they ask for. Of Rust clients/check does so, and of Rattle `rt`.
 
     tools/lint.py          all that the machine has; it names what is missing, with its packages
     tools/lint.py NAME..   these alone, as `mypy`

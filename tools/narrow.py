@@ -1,5 +1,5 @@
 #!/usr/bin/env python3
-"""Prints where docs/NARROW.md and the library's source differ, and fails if they do.
+"""Prints where docs/inside/NARROW.md and the library's source differ, and fails if they do.
 
 That page says why no number of the library wraps if a `usize` has 32 bits. It has a row for each function with an operation that
 could: a sum, a product, a shift, a cast to `usize`, a call of a method like `checked_add`, the size of a value, and the greatest
@@ -23,7 +23,7 @@ from typing import Any, NamedTuple
 
 from tree import TOP, read
 
-PAGE = "docs/NARROW.md"
+PAGE = "docs/inside/NARROW.md"
 SOURCES = "crates/string_interner/src"
 ERASER = runpy.run_path(str(TOP / "tools/erase"))
 # What ends no operand: the word in front of a `*` that reads behind a pointer, and of the type of a pointer.

@@ -4,7 +4,7 @@
     tools/try_guide.py [CLONE [PAGE..]]        takes what is built from another tree of the same sources, as from one where all is proved
     tools/try_guide.py --by-cargo [PAGE..]     takes no step with `rt`, as on a machine without it: cargo builds all
 
-The pages are README.md and those of docs/ that have commands, or those that are named. A step is a block of code:
+The pages are README.md and those of docs/use/ that have commands, or those that are named. A step is a block of code:
 
     sh          is run, in the folder where the commands before it ended
     another     is written into FILE there, if the line before it ends in "`FILE`:"
@@ -29,11 +29,11 @@ from tree import TOP, read
 
 # What a page needs besides a shell and `rt`.
 NEEDS = {
-    "docs/c.md": ["cc", "pkg-config"],
-    "docs/columns.md": ["cc", "python3-config"],
-    "docs/dask.md": ["cc", "python3-config", "python distributed"],
-    "docs/python.md": ["cc", "python3-config", "python pip setuptools wheel"],
-    "docs/rust.md": ["cc", "cargo"],
+    "docs/use/c.md": ["cc", "pkg-config"],
+    "docs/use/columns.md": ["cc", "python3-config"],
+    "docs/use/dask.md": ["cc", "python3-config", "python distributed"],
+    "docs/use/python.md": ["cc", "python3-config", "python pip setuptools wheel"],
+    "docs/use/rust.md": ["cc", "cargo"],
 }
 # Puts what was built elsewhere into its place, where it counts as newer than its sources.
 TAKE = """set -eu
@@ -59,7 +59,7 @@ clients/build
 """
 BY_CARGO = "--by-cargo"
 # The page whose steps prove.
-PROVING_PAGE = "docs/rattle.md"
+PROVING_PAGE = "docs/use/rattle.md"
 MARK = "\f"
 UNSET = ("PYTHONPATH", "PKG_CONFIG_PATH", "LD_LIBRARY_PATH", "STRING_INTERNER_LIB")
 

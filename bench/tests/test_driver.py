@@ -1,11 +1,15 @@
-"""What the driver reads, and how its check sums and times are told."""
+"""What the driver reads and tells, how callgrind's files are weighed, and the lines that programs read."""
 
+import os
 import sys
+import tempfile
 import unittest
 from pathlib import Path
 from unittest import mock
 
 sys.path.insert(0, str(Path(__file__).resolve().parents[1]))
+import columns
+import cycles
 import driver
 from results import summary
 
@@ -60,6 +64,72 @@ class Sums(unittest.TestCase):
             rows = list(driver.time_kinds(given, 1, 2))
         self.assertEqual(rows[:2], [f"a\tstring\t-\tb\twords\t2\t3.5\t{row}" for row in ("fill\t3.00", "fill median\t3.00")])
         self.assertFalse([row for row in rows if "copy" in row])
+
+
+# Stands for valgrind: writes six parts, each with its number for a total, and one for the rest.
+VALGRIND = """#!/bin/sh
+for word; do case $word in --callgrind-out-file=*) file=${word#*=}; esac; done
+file=${file%.%p}.77
+for part in 1 2 3 4 5 6; do printf 'events: Ir\\ntotals: %s\\n' $part >"$file.$part"; done
+printf 'events: Ir\\ntotals: 1000\\n' >"$file"
+"""
+
+
+class Cycles(unittest.TestCase):
+    def test_weights_each_event(self):
+        events = "Ir Dr Dw I1mr D1mr D1mw ILmr DLmr DLmw Bc Bcm Bi Bim"
+        totals = cycles.totals_in(["version: 1", f"events: {events}", "fn=(1) main", "totals: 1000 9 9 2 3 1 1 0 2 9 4 9 1"])
+        self.assertEqual(cycles.cycles_in(totals), 1000 + 10 * (2 + 3 + 1) + 100 * (1 + 2) + 10 * (4 + 1))
+
+    def test_takes_what_is_left_out_for_zero(self):
+        totals = cycles.totals_in(["events: Ir Dr Dw I1mr D1mr", "totals: 50 1 1 1"])
+        self.assertEqual(cycles.cycles_in(totals), 60)
+
+    def test_sorts_parts_by_number(self):
+        names = ["counts.12", "counts.12.10", "counts.12.9"]
+        self.assertEqual(sorted(map(Path, names), key=cycles.number_of_part), list(map(Path, reversed(names))))
+
+    def test_a_phase_is_between_two_readings_of_the_clock(self):
+        with tempfile.TemporaryDirectory() as folder:
+            tool = Path(folder, "valgrind")
+            tool.write_text(VALGRIND)
+            tool.chmod(0o755)
+            with mock.patch.dict(os.environ, PATH=f"{folder}:{os.environ['PATH']}"):
+                self.assertEqual(cycles.count_phases("a/kind", "texts:1"), {"fill": {"Ir": 3}, "known": {"Ir": 5}})
+
+
+# Stands for dictcol: writes each line twice.
+PROGRAM = "#!/bin/sh\nsed p\n"
+
+
+class Columns(unittest.TestCase):
+    def test_lines_in_order_are_sorted_and_shuffled_ones_are_the_same(self):
+        lines = columns.lines_of("in order", 2000)
+        self.assertEqual(lines, sorted(set(lines)))
+        shuffled = columns.lines_of("shuffled", 2000)
+        self.assertNotEqual(shuffled, lines)
+        self.assertEqual(sorted(shuffled), lines)
+
+    def test_few_of_the_repeated_lines_are_distinct(self):
+        self.assertEqual(len(set(columns.lines_of("repeated", 20_000))), 600)
+
+    def test_each_command_reads_its_lines(self):
+        runs = {}
+
+        def measure(command, given):
+            runs[command, given.name] = len(given.read_text().splitlines())
+            return {"run": 50, "memory": 25}
+
+        with tempfile.TemporaryDirectory() as folder:
+            program = Path(folder, "dictcol")
+            program.write_text(PROGRAM)
+            program.chmod(0o755)
+            rows = [row.split("\t") for row in columns.measure_columns(program, 10, measure)]
+        self.assertEqual(runs[f"{program} encode", "shuffled"], 10)
+        self.assertEqual(runs[f"{program} decode", "encoded"], 20)
+        self.assertIn(("sort | uniq -c", "repeated"), runs)
+        self.assertEqual([row[0] for row in rows[::2]], [command for command, _ in columns.COMMANDS])
+        self.assertEqual({(what, value) for *_, what, value in rows}, {("run", "5.00"), ("memory", "2.50")})
 
 
 if __name__ == "__main__":

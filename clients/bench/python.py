@@ -25,7 +25,7 @@ from pathlib import Path
 TOP = Path(__file__).resolve().parent.parent.parent
 sys.path.insert(0, str(TOP / "clients/python"))
 RUNS = int(os.environ.get("RUNS", 5))
-PICTURES = TOP / "docs/pictures"
+PICTURES = TOP / "docs/use/pictures"
 MEASURED = TOP / "bench/measured/python.tsv"
 figures, too_great = {}, []
 

@@ -1,9 +1,9 @@
 """The planted bugs of the crates, as their tables say them.
 
-crates/CRATE/bugs/PATH.bugs has the planted bugs of src/PATH.rt and of src/PATH/, and lib.bugs or main.bugs those of all sources of
-src/ that head no folder, with an empty line between two bugs. The lines of one:
+crates/CRATE/bugs/PART.bugs has the planted bugs of src/PART.rt and of src/PART/, and lib.bugs or main.bugs those of all sources
+without such a table, with an empty line between two bugs. The lines of one:
 
-  source:     the source file of this bug and of those after it, if that is not src/PATH.rt
+  source:     the source file of this bug and of those after it, if that is not src/PART.rt
   bug:        its name
   function:   the function whose promise it breaks, for a bug that the prover must refuse
   scenario:   what catches it, for a bug that the prover accepts and a run of a built program must catch: a scenario and words of

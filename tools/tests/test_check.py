@@ -255,7 +255,7 @@ class TestsTest(unittest.TestCase):
             return mock.Mock(said="", **{"wait.return_value": True, "process.returncode": status})
 
         named = mock.patch.dict(CHECK["tests"].__globals__, {"missing": lambda needs: [], "Part": part})
-        with named, mock.patch("try_guide.pages", lambda: ["README.md", "docs/rattle.md"]):
+        with named, mock.patch("try_guide.pages", lambda: ["README.md", "docs/use/rattle.md"]):
             CHECK[tests](gate)
         return begun, gate.left_out
 

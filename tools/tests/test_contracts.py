@@ -95,26 +95,26 @@ class ContractsTest(SmallRepository):
         self.assertEqual(list(contracts.faults()), [])
 
     def test_stale_quote(self):
-        fault = "docs/CONTRACTS.md: the quote of rooms::half is stale: it has `    requires { IsOdd number }` for `    requires { IsEven number }`"
+        fault = "docs/inside/CONTRACTS.md: the quote of rooms::half is stale: it has `    requires { IsOdd number }` for `    requires { IsEven number }`"
         self.assertEqual(self.faults_of(PAGE.replace("IsEven", "IsOdd")), [fault])
 
     def test_quote_without_its_last_lines(self):
-        fault = "docs/CONTRACTS.md: the quote of rooms::Room::double is stale: it has `` for `    ensures { IsRoom self.now }`"
+        fault = "docs/inside/CONTRACTS.md: the quote of rooms::Room::double is stale: it has `` for `    ensures { IsRoom self.now }`"
         self.assertEqual(self.faults_of(PAGE.replace("    ensures { IsRoom self.now }\n", "")), [fault])
 
     def test_new_clause(self):
         self.write(f"{LIBRARY}/rooms/half.rt", HALF.replace("    requires", "    requires { IsSmall number }\n    requires"))
-        fault = "docs/CONTRACTS.md: the quote of rooms::half is stale: it has `    requires { IsEven number }` for `    requires { IsSmall number }`"
+        fault = "docs/inside/CONTRACTS.md: the quote of rooms::half is stale: it has `    requires { IsEven number }` for `    requires { IsSmall number }`"
         self.assertEqual(list(contracts.faults()), [fault])
 
     def test_clause_over_several_lines(self):
         page = PAGE.replace("        result }", "        number }")
-        fault = "docs/CONTRACTS.md: the quote of rooms::Room::double is stale: it has `        number }` for `        result }`"
+        fault = "docs/inside/CONTRACTS.md: the quote of rooms::Room::double is stale: it has `        number }` for `        result }`"
         self.assertEqual(self.faults_of(page), [fault])
 
     def test_other_margin(self):
         page = PAGE.replace("    requires", "  requires")
-        fault = "docs/CONTRACTS.md: the quote of rooms::half is stale: it has `  requires { IsEven number }` for `    requires { IsEven number }`"
+        fault = "docs/inside/CONTRACTS.md: the quote of rooms::half is stale: it has `  requires { IsEven number }` for `    requires { IsEven number }`"
         self.assertEqual(self.faults_of(page), [fault])
 
     def test_call_of_a_trait(self):
@@ -126,18 +126,18 @@ class ContractsTest(SmallRepository):
     def test_attribute_and_comment(self):
         page = PAGE.replace("pub fn half", "#[must_use]\npub fn half")
         fault = "the quote of rooms::half is stale: it has `#[must_use]` for `pub fn half(number: u32) -> u32`"
-        self.assertEqual(self.faults_of(page), [f"docs/CONTRACTS.md: {fault}"])
+        self.assertEqual(self.faults_of(page), [f"docs/inside/CONTRACTS.md: {fault}"])
 
     def test_call_that_is_not_there(self):
-        faults = ["docs/CONTRACTS.md: no quote of rooms::half", "docs/CONTRACTS.md: no rooms::third in the library"]
+        faults = ["docs/inside/CONTRACTS.md: no quote of rooms::half", "docs/inside/CONTRACTS.md: no rooms::third in the library"]
         self.assertEqual(self.faults_of(PAGE.replace("rooms::half", "rooms::third")), faults)
-        self.assertEqual(self.faults_of(PAGE.replace("rooms::half", "rooms::Room::half"))[1:], ["docs/CONTRACTS.md: no rooms::Room::half in the library"])
-        self.assertEqual(self.faults_of(PAGE.replace("rooms::half", "halls::half"))[1:], ["docs/CONTRACTS.md: no halls::half in the library"])
-        self.assertEqual(self.faults_of(PAGE.replace("rooms::Room::", "rooms::Shape::"))[1:], ["docs/CONTRACTS.md: no rooms::Shape::double in the library"])
-        self.assertEqual(self.faults_of(PAGE.replace("rooms::Room::", "rooms::"))[1:], ["docs/CONTRACTS.md: no rooms::double in the library"])
+        self.assertEqual(self.faults_of(PAGE.replace("rooms::half", "rooms::Room::half"))[1:], ["docs/inside/CONTRACTS.md: no rooms::Room::half in the library"])
+        self.assertEqual(self.faults_of(PAGE.replace("rooms::half", "halls::half"))[1:], ["docs/inside/CONTRACTS.md: no halls::half in the library"])
+        self.assertEqual(self.faults_of(PAGE.replace("rooms::Room::", "rooms::Shape::"))[1:], ["docs/inside/CONTRACTS.md: no rooms::Shape::double in the library"])
+        self.assertEqual(self.faults_of(PAGE.replace("rooms::Room::", "rooms::"))[1:], ["docs/inside/CONTRACTS.md: no rooms::double in the library"])
 
     def test_block_without_a_fence(self):
-        faults = ["docs/CONTRACTS.md: no block of Rattle behind the mark of rooms::half"]
+        faults = ["docs/inside/CONTRACTS.md: no block of Rattle behind the mark of rooms::half"]
         self.assertEqual(self.faults_of(PAGE.replace("-->\n```rattle\npub fn half", "-->\npub fn half")), faults)
         self.assertEqual(self.faults_of(PAGE.replace("\n```\nIt halves.", "\nIt halves.")), faults)
 
@@ -188,11 +188,11 @@ class ContractsTest(SmallRepository):
         self.assertEqual(contracts.repeated()[0], [(LONG, 3), (LONG + " and", 2)])
 
     def test_quote_with_a_line_more(self):
-        faults = ["docs/CONTRACTS.md: the quote of rooms::half is stale: it has `` for ``"]
+        faults = ["docs/inside/CONTRACTS.md: the quote of rooms::half is stale: it has `` for ``"]
         self.assertEqual(self.faults_of(PAGE.replace("number result }\n```", "number result }\n\n```")), faults)
 
     def test_mark_that_is_written_otherwise(self):
-        faults = ["docs/CONTRACTS.md: a mark of a contract that is not written `<!-- contract: CALL -->`"]
+        faults = ["docs/inside/CONTRACTS.md: a mark of a contract that is not written `<!-- contract: CALL -->`"]
         self.assertEqual(self.faults_of(PAGE + "<!--contract: rooms::third -->\n"), faults)
 
     def run_main(self, *words):

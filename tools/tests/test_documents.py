@@ -82,12 +82,12 @@ class DocumentsTest(SmallRepository):
         self.assertEqual(self.faults_after("`double`", "`twice-two`, `pkg-config`"), [])
         self.assertEqual(self.faults_after("`double`", "`twice-three`"), ["README.md: no row or law `twice-three`"])
         self.assertEqual(self.faults_after("`double`", "`twice-tw`"), ["README.md: no row or law `twice-tw`"])
-        self.write("docs/PORTING.md", "Shown by `twice-four`, not by `Treble`.\n")
-        self.assertEqual(self.faults_after("`double`", "`double`"), ["docs/PORTING.md: no row or law `twice-four`"])
+        self.write("docs/use/PORTING.md", "Shown by `twice-four`, not by `Treble`.\n")
+        self.assertEqual(self.faults_after("`double`", "`double`"), ["docs/use/PORTING.md: no row or law `twice-four`"])
 
     def test_the_original(self):
-        self.write("docs/PORTING.md", "The original has `Treble`, and `src/treble.rs`.\n")
-        self.assertEqual(list(documents.faults()), ["docs/PORTING.md: no file `src/treble.rs`"])
+        self.write("docs/use/PORTING.md", "The original has `Treble`, and `src/treble.rs`.\n")
+        self.assertEqual(list(documents.faults()), ["docs/use/PORTING.md: no file `src/treble.rs`"])
 
     def test_blocks(self):
         self.assertEqual(self.faults_after("fn half(", "fn third("), ["README.md: in no crate: fn third(number: u32) -> u32"])
@@ -116,12 +116,12 @@ class DocumentsTest(SmallRepository):
 
     def test_steps(self):
         steps = "```sh\ncc new.c\n```\n\n```text\n1\n```\n\nWrite this into `new.c`:\n\n```c\nint new;\n```\n"
-        self.write("docs/c.md", steps)
+        self.write("docs/use/c.md", steps)
         self.assertEqual(list(documents.faults()), [])
-        self.write("docs/c.md", steps.replace("`new.c`:", "`new.c`."))
-        self.assertEqual(list(documents.faults()), ["docs/c.md: no file `new.c`", "docs/c.md: in no example: int new;"])
-        self.write("docs/c.md", steps.replace("```sh", "```c"))
-        self.assertEqual(list(documents.faults()), ["docs/c.md: in no example: cc new.c"])
+        self.write("docs/use/c.md", steps.replace("`new.c`:", "`new.c`."))
+        self.assertEqual(list(documents.faults()), ["docs/use/c.md: no file `new.c`", "docs/use/c.md: in no example: int new;"])
+        self.write("docs/use/c.md", steps.replace("```sh", "```c"))
+        self.assertEqual(list(documents.faults()), ["docs/use/c.md: in no example: cc new.c"])
 
     def test_block_of_a_method(self):
         half = "fn half(number: u32) -> u32\n    ensures { IsHalf number result }\n"
@@ -136,7 +136,7 @@ class DocumentsTest(SmallRepository):
         self.assertEqual(list(documents.faults()), ["README.md: 121 lines, and 120 may be"])
 
     def test_many_words(self):
-        for page, most in (("docs/tests.md", 1_800), ("docs/shell.md", 1_250), ("docs/MORE.md", 2_500), ("low/MORE.md", 2_500)):
+        for page, most in (("docs/inside/tests.md", 1_800), ("docs/use/shell.md", 1_250), ("docs/use/MORE.md", 2_500), ("docs/inside/more.md", 2_500)):
             self.write(page, "word " * most)
             self.assertEqual(list(documents.faults()), [])
             self.write(page, "word " * (most + 1))
@@ -151,7 +151,7 @@ class DocumentsTest(SmallRepository):
         self.assertEqual(list(documents.faults()), [f"{page}: in no crate: number / 3"])
 
     def test_libraries_that_are_trusted(self):
-        page = "docs/promises.md"
+        page = "docs/use/promises.md"
         self.write("crates.txt", "low: std_alloc json\nhigh: low\n")
         row = "| `low` | `json`, `std_alloc` |\n"
         self.write(page, row)

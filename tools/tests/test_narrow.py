@@ -94,7 +94,7 @@ class OperationsTest(SmallRepository):
         self.write(narrow.PAGE, PAGE.replace("`a + b`, `b * c` | few, inside", "`width * depth` | inside"))
         planted = "fn size(a: usize, b: usize) -> usize {\n    a * b\n}\n"
         self.write("crates/low/src/rooms.rt", f"{planted}\nconst MOST: usize = 1 << 20;\n\nfn area() {{\n    width * depth\n}}\n")
-        self.assertEqual(list(narrow.faults()), ["docs/NARROW.md: no row of rooms::size has `a * b`"])
+        self.assertEqual(list(narrow.faults()), ["docs/inside/NARROW.md: no row of rooms::size has `a * b`"])
 
 
 class PageTest(SmallRepository):

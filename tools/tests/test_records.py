@@ -201,8 +201,8 @@ class Records(unittest.TestCase):
             write(self.here / "kit" / it, "")
         steps = "```sh\nmkdir ../yours\necho 'string_interner:{}' >../yours/crates.txt\nbin/library ../yours\n```\n"
         for libraries, status in ("", 0), (" core", 1):
-            write(self.top / "docs/rattle.md", steps.format(libraries))
-            said = self.run_in_copy("tools/try_guide.py", "", "docs/rattle.md", status=status).stdout
+            write(self.top / "docs/use/rattle.md", steps.format(libraries))
+            said = self.run_in_copy("tools/try_guide.py", "", "docs/use/rattle.md", status=status).stdout
             self.assertEqual("library: rt will prove string_interner, in minutes: " in said, status == 1)
 
     def test_proofs_are_recorded_where_no_record_fits(self):

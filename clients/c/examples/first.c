@@ -1,4 +1,4 @@
-/* The first program of docs/c.md: equal texts have equal symbols. */
+/* The first program of docs/use/c.md: equal texts have equal symbols. */
 #include "string_interner.h"
 #include <stdio.h>
 

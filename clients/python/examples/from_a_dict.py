@@ -1,4 +1,4 @@
-"""The program of docs/python.md: each line of a dict, and the line of an interner that does the same."""
+"""The program of docs/use/python.md: each line of a dict, and the line of an interner that does the same."""
 
 from string_interner import Interner
 

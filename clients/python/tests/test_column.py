@@ -1285,7 +1285,7 @@ class Pandas(unittest.TestCase):
         self.assertEqual(list(Column.from_pandas(pandas.Series([], dtype=object))), [])
 
     def test_each_kind_there_and_back(self):
-        """The rows of the table in docs/pandas.md: what is lost, and how `x` is had again."""
+        """The rows of the table in docs/use/pandas.md: what is lost, and how `x` is had again."""
         texts, same = ["b", None, "a", "b"], pandas.testing
         categorical = pandas.Categorical(texts, categories=["b", "a", "z"])
 

@@ -1,5 +1,5 @@
-//! The first program of docs/rust.md and of the crate's page: equal texts have equal symbols. `cargo run --example first` runs it in
-//! the folder of this crate.
+//! The first program of docs/use/rust.md and of the crate's page: equal texts have equal symbols. `cargo run --example first` runs it
+//! in the folder of this crate.
 
 fn main() {
     let mut names = string_interner::StringInterner::default();

@@ -1,4 +1,5 @@
-//! Merging plain interners of each thread, as docs/rust.md shows it. `cargo run --example merge` runs it in the folder of this crate.
+//! Merging plain interners of each thread, as docs/use/rust.md shows it. `cargo run --example merge` runs it in the folder of this
+//! crate.
 
 use std::thread;
 use string_interner::{DefaultStringInterner, DefaultSymbol, StringInterner, Symbol};

@@ -584,3 +584,302 @@ thirteen texts, string:
   symbol 0
   text 12
   len 13
+
+greatest numbers:
+
+  $ intern string <<'END'
+  > n 18446744073709551615
+  > r 00000000000000000000000000018446744073709551615
+  > END
+  none
+  no reply
+
+number with leading zeros:
+
+  $ intern string <<'END'
+  > i a
+  > n 000
+  > END
+  symbol 0
+  text a
+
+number without newline:
+
+  $ printf 'i a\nn 000' | intern string
+  symbol 0
+  text a
+
+numbers without a text, bucket:
+
+  $ intern bucket <<'END'
+  > i a
+  > n 0
+  > n 1
+  > n 4294967295
+  > n 18446744073709551615
+  > r 1
+  > r 0
+  > len
+  > END
+  symbol 0
+  text a
+  none
+  none
+  none
+  no reply
+  text a
+  len 1
+
+numbers without a text, buffer:
+
+  $ intern buffer <<'END'
+  > i a
+  > n 0
+  > n 1
+  > n 4294967295
+  > n 18446744073709551615
+  > r 1
+  > r 0
+  > len
+  > END
+  symbol 0
+  text a
+  none
+  none
+  none
+  no reply
+  text a
+  len 1
+
+numbers without a text, string:
+
+  $ intern string <<'END'
+  > i a
+  > n 0
+  > n 1
+  > n 4294967295
+  > n 18446744073709551615
+  > r 1
+  > r 0
+  > len
+  > END
+  symbol 0
+  text a
+  none
+  none
+  none
+  no reply
+  text a
+  len 1
+
+replies that are no symbols:
+
+  $ intern string <<'END'
+  > i a
+  > g a
+  > g 
+  > len
+  > n 1
+  > r 5
+  > r 3
+  > END
+  symbol 0
+  symbol 0
+  none
+  len 1
+  none
+  no reply
+  no reply
+
+reply before any:
+
+  $ intern string <<'END'
+  > r 0
+  > END
+  no reply
+
+reply of itself and later:
+
+  $ intern string <<'END'
+  > r 0
+  > r 1
+  > i a
+  > r 3
+  > r 2
+  > END
+  no reply
+  no reply
+  symbol 0
+  no reply
+  text a
+
+too large a number:
+
+  $ intern string <<'END'
+  > n 18446744073709551616
+  > END
+  bad line 1
+  [2]
+
+too large a number after zeros:
+
+  $ intern string <<'END'
+  > n 000018446744073709551616
+  > END
+  bad line 1
+  [2]
+
+too large a reply number:
+
+  $ intern string <<'END'
+  > r 18446744073709551616
+  > END
+  bad line 1
+  [2]
+
+bad line after a good one:
+
+  $ intern string <<'END'
+  > i Elephant
+  > x
+  > y
+  > END
+  bad line 2
+  [2]
+
+damage after a bad line:
+
+  $ printf 'x\ni a\377' | intern string
+  cannot read input
+  [1]
+
+damage after a good line:
+
+  $ printf 'i Elephant\n\377\n' | intern string
+  cannot read input
+  [1]
+
+damage at the start:
+
+  $ printf '\377i a\n' | intern string
+  cannot read input
+  [1]
+
+empty line at the end:
+
+  $ intern string <<'END'
+  > len
+  > 
+  > END
+  bad line 2
+  [2]
+
+empty line between:
+
+  $ printf 'i a\n\ni b' | intern string
+  bad line 2
+  [2]
+
+first of two bad lines:
+
+  $ intern string <<'END'
+  > i a
+  > i b
+  > x
+  > y
+  > END
+  bad line 3
+  [2]
+
+half a character at the end:
+
+  $ printf 'i a\ni \303' | intern string
+  cannot read input
+  [1]
+
+last line without newline:
+
+  $ printf 'len' | intern string
+  len 0
+
+newline alone:
+
+  $ intern string <<'END'
+  > 
+  > END
+  bad line 1
+  [2]
+
+one bad line:
+
+  $ intern string <<'END'
+  > x
+  > END
+  bad line 1
+  [2]
+
+surrogate:
+
+  $ printf 'i \355\240\200\n' | intern string
+  cannot read input
+  [1]
+
+text that is not utf8:
+
+  $ printf 'i \377\n' | intern string
+  cannot read input
+  [1]
+
+texts without newline:
+
+  $ printf 'i Elephant\ni Tiger' | intern string
+  symbol 0
+  symbol 1
+
+two newlines at the end:
+
+  $ intern string <<'END'
+  > i a
+  > 
+  > END
+  bad line 2
+  [2]
+
+no word:
+
+  $ intern <<'END'
+  > i Elephant
+  > END
+  usage: intern string|bucket|buffer
+  [2]
+
+no word and no lines:
+
+  $ intern <<'END'
+  > END
+  usage: intern string|bucket|buffer
+  [2]
+
+two words:
+
+  $ intern string string <<'END'
+  > i Elephant
+  > END
+  usage: intern string|bucket|buffer
+  [2]
+
+two words of two backends:
+
+  $ intern string bucket <<'END'
+  > i Elephant
+  > END
+  usage: intern string|bucket|buffer
+  [2]
+
+word with a capital:
+
+  $ intern String <<'END'
+  > i Elephant
+  > END
+  usage: intern string|bucket|buffer
+  [2]
