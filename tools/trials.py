@@ -62,6 +62,11 @@ def outcome(program: object, trial: Trial) -> tuple[list[str], int]:
     return faults, count
 
 
+def alone(module: Mapping[str, Any]) -> list[Trial]:
+    """The trials among the names of a module that take the program alone: its functions `try_..` of one parameter."""
+    return [(it,) for name, it in module.items() if name.startswith("try_") and it.__code__.co_argcount == 1]
+
+
 def chosen(parts: Mapping[str, Iterable[Trial]], word: str) -> Iterable[Trial]:
     """The trials that a word names: those of a part, as `columns`, or of one function of it, as `columns:try_links`."""
     part, _, function = word.partition(":")

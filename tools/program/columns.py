@@ -22,7 +22,7 @@ from needs import python_with
 from program.cases import MANY
 from program.reckon import answer, failed, misused, skip_invalid, told, unwritten, warned
 from program.streams import limit_files
-from trials import own_folder
+from trials import alone, own_folder
 
 BACKENDS = (b"string", b"bucket", b"buffer")
 OK = 0, b"", b""
@@ -890,35 +890,14 @@ def try_random(program, seed):
 def trials():
     return [
         *((try_text, data) for data in TEXTS),
-        (try_long_text,),
-        (try_texts_in_turn,),
-        (try_output,),
-        (try_reading,),
-        (try_several,),
         *((try_onto, *both) for both in itertools.product(TEXTS[:-2], repeat=2)),
         *((try_damaged, *given) for given in DAMAGED),
         *((try_repeated, *given) for given in REPEATED),
         *((try_pair, *given) for given in OF_TWO_RUNS),
         *((try_end, *given) for given in OF_ANOTHER_END),
-        (try_exchange,),
-        (try_modes,),
-        (try_stored,),
-        (try_links,),
-        (try_unlike,),
-        (try_folders_stored,),
         *((trial, old) for trial in (try_killed_writers, try_ended_writers, try_writers) for old in (None, SECOND, THIRD)),
-        (try_ignored,),
-        (try_extenders,),
         *((try_writer_that_reads, *given) for given in ((WRITE, ()), (EXTEND, (b"red", b"green")))),
         *((try_readers, after) for after in (SECOND, ALIKE)),
-        (try_readers_beside,), (try_looks_beside,),
-        (try_late_writers,),
-        (try_devices,),
-        (try_race,),
-        (try_missing,),
-        (try_unreadable,),
-        (try_memory_told,),
-        (try_refused,),
-        (try_numpy,),
         *((try_random, seed) for seed in range(100)),
+        *alone(globals()),
     ]

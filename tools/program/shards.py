@@ -16,7 +16,7 @@ from program.columns import (NOT_LEFT, OK, UNFINISHED, all_in, columns_of, each_
                              npy)
 from program.reckon import failed, misused, skip_invalid, told, warned
 from tree import TOP
-from trials import own_folder
+from trials import alone, own_folder
 
 MULTIPLIER, START = 0x9E3779B97F4A7C15, 0x243F6A8885A308D3
 
@@ -332,21 +332,6 @@ def trials():
         *((try_text, data, count) for data in TEXTS for count in (1, 2, 3, 20)),
         # More than a byte numbers.
         (try_text, LONG, 300),
-        (try_reading,),
-        (try_recipe,),
-        (try_failing,),
-        (try_open_files,),
-        (try_few_writes,),
-        (try_stored,),
-        (try_killed,),
-        (try_ended,),
-        (try_beside,),
-        (try_links,),
-        (try_unlike,),
-        (try_folders_stored,),
-        (try_no_name,),
-        (try_names,),
-        (try_refused,),
-        (try_in_little_memory,),
+        *alone(globals()),
         *((try_random, seed) for seed in range(30)),
     ]

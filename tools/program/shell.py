@@ -22,7 +22,7 @@ from program.reckon import ENCODED, MEMORY, answer, failed, is_utf8, misused, to
 from program.requests import asks_of_lines
 from program.streams import limit_files
 from tree import TOP
-from trials import own_folder
+from trials import alone, own_folder
 
 VERSION = (TOP / "VERSION").read_bytes().strip()
 
@@ -711,11 +711,7 @@ def try_telling_to_a_full_disk(program):
 
 
 def trials():
-    return [(trial,) for trial in (
-        try_telling_to_a_full_disk, try_operands, try_files, try_many_files, try_encoded, try_counts_of_encoded, try_merges,
-        try_packed, try_file_limit, try_far_json, try_long_names, try_backends, try_invalid, try_blocks, try_drawing, try_help, try_lists,
-        try_bad_lists, try_unended_lists, try_controls, try_folders,
-        try_terminal_as_a_file)]
+    return [it for it in alone(globals()) if it not in long_trials()]
 
 
 def long_trials():
