@@ -82,14 +82,13 @@ class Program:
         subprocess.run([*words, "-O2", "-shared", "-fPIC", "-nostdlib", "-o", self.library, TOP / ".ci/failures.c"], check=True)
 
     def run(self, words: Words, given: bytes | Stream = b"", output: Stream = subprocess.PIPE, is_joined: bool = False,
-            seconds: float | None = SECONDS, before: Callable[[], object] | None = None, folder: str | Path | None = None,
-            **settings: Any) -> End:
+            seconds: float | None = SECONDS, before: Callable[[], object] | None = None, **settings: Any) -> End:
         """How a run over these bytes, or over this file, ends, where standard error may be joined to standard output."""
         environment = {"LD_PRELOAD": self.library, **{name: str(value) for name, value in settings.items()}} if settings else {}
         source: AbstractContextManager[Any] = nullcontext(given) if not isinstance(given, bytes) else closing(holding(given))
         with source as stdin:
             # Without closing files first, the process starts several times as fast.
-            with subprocess.Popen([self.path, *words], stdin=stdin, stdout=output, env=environment, cwd=folder,
+            with subprocess.Popen([self.path, *words], stdin=stdin, stdout=output, env=environment,
                                   stderr=subprocess.STDOUT if is_joined else subprocess.PIPE,
                                   preexec_fn=before, close_fds=False) as started:
                 ended = end_of(started, seconds)
@@ -121,8 +120,7 @@ class Program:
             return End(process.returncode, b"", told.read()), used.ru_maxrss
 
     @contextmanager
-    def stopped(self, words: Words, data: bytes, call: int, folder: str | Path,
-                ignored: Collection[signal.Signals] = ()) -> Iterator["Stopped"]:
+    def stopped(self, words: Words, data: bytes, call: int, ignored: Collection[signal.Signals] = ()) -> Iterator["Stopped"]:
         """A run that stops before its call of this number that looks for, opens, makes, links, locks, renames or removes a file or
         folder, without these signals. It goes on or is killed by `end`; without such a call it has ended."""
         environment = {"LD_PRELOAD": self.library, "STOP_AT": str(call)}
@@ -133,7 +131,7 @@ class Program:
                 signal.signal(it, signal.SIG_IGN if it in ignored else signal.SIG_DFL)
 
         with holding(data) as given, subprocess.Popen([self.path, *words], stdin=given, stdout=subprocess.PIPE, preexec_fn=choose_signals,
-                                                      stderr=subprocess.PIPE, env=environment, cwd=folder) as started:
+                                                      stderr=subprocess.PIPE, env=environment) as started:
             try:
                 yield Stopped(started)
             finally:

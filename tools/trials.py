@@ -1,13 +1,15 @@
 """Trials of a built program, which run over all processors.
 
 A trial is a function with what it gets after the program. It yields for each thing that it sees a name, what was found, and
-what is wanted.
+what is wanted. It runs in an empty folder of its own.
 """
 
+import tempfile
 import time
 import traceback
 from collections.abc import Iterable, Iterator, Mapping
 from concurrent.futures import ProcessPoolExecutor
+from contextlib import chdir, contextmanager
 from functools import partial
 from itertools import zip_longest
 from typing import Any
@@ -19,6 +21,13 @@ SHOWN_FAULTS = 20
 Seen = Iterator[tuple[str, Any, Any]]
 # A function with what it gets after the program.
 Trial = tuple[Any, ...]
+
+
+@contextmanager
+def own_folder() -> Iterator[None]:
+    """Has this process, and what it starts, in an empty folder, which then goes."""
+    with tempfile.TemporaryDirectory() as folder, chdir(folder):
+        yield
 
 
 def lines_of(value: object) -> list[object]:
@@ -43,13 +52,19 @@ def outcome(program: object, trial: Trial) -> tuple[list[str], int]:
     function, *given = trial
     faults, count, name = [], 0, f"{function.__name__} {given}"[:200]
     try:
-        for count, (name, found, wanted) in enumerate(function(program, *given), 1):
-            if found != wanted:
-                faults.append(f"{name}: {difference(found, wanted)}")
+        with own_folder():
+            for count, (name, found, wanted) in enumerate(function(program, *given), 1):
+                if found != wanted:
+                    faults.append(f"{name}: {difference(found, wanted)}")
     except Exception:
         faults.append(f"{name}, and then: {traceback.format_exc(limit=-1)}")
         count += 1
     return faults, count
+
+
+def alone(module: Mapping[str, Any]) -> list[Trial]:
+    """The trials among the names of a module that take the program alone: its functions `try_..` of one parameter."""
+    return [(it,) for name, it in module.items() if name.startswith("try_") and it.__code__.co_argcount == 1]
 
 
 def chosen(parts: Mapping[str, Iterable[Trial]], word: str) -> Iterable[Trial]:

@@ -4,7 +4,6 @@ interrupted."""
 import errno
 import os
 import shutil
-import tempfile
 from collections.abc import Collection, Iterable, Iterator
 from itertools import product
 from pathlib import Path
@@ -17,7 +16,7 @@ from program.reckon import Ended, answer, failed, misused, skip_invalid, told, u
 from program.shards import shards_of
 from program.streams import run_interrupted
 from tree import TOP
-from trials import Seen, Trial
+from trials import Seen, Trial, own_folder
 
 TEXT, BROKEN, MORE = b"red\ngreen\nred", b"a\n\xff\nb\n\xc3\na\n", b"blue\nred\n"
 ENCODED = answer([b"encode"], TEXT)[1]
@@ -76,15 +75,15 @@ def forms() -> Iterator[tuple[list[bytes], bytes | None, Ended, Files | None]]:
     yield [b"count", b"--sort"], None, misused(b"unknown option '--sort'"), None
 
 
-def write_all(folder: str) -> None:
+def write_all() -> None:
     """Writes what the forms read."""
     for name, content in FILES.items():
-        Path(folder, name).write_bytes(content)
-    write_files(f"{folder}/plain", columns_of(TEXT))
+        Path(name).write_bytes(content)
+    write_files("plain", columns_of(TEXT))
 
 
-def all_files(folder: str) -> dict[str, Any]:
-    return {it.name: files_in(it) if it.is_dir() else it.read_bytes() for it in Path(folder).iterdir()}
+def all_files() -> dict[str, Any]:
+    return {it.name: files_in(it) if it.is_dir() else it.read_bytes() for it in Path().iterdir()}
 
 
 def files_after(made: Files | None) -> dict[str, Any]:
@@ -109,22 +108,21 @@ def end_with(closed: Collection[int], given: bytes | None, end: Ended) -> Ended:
 def try_closed(program: Program, words: list[bytes], given: bytes | None, end: Ended, made: Files | None) -> Seen:
     """The status is right, what was read stays as it was, and no file gets a message."""
     for closed in ([it for it, is_closed in enumerate(them) if is_closed] for them in product((False, True), repeat=3)):
-        with tempfile.TemporaryDirectory() as folder:
-            write_all(folder)
+        with own_folder():
+            write_all()
             name, wanted = f"{words} without {closed}", end_with(closed, given, end)
-            yield name, program.run(words, given or b"", folder=folder, before=lambda: close(closed)), wanted
-            yield f"{name}, files", all_files(folder), files_after(made if wanted[0] == 0 else None)
+            yield name, program.run(words, given or b"", before=lambda: close(closed)), wanted
+            yield f"{name}, files", all_files(), files_after(made if wanted[0] == 0 else None)
 
 
 def try_interrupted(program: Program, words: list[bytes], given: bytes | None, end: Ended, made: Files | None) -> Seen:
     """A signal during a read changes nothing, whatever file is read. A warning is of what the first read gives."""
     size = max(5, len(LOOKS_ENCODED) * (b"warning" in end[2]))
-    with tempfile.TemporaryDirectory() as folder:
-        write_all(folder)
-        for name, ended in run_interrupted(program, words, given or b"", size, folder=folder):
-            yield name, ended, end
-            yield f"{name}, files", all_files(folder), files_after(made)
-            shutil.rmtree(f"{folder}/new", ignore_errors=True)
+    write_all()
+    for name, ended in run_interrupted(program, words, given or b"", size):
+        yield name, ended, end
+        yield f"{name}, files", all_files(), files_after(made)
+        shutil.rmtree("new", ignore_errors=True)
 
 
 def trials() -> list[Trial]:

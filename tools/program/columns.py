@@ -22,6 +22,7 @@ from needs import python_with
 from program.cases import MANY
 from program.reckon import answer, failed, misused, skip_invalid, told, unwritten, warned
 from program.streams import limit_files
+from trials import alone, own_folder
 
 BACKENDS = (b"string", b"bucket", b"buffer")
 OK = 0, b"", b""
@@ -79,15 +80,14 @@ TEXTS = (b"", b"\n", b"\n\n", b"a", b"a\n", b"\na", b"a\n\n", b"a\n\na", b"red\n
 
 def try_text(program, data):
     """A text becomes its files over each backend, and comes back. The file is the input or named."""
-    with tempfile.TemporaryDirectory() as folder:
-        for backend in BACKENDS:
-            words = [b"encode", b"--plain", b"new/" + backend, b"--backend", backend]
-            yield f"{data[:40]} over {backend}", program.run(words, data, folder=folder), OK
-            yield f"{data[:40]}, files of {backend}", files_in(f"{folder}/new/{backend.decode()}"), columns_of(data)
-        yield f"{data[:40]}, decoded", program.run([b"decode", b"new/string"], folder=folder), (0, data, b"")
-        Path(folder, "text").write_bytes(data)
-        yield f"{data[:40]}, again", program.run(b"encode --plain=new/string text".split(), b"\xff", folder=folder), OK
-        yield f"{data[:40]}, files again", files_in(f"{folder}/new/string"), columns_of(data)
+    for backend in BACKENDS:
+        words = [b"encode", b"--plain", b"new/" + backend, b"--backend", backend]
+        yield f"{data[:40]} over {backend}", program.run(words, data), OK
+        yield f"{data[:40]}, files of {backend}", files_in(f"new/{backend.decode()}"), columns_of(data)
+    yield f"{data[:40]}, decoded", program.run([b"decode", b"new/string"]), (0, data, b"")
+    Path("text").write_bytes(data)
+    yield f"{data[:40]}, again", program.run(b"encode --plain=new/string text".split(), b"\xff"), OK
+    yield f"{data[:40]}, files again", files_in("new/string"), columns_of(data)
 
 
 # More lines than a number of 20 bits counts, of which no newline ends the last.
@@ -95,94 +95,87 @@ LONG_TEXT = b"x\n" * (1 << 20) + b"x"
 
 
 def try_long_text(program):
-    with tempfile.TemporaryDirectory() as folder:
-        yield "a long text", program.run(b"encode --plain it".split(), LONG_TEXT, folder=folder), OK
-        yield "a long text, decoded", program.run(b"decode it".split(), folder=folder), (0, LONG_TEXT, b"")
+    yield "a long text", program.run(b"encode --plain it".split(), LONG_TEXT), OK
+    yield "a long text, decoded", program.run(b"decode it".split()), (0, LONG_TEXT, b"")
 
 
 def try_texts_in_turn(program):
     """A folder has the files of the text that was written last, and no file of one before."""
-    with tempfile.TemporaryDirectory() as folder:
-        for data in (*TEXTS, *reversed(TEXTS)):
-            yield f"{data[:40]}, in turn", program.run([b"encode", b"--plain", b"it"], data, folder=folder), OK
-            yield f"{data[:40]}, files in turn", files_in(f"{folder}/it"), columns_of(data)
+    for data in (*TEXTS, *reversed(TEXTS)):
+        yield f"{data[:40]}, in turn", program.run([b"encode", b"--plain", b"it"], data), OK
+        yield f"{data[:40]}, files in turn", files_in("it"), columns_of(data)
 
 
 def try_onto(program, first, second):
     """Lines keep their codes, what is new comes behind, and the files from before stay as they are."""
-    with tempfile.TemporaryDirectory() as folder:
-        before = columns_of(first)
-        write_files(f"{folder}/old", before)
-        known = before["dict.txt"].split(b"\n")[:-1]
-        name = f"{second[:40]} onto {first[:40]}"
-        for backend in BACKENDS:
-            words = [b"encode", b"--onto", b"old", b"--plain=" + backend, b"--backend", backend]
-            yield f"{name} over {backend}", program.run(words, second, folder=folder), OK
-            yield f"{name}, files of {backend}", files_in(f"{folder}/{backend.decode()}"), columns_of(second, known)
-        yield f"{name}, decoded", program.run([b"decode", b"string"], folder=folder), (0, second, b"")
-        yield f"{name}, files from before", files_in(f"{folder}/old"), before
-        words = b"encode --onto old --plain old".split()
-        yield f"{name}, in place", program.run(words, second, folder=folder), OK
-        yield f"{name}, files in place", files_in(f"{folder}/old"), columns_of(second, known)
+    before = columns_of(first)
+    write_files("old", before)
+    known = before["dict.txt"].split(b"\n")[:-1]
+    name = f"{second[:40]} onto {first[:40]}"
+    for backend in BACKENDS:
+        words = [b"encode", b"--onto", b"old", b"--plain=" + backend, b"--backend", backend]
+        yield f"{name} over {backend}", program.run(words, second), OK
+        yield f"{name}, files of {backend}", files_in(backend.decode()), columns_of(second, known)
+    yield f"{name}, decoded", program.run([b"decode", b"string"]), (0, second, b"")
+    yield f"{name}, files from before", files_in("old"), before
+    words = b"encode --onto old --plain old".split()
+    yield f"{name}, in place", program.run(words, second), OK
+    yield f"{name}, files in place", files_in("old"), columns_of(second, known)
 
 
 def try_output(program):
     """A text on a full disk, in a file that may grow to so many bytes, and where nobody reads it or nothing takes it."""
-    with tempfile.TemporaryDirectory() as folder:
-        for number, data in enumerate(TEXTS):
-            words = [b"decode", b"%d" % number]
-            write_files(f"{folder}/{number}", columns_of(data))
-            with open("/dev/full", "wb") as full:
-                ended = program.run(words, b"", full, folder=folder)
-            yield f"{data[:40]}, a full disk", ended, unwritten(errno.ENOSPC) if data else OK
-            ended = program.run(words, b"", None, folder=folder, before=lambda: os.close(1))
-            yield f"{data[:40]}, a closed output", ended, unwritten(errno.EBADF) if data else OK
-            ended = program.run(words, folder=folder, BROKEN_WRITE=1, ERROR=errno.EPIPE)
-            yield f"{data[:40]}, a reader that left", ended, unwritten(errno.EPIPE) if data else OK
-            for count in {0, 1, len(data) // 2, len(data) - 1} & {*range(len(data))}:
-                with tempfile.TemporaryFile() as output:
-                    status, _, message = program.run(words, b"", output, folder=folder, before=lambda: limit_files(count))
-                    output.seek(0)
-                    found = status, output.read(), message
-                yield f"{data[:40]}, a disk with {count} bytes", found, unwritten(errno.EFBIG, data[:count])
+    for number, data in enumerate(TEXTS):
+        words = [b"decode", b"%d" % number]
+        write_files(f"{number}", columns_of(data))
+        with open("/dev/full", "wb") as full:
+            ended = program.run(words, b"", full)
+        yield f"{data[:40]}, a full disk", ended, unwritten(errno.ENOSPC) if data else OK
+        ended = program.run(words, b"", None, before=lambda: os.close(1))
+        yield f"{data[:40]}, a closed output", ended, unwritten(errno.EBADF) if data else OK
+        ended = program.run(words, BROKEN_WRITE=1, ERROR=errno.EPIPE)
+        yield f"{data[:40]}, a reader that left", ended, unwritten(errno.EPIPE) if data else OK
+        for count in {0, 1, len(data) // 2, len(data) - 1} & {*range(len(data))}:
+            with tempfile.TemporaryFile() as output:
+                status, _, message = program.run(words, b"", output, before=lambda: limit_files(count))
+                output.seek(0)
+                found = status, output.read(), message
+            yield f"{data[:40]}, a disk with {count} bytes", found, unwritten(errno.EFBIG, data[:count])
 
 
 def try_reading(program):
     """What is told of an input whose lines are written, also onto others: which are left out, and that `encode` wrote it."""
     broken, encoded = b"a\n\xff\nb\0\nc\xc3\xa9\n\xe2\x82", answer([b"encode"], LINES)[1]
-    with tempfile.TemporaryDirectory() as folder:
-        write_files(f"{folder}/old", columns_of(LINES))
-        known = LINES.split(b"\n")[:-1]
-        for name, data in ("broken", broken), ("encoded", encoded), ("both", encoded + broken):
-            Path(folder, name).write_bytes(data)
-            good, skipped = skip_invalid(data)
-            replaced = data.decode(errors="replace").encode()
-            hows = [([], data, b"")] if data == encoded else [([b"--invalid=skip"], good, skipped), ([b"--invalid=replace"], replaced, b"")]
-            for (how, text, told_of), onto, given in itertools.product(hows, (b"", b"old"), ([], [name.encode()])):
-                words = [b"encode", b"--plain", b"new", *how, *([b"--onto", onto] if onto else []), *given]
-                wanted = 0, b"", told_of + warned(data, given[0] + b": " if given else b"")
-                yield f"{words} of {data[:40]}", program.run(words, data, folder=folder), wanted
-                yield f"{words} of {data[:40]}, files", files_in(f"{folder}/new"), columns_of(text, known if onto else ())
-        words = b"encode --plain bad --onto old encoded broken".split()
-        wanted = failed(2, b"broken: line 2 is not UTF-8 (see --invalid)")
-        yield f"{words}", program.run(words, folder=folder), wanted
+    write_files("old", columns_of(LINES))
+    known = LINES.split(b"\n")[:-1]
+    for name, data in ("broken", broken), ("encoded", encoded), ("both", encoded + broken):
+        Path(name).write_bytes(data)
+        good, skipped = skip_invalid(data)
+        replaced = data.decode(errors="replace").encode()
+        hows = [([], data, b"")] if data == encoded else [([b"--invalid=skip"], good, skipped), ([b"--invalid=replace"], replaced, b"")]
+        for (how, text, told_of), onto, given in itertools.product(hows, (b"", b"old"), ([], [name.encode()])):
+            words = [b"encode", b"--plain", b"new", *how, *([b"--onto", onto] if onto else []), *given]
+            wanted = 0, b"", told_of + warned(data, given[0] + b": " if given else b"")
+            yield f"{words} of {data[:40]}", program.run(words, data), wanted
+            yield f"{words} of {data[:40]}, files", files_in("new"), columns_of(text, known if onto else ())
+    words = b"encode --plain bad --onto old encoded broken".split()
+    yield f"{words}", program.run(words), failed(2, b"broken: line 2 is not UTF-8 (see --invalid)")
 
 
 def try_several(program):
     """A second folder to write, or to write onto, is refused, and nothing is written: no lines are left out in silence."""
     twice = b"option '--%s' is given twice"
-    with tempfile.TemporaryDirectory() as folder:
-        write_files(f"{folder}/old", columns_of(b"old\n"))
-        for words, message in (
-                (b"--plain new --onto old --plain other", twice % b"plain"), (b"--plain=new --plain=new", twice % b"plain"),
-                (b"--plain new --plain new --onto old --onto old", twice % b"plain"),
-                (b"--plain new --onto old --onto=old", twice % b"onto"), (b"--onto old --plain new --onto=other", twice % b"onto"),
-                (b"--onto-dictionary old --onto-dictionary old --plain new", twice % b"onto-dictionary"),
-                (b"--plain new --onto old --onto-dictionary old", b"option '--onto' excludes option '--onto-dictionary'"),
-                (b"--onto-dictionary=old --onto=old --plain=new", b"option '--onto' excludes option '--onto-dictionary'")):
-            for given in (b"encode " + words, words + b" encode", b"encode --backend=bucket - " + words):
-                yield f"{given}", program.run(given.split(), LINES, folder=folder), misused(message)
-            yield f"{words}, folders", sorted(path.name for path in Path(folder).iterdir()), ["old"]
+    write_files("old", columns_of(b"old\n"))
+    for words, message in (
+            (b"--plain new --onto old --plain other", twice % b"plain"), (b"--plain=new --plain=new", twice % b"plain"),
+            (b"--plain new --plain new --onto old --onto old", twice % b"plain"),
+            (b"--plain new --onto old --onto=old", twice % b"onto"), (b"--onto old --plain new --onto=other", twice % b"onto"),
+            (b"--onto-dictionary old --onto-dictionary old --plain new", twice % b"onto-dictionary"),
+            (b"--plain new --onto old --onto-dictionary old", b"option '--onto' excludes option '--onto-dictionary'"),
+            (b"--onto-dictionary=old --onto=old --plain=new", b"option '--onto' excludes option '--onto-dictionary'")):
+        for given in (b"encode " + words, words + b" encode", b"encode --backend=bucket - " + words):
+            yield f"{given}", program.run(given.split(), LINES), misused(message)
+        yield f"{words}, folders", os.listdir(), ["old"]
 
 
 LINES = b"red\ngreen\n"
@@ -219,20 +212,18 @@ DAMAGED = (
 def try_damaged(program, lines, numbers, message):
     """Nothing is written of damaged files, and nothing onto them, unless the dictionary alone is to be taken. What is damaged is
     told also where it is not what the third file says."""
-    with tempfile.TemporaryDirectory() as folder:
-        files = {"dict.txt": lines, "codes.npy": numbers}
-        write_files(f"{folder}/it", files)
-        write_files(f"{folder}/pair", files | {"pair.txt": pair_of(2, [0, 1, 1])})
-        for name in b"it", b"pair":
-            wanted = failed(2, name + b": " + message)
-            yield f"{message!r} of {name}", program.run([b"decode", name], folder=folder), wanted
-            ended = program.run([*b"encode --plain new --onto".split(), name], b"a\n", folder=folder)
-            yield f"{message!r} of {name}, written onto", ended, wanted
-            yield f"{message!r} of {name}, what was written", Path(folder, "new").exists(), False
-        ended = program.run(b"encode --onto-dictionary it --plain new".split(), b"a\n", folder=folder)
-        is_of_lines = message.startswith(b"dict.txt")
-        yield f"{message!r}, written onto the dictionary", ended, failed(2, b"it: " + message) if is_of_lines else OK
-        yield f"{message!r}, what was written onto the dictionary", Path(folder, "new").exists(), not is_of_lines
+    files = {"dict.txt": lines, "codes.npy": numbers}
+    write_files("it", files)
+    write_files("pair", files | {"pair.txt": pair_of(2, [0, 1, 1])})
+    for name in b"it", b"pair":
+        wanted = failed(2, name + b": " + message)
+        yield f"{message!r} of {name}", program.run([b"decode", name]), wanted
+        yield f"{message!r} of {name}, written onto", program.run([*b"encode --plain new --onto".split(), name], b"a\n"), wanted
+        yield f"{message!r} of {name}, what was written", Path("new").exists(), False
+    ended = program.run(b"encode --onto-dictionary it --plain new".split(), b"a\n")
+    is_of_lines = message.startswith(b"dict.txt")
+    yield f"{message!r}, written onto the dictionary", ended, failed(2, b"it: " + message) if is_of_lines else OK
+    yield f"{message!r}, what was written onto the dictionary", Path("new").exists(), not is_of_lines
 
 
 # Files whose lines are there twice, the text, and the first line that is there already.
@@ -248,78 +239,73 @@ REPEATED = (
 
 def try_repeated(program, lines, numbers, text, line):
     """Lines may be there twice, as if they were masked, unless lines of a text are to get their codes."""
-    with tempfile.TemporaryDirectory() as folder:
-        write_files(f"{folder}/it", {"dict.txt": lines, "codes.npy": numbers})
-        yield f"{lines[:40]}", program.run([b"decode", b"it"], folder=folder), (0, text, b"")
-        ended = program.run(b"encode --onto it --plain new".split(), b"a\n", folder=folder)
-        yield f"{lines[:40]}, written onto", ended, failed(2, b"it: dict.txt: line %d repeats an earlier line" % line)
-        yield f"{lines[:40]}, what was written", Path(folder, "new").exists(), False
+    write_files("it", {"dict.txt": lines, "codes.npy": numbers})
+    yield f"{lines[:40]}", program.run([b"decode", b"it"]), (0, text, b"")
+    ended = program.run(b"encode --onto it --plain new".split(), b"a\n")
+    yield f"{lines[:40]}, written onto", ended, failed(2, b"it: dict.txt: line %d repeats an earlier line" % line)
+    yield f"{lines[:40]}, what was written", Path("new").exists(), False
 
 
 def try_missing(program):
     """Files that are not there, and folders that cannot be written."""
-    with tempfile.TemporaryDirectory() as folder:
-        files = columns_of(LINES)
-        for name in files:
-            write_files(f"{folder}/without {name}", {it: content for it, content in files.items() if it != name})
-        for name in "dict.txt", "codes.npy":
-            where = f"without {name}".encode()
-            message = b"%s: cannot read %s: %s" % (where, name.encode(), told(errno.ENOENT))
-            yield f"without {name}", program.run([b"decode", where], folder=folder), failed(1, message)
-            advice = b" (see --onto-dictionary)" if name == "codes.npy" else b""
-            for new in b"new", where:
-                ended = program.run([b"encode", b"--plain", new, b"--onto", where], LINES, folder=folder)
-                yield f"{new} onto one without {name}", ended, failed(1, message + advice)
-        # Only a file that is not there can be done without.
-        write_files(f"{folder}/unread", files)
-        Path(folder, "unread/codes.npy").unlink()
-        Path(folder, "unread/codes.npy").mkdir()
-        ended = program.run(b"encode --plain new --onto unread".split(), LINES, folder=folder)
-        yield "onto one whose codes cannot be read", ended, failed(1, b"unread: cannot read codes.npy: " + told(errno.EISDIR))
-        # As earlier versions wrote it.
-        yield "without pair.txt", program.run([b"decode", b"without pair.txt"], folder=folder), (0, LINES, b"")
-        alone = b"without codes.npy"
-        for onto in [b"--onto", b"without pair.txt"], [b"--onto-dictionary", alone], [b"--onto-dictionary=" + alone]:
-            ended = program.run([b"encode", *onto, b"--plain", b"written"], b"blue\nred\n", folder=folder)
-            yield f"{onto}", ended, OK
-            wanted = columns_of(b"blue\nred\n", LINES.split(b"\n")[:-1])
-            yield f"{onto}, files", files_in(f"{folder}/written"), wanted
-            shutil.rmtree(f"{folder}/written")
-        ended = program.run(b"encode --onto nowhere --plain new".split(), LINES, folder=folder)
-        yield "onto nothing", ended, failed(1, b"nowhere: cannot read dict.txt: " + told(errno.ENOENT))
-        Path(folder, "file").write_bytes(b"")
-        for words, error in ((b"encode --plain file", errno.EEXIST), (b"encode --plain file/new", errno.ENOTDIR)):
-            message = b"%s: cannot write files: %s" % (words.split()[-1], told(error))
-            yield f"{words}", program.run(words.split(), LINES, folder=folder), failed(1, message)
-        long = b"new/a/" + b"x" * 300
-        message = b"%s: cannot write files: %s" % (long, told(errno.ENAMETOOLONG))
-        yield "a name that is too long", program.run([b"encode", b"--plain", long], LINES, folder=folder), failed(1, message)
-        yield "what is made before it", Path(folder, "new").exists(), False
-        ended = program.run(b"encode --plain bytes".split(), b"a\n\xff", folder=folder)
-        yield "bytes that are not UTF-8", ended, failed(2, b"line 2 is not UTF-8 (see --invalid)")
-        yield "no folder of them", Path(folder, "bytes").exists(), False
-        Path(folder, "there").mkdir()
-        for name in b"new/a/b", b"./new//a/", b"there", b"there/a/../b", b"new/../there", f"{folder}/new".encode():
-            ended = program.run([b"encode", b"--plain", name], b"a\n\xff", folder=folder)
-            yield f"bytes that are not UTF-8 in {name}", ended, failed(2, b"line 2 is not UTF-8 (see --invalid)")
-            found = Path(folder, "new").exists(), os.listdir(f"{folder}/there")
-            yield f"bytes that are not UTF-8 in {name}, what is left", found, (False, [])
+    files = columns_of(LINES)
+    for name in files:
+        write_files(f"without {name}", {it: content for it, content in files.items() if it != name})
+    for name in "dict.txt", "codes.npy":
+        where = f"without {name}".encode()
+        message = b"%s: cannot read %s: %s" % (where, name.encode(), told(errno.ENOENT))
+        yield f"without {name}", program.run([b"decode", where]), failed(1, message)
+        advice = b" (see --onto-dictionary)" if name == "codes.npy" else b""
+        for new in b"new", where:
+            ended = program.run([b"encode", b"--plain", new, b"--onto", where], LINES)
+            yield f"{new} onto one without {name}", ended, failed(1, message + advice)
+    # Only a file that is not there can be done without.
+    write_files("unread", files)
+    Path("unread/codes.npy").unlink()
+    Path("unread/codes.npy").mkdir()
+    ended = program.run(b"encode --plain new --onto unread".split(), LINES)
+    yield "onto one whose codes cannot be read", ended, failed(1, b"unread: cannot read codes.npy: " + told(errno.EISDIR))
+    # As earlier versions wrote it.
+    yield "without pair.txt", program.run([b"decode", b"without pair.txt"]), (0, LINES, b"")
+    alone = b"without codes.npy"
+    for onto in [b"--onto", b"without pair.txt"], [b"--onto-dictionary", alone], [b"--onto-dictionary=" + alone]:
+        yield f"{onto}", program.run([b"encode", *onto, b"--plain", b"written"], b"blue\nred\n"), OK
+        yield f"{onto}, files", files_in("written"), columns_of(b"blue\nred\n", LINES.split(b"\n")[:-1])
+        shutil.rmtree("written")
+    ended = program.run(b"encode --onto nowhere --plain new".split(), LINES)
+    yield "onto nothing", ended, failed(1, b"nowhere: cannot read dict.txt: " + told(errno.ENOENT))
+    Path("file").write_bytes(b"")
+    for words, error in ((b"encode --plain file", errno.EEXIST), (b"encode --plain file/new", errno.ENOTDIR)):
+        message = b"%s: cannot write files: %s" % (words.split()[-1], told(error))
+        yield f"{words}", program.run(words.split(), LINES), failed(1, message)
+    long = b"new/a/" + b"x" * 300
+    message = b"%s: cannot write files: %s" % (long, told(errno.ENAMETOOLONG))
+    yield "a name that is too long", program.run([b"encode", b"--plain", long], LINES), failed(1, message)
+    yield "what is made before it", Path("new").exists(), False
+    ended = program.run(b"encode --plain bytes".split(), b"a\n\xff")
+    yield "bytes that are not UTF-8", ended, failed(2, b"line 2 is not UTF-8 (see --invalid)")
+    yield "no folder of them", Path("bytes").exists(), False
+    Path("there").mkdir()
+    for name in b"new/a/b", b"./new//a/", b"there", b"there/a/../b", b"new/../there", os.path.abspath(b"new"):
+        ended = program.run([b"encode", b"--plain", name], b"a\n\xff")
+        yield f"bytes that are not UTF-8 in {name}", ended, failed(2, b"line 2 is not UTF-8 (see --invalid)")
+        found = Path("new").exists(), os.listdir("there")
+        yield f"bytes that are not UTF-8 in {name}, what is left", found, (False, [])
 
 
 def try_unreadable(program):
     """What cannot be read is told by its name, and not as the input or as a folder in the place of a file."""
-    with tempfile.TemporaryDirectory() as folder:
-        Path(folder, "lines").write_bytes(b"a\n")
-        for name in "pair.txt", "no_final_newline":
-            files = columns_of(b"red\ngreen")
-            write_files(f"{folder}/{name}", files)
-            Path(folder, name, name).unlink()
-            Path(folder, name, name).symlink_to(name)
-            message = b"%b: cannot read %b: %b" % (name.encode(), name.encode(), told(errno.ELOOP))
-            yield f"{name}, decoded", program.run([b"decode", name.encode()], folder=folder), failed(1, message)
-            for given in [], [b"lines"]:
-                words = [b"encode", b"--plain", b"new", b"--onto", name.encode(), *given]
-                yield f"{words}", program.run(words, b"a\n", folder=folder), failed(1, message)
+    Path("lines").write_bytes(b"a\n")
+    for name in "pair.txt", "no_final_newline":
+        files = columns_of(b"red\ngreen")
+        write_files(f"{name}", files)
+        Path(name, name).unlink()
+        Path(name, name).symlink_to(name)
+        message = b"%b: cannot read %b: %b" % (name.encode(), name.encode(), told(errno.ELOOP))
+        yield f"{name}, decoded", program.run([b"decode", name.encode()]), failed(1, message)
+        for given in [], [b"lines"]:
+            words = [b"encode", b"--plain", b"new", b"--onto", name.encode(), *given]
+            yield f"{words}", program.run(words, b"a\n"), failed(1, message)
 
 
 # So many bytes are asked for by no run but for a line that is as long.
@@ -328,19 +314,18 @@ LONG = 1 << 24
 
 def try_memory_told(program):
     """The file is named for whose lines memory is missing."""
-    with tempfile.TemporaryDirectory() as folder:
-        for name, length in ("none", 0), ("short", 1), ("long", LONG):
-            Path(folder, name).write_bytes(b"a" * length + b"\n" * bool(length))
-            write_files(f"{folder}/columns of {name}", columns_of(b"a" * length + b"\n"))
-        for onto, given, wanted in (b"long", b"none", b"columns of long"), (b"short", b"long", b"long"):
-            words = [b"encode", b"--plain", b"new", b"--onto", b"columns of " + onto, given]
-            asks = program.run_with_asks(words, b"", folder=folder)[1]
-            large = [number for number, size in enumerate(asks, 1) if size >= LONG]
-            yield f"{words}, large requests", len(large) > 1, True
-            for number in large:
-                shutil.rmtree(f"{folder}/new", ignore_errors=True)
-                ended, asked = program.run_with_asks(words, b"", number, folder=folder)
-                yield f"{words}, request {number} of {asked[-1]} bytes refused", ended, failed(1, wanted + b": out of memory")
+    for name, length in ("none", 0), ("short", 1), ("long", LONG):
+        Path(name).write_bytes(b"a" * length + b"\n" * bool(length))
+        write_files(f"columns of {name}", columns_of(b"a" * length + b"\n"))
+    for onto, given, wanted in (b"long", b"none", b"columns of long"), (b"short", b"long", b"long"):
+        words = [b"encode", b"--plain", b"new", b"--onto", b"columns of " + onto, given]
+        asks = program.run_with_asks(words, b"")[1]
+        large = [number for number, size in enumerate(asks, 1) if size >= LONG]
+        yield f"{words}, large requests", len(large) > 1, True
+        for number in large:
+            shutil.rmtree("new", ignore_errors=True)
+            ended, asked = program.run_with_asks(words, b"", number)
+            yield f"{words}, request {number} of {asked[-1]} bytes refused", ended, failed(1, wanted + b": out of memory")
 
 
 NOT_LEFT = b"cannot write files: DIR%b is not what a killed run leaves: move it away"
@@ -373,19 +358,17 @@ OF_TWO_RUNS = (
 
 def try_pair(program, text, changed, decoded):
     """Files of two runs are refused. Lines of the dictionary may be changed."""
-    with tempfile.TemporaryDirectory() as folder:
-        files = columns_of(text) | changed
-        write_files(f"{folder}/it", files)
-        wanted = failed(2, NOT_A_PAIR) if decoded is None else (0, decoded, b"")
-        yield f"{text!r} with {changed}", program.run([b"decode", b"it"], folder=folder), wanted
-        lines = files["dict.txt"].split(b"\n")[:-1]
-        is_taken = decoded is not None and len({*lines}) == len(lines)
-        repeated = failed(2, b"it: dict.txt: line 2 repeats an earlier line")
-        wanted = OK if is_taken else failed(2, NOT_A_PAIR) if decoded is None else repeated
-        ended = program.run(b"encode --onto it --plain new".split(), b"b\nc\n", folder=folder)
-        yield f"{text!r} with {changed}, written onto", ended, wanted
-        found = files_in(f"{folder}/new") if Path(folder, "new").exists() else None
-        yield f"{text!r} with {changed}, what was written onto it", found, columns_of(b"b\nc\n", lines) if is_taken else None
+    files = columns_of(text) | changed
+    write_files("it", files)
+    wanted = failed(2, NOT_A_PAIR) if decoded is None else (0, decoded, b"")
+    yield f"{text!r} with {changed}", program.run([b"decode", b"it"]), wanted
+    lines = files["dict.txt"].split(b"\n")[:-1]
+    is_taken = decoded is not None and len({*lines}) == len(lines)
+    repeated = failed(2, b"it: dict.txt: line 2 repeats an earlier line")
+    wanted = OK if is_taken else failed(2, NOT_A_PAIR) if decoded is None else repeated
+    yield f"{text!r} with {changed}, written onto", program.run(b"encode --onto it --plain new".split(), b"b\nc\n"), wanted
+    found = files_in("new") if Path("new").exists() else None
+    yield f"{text!r} with {changed}, what was written onto it", found, columns_of(b"b\nc\n", lines) if is_taken else None
 
 
 # A text, and the end of another one, with what is told.
@@ -399,18 +382,15 @@ OF_ANOTHER_END = (
 
 def try_end(program, text, is_cut, message):
     """Whether the last line has a newline is of one run with the other files. What is damaged is told first."""
-    with tempfile.TemporaryDirectory() as folder:
-        files = {it: content for it, content in columns_of(text).items() if it != "no_final_newline"}
-        write_files(f"{folder}/it", files | ({"no_final_newline": b""} if is_cut else {}))
-        yield f"{text!r}, decoded", program.run([b"decode", b"it"], folder=folder), failed(2, b"it: " + message)
-        ended = program.run(b"encode --onto it --plain new".split(), b"b\nc\n", folder=folder)
-        yield f"{text!r}, written onto", ended, failed(2, b"it: " + message)
-        yield f"{text!r}, what was written", Path(folder, "new").exists(), False
-        ended = program.run(b"encode --onto-dictionary it --plain new".split(), b"b\nc\n", folder=folder)
-        yield f"{text!r}, written onto the dictionary", ended, OK
-        Path(folder, "it/pair.txt").write_bytes(pair_before(files["pair.txt"]))
-        written = text.removesuffix(b"\n") if is_cut else text + b"\n" * bool(text)
-        yield f"{text!r} of an earlier version", program.run([b"decode", b"it"], folder=folder), (0, written, b"")
+    files = {it: content for it, content in columns_of(text).items() if it != "no_final_newline"}
+    write_files("it", files | ({"no_final_newline": b""} if is_cut else {}))
+    yield f"{text!r}, decoded", program.run([b"decode", b"it"]), failed(2, b"it: " + message)
+    yield f"{text!r}, written onto", program.run(b"encode --onto it --plain new".split(), b"b\nc\n"), failed(2, b"it: " + message)
+    yield f"{text!r}, what was written", Path("new").exists(), False
+    yield f"{text!r}, written onto the dictionary", program.run(b"encode --onto-dictionary it --plain new".split(), b"b\nc\n"), OK
+    Path("it/pair.txt").write_bytes(pair_before(files["pair.txt"]))
+    written = text.removesuffix(b"\n") if is_cut else text + b"\n" * bool(text)
+    yield f"{text!r} of an earlier version", program.run([b"decode", b"it"]), (0, written, b"")
 
 
 def try_exchange(program):
@@ -418,17 +398,17 @@ def try_exchange(program):
     for name in "dict.txt", "pair.txt", "no_final_newline", "codes.npy":
         for data, old in itertools.product((b"blue\ngreen", b"blue\ngreen\n"), (LINES, LINES.removesuffix(b"\n"))):
             for missing in None, "pair.txt":
-                with tempfile.TemporaryDirectory() as folder:
+                with own_folder():
                     before = {it: content for it, content in columns_of(old).items() if it not in (name, missing)}
-                    write_files(f"{folder}/it", before)
-                    Path(folder, "it", name).mkdir(exist_ok=True)
-                    Path(folder, "it", name, "kept").write_bytes(b"kept")
-                    ended = program.run(b"encode --plain it".split(), data, folder=folder)
+                    write_files("it", before)
+                    Path("it", name).mkdir(exist_ok=True)
+                    Path("it", name, "kept").write_bytes(b"kept")
+                    ended = program.run(b"encode --plain it".split(), data)
                     case = f"{name} is a folder, {data} onto {old} without {missing}"
                     yield case, ended, failed(1, b"it: cannot write files: " + told(errno.EISDIR))
-                    yield f"{case}, what it has", files_in(f"{folder}/it/{name}"), {"kept": b"kept"}
-                    shutil.rmtree(f"{folder}/it/{name}")
-                    yield f"{case}, files", files_in(f"{folder}/it"), before
+                    yield f"{case}, what it has", files_in(f"it/{name}"), {"kept": b"kept"}
+                    shutil.rmtree(f"it/{name}")
+                    yield f"{case}, files", files_in("it"), before
 
 
 # Who may use old files, and what a mask leaves of a new one.
@@ -446,36 +426,35 @@ def modes_in(folder):
 def try_modes(program):
     """New files have the modes of the old ones, and are open to nobody else before; where all may choose owners, theirs, too."""
     for mode, (name, other) in itertools.product(MODES, (("dict.txt", 0o600), ("codes.npy", 0o640), ("pair.txt", 0o644))):
-        with tempfile.TemporaryDirectory() as folder:
+        with own_folder():
             before = columns_of(b"red\ngreen\n")
-            write_files(f"{folder}/it", before)
-            for path in Path(folder, "it").iterdir():
+            write_files("it", before)
+            for path in Path("it").iterdir():
                 path.chmod(other if path.name == name else mode)
                 if os.geteuid() == 0:
                     os.chown(path, 1, 2)
-            ended = program.run(WRITE, b"blue\ngreen", folder=folder, before=lambda: os.umask(MASK))
-            yield f"{mode:o}, {name} {other:o}", ended, OK
+            yield f"{mode:o}, {name} {other:o}", program.run(WRITE, b"blue\ngreen", before=lambda: os.umask(MASK)), OK
             wanted = {it: other if it == name else mode for it in before}
             # A file that was not there is as open as the numbers.
-            yield f"{mode:o}, {name} {other:o}, modes", modes_in(f"{folder}/it"), wanted | {"no_final_newline": wanted["codes.npy"]}
-            owners = {(path.stat().st_uid, path.stat().st_gid) for path in Path(folder, "it").iterdir()}
+            yield f"{mode:o}, {name} {other:o}, modes", modes_in("it"), wanted | {"no_final_newline": wanted["codes.npy"]}
+            owners = {(path.stat().st_uid, path.stat().st_gid) for path in Path("it").iterdir()}
             yield f"{mode:o}, owners", owners, {(1, 2) if os.geteuid() == 0 else (os.geteuid(), os.getegid())}
-    with tempfile.TemporaryDirectory() as folder:
-        yield "new files", program.run(WRITE, b"a", folder=folder, before=lambda: os.umask(MASK)), OK
-        yield "new files, modes", {*modes_in(f"{folder}/it").values()}, {0o666 & ~MASK}
-        Path(folder, "private").write_bytes(b"kept")
-        Path(folder, "private").chmod(0o600)
-        Path(folder, "it/dict.txt").unlink()
-        Path(folder, "it/dict.txt").symlink_to("../private")
-        yield "a link", program.run(WRITE, b"b", folder=folder), OK
-        yield "a link, its mode", modes_in(f"{folder}/it")["dict.txt"], 0o600
+    with own_folder():
+        yield "new files", program.run(WRITE, b"a", before=lambda: os.umask(MASK)), OK
+        yield "new files, modes", {*modes_in("it").values()}, {0o666 & ~MASK}
+        Path("private").write_bytes(b"kept")
+        Path("private").chmod(0o600)
+        Path("it/dict.txt").unlink()
+        Path("it/dict.txt").symlink_to("../private")
+        yield "a link", program.run(WRITE, b"b"), OK
+        yield "a link, its mode", modes_in("it")["dict.txt"], 0o600
     for call in itertools.count(1):
-        with tempfile.TemporaryDirectory() as folder:
-            write_files(f"{folder}/it", columns_of(FIRST))
-            for path in Path(folder, "it").iterdir():
+        with own_folder():
+            write_files("it", columns_of(FIRST))
+            for path in Path("it").iterdir():
                 path.chmod(0o600)
-            with program.stopped(WRITE, SECOND, call, folder) as run:
-                files = [path for path in Path(folder, "it").rglob("*") if path.is_file()]
+            with program.stopped(WRITE, SECOND, call) as run:
+                files = [path for path in Path("it").rglob("*") if path.is_file()]
                 yield f"call {call}, modes", {mode_of(path) for path in files} <= {0o600}, True
                 if not run.is_stopped:
                     break
@@ -484,26 +463,25 @@ def try_modes(program):
 
 def try_links(program):
     """What a link leads to is not written: its name gets a file, or the run fails."""
-    with tempfile.TemporaryDirectory() as folder:
-        Path(folder, "precious").write_bytes(b"kept\n")
-        Path(folder, "files").mkdir()
-        Path(folder, "files/precious").write_bytes(b"kept\n")
-        for name in (*columns_of(b"a"), "dict.txt.new", "codes.npy.new"):
-            Path(folder, "it").mkdir()
-            Path(folder, "it", name).symlink_to("../precious")
-            yield f"{name} is a link", program.run(b"encode --plain it".split(), b"a", folder=folder), OK
-            found = {path: content for path, content in files_in(f"{folder}/it").items() if not path.endswith(".new")}
-            yield f"{name} is a link, files", found, columns_of(b"a")
-            shutil.rmtree(f"{folder}/it")
-        for target in "files", "precious", "nowhere", UNFINISHED:
-            Path(folder, "it").mkdir()
-            Path(folder, "it", UNFINISHED).symlink_to(f"../{target}")
-            ended = program.run(b"encode --plain it".split(), b"a", folder=folder)
-            yield f"a link to {target}", ended, failed(1, b"it: " + NOT_LEFT % (b"/" + UNFINISHED.encode()))
-            Path(folder, "it", UNFINISHED).unlink()
-            Path(folder, "it").rmdir()
-        yield "what links led to", files_in(f"{folder}/files") | {"": Path(folder, "precious").read_bytes()}, {
-            "precious": b"kept\n", "": b"kept\n"}
+    Path("precious").write_bytes(b"kept\n")
+    Path("files").mkdir()
+    Path("files/precious").write_bytes(b"kept\n")
+    for name in (*columns_of(b"a"), "dict.txt.new", "codes.npy.new"):
+        Path("it").mkdir()
+        Path("it", name).symlink_to("../precious")
+        yield f"{name} is a link", program.run(b"encode --plain it".split(), b"a"), OK
+        found = {path: content for path, content in files_in("it").items() if not path.endswith(".new")}
+        yield f"{name} is a link, files", found, columns_of(b"a")
+        shutil.rmtree("it")
+    for target in "files", "precious", "nowhere", UNFINISHED:
+        Path("it").mkdir()
+        Path("it", UNFINISHED).symlink_to(f"../{target}")
+        ended = program.run(b"encode --plain it".split(), b"a")
+        yield f"a link to {target}", ended, failed(1, b"it: " + NOT_LEFT % (b"/" + UNFINISHED.encode()))
+        Path("it", UNFINISHED).unlink()
+        Path("it").rmdir()
+    yield "what links led to", files_in("files") | {"": Path("precious").read_bytes()}, {
+        "precious": b"kept\n", "": b"kept\n"}
 
 
 def make_unlike(place):
@@ -530,49 +508,45 @@ def make_unlike(place):
         shutil.rmtree(place)
 
 
-def all_in(folder):
+def all_in():
     """The paths of all that a folder has, with what they are and have."""
-    return {path: path.read_bytes() if path.is_file() else path.lstat().st_mode for path in Path(folder).rglob("*")}
+    return {path: path.read_bytes() if path.is_file() else path.lstat().st_mode for path in Path().rglob("*")}
 
 
 def try_unlike(program):
     """What has the name of an unfinished folder and no killed run left stays as it is."""
-    with tempfile.TemporaryDirectory() as folder:
-        Path(folder, "it").mkdir()
-        for name in make_unlike(Path(folder, "it", UNFINISHED)):
-            before = all_in(folder)
-            ended = program.run(b"encode --plain it".split(), b"a", folder=folder)
-            yield name, ended, failed(1, b"it: " + NOT_LEFT % (b"/" + UNFINISHED.encode()))
-            yield f"{name}, what is there", all_in(folder), before
+    Path("it").mkdir()
+    for name in make_unlike(Path("it", UNFINISHED)):
+        before = all_in()
+        yield name, program.run(b"encode --plain it".split(), b"a"), failed(1, b"it: " + NOT_LEFT % (b"/" + UNFINISHED.encode()))
+        yield f"{name}, what is there", all_in(), before
 
 
 def try_folders_stored(program):
     """Each step is stored before the next, so that also a power cut leaves the files from before, or no numbers, or the new ones."""
-    with tempfile.TemporaryDirectory() as folder:
-        Path(folder, "it").mkdir()
-        old = {}
-        for data in b"red\ngreen\n", b"red\ngreen", b"red\ngreen\n":
-            new = columns_of(data)
-            for name, made in (b"it", 0), (b"it/in/%d" % len(old), 1 if old else 2):
-                # What was there is moved away: the numbers before all else, and a dictionary never.
-                kept = {} if made else old
-                names = [*[it for it in ("pair.txt", "no_final_newline") for files in (kept, new) if it in files], "dict.txt"]
-                wanted = [*("codes.npy" in kept) * ["renamed"], "stored", *["renamed"] * len(names), "stored", "renamed", "stored"]
-                ended = program.run([b"encode", b"--plain", name], data, folder=folder, TELL_FOLDERS=1)
-                told_of = "".join(f"{it}\n" for it in ["stored"] * made + wanted)
-                yield f"{data} in {name}", ended, (0, b"", told_of.encode())
-            old = new
+    Path("it").mkdir()
+    old = {}
+    for data in b"red\ngreen\n", b"red\ngreen", b"red\ngreen\n":
+        new = columns_of(data)
+        for name, made in (b"it", 0), (b"it/in/%d" % len(old), 1 if old else 2):
+            # What was there is moved away: the numbers before all else, and a dictionary never.
+            kept = {} if made else old
+            names = [*[it for it in ("pair.txt", "no_final_newline") for files in (kept, new) if it in files], "dict.txt"]
+            wanted = [*("codes.npy" in kept) * ["renamed"], "stored", *["renamed"] * len(names), "stored", "renamed", "stored"]
+            ended = program.run([b"encode", b"--plain", name], data, TELL_FOLDERS=1)
+            told_of = "".join(f"{it}\n" for it in ["stored"] * made + wanted)
+            yield f"{data} in {name}", ended, (0, b"", told_of.encode())
+        old = new
 
 
 def try_stored(program):
     """All files are stored before the first of them gets its place, and the first old one loses it."""
-    with tempfile.TemporaryDirectory() as folder:
-        old = {}
-        for data in b"red\ngreen\n", b"red\ngreen", b"a\n":
-            new = columns_of(data)
-            ended = program.run(b"encode --plain it".split(), data, folder=folder, TELL_UNSTORED=1)
-            yield f"{data}", ended, (0, b"", b"unstored 0\n" * (len(new) + len({*old} - {"dict.txt"})))
-            old = new
+    old = {}
+    for data in b"red\ngreen\n", b"red\ngreen", b"a\n":
+        new = columns_of(data)
+        ended = program.run(b"encode --plain it".split(), data, TELL_UNSTORED=1)
+        yield f"{data}", ended, (0, b"", b"unstored 0\n" * (len(new) + len({*old} - {"dict.txt"})))
+        old = new
 
 
 # Where a run puts files before all are written.
@@ -582,20 +556,20 @@ FIRST, SECOND, THIRD = b"red\ngreen\nred", b"green\nblue\nblue\n", b"red\nblue\n
 WRITE = b"encode --plain it".split()
 
 
-def read_folder(folder):
+def read_folder():
     """What a folder has, or nothing if there is none. What is in an unfinished folder does not count."""
-    path = Path(folder, "it")
+    path = Path("it")
     return {it.name: it.read_bytes() for it in path.iterdir() if it.name != UNFINISHED} if path.exists() else None
 
 
 def each_stop(program, words, data, old, ignored=()):
     """A run over a folder with the files of this text, or without any, stopped before each of its calls in turn."""
     for call in itertools.count(1):
-        with tempfile.TemporaryDirectory() as folder:
+        with own_folder():
             if old is not None:
-                write_files(f"{folder}/it", columns_of(old))
-            with program.stopped(words, data, call, folder, ignored) as run:
-                yield f"call {call} onto {old}", folder, run
+                write_files("it", columns_of(old))
+            with program.stopped(words, data, call, ignored) as run:
+                yield f"call {call} onto {old}", run
                 if not run.is_stopped:
                     return
 
@@ -603,18 +577,18 @@ def each_stop(program, words, data, old, ignored=()):
 def try_killed_writers(program, old):
     """Wherever a run is killed, the folder has the files from before, or those of the run, or no numbers. The next run is as any
     other, and nothing unfinished stays."""
-    for name, folder, run in each_stop(program, WRITE, FIRST, old):
+    for name, run in each_stop(program, WRITE, FIRST, old):
         if run.is_stopped:
             run.end(signal.SIGKILL)
-        found, before = read_folder(folder) or {}, {} if old is None else columns_of(old)
+        found, before = read_folder() or {}, {} if old is None else columns_of(old)
         yield f"{name}, killed", found in (before, columns_of(FIRST)) or "codes.npy" not in found, True
         if old is not None:
             yield f"{name}, the dictionary", found.get("dict.txt") in (before["dict.txt"], columns_of(FIRST)["dict.txt"]), True
-            read = program.run(b"decode it".split(), folder=folder)
+            read = program.run(b"decode it".split())
             lost = failed(1, b"it: cannot read codes.npy: " + told(errno.ENOENT))
             yield f"{name}, read", read in [(0, it, b"") for it in (old, FIRST)] if "codes.npy" in found else read == lost, True
-        yield f"{name}, the next", program.run(WRITE, SECOND, folder=folder), OK
-        yield f"{name}, files of the next", files_in(f"{folder}/it"), columns_of(SECOND)
+        yield f"{name}, the next", program.run(WRITE, SECOND), OK
+        yield f"{name}, files of the next", files_in("it"), columns_of(SECOND)
 
 
 def end_early(run, number):
@@ -625,25 +599,25 @@ def end_early(run, number):
 
 def try_ended_writers(program, old):
     """Wherever a signal ends a run, the folder has the files from before, or those of the run. The next run is as any other."""
-    for number, (name, folder, run) in enumerate(each_stop(program, WRITE, FIRST, old)):
+    for number, (name, run) in enumerate(each_stop(program, WRITE, FIRST, old)):
         ended, wanted = end_early(run, number)
         yield f"{name}, ended", ended, wanted
         # No proved program can take a signal.
         if program.is_by_cargo:
-            found = files_in(f"{folder}/it") if Path(folder, "it").exists() else None
+            found = files_in("it") if Path("it").exists() else None
             before = None if old is None else columns_of(old)
             yield f"{name}, files", found == columns_of(FIRST) or ended.status != 0 and found == before, True
-        yield f"{name}, the next", program.run(WRITE, SECOND, folder=folder), OK
-        yield f"{name}, files of the next", files_in(f"{folder}/it"), columns_of(SECOND)
+        yield f"{name}, the next", program.run(WRITE, SECOND), OK
+        yield f"{name}, files of the next", files_in("it"), columns_of(SECOND)
 
 
 def try_ignored(program):
     """A signal that is left out, as by nohup, does not end a run."""
-    for name, folder, run in each_stop(program, WRITE, FIRST, SECOND, ENDING):
+    for name, run in each_stop(program, WRITE, FIRST, SECOND, ENDING):
         for by in ENDING if run.is_stopped else ():
             os.kill(run.started.pid, by)
         yield f"{name}, ignored", run.end(), OK
-        yield f"{name}, files", files_in(f"{folder}/it"), columns_of(FIRST)
+        yield f"{name}, files", files_in("it"), columns_of(FIRST)
 
 
 def is_begun(folder):
@@ -654,9 +628,9 @@ def is_begun(folder):
 def try_writers(program, old):
     """Wherever a second run writes beside a first one, one of them ends well, and the folder has its files. It is the first one as
     soon as that has begun."""
-    for name, folder, run in each_stop(program, WRITE, FIRST, old):
-        is_first = is_begun(f"{folder}/it/{UNFINISHED}")
-        second = program.run(WRITE, SECOND, folder=folder)
+    for name, run in each_stop(program, WRITE, FIRST, old):
+        is_first = is_begun(f"it/{UNFINISHED}")
+        second = program.run(WRITE, SECOND)
         busy = failed(1, b"it: cannot write files: resource busy")
         yield f"{name}, the second", not is_first or second == busy, True
         first = run.end()
@@ -664,7 +638,7 @@ def try_writers(program, old):
         yield f"{name}, {ends}", OK in ends and all(it == OK or it[:2] == (1, b"") and it[2].count(b"\n") == 1 for it in ends), True
         # The first one is the last to end if it was stopped.
         last = FIRST if run.is_stopped and first == OK else SECOND
-        yield f"{name}, files", files_in(f"{folder}/it"), columns_of(last)
+        yield f"{name}, files", files_in("it"), columns_of(last)
 
 
 READ, READ_ONTO = b"decode it".split(), b"encode --onto it --plain new".split()
@@ -672,35 +646,35 @@ READ, READ_ONTO = b"decode it".split(), b"encode --onto it --plain new".split()
 ALIKE = b"blue\nwhite\nblue\n"
 
 
-def is_read(words, folder, ended, after):
+def is_read(words, ended, after):
     """Whether a run has read the first text, or the one after it."""
     if words == READ:
         return ended in ((0, FIRST, b""), (0, after, b""))
     wanted = [columns_of(b"red\n", [*dict.fromkeys(it.removesuffix(b"\n").split(b"\n"))]) for it in (FIRST, after)]
-    return ended == OK and files_in(f"{folder}/new") in wanted
+    return ended == OK and files_in("new") in wanted
 
 
 def try_readers(program, after):
     """Wherever files are replaced by those of another text beside a run that reads them, it gets those of one run."""
     for words in READ, READ_ONTO:
-        for name, folder, run in each_stop(program, words, b"red\n", FIRST):
-            yield f"{name}, the writer", program.run(WRITE, after, folder=folder), OK
+        for name, run in each_stop(program, words, b"red\n", FIRST):
+            yield f"{name}, the writer", program.run(WRITE, after), OK
             ended = run.end()
-            yield f"{name}, {words}, {ended}", is_read(words, folder, ended, after), True
+            yield f"{name}, {words}, {ended}", is_read(words, ended, after), True
 
 
 def try_readers_beside(program):
     """Wherever a run reads files beside one that replaces them, it gets those of one run. It waits for them if it must."""
     for words in READ, READ_ONTO:
-        for name, folder, run in each_stop(program, WRITE, SECOND, FIRST):
+        for name, run in each_stop(program, WRITE, SECOND, FIRST):
             with holding(b"red\n") as given, subprocess.Popen([program.path, *words], stdin=given, stdout=subprocess.PIPE,
-                                                              stderr=subprocess.PIPE, cwd=folder) as reader:
+                                                              stderr=subprocess.PIPE) as reader:
                 # It may wait until the other one goes on.
                 with suppress(subprocess.TimeoutExpired):
                     reader.wait(timeout=0.1)
                 yield f"{name}, the writer", run.end(), OK
                 ended = end_of(reader)
-            yield f"{name}, {words}, {ended}", is_read(words, folder, ended, SECOND), True
+            yield f"{name}, {words}, {ended}", is_read(words, ended, SECOND), True
 
 
 def lock_shortly(path):
@@ -716,8 +690,8 @@ def lock_shortly(path):
 
 def try_looks_beside(program):
     """Wherever another run looks whether one writes, that one goes on."""
-    for name, folder, run in each_stop(program, WRITE, SECOND, FIRST):
-        lock_shortly(f"{folder}/it/{UNFINISHED}")
+    for name, run in each_stop(program, WRITE, SECOND, FIRST):
+        lock_shortly(f"it/{UNFINISHED}")
         yield f"{name}, looked for", run.end(), OK
 
 
@@ -726,14 +700,14 @@ EXTEND = b"encode --onto it --plain it".split()
 
 def try_extenders(program):
     """Wherever a second run extends a folder beside a first one that does, no line of a run that ended well is lost, and no code."""
-    for name, folder, run in each_stop(program, EXTEND, b"blue\n", LINES):
-        second = program.run(EXTEND, b"white\n", folder=folder)
+    for name, run in each_stop(program, EXTEND, b"blue\n", LINES):
+        second = program.run(EXTEND, b"white\n")
         ends = run.end(), second
         yield f"{name}, {ends}", OK in ends and all(it == OK or it[:2] == (1, b"") and it[2].count(b"\n") == 1 for it in ends), True
         # The first one is the last to end if it was stopped.
         order = [(ends[1], b"white"), (ends[0], b"blue")] if run.is_stopped else [(ends[0], b"blue"), (ends[1], b"white")]
         lines = [b"red", b"green", *(line for ended, line in order if ended == OK)]
-        yield f"{name}, files", files_in(f"{folder}/it"), columns_of(lines[-1] + b"\n", lines[:-1])
+        yield f"{name}, files", files_in("it"), columns_of(lines[-1] + b"\n", lines[:-1])
 
 
 def is_locked(path):
@@ -759,24 +733,23 @@ def wait_for(is_there):
 
 def try_writer_that_reads(program, words, before):
     """From before it reads until it has written, a run has the folder alone. A second one fails at once, and changes nothing."""
-    with tempfile.TemporaryDirectory() as folder:
-        if before:
-            write_files(f"{folder}/it", columns_of(LINES))
-        pipe = subprocess.PIPE
-        with subprocess.Popen([program.path, *words], stdin=pipe, stdout=pipe, stderr=pipe, cwd=folder) as first:
-            # One that came before the first one had locked the folder would win.
-            yield f"{words}, begun", wait_for(lambda: is_locked(f"{folder}/it/{UNFINISHED}")), True
-            first.stdin.write(b"blue\n")
-            first.stdin.flush()
-            busy = failed(1, b"it: cannot write files: resource busy")
-            yield f"{words}, the second", program.run(words, b"white\n", folder=folder), busy
-            unread = failed(1, b"it: cannot read codes.npy: another run is writing")
-            for reading in READ, READ_ONTO:
-                read = program.run(reading, b"", folder=folder)
-                yield f"{words}, {reading}", read.status == 0 if before else read == unread, True
-            ended = end_of(first)
-        yield f"{words}, the first", ended, OK
-        yield f"{words}, files", files_in(f"{folder}/it"), columns_of(b"blue\n", before)
+    if before:
+        write_files("it", columns_of(LINES))
+    pipe = subprocess.PIPE
+    with subprocess.Popen([program.path, *words], stdin=pipe, stdout=pipe, stderr=pipe) as first:
+        # One that came before the first one had locked the folder would win.
+        yield f"{words}, begun", wait_for(lambda: is_locked(f"it/{UNFINISHED}")), True
+        first.stdin.write(b"blue\n")
+        first.stdin.flush()
+        busy = failed(1, b"it: cannot write files: resource busy")
+        yield f"{words}, the second", program.run(words, b"white\n"), busy
+        unread = failed(1, b"it: cannot read codes.npy: another run is writing")
+        for reading in READ, READ_ONTO:
+            read = program.run(reading, b"")
+            yield f"{words}, {reading}", read.status == 0 if before else read == unread, True
+        ended = end_of(first)
+    yield f"{words}, the first", ended, OK
+    yield f"{words}, files", files_in("it"), columns_of(b"blue\n", before)
 
 
 def unread(pipe):
@@ -798,16 +771,16 @@ def is_read_by(run, data):
 def try_late_writers(program):
     """Wherever a run is stopped, one that begins then and reads has the folder, unless the first one has it: whoever does not, fails
     at once."""
-    for name, folder, first in each_stop(program, WRITE, FIRST, THIRD):
+    for name, first in each_stop(program, WRITE, FIRST, THIRD):
         pipe = subprocess.PIPE
-        with subprocess.Popen([program.path, *WRITE], stdin=pipe, stdout=pipe, stderr=pipe, cwd=folder) as second:
+        with subprocess.Popen([program.path, *WRITE], stdin=pipe, stdout=pipe, stderr=pipe) as second:
             is_second = is_read_by(second, SECOND)
             ends = [first.end(), end_of(second)]
         busy = failed(1, b"it: cannot write files: resource busy")
         # Without a stop the first one has ended before.
         wanted = [busy, OK] if is_second and first.is_stopped else [OK, OK] if is_second else [OK, busy]
         yield f"{name}, both", ends, wanted
-        yield f"{name}, files", files_in(f"{folder}/it"), columns_of(SECOND if is_second else FIRST)
+        yield f"{name}, files", files_in("it"), columns_of(SECOND if is_second else FIRST)
 
 
 # A run asks less often than so what a file is.
@@ -817,13 +790,12 @@ QUESTIONS = 20
 def try_devices(program):
     """Files with one number are others if they are on other devices: a run that finds one of them in the place of the other reads
     again, or finds the folder busy to write."""
-    with tempfile.TemporaryDirectory() as folder:
-        write_files(f"{folder}/it", columns_of(FIRST))
-        ends = [program.run(b"decode it".split(), folder=folder, OTHER_DEVICE=number) for number in range(1, QUESTIONS)]
-        yield "decoded", {*ends}, {(0, FIRST, b"")}
-        ends = [program.run(WRITE, FIRST, folder=folder, OTHER_DEVICE=number) for number in range(1, QUESTIONS)]
-        yield "written", {*ends}, {OK, failed(1, b"it: cannot write files: resource busy")}
-        yield "files", {it: content for it, content in columns_of(FIRST).items() if Path(folder, "it", it).read_bytes() != content}, {}
+    write_files("it", columns_of(FIRST))
+    ends = [program.run(b"decode it".split(), OTHER_DEVICE=number) for number in range(1, QUESTIONS)]
+    yield "decoded", {*ends}, {(0, FIRST, b"")}
+    ends = [program.run(WRITE, FIRST, OTHER_DEVICE=number) for number in range(1, QUESTIONS)]
+    yield "written", {*ends}, {OK, failed(1, b"it: cannot write files: resource busy")}
+    yield "files", {it: content for it, content in columns_of(FIRST).items() if Path("it", it).read_bytes() != content}, {}
 
 
 # So many times two runs write at once, and a third one reads.
@@ -834,43 +806,41 @@ def try_race(program):
     """Two runs that start at once, and one that reads meanwhile."""
     texts = [text * 3000 for text in (SECOND, THIRD)]
     texts[0] += b"\n"
-    with tempfile.TemporaryDirectory() as folder:
-        whole = [columns_of(text) for text in texts]
-        write_files(f"{folder}/it", whole[0])
-        for number in range(RACES):
-            runs = []
-            for text in texts:
-                with holding(text) as given:
-                    runs.append(subprocess.Popen([program.path, *WRITE], stdin=given, stderr=subprocess.DEVNULL, cwd=folder))
-            read = program.run(b"decode it".split(), folder=folder)
-            yield f"race {number}, read {read.status}", read in [(0, text, b"") for text in texts], True
-            statuses = [run.wait() for run in runs]
-            wins = [files for files, status in zip(whole, statuses) if status == 0]
-            yield f"race {number}, {statuses}", (len(wins) > 0, {*statuses} <= {0, 1}, files_in(f"{folder}/it") in wins), (True,) * 3
+    whole = [columns_of(text) for text in texts]
+    write_files("it", whole[0])
+    for number in range(RACES):
+        runs = []
+        for text in texts:
+            with holding(text) as given:
+                runs.append(subprocess.Popen([program.path, *WRITE], stdin=given, stderr=subprocess.DEVNULL))
+        read = program.run(b"decode it".split())
+        yield f"race {number}, read {read.status}", read in [(0, text, b"") for text in texts], True
+        statuses = [run.wait() for run in runs]
+        wins = [files for files, status in zip(whole, statuses) if status == 0]
+        yield f"race {number}, {statuses}", (len(wins) > 0, {*statuses} <= {0, 1}, files_in("it") in wins), (True,) * 3
 
 
 def try_refused(program):
     """Each request for memory is refused in turn: the folder has the files from before, those of the run, or no numbers."""
-    with tempfile.TemporaryDirectory() as folder:
-        old, new = columns_of(LINES), columns_of(b"blue\ngreen")
-        for words in (b"encode --plain it".split(), b"encode --onto it --plain it".split(), b"decode it".split()):
-            wanted = new if b"--onto" not in words else columns_of(b"blue\ngreen", LINES.split(b"\n")[:-1])
-            for number in itertools.count(1):
-                for path in Path(folder).glob("it/*"):
-                    path.unlink()
-                Path(folder, "it").mkdir(exist_ok=True)
-                for name, content in old.items():
-                    Path(folder, "it", name).write_bytes(content)
-                ended, asks = program.run_with_asks(words, b"blue\ngreen", number, folder=folder)
-                if len(asks) < number:
-                    break
-                found = files_in(f"{folder}/it")
-                name = f"{words}, request {number} of {asks[number - 1]} bytes refused"
-                if ended.status:
-                    yield name, (ended.status, ended.output), (1, b"")
-                    yield f"{name}, files", found, old
-                else:
-                    yield f"{name}, files", found, old if b"decode" in words else wanted
+    old, new = columns_of(LINES), columns_of(b"blue\ngreen")
+    for words in (b"encode --plain it".split(), b"encode --onto it --plain it".split(), b"decode it".split()):
+        wanted = new if b"--onto" not in words else columns_of(b"blue\ngreen", LINES.split(b"\n")[:-1])
+        for number in itertools.count(1):
+            for path in Path().glob("it/*"):
+                path.unlink()
+            Path("it").mkdir(exist_ok=True)
+            for name, content in old.items():
+                Path("it", name).write_bytes(content)
+            ended, asks = program.run_with_asks(words, b"blue\ngreen", number)
+            if len(asks) < number:
+                break
+            found = files_in("it")
+            name = f"{words}, request {number} of {asks[number - 1]} bytes refused"
+            if ended.status:
+                yield name, (ended.status, ended.output), (1, b"")
+                yield f"{name}, files", found, old
+            else:
+                yield f"{name}, files", found, old if b"decode" in words else wanted
 
 
 # What NumPy says of the codes, mapped, and that it saves them as they are.
@@ -890,9 +860,9 @@ def try_numpy(program):
     """NumPy maps what was written, and writes the same file. Left out if no Python has it."""
     python = python_with("numpy")
     for data in TEXTS if python else ():
-        with tempfile.TemporaryDirectory() as folder:
-            yield f"{data[:40]}", program.run([b"encode", b"--plain", b"it"], data, folder=folder), OK
-            read = subprocess.run([python, "-c", BY_NUMPY, f"{folder}/it"], capture_output=True, check=False)
+        with own_folder():
+            yield f"{data[:40]}", program.run([b"encode", b"--plain", b"it"], data), OK
+            read = subprocess.run([python, "-c", BY_NUMPY, "it"], capture_output=True, check=False)
             count = len(data.removesuffix(b"\n").split(b"\n")) if data else 0
             ended = data + b"\n" * (bool(data) and not data.endswith(b"\n"))
             yield f"{data[:40]}, read by NumPy", (read.stdout, read.stderr), (b"<u4 (%d,) True\n" % count + ended, b"")
@@ -908,48 +878,26 @@ def try_random(program, seed):
     name = chance.choice([it for it in ("dict.txt", "codes.npy") if files[it]])
     damaged = bytearray(files[name])
     damaged[chance.randrange(len(damaged))] = chance.randrange(256)
-    with tempfile.TemporaryDirectory() as folder:
-        write_files(f"{folder}/it", files | {name: bytes(damaged)})
-        ended = program.run([b"decode", b"it"], folder=folder)
-        if ended.status == 0:
-            yield f"files {seed}, written again", program.run(b"encode --plain new".split(), ended.output, folder=folder), OK
-            yield f"files {seed}, decoded again", program.run([b"decode", b"new"], folder=folder), (0, ended.output, b"")
-        else:
-            yield f"damaged files {seed}, {ended}", (ended.status, ended.output, ended.error.count(b"\n")), (2, b"", 1)
+    write_files("it", files | {name: bytes(damaged)})
+    ended = program.run([b"decode", b"it"])
+    if ended.status == 0:
+        yield f"files {seed}, written again", program.run(b"encode --plain new".split(), ended.output), OK
+        yield f"files {seed}, decoded again", program.run([b"decode", b"new"]), (0, ended.output, b"")
+    else:
+        yield f"damaged files {seed}, {ended}", (ended.status, ended.output, ended.error.count(b"\n")), (2, b"", 1)
 
 
 def trials():
     return [
         *((try_text, data) for data in TEXTS),
-        (try_long_text,),
-        (try_texts_in_turn,),
-        (try_output,),
-        (try_reading,),
-        (try_several,),
         *((try_onto, *both) for both in itertools.product(TEXTS[:-2], repeat=2)),
         *((try_damaged, *given) for given in DAMAGED),
         *((try_repeated, *given) for given in REPEATED),
         *((try_pair, *given) for given in OF_TWO_RUNS),
         *((try_end, *given) for given in OF_ANOTHER_END),
-        (try_exchange,),
-        (try_modes,),
-        (try_stored,),
-        (try_links,),
-        (try_unlike,),
-        (try_folders_stored,),
         *((trial, old) for trial in (try_killed_writers, try_ended_writers, try_writers) for old in (None, SECOND, THIRD)),
-        (try_ignored,),
-        (try_extenders,),
         *((try_writer_that_reads, *given) for given in ((WRITE, ()), (EXTEND, (b"red", b"green")))),
         *((try_readers, after) for after in (SECOND, ALIKE)),
-        (try_readers_beside,), (try_looks_beside,),
-        (try_late_writers,),
-        (try_devices,),
-        (try_race,),
-        (try_missing,),
-        (try_unreadable,),
-        (try_memory_told,),
-        (try_refused,),
-        (try_numpy,),
         *((try_random, seed) for seed in range(100)),
+        *alone(globals()),
     ]

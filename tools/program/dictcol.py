@@ -8,9 +8,7 @@ import random
 import re
 import resource
 import subprocess
-import tempfile
 from itertools import chain, count, product
-from pathlib import Path
 
 from program import closed, columns, pairs, shards, shell
 from program.cases import MANY, MEBIBYTE, cases, rows
@@ -227,41 +225,37 @@ LARGE = {"10 MB of newlines": (newlines, (64, 64, 80, 100)), "100 MiB of lines o
 def try_large(program, name):
     """A large input, which is written in pieces, since what this process holds counts for the programs that it starts."""
     pieces, most = LARGE[name]
-    with tempfile.TemporaryDirectory() as folder:
-        paths = {it: Path(folder, it) for it in ("lines", "encode", "count", "decode", "merge -")}
-        with open(paths["lines"], "wb") as lines:
-            lines.writelines(pieces())
-        sources = {"encode": "lines", "count": "lines", "decode": "encode", "merge -": "encode"}
-        for (word, source), limit in zip(sources.items(), most):
-            with open(paths[source], "rb") as given, open(paths[word], "wb") as output:
-                ended, peak = program.run_with_peak(word.encode().split(), given, output)
-            yield f"{name}, {word}", ended, (0, b"", b"")
-            yield f"{name}, {word}: {peak >> 10} MiB, and not at most {limit}", peak <= limit << 10, True
-        yield f"{name}, merged", filecmp.cmp(paths["merge -"], paths["encode"], shallow=False), True
-        yield f"{name}, decoded", filecmp.cmp(paths["decode"], paths["lines"], shallow=False), True
-        with open(paths["count"], "rb") as counts:
-            wanted = [b"10000000 \n"] if pieces is newlines else (b"1 " + line for line in pieces())
-            yield f"{name}, counted", all(map(operator.eq, counts, wanted)) and counts.read() == b"", True
+    with open("lines", "wb") as lines:
+        lines.writelines(pieces())
+    sources = {"encode": "lines", "count": "lines", "decode": "encode", "merge -": "encode"}
+    for (word, source), limit in zip(sources.items(), most):
+        with open(source, "rb") as given, open(word, "wb") as output:
+            ended, peak = program.run_with_peak(word.encode().split(), given, output)
+        yield f"{name}, {word}", ended, (0, b"", b"")
+        yield f"{name}, {word}: {peak >> 10} MiB, and not at most {limit}", peak <= limit << 10, True
+    yield f"{name}, merged", filecmp.cmp("merge -", "encode", shallow=False), True
+    yield f"{name}, decoded", filecmp.cmp("decode", "lines", shallow=False), True
+    with open("count", "rb") as counts:
+        wanted = [b"10000000 \n"] if pieces is newlines else (b"1 " + line for line in pieces())
+        yield f"{name}, counted", all(map(operator.eq, counts, wanted)) and counts.read() == b"", True
 
 
 def try_long_input(program, length, number):
     """So many lines of this many bytes, which are zero and take no room on the disk, in standard input and in a file that is named. No
     part of them is held here."""
-    with tempfile.TemporaryDirectory() as folder:
-        given, wanted = Path(folder, "given"), Path(folder, "wanted")
-        with open(given, "wb") as lines:
-            for end in range(1, number + 1):
-                lines.seek(end * (length + 1) - 1)
-                lines.write(b"\n")
-        with open(wanted, "wb") as counts:
-            counts.write(b"%d " % number)
-            counts.seek(length, os.SEEK_CUR)
-            counts.write(b"\n")
-        for words in [b"count"], [b"count", b"given"]:
-            name = f"{words} of {number} lines of {length} bytes"
-            with open(given if len(words) == 1 else os.devnull, "rb") as lines, open(f"{folder}/counts", "wb") as counts:
-                yield name, program.run(words, lines, counts, folder=folder), (0, b"", b"")
-            yield f"{name}, counted", filecmp.cmp(wanted, f"{folder}/counts", shallow=False), True
+    with open("given", "wb") as lines:
+        for end in range(1, number + 1):
+            lines.seek(end * (length + 1) - 1)
+            lines.write(b"\n")
+    with open("wanted", "wb") as counts:
+        counts.write(b"%d " % number)
+        counts.seek(length, os.SEEK_CUR)
+        counts.write(b"\n")
+    for words in [b"count"], [b"count", b"given"]:
+        name = f"{words} of {number} lines of {length} bytes"
+        with open("given" if len(words) == 1 else os.devnull, "rb") as lines, open("counts", "wb") as counts:
+            yield name, program.run(words, lines, counts), (0, b"", b"")
+        yield f"{name}, counted", filecmp.cmp("wanted", "counts", shallow=False), True
 
 
 def chosen_lines(length, start, key):

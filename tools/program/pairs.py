@@ -3,7 +3,6 @@
 import random
 import re
 import shutil
-import tempfile
 from collections.abc import Iterable, Iterator
 from itertools import chain, product
 from pathlib import Path
@@ -79,7 +78,7 @@ def end_with(command: bytes, options: list[bytes], names: list[bytes], texts: li
     return answer([word, *options], whole), None
 
 
-def write_all(folder: str, command: bytes, option: list[bytes], names: list[bytes], parts: Parts) -> tuple[list[bytes], bytes]:
+def write_all(command: bytes, option: list[bytes], names: list[bytes], parts: Parts) -> tuple[list[bytes], bytes]:
     """Writes the parts and the whole text, as `encode` does if the command reads that, with a list of names. Returns what is read by each
     name, and standard input, which no run reads whose files are others."""
     whole = b"".join(parts)
@@ -88,7 +87,7 @@ def write_all(folder: str, command: bytes, option: list[bytes], names: list[byte
     contents = {name: answer([b"encode"], text)[1] if is_encoded else text for name, text in texts.items()}
     listed = b"".join(name + b"\0" for name in names)
     for name, content in {**contents, b"list": listed}.items():
-        Path(folder, name.decode()).write_bytes(content)
+        Path(name.decode()).write_bytes(content)
     given = listed if option == [b"--files0-from=-"] else contents[b"-"] if b"-" in names else b"\xff"
     return [texts[name] for name in names], given
 
@@ -97,16 +96,15 @@ def try_together(program: Program, command: bytes, way: Way, parts: Parts) -> Se
     """Each option does what it does alone, beside whatever others."""
     operands, option, names = way
     chance = random.Random(0)
-    with tempfile.TemporaryDirectory() as folder:
-        write_files(f"{folder}/old", columns_of(b"".join(line + b"\n" for line in KNOWN)))
-        texts, given = write_all(folder, command, option, names, parts)
-        for options in (sum(chosen, option) for chosen in product(*COMMANDS[command])):
-            words = place([*command.split(), *operands], options, chance)
-            wanted, made = end_with(command, options, names, texts)
-            yield f"{words} of {parts}", program.run(words, given, folder=folder), wanted
-            new = Path(folder, "new")
-            yield f"{words} of {parts}, files", files_in(new) if new.exists() else None, made
-            shutil.rmtree(new, ignore_errors=True)
+    write_files("old", columns_of(b"".join(line + b"\n" for line in KNOWN)))
+    texts, given = write_all(command, option, names, parts)
+    for options in (sum(chosen, option) for chosen in product(*COMMANDS[command])):
+        words = place([*command.split(), *operands], options, chance)
+        wanted, made = end_with(command, options, names, texts)
+        yield f"{words} of {parts}", program.run(words, given), wanted
+        new = Path("new")
+        yield f"{words} of {parts}, files", files_in(new) if new.exists() else None, made
+        shutil.rmtree(new, ignore_errors=True)
 
 
 def options_of(command: bytes) -> set[bytes]:

@@ -8,7 +8,6 @@ import resource
 import shutil
 import signal
 import subprocess
-import tempfile
 from collections import Counter
 from contextlib import suppress
 from pathlib import Path
@@ -17,6 +16,7 @@ from program.columns import (NOT_LEFT, OK, UNFINISHED, all_in, columns_of, each_
                              npy)
 from program.reckon import failed, misused, skip_invalid, told, warned
 from tree import TOP
+from trials import alone, own_folder
 
 MULTIPLIER, START = 0x9E3779B97F4A7C15, 0x243F6A8885A308D3
 
@@ -65,20 +65,19 @@ TEXTS = (b"", b"\n", b"\n\n", b"a", b"a\n", b"\na", b"red\ngreen\nred", b"red\ng
 def try_text(program, data, count):
     """Each line is in one file, equal ones in the same, and `order` tells in which."""
     name = f"{data[:40]} in {count} shards"
-    with tempfile.TemporaryDirectory() as folder:
-        yield name, program.run([b"shard", b"%d" % count, b"it"], data, folder=folder), OK
-        files = files_in(f"{folder}/it")
-        yield f"{name}, files", files, shards_of(data, count)
-        counts = b"".join(program.run([b"count", f"it/{shard}".encode()], folder=folder).output for shard in range(count))
-        wanted = [b"%d %s" % (number, line) for line, number in Counter(lines_of(data)).items()]
-        yield f"{name}, counted", sorted(lines_of(counts)), sorted(wanted)
-        words = b"encode --plain %d it/%d"
-        ends = [program.run((words % (shard, shard)).split(), folder=folder) for shard in range(count)]
-        yield f"{name}, encoded", ends, [OK] * count
-        # The first line with a code of its shard has the next code of the whole.
-        codes, whole = [columns_codes(f"{folder}/{shard}/codes.npy") for shard in range(count)], {}
-        found = [whole.setdefault((shard, next(codes[shard])), len(whole)) for shard in map(int, files["order"].split())]
-        yield f"{name}, the codes of the whole", npy(found), columns_of(data)["codes.npy"]
+    yield name, program.run([b"shard", b"%d" % count, b"it"], data), OK
+    files = files_in("it")
+    yield f"{name}, files", files, shards_of(data, count)
+    counts = b"".join(program.run([b"count", f"it/{shard}".encode()]).output for shard in range(count))
+    wanted = [b"%d %s" % (number, line) for line, number in Counter(lines_of(data)).items()]
+    yield f"{name}, counted", sorted(lines_of(counts)), sorted(wanted)
+    words = b"encode --plain %d it/%d"
+    ends = [program.run((words % (shard, shard)).split()) for shard in range(count)]
+    yield f"{name}, encoded", ends, [OK] * count
+    # The first line with a code of its shard has the next code of the whole.
+    codes, whole = [columns_codes(f"{shard}/codes.npy") for shard in range(count)], {}
+    found = [whole.setdefault((shard, next(codes[shard])), len(whole)) for shard in map(int, files["order"].split())]
+    yield f"{name}, the codes of the whole", npy(found), columns_of(data)["codes.npy"]
 
 
 def columns_codes(path):
@@ -88,27 +87,24 @@ def columns_codes(path):
 def try_reading(program):
     """Several files, lines that zero bytes end, and lines that are not UTF-8."""
     broken, exchanged = b"a\n\xff\nb\0\nc\xc3\xa9\n", bytes.maketrans(b"\n\0", b"\0\n")
-    with tempfile.TemporaryDirectory() as folder:
-        names = []
-        for part in b"red\ngreen", b"", b"ish\nred\n", b"red":
-            names.append(b"%d" % len(names))
-            Path(folder, names[-1].decode()).write_bytes(part)
-        yield "several files", program.run([b"shard", b"--", b"3", b"files", *names], b"\xff", folder=folder), OK
-        yield "several files, shards", files_in(f"{folder}/files"), shards_of(b"red\ngreenish\nred\nred", 3)
-        encoded = program.run([b"encode"], b"a\n").output
-        ended = program.run([b"shard", b"2", b"encoded", b"-"], encoded, folder=folder)
-        yield "what encode wrote", ended, (0, b"", warned(encoded))
-        given = b"a\nb\0c\0a\nb\0"
-        yield "zero bytes", program.run(b"shard 2 -z zero".split(), given, folder=folder), OK
-        files = shards_of(given.translate(exchanged), 2)
-        wanted = {it: lines if it == "order" else lines.translate(exchanged) for it, lines in files.items()}
-        yield "zero bytes, shards", files_in(f"{folder}/zero"), wanted
-        yield "replaced", program.run(b"shard --invalid=replace 2 replaced".split(), broken, folder=folder), OK
-        wanted = shards_of(broken.decode(errors="replace").encode(), 2)
-        yield "replaced, shards", files_in(f"{folder}/replaced"), wanted
-        good, message = skip_invalid(broken)
-        yield "skipped", program.run(b"shard 2 skipped --invalid skip".split(), broken, folder=folder), (0, b"", message)
-        yield "skipped, shards", files_in(f"{folder}/skipped"), shards_of(good, 2)
+    names = []
+    for part in b"red\ngreen", b"", b"ish\nred\n", b"red":
+        names.append(b"%d" % len(names))
+        Path(names[-1].decode()).write_bytes(part)
+    yield "several files", program.run([b"shard", b"--", b"3", b"files", *names], b"\xff"), OK
+    yield "several files, shards", files_in("files"), shards_of(b"red\ngreenish\nred\nred", 3)
+    encoded = program.run([b"encode"], b"a\n").output
+    yield "what encode wrote", program.run([b"shard", b"2", b"encoded", b"-"], encoded), (0, b"", warned(encoded))
+    given = b"a\nb\0c\0a\nb\0"
+    yield "zero bytes", program.run(b"shard 2 -z zero".split(), given), OK
+    files = shards_of(given.translate(exchanged), 2)
+    wanted = {it: lines if it == "order" else lines.translate(exchanged) for it, lines in files.items()}
+    yield "zero bytes, shards", files_in("zero"), wanted
+    yield "replaced", program.run(b"shard --invalid=replace 2 replaced".split(), broken), OK
+    yield "replaced, shards", files_in("replaced"), shards_of(broken.decode(errors="replace").encode(), 2)
+    good, message = skip_invalid(broken)
+    yield "skipped", program.run(b"shard 2 skipped --invalid skip".split(), broken), (0, b"", message)
+    yield "skipped, shards", files_in("skipped"), shards_of(good, 2)
 
 
 def recipe():
@@ -121,11 +117,11 @@ def recipe():
 
 def try_recipe(program):
     for data in TEXTS:
-        with tempfile.TemporaryDirectory() as folder:
-            Path(folder, "dictcol").symlink_to(program.path)
-            Path(folder, "app.log").write_bytes(data)
-            path = {"PATH": f"{folder}:{os.defpath}"}
-            ended = subprocess.run(["sh", "-euc", recipe()], cwd=folder, env=path, capture_output=True, check=False)
+        with own_folder():
+            Path("dictcol").symlink_to(program.path)
+            Path("app.log").write_bytes(data)
+            path = {"PATH": f"{os.getcwd()}:{os.defpath}"}
+            ended = subprocess.run(["sh", "-euc", recipe()], env=path, capture_output=True, check=False)
             found = npy([int(code) for code in ended.stdout.split()])
             yield f"{data[:40]}, the man page's codes", (ended.returncode, ended.stderr, found), (0, b"", columns_of(data)["codes.npy"])
 
@@ -139,21 +135,20 @@ def limit(kind, most):
 
 def try_failing(program):
     """A folder that is there stays as it is, and a run that fails leaves none."""
-    with tempfile.TemporaryDirectory() as folder:
-        Path(folder, "file").write_bytes(b"red\n")
-        Path(folder, "bytes").write_bytes(b"a\n" * 300000 + b"\xff\n")
-        Path(folder, "there").mkdir()
-        for words, error in ((b"shard 2 file", errno.EEXIST), (b"shard 2 there", errno.EEXIST), (b"shard 2 file/new", errno.ENOTDIR),
-                             (b"shard 2 new/new", errno.ENOENT)):
-            message = b"%s: cannot write files: %s" % (words.split()[-1], told(error))
-            yield f"{words}", program.run(words.split(), b"a\n", folder=folder), failed(1, message)
-        ended = program.run(b"shard 20 new".split(), b"a\n" * 300000, folder=folder, before=limit(resource.RLIMIT_FSIZE, 100000))
-        yield "files of 100,000 bytes", ended, failed(1, b"new: cannot write files: " + told(errno.EFBIG))
-        for name, end in ((b"bytes", failed(2, b"bytes: line 300001 is not UTF-8 (see --invalid)")),
-                          (b"missing", failed(1, b"missing: cannot read input: " + told(errno.ENOENT)))):
-            yield f"{name}", program.run([b"shard", b"2", b"new", name], folder=folder), end
-        found = {path.name: path.is_dir() and [*path.iterdir()] for path in Path(folder).iterdir()}
-        yield "what is there", found, {"file": False, "bytes": False, "there": []}
+    Path("file").write_bytes(b"red\n")
+    Path("bytes").write_bytes(b"a\n" * 300000 + b"\xff\n")
+    Path("there").mkdir()
+    for words, error in ((b"shard 2 file", errno.EEXIST), (b"shard 2 there", errno.EEXIST), (b"shard 2 file/new", errno.ENOTDIR),
+                         (b"shard 2 new/new", errno.ENOENT)):
+        message = b"%s: cannot write files: %s" % (words.split()[-1], told(error))
+        yield f"{words}", program.run(words.split(), b"a\n"), failed(1, message)
+    ended = program.run(b"shard 20 new".split(), b"a\n" * 300000, before=limit(resource.RLIMIT_FSIZE, 100000))
+    yield "files of 100,000 bytes", ended, failed(1, b"new: cannot write files: " + told(errno.EFBIG))
+    for name, end in ((b"bytes", failed(2, b"bytes: line 300001 is not UTF-8 (see --invalid)")),
+                      (b"missing", failed(1, b"missing: cannot read input: " + told(errno.ENOENT)))):
+        yield f"{name}", program.run([b"shard", b"2", b"new", name]), end
+    found = {path.name: path.is_dir() and [*path.iterdir()] for path in Path().iterdir()}
+    yield "what is there", found, {"file": False, "bytes": False, "there": []}
 
 
 def limit_open_files(most):
@@ -170,21 +165,19 @@ def limit_open_files(most):
 def try_open_files(program):
     """More shards than a run may have files open are told before anything is made. The limit counts the three standard streams, the
     numbers of the lines, the folder, and a file that is read."""
-    with tempfile.TemporaryDirectory() as folder:
-        Path(folder, "colors").write_bytes(COLORS)
-        for most, files in itertools.product((5, 6, 7, 30), ([], [b"colors"], [b"-"], [b"-", b"colors"])):
-            allowed = max(most - 5 - (b"colors" in files), 0)
-            for count in {allowed + 1, allowed + 2, 1000, 1 << 40}:
-                words = [b"shard", b"%d" % count, b"it", *files]
-                ended = program.run(words, COLORS, folder=folder, before=limit_open_files(most), TELL_FOLDERS=1)
-                message = b"it: cannot write files: the limit of open files allows %d shards (see ulimit -n)" % allowed
-                yield f"{words}, {most} open files", ended, failed(1, message)
-                yield f"{words}, {most} open files, what is there", os.listdir(folder), ["colors"]
-            if allowed:
-                words = [b"shard", b"%d" % allowed, b"it", *files]
-                ended = program.run(words, COLORS, folder=folder, before=limit_open_files(most))
-                yield f"{words}, {most} open files", ended, OK
-                shutil.rmtree(f"{folder}/it")
+    Path("colors").write_bytes(COLORS)
+    for most, files in itertools.product((5, 6, 7, 30), ([], [b"colors"], [b"-"], [b"-", b"colors"])):
+        allowed = max(most - 5 - (b"colors" in files), 0)
+        for count in {allowed + 1, allowed + 2, 1000, 1 << 40}:
+            words = [b"shard", b"%d" % count, b"it", *files]
+            ended = program.run(words, COLORS, before=limit_open_files(most), TELL_FOLDERS=1)
+            message = b"it: cannot write files: the limit of open files allows %d shards (see ulimit -n)" % allowed
+            yield f"{words}, {most} open files", ended, failed(1, message)
+            yield f"{words}, {most} open files, what is there", os.listdir(), ["colors"]
+        if allowed:
+            words = [b"shard", b"%d" % allowed, b"it", *files]
+            yield f"{words}, {most} open files", program.run(words, COLORS, before=limit_open_files(most)), OK
+            shutil.rmtree("it")
 
 
 # A shard is written once so many bytes wait for it.
@@ -193,22 +186,19 @@ WRITTEN = 1 << 16
 
 def try_few_writes(program):
     """A shard is written when it has enough, and at the end."""
-    with tempfile.TemporaryDirectory() as folder:
-        for count in 1, 20, 300:
-            ended = program.run([b"shard", b"%d" % count, b"it"], LONG * 10, folder=folder, TELL_WRITES=1)
-            most = sum(len(file) // WRITTEN + 1 for file in files_in(f"{folder}/it").values())
-            word, _, writes = ended.error.partition(b" ")
-            yield f"{count} shards", (ended.status, ended.output, word), (0, b"", b"writes")
-            yield f"{count} shards, {int(writes)} writes of at most {most}", int(writes) <= most, True
-            shutil.rmtree(f"{folder}/it")
+    for count in 1, 20, 300:
+        ended = program.run([b"shard", b"%d" % count, b"it"], LONG * 10, TELL_WRITES=1)
+        most = sum(len(file) // WRITTEN + 1 for file in files_in("it").values())
+        word, _, writes = ended.error.partition(b" ")
+        yield f"{count} shards", (ended.status, ended.output, word), (0, b"", b"writes")
+        yield f"{count} shards, {int(writes)} writes of at most {most}", int(writes) <= most, True
+        shutil.rmtree("it")
 
 
 def try_stored(program):
     """All files are stored before their folder gets its name."""
-    with tempfile.TemporaryDirectory() as folder:
-        for words, data in ((b"shard 3 plain", LONG), (b"shard -z 2 exchanged", b"a\nb\0c\0"), (b"shard 2 mended --invalid=skip", b"a\nb")):
-            ended = program.run(words.split(), data, folder=folder, TELL_UNSTORED=1)
-            yield f"{words}", ended, (0, b"", b"unstored 0\n")
+    for words, data in ((b"shard 3 plain", LONG), (b"shard -z 2 exchanged", b"a\nb\0c\0"), (b"shard 2 mended --invalid=skip", b"a\nb")):
+        yield f"{words}", program.run(words.split(), data, TELL_UNSTORED=1), (0, b"", b"unstored 0\n")
 
 
 SHARD = b"shard 2 it".split()
@@ -217,79 +207,74 @@ COLORS, MORE_COLORS = b"red\ngreen\nblue\nred", b"blue\nwhite\n"
 
 def try_killed(program):
     """Wherever a run is killed there is no folder, or a whole one. The next run is as any other, and nothing unfinished stays."""
-    for name, folder, run in each_stop(program, SHARD, COLORS, None):
+    for name, run in each_stop(program, SHARD, COLORS, None):
         if run.is_stopped:
             run.end(signal.SIGKILL)
-        wanted, made = shards_of(COLORS, 2), Path(folder, "it")
+        wanted, made = shards_of(COLORS, 2), Path("it")
         if made.exists():
             yield f"{name}, killed", files_in(made), wanted
         else:
             wanted = shards_of(MORE_COLORS, 3)
-            yield f"{name}, the next", program.run(b"shard 3 it".split(), MORE_COLORS, folder=folder), OK
+            yield f"{name}, the next", program.run(b"shard 3 it".split(), MORE_COLORS), OK
         yield f"{name}, files", files_in(made), wanted
         if not run.is_stopped or wanted != shards_of(COLORS, 2):
-            yield f"{name}, folders", os.listdir(folder), ["it"]
+            yield f"{name}, folders", os.listdir(), ["it"]
 
 
 def try_ended(program):
     """Wherever a signal ends a run, there is no folder, or a whole one. The next run is as any other."""
-    for number, (name, folder, run) in enumerate(each_stop(program, SHARD, COLORS, None)):
+    for number, (name, run) in enumerate(each_stop(program, SHARD, COLORS, None)):
         ended, wanted = end_early(run, number)
         yield f"{name}, ended", ended, wanted
-        made = Path(folder, "it")
+        made = Path("it")
         if program.is_by_cargo:
-            yield f"{name}, folders", os.listdir(folder), ["it"] * made.exists()
+            yield f"{name}, folders", os.listdir(), ["it"] * made.exists()
         if made.exists():
             yield f"{name}, files", files_in(made), shards_of(COLORS, 2)
         else:
-            yield f"{name}, the next", program.run(b"shard 3 it".split(), MORE_COLORS, folder=folder), OK
-            yield f"{name}, folders of the next", os.listdir(folder), ["it"]
+            yield f"{name}, the next", program.run(b"shard 3 it".split(), MORE_COLORS), OK
+            yield f"{name}, folders of the next", os.listdir(), ["it"]
 
 
 def try_beside(program):
     """Wherever a second run writes beside a first one, one of them fails, and the folder has the files of the other. It is the
     second that fails as soon as the first one has begun."""
-    for name, folder, run in each_stop(program, SHARD, COLORS, None):
-        is_first = is_begun(f"{folder}/it.{UNFINISHED}")
-        second = program.run(b"shard 3 it".split(), MORE_COLORS, folder=folder)
+    for name, run in each_stop(program, SHARD, COLORS, None):
+        is_first = is_begun(f"it.{UNFINISHED}")
+        second = program.run(b"shard 3 it".split(), MORE_COLORS)
         ends = run.end(), second
         yield f"{name}, {ends}", sorted(it.status for it in ends), [0, 1]
         busy = failed(1, b"it: cannot write files: resource busy")
         yield f"{name}, the second", not is_first or second == busy, True
         files = shards_of(COLORS, 2) if ends[0] == OK else shards_of(MORE_COLORS, 3)
-        yield f"{name}, files", files_in(f"{folder}/it"), files
-        yield f"{name}, folders", os.listdir(folder), ["it"]
+        yield f"{name}, files", files_in("it"), files
+        yield f"{name}, folders", os.listdir(), ["it"]
 
 
 def try_links(program):
     """What has the name of an unfinished folder and is none stays as it is."""
     for target in "files", "files/precious", "nowhere", f"it.{UNFINISHED}":
-        with tempfile.TemporaryDirectory() as folder:
-            Path(folder, "files").mkdir()
-            Path(folder, "files/precious").write_bytes(b"kept\n")
-            Path(folder, f"it.{UNFINISHED}").symlink_to(target)
-            ended = program.run(SHARD, COLORS, folder=folder)
-            yield f"a link to {target}", ended, failed(1, b"it: " + NOT_LEFT % (b"." + UNFINISHED.encode()))
-            yield f"a link to {target}, files", files_in(f"{folder}/files"), {"precious": b"kept\n"}
-            yield f"a link to {target}, folders", sorted(os.listdir(folder)), ["files", f"it.{UNFINISHED}"]
+        with own_folder():
+            Path("files").mkdir()
+            Path("files/precious").write_bytes(b"kept\n")
+            Path(f"it.{UNFINISHED}").symlink_to(target)
+            yield f"a link to {target}", program.run(SHARD, COLORS), failed(1, b"it: " + NOT_LEFT % (b"." + UNFINISHED.encode()))
+            yield f"a link to {target}, files", files_in("files"), {"precious": b"kept\n"}
+            yield f"a link to {target}, folders", sorted(os.listdir()), ["files", f"it.{UNFINISHED}"]
 
 
 def try_unlike(program):
     """What has the name of an unfinished folder and no killed run left stays as it is."""
-    with tempfile.TemporaryDirectory() as folder:
-        for name in make_unlike(Path(folder, f"it.{UNFINISHED}")):
-            before = all_in(folder)
-            ended = program.run(SHARD, COLORS, folder=folder)
-            yield name, ended, failed(1, b"it: " + NOT_LEFT % (b"." + UNFINISHED.encode()))
-            yield f"{name}, what is there", all_in(folder), before
+    for name in make_unlike(Path(f"it.{UNFINISHED}")):
+        before = all_in()
+        yield name, program.run(SHARD, COLORS), failed(1, b"it: " + NOT_LEFT % (b"." + UNFINISHED.encode()))
+        yield f"{name}, what is there", all_in(), before
 
 
 def try_folders_stored(program):
     """The folder is stored before it gets its name, and the name before the run ends."""
-    with tempfile.TemporaryDirectory() as folder:
-        for name in b"it", b"it/in/", f"{folder}/other".encode():
-            ended = program.run([b"shard", b"2", name], COLORS, folder=folder, TELL_FOLDERS=1)
-            yield f"{name}", ended, (0, b"", b"stored\nrenamed\nstored\n")
+    for name in b"it", b"it/in/", os.path.abspath(b"other"):
+        yield f"{name}", program.run([b"shard", b"2", name], COLORS, TELL_FOLDERS=1), (0, b"", b"stored\nrenamed\nstored\n")
 
 
 def try_no_name(program):
@@ -300,25 +285,24 @@ def try_no_name(program):
 
 def try_names(program):
     """The folder may be named with a slash behind it, and lie elsewhere."""
-    with tempfile.TemporaryDirectory() as folder:
-        Path(folder, "in").mkdir()
-        for name in b"one/", b"two//", b"in/three", b"./four", b"in/../five", f"{folder}/six".encode():
-            yield f"{name}", program.run([b"shard", b"2", name], COLORS, folder=folder), OK
-            yield f"{name}, files", files_in(Path(folder, name.decode())), shards_of(COLORS, 2)
-        found = sorted(os.listdir(folder)), os.listdir(f"{folder}/in")
-        yield "folders", found, (["five", "four", "in", "one", "six", "two"], ["three"])
+    Path("in").mkdir()
+    for name in b"one/", b"two//", b"in/three", b"./four", b"in/../five", os.path.abspath(b"six"):
+        yield f"{name}", program.run([b"shard", b"2", name], COLORS), OK
+        yield f"{name}, files", files_in(Path(name.decode())), shards_of(COLORS, 2)
+    found = sorted(os.listdir()), os.listdir("in")
+    yield "folders", found, (["five", "four", "in", "one", "six", "two"], ["three"])
 
 
 def try_refused(program):
     """Each request for memory is refused in turn: all files are written, or there is no folder."""
     for number in itertools.count(1):
-        with tempfile.TemporaryDirectory() as folder:
+        with own_folder():
             words, data = b"shard 3 it --invalid=skip".split(), b"red\ngreen\n\xff\nblue"
-            ended, asks = program.run_with_asks(words, data, number, folder=folder)
+            ended, asks = program.run_with_asks(words, data, number)
             if len(asks) < number:
                 break
             name = f"{words}, request {number} of {asks[number - 1]} bytes refused"
-            found = files_in(f"{folder}/it") if Path(folder, "it").exists() else None
+            found = files_in("it") if Path("it").exists() else None
             yield name, (ended.status, found), (0, shards_of(b"red\ngreen\nblue", 3)) if ended.status == 0 else (1, None)
 
 
@@ -331,8 +315,8 @@ def try_in_little_memory(program):
     of_shards = {code_of(b"%99d" % number) % 64: b"%99d\n" % number for number in range(1000)}
     turns = b"".join(of_shards[shard] * ((1 << 20) // 100) for shard in range(64))
     for count, name, data in (4, "equal lines", (b"a" * 99 + b"\n") * (HELD // 100)), (64, "shards in turn", turns):
-        with tempfile.TemporaryDirectory() as folder:
-            ended = program.run([b"shard", b"%d" % count, b"it"], data, folder=folder, before=limit(resource.RLIMIT_AS, MOST))
+        with own_folder():
+            ended = program.run([b"shard", b"%d" % count, b"it"], data, before=limit(resource.RLIMIT_AS, MOST))
             yield f"{name}, {len(data)} bytes in {MOST} bytes of memory", ended, OK
 
 
@@ -348,21 +332,6 @@ def trials():
         *((try_text, data, count) for data in TEXTS for count in (1, 2, 3, 20)),
         # More than a byte numbers.
         (try_text, LONG, 300),
-        (try_reading,),
-        (try_recipe,),
-        (try_failing,),
-        (try_open_files,),
-        (try_few_writes,),
-        (try_stored,),
-        (try_killed,),
-        (try_ended,),
-        (try_beside,),
-        (try_links,),
-        (try_unlike,),
-        (try_folders_stored,),
-        (try_no_name,),
-        (try_names,),
-        (try_refused,),
-        (try_in_little_memory,),
+        *alone(globals()),
         *((try_random, seed) for seed in range(30)),
     ]

@@ -22,6 +22,7 @@ from program.reckon import ENCODED, MEMORY, answer, failed, is_utf8, misused, to
 from program.requests import asks_of_lines
 from program.streams import limit_files
 from tree import TOP
+from trials import alone, own_folder
 
 VERSION = (TOP / "VERSION").read_bytes().strip()
 
@@ -35,29 +36,27 @@ NAMES = (b"lines", b"--sorted", b"-", "é\n".encode())
 
 def try_operands(program):
     """Arguments that name a file, which standard input does not matter to, or `-`."""
-    with tempfile.TemporaryDirectory() as folder:
-        place = folder.encode()
-        for name in NAMES:
-            Path(folder, os.fsdecode(name)).write_bytes(LINES)
-        wanted = {**dict.fromkeys(COUNTING, COUNTS), "encode LINES": answer([b"encode"], LINES),
-                  "count --backend=tree --help": misused(b"unknown backend 'tree'")}
-        for words, name in product(wanted, (b"lines", place + b"/lines", b"./-", NAMES[-1], b"-")):
-            given = [name if word == "LINES" else word for word in words.split()]
-            yield f"{given}", program.run(given, LINES if name == b"-" else b"\xff", folder=folder), wanted[words]
-        Path(folder, "encoded").write_bytes(program.run([b"encode"], LINES).output)
-        Path(folder, "bytes").write_bytes(b"a\n\xff")
-        for words, end in ((b"count -- --sorted", COUNTS), (b"decode encoded", (0, LINES, b"")),
-                           (b"decode lines", failed(2, b"lines: invalid JSON at line 1 column 1")),
-                           (b"count bytes", failed(2, b"bytes: line 2 is not UTF-8 (see --invalid)"))):
-            yield f"{words}", program.run(words.split(), folder=folder), end
-        for name, error in ((b"missing", errno.ENOENT), (place, errno.EISDIR), (b"lines/a", errno.ENOTDIR), (b"", errno.ENOENT),
-                            (b"a" * 256, errno.ENAMETOOLONG)):
-            yield f"the file {name!r}", program.run([b"count", name], folder=folder), (1, b"", unreadable(error, name + b": "))
-        no_keys = failed(1, b"cannot draw random keys: " + told(errno.ENOSYS))
-        yield "no random bytes for a file", program.run([b"count", b"lines"], folder=folder, NO_RANDOM=1), no_keys
-        with open("/dev/full", "wb") as full:
-            ended = program.run([b"count", b"lines"], b"", full, folder=folder)
-        yield "a file on a full disk", ended, unwritten(errno.ENOSPC)
+    for name in NAMES:
+        Path(os.fsdecode(name)).write_bytes(LINES)
+    wanted = {**dict.fromkeys(COUNTING, COUNTS), "encode LINES": answer([b"encode"], LINES),
+              "count --backend=tree --help": misused(b"unknown backend 'tree'")}
+    for words, name in product(wanted, (b"lines", os.path.abspath(b"lines"), b"./-", NAMES[-1], b"-")):
+        given = [name if word == "LINES" else word for word in words.split()]
+        yield f"{given}", program.run(given, LINES if name == b"-" else b"\xff"), wanted[words]
+    Path("encoded").write_bytes(program.run([b"encode"], LINES).output)
+    Path("bytes").write_bytes(b"a\n\xff")
+    for words, end in ((b"count -- --sorted", COUNTS), (b"decode encoded", (0, LINES, b"")),
+                       (b"decode lines", failed(2, b"lines: invalid JSON at line 1 column 1")),
+                       (b"count bytes", failed(2, b"bytes: line 2 is not UTF-8 (see --invalid)"))):
+        yield f"{words}", program.run(words.split()), end
+    for name, error in ((b"missing", errno.ENOENT), (os.getcwdb(), errno.EISDIR), (b"lines/a", errno.ENOTDIR), (b"", errno.ENOENT),
+                        (b"a" * 256, errno.ENAMETOOLONG)):
+        yield f"the file {name!r}", program.run([b"count", name]), (1, b"", unreadable(error, name + b": "))
+    no_keys = failed(1, b"cannot draw random keys: " + told(errno.ENOSYS))
+    yield "no random bytes for a file", program.run([b"count", b"lines"], NO_RANDOM=1), no_keys
+    with open("/dev/full", "wb") as full:
+        ended = program.run([b"count", b"lines"], b"", full)
+    yield "a file on a full disk", ended, unwritten(errno.ENOSPC)
     for words, number in (([b"count", b"\xff"], 2), ([b"\xff", b"\xff"], 1),
                           ([b"count", "é".encode(), b"a\xc3", b"a" * 9999], 3), ([b"count", *[b"a"] * 200, b"\xff"], 202)):
         wanted = failed(2, b"argument %d is not UTF-8 (a file with such a name can be standard input)" % number)
@@ -66,10 +65,10 @@ def try_operands(program):
         yield "a long argument that is not UTF-8", program.run(words), failed(2, b"an argument is not UTF-8")
 
 
-def write_files(folder, files):
+def write_files(files):
     names = [b"%d.json" % number for number in range(len(files))]
     for name, file in zip(names, files):
-        Path(folder, os.fsdecode(name)).write_bytes(file)
+        Path(os.fsdecode(name)).write_bytes(file)
     return names
 
 
@@ -83,30 +82,29 @@ def try_many_files(program):
     parts = [b"%d\nline\n%s" % (number % 7, b"half" * (number % 3)) for number in range(100)]
     orders = [range(100), [1] * 2, random.Random(0).choices(range(100), k=MANY_NAMES)]
     texts = [b"".join(parts[it] for it in order) for order in orders]
-    with tempfile.TemporaryDirectory() as folder:
-        names = write_files(folder, parts)
+    with own_folder():
+        names = write_files(parts)
         for word, order, text in ((word, *it) for word in (b"encode", b"count") for it in zip(orders, texts)):
-            yield f"{word} of {len(order)} files", program.run([word, *[names[it] for it in order]], folder=folder), answer([word], text)
-    with tempfile.TemporaryDirectory() as folder:
-        names = write_files(folder, [answer([b"encode"], part)[1] for part in parts])
-        Path(folder, "bad").write_bytes(b"{}")
+            yield f"{word} of {len(order)} files", program.run([word, *[names[it] for it in order]]), answer([word], text)
+    with own_folder():
+        names = write_files([answer([b"encode"], part)[1] for part in parts])
+        Path("bad").write_bytes(b"{}")
         for words, order, text in ((words, *it) for words in (b"merge", b"count --encoded") for it in zip(orders, texts)):
             named = [*words.split(), *[names[it] for it in order]]
             wanted = answer([b"encode" if words == b"merge" else b"count"], text)
-            yield f"{words} of {len(order)} files", program.run(named, folder=folder), wanted
-            ended = program.run([*named, b"bad"], folder=folder)
+            yield f"{words} of {len(order)} files", program.run(named), wanted
+            ended = program.run([*named, b"bad"])
             yield f"{words} of {len(order)} files and a bad one", ended, failed(2, b'bad: no array "dictionary"')
         for backend in b"string", b"bucket", b"buffer":
-            yield from try_refused_files(program, folder, [b"merge", b"--backend", backend, *names[:12]])
+            yield from try_refused_files(program, [b"merge", b"--backend", backend, *names[:12]])
     halves = b"a\n" + b"b" * 70000, b"b" * 40000 + b"\nb\n"
-    with tempfile.TemporaryDirectory() as folder:
-        names = write_files(folder, halves)
+    with own_folder():
+        names = write_files(halves)
         for word in b"encode", b"count":
-            yield f"{word} of a line in two files", program.run([word, *names], folder=folder), answer([word], b"".join(halves))
-    with tempfile.TemporaryDirectory() as folder:
-        names = write_files(folder, [answer([b"encode"], half)[1] for half in halves])
-        wanted = answer([b"encode"], b"".join(halves))
-        yield "a line in two files, merged", program.run([b"merge", *names], folder=folder), wanted
+            yield f"{word} of a line in two files", program.run([word, *names]), answer([word], b"".join(halves))
+    with own_folder():
+        names = write_files([answer([b"encode"], half)[1] for half in halves])
+        yield "a line in two files, merged", program.run([b"merge", *names]), answer([b"encode"], b"".join(halves))
 
 
 # Lines are mended in blocks of a quarter of so many bytes.
@@ -137,13 +135,12 @@ def try_many_lines(program):
     yield "2^22 lines, encoded", encoded, answer([b"encode"], data)
     yield "2^22 lines, decoded", program.run([b"decode"], encoded.output), (0, data, b"")
     yield "2^22 lines, counted", program.run([b"count", b"--sorted"], data), answer([b"count", b"--sorted"], data)
-    with tempfile.TemporaryDirectory() as folder:
-        names = write_files(folder, [answer([b"encode"], b"7\ny")[1], encoded.output])
-        yield "2^22 lines, merged", program.run([b"merge", *names], folder=folder), answer([b"encode"], b"7\ny" + data)
-        for words, before in (b"encode --plain new", ()), (b"encode --plain new --onto new", (b"0", b"x")):
-            yield f"2^22 lines, {words}", program.run(words.split(), data, folder=folder), OK
-            yield f"2^22 lines, {words}, files", files_in(f"{folder}/new"), columns_of(data, before)
-        yield "2^22 lines, decoded from plain columns", program.run([b"decode", b"new"], folder=folder), (0, data, b"")
+    names = write_files([answer([b"encode"], b"7\ny")[1], encoded.output])
+    yield "2^22 lines, merged", program.run([b"merge", *names]), answer([b"encode"], b"7\ny" + data)
+    for words, before in (b"encode --plain new", ()), (b"encode --plain new --onto new", (b"0", b"x")):
+        yield f"2^22 lines, {words}", program.run(words.split(), data), OK
+        yield f"2^22 lines, {words}, files", files_in("new"), columns_of(data, before)
+    yield "2^22 lines, decoded from plain columns", program.run([b"decode", b"new"]), (0, data, b"")
 
 
 def try_long_lines(program):
@@ -190,9 +187,9 @@ def try_terminal(program):
             given.seek(0)
             found = read_terminal(program, words, given, stdout=True, stderr=False)
             yield f"{words} of {length} bytes to a terminal", found, answer(words, data)[:2]
-            with tempfile.TemporaryDirectory() as folder:
+            with own_folder():
                 halves = data[:TOLD_FROM // 2], data[TOLD_FROM // 2:]
-                paths = [os.path.join(os.fsencode(folder), name) for name in write_files(folder, halves)]
+                paths = write_files(halves)
                 shown = read_terminal(program, [*words, *paths], given, stdout=False, stderr=True)
             yield f"{words}, progress of {length} bytes in two files", shown, (0, progress)
     broken = b"a\n" * (TOLD_FROM // 2 - 1) + b"\xff\n"
@@ -205,8 +202,8 @@ def try_terminal(program):
     for length, (words, is_done) in product((TOLD_FROM, TOLD_FROM - 1), PROGRESS.items()):
         # With blanks before it, a file does not look like one to what reads lines.
         data = answer([b"encode"], b"a\n")[1].rjust(length, b" ")
-        with tempfile.TemporaryDirectory() as folder, holding(data) as given:
-            given_words = words.replace("DIR", f"{folder}/new").split()
+        with own_folder(), holding(data) as given:
+            given_words = words.replace("DIR", "new").split()
             shown = read_terminal(program, given_words, given, stdout=False, stderr=True)
         progress = b"dictcol: 16 MiB read\n" + b"dictcol: 16 MiB done\n" * is_done if length == TOLD_FROM else b""
         yield f"{words}, progress of {length} bytes", shown, (0, progress)
@@ -237,58 +234,55 @@ def try_merges(program):
     parts = b"red\ngreen", b"", b"ish\n\n", b"\n", b"x", b"y", b"red\n"
     files = [answer([b"encode"], part)[1] for part in parts]
     wanted = answer([b"encode"], b"".join(parts))
-    with tempfile.TemporaryDirectory() as folder:
-        names = write_files(folder, files)
-        for words in ([b"merge", *names], [b"merge", b"--backend", b"bucket", *names], [*b"-- merge".split(), *names],
-                      [b"merge", *names[:3], b"--backend=buffer", *names[3:]]):
-            yield f"{words}", program.run(words, b"\xff", folder=folder), wanted
-        for taken in range(1, len(names)):
-            words = [b"merge", *names[:taken]]
-            yield f"{words}", program.run(words, folder=folder), answer([b"encode"], b"".join(parts[:taken]))
-        for place in range(len(names)):
-            words = [b"merge", *names[:place], b"-", *names[place + 1:]]
-            yield f"{words}", program.run(words, files[place], folder=folder), wanted
-        yield from try_refused_files(program, folder, [b"merge", *names[:3]])
-        for name, file in (("bad", b"{}"), ("cut", files[0][:9]), ("bytes", b"\xff")):
-            Path(folder, name).write_bytes(file)
-        for name, end in ((b"bad", failed(2, b'bad: no array "dictionary"')),
-                          (b"cut", failed(2, b"cut: JSON ends too early, at line 1 column 10")),
-                          (b"bytes", failed(2, b"bytes: line 1 is not UTF-8")),
-                          (b"missing", (1, b"", unreadable(errno.ENOENT, b"missing: "))),
-                          (b".", (1, b"", unreadable(errno.EISDIR, b".: ")))):
-            for place in range(3):
-                words = [b"merge", *names[:place], name, *names[place:]]
-                yield f"{words}", program.run(words, folder=folder), end
-        with open("/dev/full", "wb") as full:
-            ended = program.run([b"merge", *names], b"", full, folder=folder)
-        yield "files merged to a full disk", ended, unwritten(errno.ENOSPC)
-        no_keys = failed(1, b"cannot draw random keys: " + told(errno.ENOSYS))
-        yield "no random bytes for files", program.run([b"merge", *names], folder=folder, NO_RANDOM=1), no_keys
+    names = write_files(files)
+    for words in ([b"merge", *names], [b"merge", b"--backend", b"bucket", *names], [*b"-- merge".split(), *names],
+                  [b"merge", *names[:3], b"--backend=buffer", *names[3:]]):
+        yield f"{words}", program.run(words, b"\xff"), wanted
+    for taken in range(1, len(names)):
+        words = [b"merge", *names[:taken]]
+        yield f"{words}", program.run(words), answer([b"encode"], b"".join(parts[:taken]))
+    for place in range(len(names)):
+        words = [b"merge", *names[:place], b"-", *names[place + 1:]]
+        yield f"{words}", program.run(words, files[place]), wanted
+    yield from try_refused_files(program, [b"merge", *names[:3]])
+    for name, file in (("bad", b"{}"), ("cut", files[0][:9]), ("bytes", b"\xff")):
+        Path(name).write_bytes(file)
+    for name, end in ((b"bad", failed(2, b'bad: no array "dictionary"')),
+                      (b"cut", failed(2, b"cut: JSON ends too early, at line 1 column 10")),
+                      (b"bytes", failed(2, b"bytes: line 1 is not UTF-8")),
+                      (b"missing", (1, b"", unreadable(errno.ENOENT, b"missing: "))),
+                      (b".", (1, b"", unreadable(errno.EISDIR, b".: ")))):
+        for place in range(3):
+            words = [b"merge", *names[:place], name, *names[place:]]
+            yield f"{words}", program.run(words), end
+    with open("/dev/full", "wb") as full:
+        ended = program.run([b"merge", *names], b"", full)
+    yield "files merged to a full disk", ended, unwritten(errno.ENOSPC)
+    no_keys = failed(1, b"cannot draw random keys: " + told(errno.ENOSYS))
+    yield "no random bytes for files", program.run([b"merge", *names], NO_RANDOM=1), no_keys
 
 
 def try_encoded(program):
     """Lines that look like what `encode` writes are taken as lines, with a warning."""
     plain, encoded = b"a\n", answer([b"encode"], b"a\n")[1]
-    with tempfile.TemporaryDirectory() as folder:
-        names = write_files(folder, (plain, encoded, encoded, ENCODED[:-1]))
-        for word, given in product((b"encode", b"count"), ((1,), (0, 1), (2, 0, 1), (1, 3), (3,), (3, 0))):
-            words = [word, *(names[it] for it in given)]
-            joined = b"".join((plain, encoded, encoded, ENCODED[:-1])[it] for it in given)
-            looking = [names[it] for it in given if it in (1, 2)]
-            wanted = *answer(words, joined)[:2], warned(encoded, looking[0] + b": ") if looking else b""
-            yield f"{words}", program.run(words, folder=folder), wanted
-        for words in ([b"count"], [b"count", b"--invalid=replace"], [b"encode", b"-"]):
-            yield f"{words}", program.run(words, encoded), answer(words, encoded)
-        wanted = failed(2, b"line 2 is not UTF-8 (see --invalid)")
-        yield "no warning behind a fault", program.run([b"count"], encoded + b"\xff"), wanted
-        both = encoded + b"\xff\n"
-        Path(folder, "both").write_bytes(both)
-        wanted = 1, b"", unreadable(errno.ENOENT, b"missing: ")
-        for words in [b"encode"], [b"count"], [b"encode", b"--plain", b"it"], [b"shard", b"2", b"it"]:
-            words = [*words, b"--invalid=skip"]
-            yield f"{words}, a fault alone", program.run([*words, b"both", b"missing"], folder=folder), wanted
-            if b"it" not in words:
-                yield f"{words}, a line left out before the warning", program.run(words, both), answer(words, both)
+    names = write_files((plain, encoded, encoded, ENCODED[:-1]))
+    for word, given in product((b"encode", b"count"), ((1,), (0, 1), (2, 0, 1), (1, 3), (3,), (3, 0))):
+        words = [word, *(names[it] for it in given)]
+        joined = b"".join((plain, encoded, encoded, ENCODED[:-1])[it] for it in given)
+        looking = [names[it] for it in given if it in (1, 2)]
+        wanted = *answer(words, joined)[:2], warned(encoded, looking[0] + b": ") if looking else b""
+        yield f"{words}", program.run(words), wanted
+    for words in ([b"count"], [b"count", b"--invalid=replace"], [b"encode", b"-"]):
+        yield f"{words}", program.run(words, encoded), answer(words, encoded)
+    yield "no warning behind a fault", program.run([b"count"], encoded + b"\xff"), failed(2, b"line 2 is not UTF-8 (see --invalid)")
+    both = encoded + b"\xff\n"
+    Path("both").write_bytes(both)
+    wanted = 1, b"", unreadable(errno.ENOENT, b"missing: ")
+    for words in [b"encode"], [b"count"], [b"encode", b"--plain", b"it"], [b"shard", b"2", b"it"]:
+        words = [*words, b"--invalid=skip"]
+        yield f"{words}, a fault alone", program.run([*words, b"both", b"missing"]), wanted
+        if b"it" not in words:
+            yield f"{words}, a line left out before the warning", program.run(words, both), answer(words, both)
 
 
 # Lines that newlines end become lines that zero bytes end.
@@ -313,57 +307,55 @@ BAD_LINES = (
 def try_files(program):
     """Some files are read as one, in which a line, and a character too, may be in two of them."""
     parts = b"red\ngreen", b"", b"ish\n\n", b"\n", b"x\xc3", b"\xa9", b"y", b"red\n", b"red"
-    with tempfile.TemporaryDirectory() as folder:
-        names = write_files(folder, parts)
+    with own_folder():
+        names = write_files(parts)
         for words in ([b"encode"], [b"count"], [b"count", b"--sorted"], [b"encode", b"--backend=buffer"]):
             for taken in range(1, len(names) + 1):
-                ended = program.run([*words, *names[:taken]], folder=folder)
+                ended = program.run([*words, *names[:taken]])
                 whole = b"".join(parts[:taken])
                 bad = failed(2, names[taken - 1] + b": line 1 is not UTF-8 (see --invalid)")
                 wanted = answer(words, whole) if is_utf8(whole) else bad
                 yield f"{words} of {taken}", ended, wanted
         for place in range(len(names)):
             words = [b"count", *names[:place], b"-", *names[place + 1:]]
-            yield f"{words}", program.run(words, parts[place], folder=folder), answer(words, b"".join(parts))
-        yield from try_refused_files(program, folder, [b"encode", *names[:3]])
+            yield f"{words}", program.run(words, parts[place]), answer(words, b"".join(parts))
+        yield from try_refused_files(program, [b"encode", *names[:3]])
         for name, error in ((b"missing", errno.ENOENT), (b".", errno.EISDIR)):
             words = [b"count", names[0], name, names[2]]
-            yield f"{words}", program.run(words, folder=folder), (1, b"", unreadable(error, name + b": "))
+            yield f"{words}", program.run(words), (1, b"", unreadable(error, name + b": "))
     for files, place, line in BAD_LINES:
         shown = [(file[:20], len(file)) for file in files]
-        with tempfile.TemporaryDirectory() as folder:
-            names = write_files(folder, files)
+        with own_folder():
+            names = write_files(files)
             for word in b"encode", b"count":
                 wanted = failed(2, b"%s: line %d is not UTF-8 (see --invalid)" % (names[place], line))
-                yield f"{word} of {shown}", program.run([word, *names], folder=folder), wanted
+                yield f"{word} of {shown}", program.run([word, *names]), wanted
             for words in [b"encode", b"--invalid=replace"], [b"count", b"--invalid=skip"]:
-                yield f"{words} of {shown}", program.run([*words, *names], folder=folder), answer(words, b"".join(files))
-            zero_ended = write_files(folder, [it.translate(EXCHANGED) for it in files])
+                yield f"{words} of {shown}", program.run([*words, *names]), answer(words, b"".join(files))
+            zero_ended = write_files([it.translate(EXCHANGED) for it in files])
             wanted = failed(2, b"%s: line %d is not UTF-8 (see --invalid)" % (zero_ended[place], line))
-            yield f"count -z of {shown}", program.run([b"count", b"-z", *zero_ended], folder=folder), wanted
+            yield f"count -z of {shown}", program.run([b"count", b"-z", *zero_ended]), wanted
 
 
 def try_counts_of_encoded(program):
     """The lines of files that `encode` wrote are counted as those of the decoded files are, one after another."""
     parts = b"red\ngreen", b"", b"ish\n\nred\n", b"\n", b"x", b"y", b"red\n", b"red"
-    with tempfile.TemporaryDirectory() as folder:
-        names = write_files(folder, [answer([b"encode"], part)[1] for part in parts])
-        for words in ([b"count", b"--encoded"], [b"count", b"--encoded", b"--sorted"],
-                      [b"count", b"--backend=bucket", b"--encoded"]):
-            for taken in range(1, len(names) + 1):
-                ended = program.run([*words, *names[:taken]], folder=folder)
-                yield f"{words} of {taken}", ended, answer(words, b"".join(parts[:taken]))
-            for given in [], [b"-"]:
-                ended = program.run([*words, *given], answer([b"encode"], parts[2])[1])
-                yield f"{words} of standard input", ended, answer(words, parts[2])
-        # The dictionary is in another order than the lines, and has a text that is no line.
-        Path(folder, "order").write_bytes(b'{"dictionary":["c","b","a"],"final_newline":true,"lines":[2,0,2,0,2]}')
-        yield "texts out of order", program.run(b"count --encoded order".split(), folder=folder), (0, b"3 a\n2 c\n", b"")
-        Path(folder, "bad").write_bytes(b"{}")
-        for place in range(2):
-            words = [b"count", b"--encoded", *names[:place], b"bad", *names[place:]]
-            yield f"{words}", program.run(words, folder=folder), failed(2, b'bad: no array "dictionary"')
-        yield from try_refused_files(program, folder, [b"count", b"--encoded", b"--sorted", *names[:3]])
+    names = write_files([answer([b"encode"], part)[1] for part in parts])
+    for words in ([b"count", b"--encoded"], [b"count", b"--encoded", b"--sorted"],
+                  [b"count", b"--backend=bucket", b"--encoded"]):
+        for taken in range(1, len(names) + 1):
+            yield f"{words} of {taken}", program.run([*words, *names[:taken]]), answer(words, b"".join(parts[:taken]))
+        for given in [], [b"-"]:
+            ended = program.run([*words, *given], answer([b"encode"], parts[2])[1])
+            yield f"{words} of standard input", ended, answer(words, parts[2])
+    # The dictionary is in another order than the lines, and has a text that is no line.
+    Path("order").write_bytes(b'{"dictionary":["c","b","a"],"final_newline":true,"lines":[2,0,2,0,2]}')
+    yield "texts out of order", program.run(b"count --encoded order".split()), (0, b"3 a\n2 c\n", b"")
+    Path("bad").write_bytes(b"{}")
+    for place in range(2):
+        words = [b"count", b"--encoded", *names[:place], b"bad", *names[place:]]
+        yield f"{words}", program.run(words), failed(2, b'bad: no array "dictionary"')
+    yield from try_refused_files(program, [b"count", b"--encoded", b"--sorted", *names[:3]])
 
 
 # What is compressed, what reads it, and the first line that is not UTF-8, also if a zero byte ends each.
@@ -379,33 +371,30 @@ NOT_PACKED = (b"\x1f\xff", b"\x1f\x8a\x8b", b"\x8b\x1f", b"\x28\xb5\x2f\xfe", b"
 def try_packed(program):
     """A line that is not UTF-8 in compressed input is told with what reads that, by each command, also in a second file."""
     told_of = b"%sline %d is not UTF-8: it looks compressed (%s FILE | dictcol ..)"
-    with tempfile.TemporaryDirectory() as folder:
-        Path(folder, "lines").write_bytes(LINES)
-        Path(folder, "half").write_bytes(b"red")
-        Path(folder, "encoded").write_bytes(answer([b"encode"], LINES)[1])
-        for data, reader, line, zero_ended in PACKED:
-            Path(folder, "packed").write_bytes(data)
-            for words in (b"encode", b"count", b"count -z", b"encode --plain new", b"shard 2 new", b"decode", b"count --encoded"):
-                number = zero_ended if b"-z" in words else line
-                wanted = failed(2, told_of % (b"packed: ", number, reader))
-                yield f"{words} of {data[:10]}", program.run([*words.split(), b"packed"], folder=folder), wanted
-                wanted = failed(2, told_of % (b"", number, reader))
-                yield f"{words} of {data[:10]} as input", program.run(words.split(), data, folder=folder), wanted
-            for words in b"encode lines packed", b"merge packed", b"merge encoded packed encoded", b"count --encoded encoded packed":
-                wanted = failed(2, told_of % (b"packed: ", line, reader))
-                yield f"{words} of {data[:10]}", program.run(words.split(), folder=folder), wanted
-            # The first line of the second file goes on with the last one of the first, and is one of that.
-            ended = program.run(b"count half packed".split(), folder=folder)
-            wanted = failed(2, (b"half" if line == 1 else b"packed") + b": line %d is not UTF-8 (see --invalid)" % line)
-            yield f"a line that goes on with {data[:10]}", ended, wanted
-            words = [b"count", b"--invalid=replace"]
-            yield f"mended, {data[:10]}", program.run(words, data), answer(words, data)
-        for data in NOT_PACKED:
-            Path(folder, "other").write_bytes(data)
-            bad = b"other: line %d is not UTF-8 (see --invalid)" % (data.count(b"\n", 0, 3) + 1)
-            wanted = answer([b"count"], data) if is_utf8(data) else failed(2, bad)
-            yield f"{data} looks compressed", program.run([b"count", b"other"], folder=folder), wanted
-        yield "nothing is left", sorted(path.name for path in Path(folder).iterdir()), ["encoded", "half", "lines", "other", "packed"]
+    Path("lines").write_bytes(LINES)
+    Path("half").write_bytes(b"red")
+    Path("encoded").write_bytes(answer([b"encode"], LINES)[1])
+    for data, reader, line, zero_ended in PACKED:
+        Path("packed").write_bytes(data)
+        for words in (b"encode", b"count", b"count -z", b"encode --plain new", b"shard 2 new", b"decode", b"count --encoded"):
+            number = zero_ended if b"-z" in words else line
+            wanted = failed(2, told_of % (b"packed: ", number, reader))
+            yield f"{words} of {data[:10]}", program.run([*words.split(), b"packed"]), wanted
+            yield f"{words} of {data[:10]} as input", program.run(words.split(), data), failed(2, told_of % (b"", number, reader))
+        for words in b"encode lines packed", b"merge packed", b"merge encoded packed encoded", b"count --encoded encoded packed":
+            yield f"{words} of {data[:10]}", program.run(words.split()), failed(2, told_of % (b"packed: ", line, reader))
+        # The first line of the second file goes on with the last one of the first, and is one of that.
+        ended = program.run(b"count half packed".split())
+        wanted = failed(2, (b"half" if line == 1 else b"packed") + b": line %d is not UTF-8 (see --invalid)" % line)
+        yield f"a line that goes on with {data[:10]}", ended, wanted
+        words = [b"count", b"--invalid=replace"]
+        yield f"mended, {data[:10]}", program.run(words, data), answer(words, data)
+    for data in NOT_PACKED:
+        Path("other").write_bytes(data)
+        bad = b"other: line %d is not UTF-8 (see --invalid)" % (data.count(b"\n", 0, 3) + 1)
+        wanted = answer([b"count"], data) if is_utf8(data) else failed(2, bad)
+        yield f"{data} looks compressed", program.run([b"count", b"other"]), wanted
+    yield "nothing is left", sorted(os.listdir()), ["encoded", "half", "lines", "other", "packed"]
 
 
 def try_file_limit(program):
@@ -453,18 +442,17 @@ STORED = b"".join(b"%06d\n" % number for number in range(40))
 
 def try_backends(program):
     """The lines are stored in the backend that is named: without what it asks for them, a run asks for the same over each."""
-    with tempfile.TemporaryDirectory() as folder:
-        write_files(folder, [answer([b"encode"], STORED)[1]])
-        Path(folder, "list").write_bytes(b"-\0")
-        for words in (b"encode", b"encode --plain new", b"encode --files0-from=list", b"encode --invalid=skip", b"merge 0.json",
-                      b"count --encoded 0.json"):
-            others = []
-            for backend in b"string", b"bucket", b"buffer":
-                asks = program.run_with_asks([*words.split(), b"--backend", backend], STORED, folder=folder)[1]
-                lines = Counter(asks_of_lines([b"encode"], STORED, backend)[1])
-                yield f"{words} over {backend}, what it does not ask for", lines - Counter(asks), Counter()
-                others.append(Counter(asks) - lines)
-            yield f"{words}, what else it asks for over each backend", others, others[:1] * 3
+    write_files([answer([b"encode"], STORED)[1]])
+    Path("list").write_bytes(b"-\0")
+    for words in (b"encode", b"encode --plain new", b"encode --files0-from=list", b"encode --invalid=skip", b"merge 0.json",
+                  b"count --encoded 0.json"):
+        others = []
+        for backend in b"string", b"bucket", b"buffer":
+            asks = program.run_with_asks([*words.split(), b"--backend", backend], STORED)[1]
+            lines = Counter(asks_of_lines([b"encode"], STORED, backend)[1])
+            yield f"{words} over {backend}, what it does not ask for", lines - Counter(asks), Counter()
+            others.append(Counter(asks) - lines)
+        yield f"{words}, what else it asks for over each backend", others, others[:1] * 3
 
 
 # What is said behind a fault of a file whose name may be a whole list.
@@ -483,88 +471,83 @@ def try_lists(program):
     """Files that a list names are read as those that the arguments name."""
     files = {b"one": b"red\ngreen", b"two lines\n\n": b"ish\nred\n", b"--sorted": b"blue", b"./-": b"\n\nblue\n"}
     whole = b"".join(files.values())
-    with tempfile.TemporaryDirectory() as folder:
-        for name, data in files.items():
-            Path(folder, os.fsdecode(name)).write_bytes(data)
-        for listed in ended_names(files), ended_names(files)[:-1]:
-            Path(folder, "list").write_bytes(listed)
-            for words in [b"encode"], [b"count"], [b"count", b"--sorted", b"--backend=buffer"], [b"encode", b"--invalid=skip"]:
-                for option in [b"--files0-from=list"], [b"--files0-from", b"./list"], [b"--files0-from=one", b"--files0-from=list"]:
-                    yield f"{words} {option}", program.run([*option, *words], b"\xff", folder=folder), answer(words, whole)
-                ended = program.run([*words, b"--files0-from=-"], listed, folder=folder)
-                yield f"{words} of a list in standard input", ended, answer(words, whole)
-            yield "shards", program.run(b"shard 1 it --files0-from=list".split(), folder=folder), (0, b"", b"")
-            yield "shards of a list", Path(folder, "it", "0").read_bytes(), whole
-            Path(folder, "it", "0").unlink()
-            Path(folder, "it", "order").unlink()
-            Path(folder, "it").rmdir()
-            yield "columns", program.run(b"encode --plain columns --files0-from=list".split(), folder=folder), (0, b"", b"")
-            yield "columns of a list", program.run([b"decode", b"columns"], folder=folder), (0, whole, b"")
-        Path(folder, "list").write_bytes(b"one\0-\0two lines\n\n")
-        ended = program.run(b"count --files0-from=list".split(), files[b"--sorted"], folder=folder)
-        yield "a list with standard input", ended, answer([b"count"], b"".join([*files.values()][:1]) + b"blueish\nred\n")
-        Path(folder, "none").write_bytes(b"")
-        for words, given in ([b"--files0-from=none"], b"red\n"), ([b"--files0-from=-"], b""):
-            for word in [b"count"], [b"encode"], [b"count", b"--encoded"]:
-                wanted = answer([b"encode"], b"") if word == [b"encode"] else (0, b"", b"")
-                yield f"{word} of no file", program.run([*word, *words], given, folder=folder), wanted
-        names = write_files(folder, [answer([b"encode"], part)[1] for part in (b"red\ngreen", b"ish\nred\n")])
-        Path(folder, "7.json").write_bytes(ended_names(names))
-        words = [b"count", b"--encoded", b"--files0-from=7.json"]
-        yield "encoded files of a list", program.run(words, folder=folder), answer([b"count"], b"red\ngreenish\nred\n")
-        yield from try_refused_files(program, folder, words)
-        yield from try_refused_files(program, folder, [b"count", b"--files0-from=7.json", b"--invalid=replace"])
+    for name, data in files.items():
+        Path(os.fsdecode(name)).write_bytes(data)
+    for listed in ended_names(files), ended_names(files)[:-1]:
+        Path("list").write_bytes(listed)
+        for words in [b"encode"], [b"count"], [b"count", b"--sorted", b"--backend=buffer"], [b"encode", b"--invalid=skip"]:
+            for option in [b"--files0-from=list"], [b"--files0-from", b"./list"], [b"--files0-from=one", b"--files0-from=list"]:
+                yield f"{words} {option}", program.run([*option, *words], b"\xff"), answer(words, whole)
+            yield f"{words} of a list in standard input", program.run([*words, b"--files0-from=-"], listed), answer(words, whole)
+        yield "shards", program.run(b"shard 1 it --files0-from=list".split()), (0, b"", b"")
+        yield "shards of a list", Path("it", "0").read_bytes(), whole
+        Path("it", "0").unlink()
+        Path("it", "order").unlink()
+        Path("it").rmdir()
+        yield "columns", program.run(b"encode --plain columns --files0-from=list".split()), (0, b"", b"")
+        yield "columns of a list", program.run([b"decode", b"columns"]), (0, whole, b"")
+    Path("list").write_bytes(b"one\0-\0two lines\n\n")
+    ended = program.run(b"count --files0-from=list".split(), files[b"--sorted"])
+    yield "a list with standard input", ended, answer([b"count"], b"".join([*files.values()][:1]) + b"blueish\nred\n")
+    Path("none").write_bytes(b"")
+    for words, given in ([b"--files0-from=none"], b"red\n"), ([b"--files0-from=-"], b""):
+        for word in [b"count"], [b"encode"], [b"count", b"--encoded"]:
+            wanted = answer([b"encode"], b"") if word == [b"encode"] else (0, b"", b"")
+            yield f"{word} of no file", program.run([*word, *words], given), wanted
+    names = write_files([answer([b"encode"], part)[1] for part in (b"red\ngreen", b"ish\nred\n")])
+    Path("7.json").write_bytes(ended_names(names))
+    words = [b"count", b"--encoded", b"--files0-from=7.json"]
+    yield "encoded files of a list", program.run(words), answer([b"count"], b"red\ngreenish\nred\n")
+    yield from try_refused_files(program, words)
+    yield from try_refused_files(program, [b"count", b"--files0-from=7.json", b"--invalid=replace"])
 
 
 def try_bad_lists(program):
     """A list that names no file, files that are not there, and standard input where it is the list."""
-    with tempfile.TemporaryDirectory() as folder:
-        Path(folder, "one").write_bytes(b"red\n")
-        Path(folder, "bytes").write_bytes(b"red\n\xff\n")
-        Path(folder, "none").write_bytes(b"")
-        input_twice = b"2: standard input is named twice"
-        list_is_input = b"%d: no file name may be '-' if the names come from standard input"
-        for word in b"count", b"encode", b"shard 2 it", b"encode --plain it", b"count --encoded":
-            for data, message in (*BAD_LISTS, (b"-\0-\0", input_twice)):
-                Path(folder, "list").write_bytes(data)
-                words = [*word.split(), b"--files0-from=list"]
-                yield f"{words} of {data}", program.run(words, b"a\n", folder=folder), failed(2, b"list:" + message)
-            for data, message in (*BAD_LISTS, (b"-", list_is_input % 1), (b"one\0-\0one", list_is_input % 2)):
-                words = [*word.split(), b"--files0-from", b"-"]
-                yield f"{words} of {data}", program.run(words, data, folder=folder), failed(2, b"-:" + message)
-            for name, error in (b"missing", errno.ENOENT), (b".", errno.EISDIR), (b"one/", errno.ENOTDIR):
-                wanted = 1, b"", unreadable(error, name + b": ")
-                words = [*word.split(), b"--files0-from=-"]
-                front = b"" if b"--encoded" in words else b"none\0"
-                yield f"{words} of {name}", program.run(words, front + name, folder=folder), wanted
-                words = [*word.split(), b"--files0-from", name]
-                yield f"{words}", program.run(words, b"one\0", folder=folder), wanted
-        wanted = failed(2, b"bytes: line 2 is not UTF-8 (see --invalid)")
-        yield "a bad line in a list", program.run(b"count --files0-from=-".split(), b"one\0bytes\0one", folder=folder), wanted
-        yield "nothing is left", sorted(path.name for path in Path(folder).iterdir()), ["bytes", "list", "none", "one"]
+    Path("one").write_bytes(b"red\n")
+    Path("bytes").write_bytes(b"red\n\xff\n")
+    Path("none").write_bytes(b"")
+    input_twice = b"2: standard input is named twice"
+    list_is_input = b"%d: no file name may be '-' if the names come from standard input"
+    for word in b"count", b"encode", b"shard 2 it", b"encode --plain it", b"count --encoded":
+        for data, message in (*BAD_LISTS, (b"-\0-\0", input_twice)):
+            Path("list").write_bytes(data)
+            words = [*word.split(), b"--files0-from=list"]
+            yield f"{words} of {data}", program.run(words, b"a\n"), failed(2, b"list:" + message)
+        for data, message in (*BAD_LISTS, (b"-", list_is_input % 1), (b"one\0-\0one", list_is_input % 2)):
+            words = [*word.split(), b"--files0-from", b"-"]
+            yield f"{words} of {data}", program.run(words, data), failed(2, b"-:" + message)
+        for name, error in (b"missing", errno.ENOENT), (b".", errno.EISDIR), (b"one/", errno.ENOTDIR):
+            wanted = 1, b"", unreadable(error, name + b": ")
+            words = [*word.split(), b"--files0-from=-"]
+            front = b"" if b"--encoded" in words else b"none\0"
+            yield f"{words} of {name}", program.run(words, front + name), wanted
+            words = [*word.split(), b"--files0-from", name]
+            yield f"{words}", program.run(words, b"one\0"), wanted
+    wanted = failed(2, b"bytes: line 2 is not UTF-8 (see --invalid)")
+    yield "a bad line in a list", program.run(b"count --files0-from=-".split(), b"one\0bytes\0one"), wanted
+    yield "nothing is left", sorted(os.listdir()), ["bytes", "list", "none", "one"]
 
 
 def try_unended_lists(program):
     """A list whose names newlines end is one name, and told as such a list if there is no such file."""
-    with tempfile.TemporaryDirectory() as folder:
-        for name in "one", "bytes", "none":
-            Path(folder, name).write_bytes(b"red\n")
-        for data in b"one\nbytes\n", b"missing\n", b"missing\nnone", b"missing\none\n" + b"a" * 300:
-            Path(folder, "list").write_bytes(data)
-            shown = b'"%s"' % data.replace(b"\n", b"\\n")
-            error = errno.ENAMETOOLONG if len(data) > 255 else errno.ENOENT
-            wanted = 1, b"", unreadable(error, shown + b": ").removesuffix(b"\n") + UNENDED + b"\n"
-            for words in b"count", b"encode", b"encode --plain it", b"shard 2 it", b"count --encoded":
-                words = [*words.split(), b"--files0-from=list"]
-                yield f"{words} of {data[:20]}", program.run(words, folder=folder), wanted
-        # With a zero byte the newline is a part of the name, and so it is if there is such a file.
-        wanted = 1, b"", unreadable(errno.ENOENT, b'"one\\n": ')
-        yield "a name with a newline", program.run(b"count --files0-from=-".split(), b"one\n\0", folder=folder), wanted
-        Path(folder, "one\n").write_bytes(b"red\n")
-        ended = program.run(b"count --files0-from=-".split(), b"one\n", folder=folder)
-        yield "a file with a newline in its name", ended, (0, b"1 red\n", b"")
-        Path(folder, "one\n").unlink()
-        yield "nothing is left", sorted(path.name for path in Path(folder).iterdir()), ["bytes", "list", "none", "one"]
+    for name in "one", "bytes", "none":
+        Path(name).write_bytes(b"red\n")
+    for data in b"one\nbytes\n", b"missing\n", b"missing\nnone", b"missing\none\n" + b"a" * 300:
+        Path("list").write_bytes(data)
+        shown = b'"%s"' % data.replace(b"\n", b"\\n")
+        error = errno.ENAMETOOLONG if len(data) > 255 else errno.ENOENT
+        wanted = 1, b"", unreadable(error, shown + b": ").removesuffix(b"\n") + UNENDED + b"\n"
+        for words in b"count", b"encode", b"encode --plain it", b"shard 2 it", b"count --encoded":
+            words = [*words.split(), b"--files0-from=list"]
+            yield f"{words} of {data[:20]}", program.run(words), wanted
+    # With a zero byte the newline is a part of the name, and so it is if there is such a file.
+    wanted = 1, b"", unreadable(errno.ENOENT, b'"one\\n": ')
+    yield "a name with a newline", program.run(b"count --files0-from=-".split(), b"one\n\0"), wanted
+    Path("one\n").write_bytes(b"red\n")
+    yield "a file with a newline in its name", program.run(b"count --files0-from=-".split(), b"one\n"), (0, b"1 red\n", b"")
+    Path("one\n").unlink()
+    yield "nothing is left", sorted(os.listdir()), ["bytes", "list", "none", "one"]
 
 
 # More names than arguments may be, which take two megabytes.
@@ -572,10 +555,9 @@ LISTED = 300000
 
 
 def try_long_list(program):
-    with tempfile.TemporaryDirectory() as folder:
-        Path(folder, "a line").write_bytes(b"red\n")
-        ended = program.run(b"count --files0-from=-".split(), b"a line\0" * LISTED, folder=folder)
-        yield f"a list of {LISTED} names", ended, (0, b"%d red\n" % LISTED, b"")
+    Path("a line").write_bytes(b"red\n")
+    ended = program.run(b"count --files0-from=-".split(), b"a line\0" * LISTED)
+    yield f"a list of {LISTED} names", ended, (0, b"%d red\n" % LISTED, b"")
 
 
 # Words with control characters, and how Rust's `{:?}` writes them.
@@ -588,37 +570,36 @@ CONTROLS = (
 def try_controls(program):
     """No control character of a word or of the name of a file comes to the terminal. Other words are told as they are."""
     encoded = answer([b"encode"], b"a\n")[1]
-    with tempfile.TemporaryDirectory() as folder:
-        plain = (("a b", "a b"), ('"', '"'), ("é\\n'", "é\\n'"))
-        for word, shown in (*CONTROLS, *plain):
-            name, told_name = word.encode(), shown.encode()
-            between = told_name if (word, shown) in CONTROLS else b"'%s'" % told_name
-            missing = 1, b"", unreadable(errno.ENOENT, told_name + b": ")
-            for words in ([b"count", name], [b"merge", name], [b"decode", name], [b"encode", b"--files0-from", name]):
-                yield f"{words}", program.run(words, folder=folder), missing
-            unended = UNENDED if "\n" in word else b""
-            wanted = 1, b"", missing[2].removesuffix(b"\n") + unended + b"\n"
-            yield f"{word!r} in a list", program.run(b"count --files0-from=-".split(), name, folder=folder), wanted
-            for words, message in (
-                ([name], b"unknown command %s" % between),
-                ([b"decode", b"a", name], b"extra operand %s" % between),
-                ([b"count", b"--backend=" + name], b"unknown backend %s" % between),
-                ([b"count", b"--invalid", name], b"option '--invalid' takes error, replace or skip, and not %s" % between),
-                ([b"shard", name, b"it"], b"shard takes a number of files, and not %s" % between),
-                ([b"count", b"--files0-from=a", name], b"extra operand %s: files are named by option '--files0-from'" % between),
-            ):
-                yield f"{words}", program.run(words, folder=folder), misused(message)
-            Path(folder, word).write_bytes(b"\0")
-            wanted = failed(2, told_name + b":1: invalid zero-length file name")
-            yield f"the list {word!r}", program.run([b"count", b"--files0-from", name], folder=folder), wanted
-            Path(folder, word).write_bytes(encoded)
-            wanted = *answer([b"count"], encoded)[:2], warned(encoded, told_name + b": ")
-            yield f"a warning of {word!r}", program.run([b"count", name], folder=folder), wanted
-            wanted = failed(1, b"%s: cannot write files: %s" % (told_name, told(errno.EEXIST)))
-            yield f"the folder {word!r}", program.run([b"shard", b"2", name], folder=folder), wanted
-        for words in [b"--a\nb"], [b"count", b"-\x1b"]:
-            shown = words[-1].replace(b"\n", b"\\n").replace(b"\x1b", b"\\u{1b}")
-            yield f"{words}", program.run(words), misused(b'unknown option "%s"' % shown)
+    plain = (("a b", "a b"), ('"', '"'), ("é\\n'", "é\\n'"))
+    for word, shown in (*CONTROLS, *plain):
+        name, told_name = word.encode(), shown.encode()
+        between = told_name if (word, shown) in CONTROLS else b"'%s'" % told_name
+        missing = 1, b"", unreadable(errno.ENOENT, told_name + b": ")
+        for words in ([b"count", name], [b"merge", name], [b"decode", name], [b"encode", b"--files0-from", name]):
+            yield f"{words}", program.run(words), missing
+        unended = UNENDED if "\n" in word else b""
+        wanted = 1, b"", missing[2].removesuffix(b"\n") + unended + b"\n"
+        yield f"{word!r} in a list", program.run(b"count --files0-from=-".split(), name), wanted
+        for words, message in (
+            ([name], b"unknown command %s" % between),
+            ([b"decode", b"a", name], b"extra operand %s" % between),
+            ([b"count", b"--backend=" + name], b"unknown backend %s" % between),
+            ([b"count", b"--invalid", name], b"option '--invalid' takes error, replace or skip, and not %s" % between),
+            ([b"shard", name, b"it"], b"shard takes a number of files, and not %s" % between),
+            ([b"count", b"--files0-from=a", name], b"extra operand %s: files are named by option '--files0-from'" % between),
+        ):
+            yield f"{words}", program.run(words), misused(message)
+        Path(word).write_bytes(b"\0")
+        wanted = failed(2, told_name + b":1: invalid zero-length file name")
+        yield f"the list {word!r}", program.run([b"count", b"--files0-from", name]), wanted
+        Path(word).write_bytes(encoded)
+        wanted = *answer([b"count"], encoded)[:2], warned(encoded, told_name + b": ")
+        yield f"a warning of {word!r}", program.run([b"count", name]), wanted
+        wanted = failed(1, b"%s: cannot write files: %s" % (told_name, told(errno.EEXIST)))
+        yield f"the folder {word!r}", program.run([b"shard", b"2", name]), wanted
+    for words in [b"--a\nb"], [b"count", b"-\x1b"]:
+        shown = words[-1].replace(b"\n", b"\\n").replace(b"\x1b", b"\\u{1b}")
+        yield f"{words}", program.run(words), misused(b'unknown option "%s"' % shown)
 
 
 # So many bytes of a name or a word are shown, less those of a letter that does not end there.
@@ -647,22 +628,20 @@ def try_long_names(program):
 
 def try_folders(program):
     """In the place of a file, a folder that encode --plain wrote is told as one."""
-    with tempfile.TemporaryDirectory() as folder:
-        yield "a folder", program.run(b"encode --plain it".split(), b"red\n", folder=folder), (0, b"", b"")
-        wanted = failed(1, b"it: a folder that encode --plain wrote; decode writes its text")
-        for words in (b"merge it", b"merge - it", b"count --encoded it", b"count it", b"encode it", b"shard 2 new it",
-                      b"encode --plain new it", b"count --files0-from=it"):
-            ended = program.run(words.split(), answer([b"encode"], b"a\n")[1], folder=folder)
-            yield f"{words}", ended, wanted
-        yield "decoded", program.run(b"decode it".split(), folder=folder), (0, b"red\n", b"")
+    yield "a folder", program.run(b"encode --plain it".split(), b"red\n"), (0, b"", b"")
+    wanted = failed(1, b"it: a folder that encode --plain wrote; decode writes its text")
+    for words in (b"merge it", b"merge - it", b"count --encoded it", b"count it", b"encode it", b"shard 2 new it",
+                  b"encode --plain new it", b"count --files0-from=it"):
+        yield f"{words}", program.run(words.split(), answer([b"encode"], b"a\n")[1]), wanted
+    yield "decoded", program.run(b"decode it".split()), (0, b"red\n", b"")
 
 
-def try_refused_files(program, folder, words):
+def try_refused_files(program, words):
     """Each request for memory is refused, also those that a second file needs. The file is named, if one is being read."""
-    wanted = program.run(words, folder=folder)
-    asks = program.run_with_asks(words, b"", folder=folder)[1]
+    wanted = program.run(words)
+    asks = program.run_with_asks(words, b"")[1]
     for number, size in enumerate(asks, 1):
-        ended, after = program.run_with_asks(words, b"", number, folder=folder)
+        ended, after = program.run_with_asks(words, b"", number)
         is_told = ended[:2] == (1, b"") and re.fullmatch(rb"dictcol: (\d+\.json: )?out of memory\n", ended.error)
         yield f"files, request {number} of {size} bytes refused, {ended}", ended == wanted or bool(is_told), True
         yield f"files, request {number} of {size} bytes refused: it was only made ahead", ended == wanted, bool(after[number:])
@@ -714,16 +693,15 @@ def try_random_bytes(program, seed):
 
 def try_drawing(program):
     """Two keys of eight random bytes each are drawn by what hashes lines under keys, and none by anything else."""
-    with tempfile.TemporaryDirectory() as folder:
-        encoded = answer([b"encode"], LINES)[1]
-        names = write_files(folder, [encoded, encoded])
-        for words, given, count in (
-                (b"encode", LINES, 16), (b"count", LINES, 16), (b"count --sorted -z", LINES, 16), (b"decode", encoded, 16),
-                (b"encode --invalid=skip", LINES, 16), (b"merge 0.json 1.json", b"", 16), (b"count --encoded", encoded, 16),
-                (b"encode --plain new", LINES, 16), (b"encode --plain new --onto new", LINES, 16), (b"decode new", b"", 0),
-                (b"shard 2 shards", LINES, 0), (b"--help", b"", 0)):
-            ended = program.run(words.split(), given, folder=folder, TELL_DRAWN=1)
-            yield f"{words}, the random bytes of {len(names)} files", (ended.status, ended.error), (0, b"draws %d\n" % count)
+    encoded = answer([b"encode"], LINES)[1]
+    names = write_files([encoded, encoded])
+    for words, given, count in (
+            (b"encode", LINES, 16), (b"count", LINES, 16), (b"count --sorted -z", LINES, 16), (b"decode", encoded, 16),
+            (b"encode --invalid=skip", LINES, 16), (b"merge 0.json 1.json", b"", 16), (b"count --encoded", encoded, 16),
+            (b"encode --plain new", LINES, 16), (b"encode --plain new --onto new", LINES, 16), (b"decode new", b"", 0),
+            (b"shard 2 shards", LINES, 0), (b"--help", b"", 0)):
+        ended = program.run(words.split(), given, TELL_DRAWN=1)
+        yield f"{words}, the random bytes of {len(names)} files", (ended.status, ended.error), (0, b"draws %d\n" % count)
 
 
 def try_telling_to_a_full_disk(program):
@@ -733,11 +711,7 @@ def try_telling_to_a_full_disk(program):
 
 
 def trials():
-    return [(trial,) for trial in (
-        try_telling_to_a_full_disk, try_operands, try_files, try_many_files, try_encoded, try_counts_of_encoded, try_merges,
-        try_packed, try_file_limit, try_far_json, try_long_names, try_backends, try_invalid, try_blocks, try_drawing, try_help, try_lists,
-        try_bad_lists, try_unended_lists, try_controls, try_folders,
-        try_terminal_as_a_file)]
+    return [it for it in alone(globals()) if it not in long_trials()]
 
 
 def long_trials():

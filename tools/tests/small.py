@@ -8,7 +8,7 @@ from pathlib import Path
 from unittest import mock
 
 sys.path.insert(0, str(Path(__file__).resolve().parent.parent))
-from bugs import batches, place, tables
+from bugs import place, tables
 import touched
 import tree
 
@@ -112,7 +112,7 @@ class SmallRepository(unittest.TestCase):
         folder = tempfile.TemporaryDirectory()
         self.addCleanup(folder.cleanup)
         self.top = Path(folder.name)
-        for module in (batches, place, tables, touched, tree):
+        for module in (place, tables, touched, tree):
             patch = mock.patch.object(module, "TOP", self.top)
             patch.start()
             self.addCleanup(patch.stop)

@@ -12,8 +12,8 @@ from pathlib import Path
 from unittest import mock
 
 import small  # noqa: F401 (brings the tools into reach)
+from gate_log import PARTS
 from machine import ask_rt
-from parts import PARTS
 from tree import TOP
 
 CHECK = runpy.run_path(str(TOP / "check"))

@@ -6,7 +6,7 @@ import unittest
 from pathlib import Path
 from unittest import mock
 
-from small import SHAPE, SOURCE, SmallRepository, batches, tables
+from small import SHAPE, SOURCE, SmallRepository, place, tables
 import unproved
 from bugs import copies
 from bugs.place import Unfit, apply, placed, trials_of
@@ -126,13 +126,13 @@ class PlanTest(SmallRepository):
         return trials_of(tables.edits_of("low"))
 
     def dealt(self, workers):
-        return [sorted(it.name for it in batch) for batch in batches.batches(self.trials(), workers)]
+        return [sorted(it.name for it in batch) for batch in place.batches(self.trials(), workers)]
 
     def test_bugs_in_one_place_go_one_by_one(self):
         for number in range(4):
             self.write_edit(f"area_{number}", "side * side", str(number), "SquareShape::area")
         for workers in 1, 2, 3:
-            dealt = batches.batches(self.trials(), workers)
+            dealt = place.batches(self.trials(), workers)
             self.assertEqual(len([it for batch in dealt for it in batch]), 8)
             for batch in dealt:
                 functions = [it.function for it in batch]
@@ -147,7 +147,7 @@ class PlanTest(SmallRepository):
         self.assertEqual(sorted(len(it) for it in self.dealt(3)), [1, 1, 2])
 
     def test_no_batch_gets_too_many(self):
-        with mock.patch.object(batches, "TOGETHER", 1):
+        with mock.patch.object(place, "TOGETHER", 1):
             self.assertEqual([len(it) for it in self.dealt(1)], [1, 1, 1, 1])
 
     def test_a_bug_about_more_than_its_function_comes_alone(self):
@@ -160,14 +160,14 @@ class PlanTest(SmallRepository):
         answer = self.write_caught("answer", "lemma = refl", file="proofs/double/Answers.antt")
         whole = self.write_caught("whole", "", file="proofs/new.antt")
         bugs = [side, square, half, field, answer, whole]
-        self.assertEqual(batches.apart(bugs, 5), [[side, half, field, answer, whole], [square]])
-        self.assertEqual(batches.apart(bugs, 3), [[side, half, field], [square, answer, whole]])
+        self.assertEqual(place.apart(bugs, 5), [[side, half, field, answer, whole], [square]])
+        self.assertEqual(place.apart(bugs, 3), [[side, half, field], [square, answer, whole]])
 
     def test_a_bug_about_many_functions_comes_alone(self):
         self.write("crates/low/src/size.rt", "const SIZE: u32 = 2;\n")
         spec, half = self.write_caught("spec", "a + a", file="specs/Words.antt"), self.write_caught("half", "number / 2")
         size = self.write_caught("size", "const SIZE: u32 = 2;", file="src/size.rt")
-        self.assertEqual(batches.apart([spec, half, size], 3), [[half], [spec], [size]])
+        self.assertEqual(place.apart([spec, half, size], 3), [[half], [spec], [size]])
 
 
 SCENARIO = """\

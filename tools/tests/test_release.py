@@ -9,7 +9,7 @@ from pathlib import Path
 
 TOP = Path(__file__).resolve().parents[2]
 sys.path.append(str(TOP / "tools"))
-from parts import PARTS
+from gate_log import PARTS
 
 # What the parts said, of which the second counts nothing, and what the gate says of them at its end.
 NAMES = sorted(name for name, row in PARTS.items() if "all" in row.forms)
@@ -34,7 +34,7 @@ class ReleaseTest(unittest.TestCase):
         self.addCleanup(folder.cleanup)
         self.top = Path(folder.name, "clone")
         (self.top / "tools").mkdir(parents=True)
-        for name in ("release", "gate_log.py", "parts.py"):
+        for name in ("release", "gate_log.py"):
             shutil.copy(TOP / "tools" / name, self.top / "tools")
         (self.top / "VERSION").write_text("1.2.3\n")
         (self.top / "README.md").write_text("whose `rt version` ends in `logic 1f`\n")
