@@ -139,6 +139,7 @@ sorted ties stay in order:
   2 y
   1 x
   1 w
+
 the first line is not utf8:
 
   $ printf '\377\na\n' | dictcol count
