@@ -163,10 +163,7 @@ impl<'a> Job<'a, LineHasher> {
         explain(&inputs, outcome)
     }
 
-    fn count_encoded<B: Backend + Drop>(
-        &self,
-        asked: Rows,
-    ) -> Result<(), (Option<usize>, Fault)> {
+    fn count_encoded<B: Backend + Drop>(&self, asked: Rows) -> Result<(), (Option<usize>, Fault)> {
         let mut inputs = self.split()?;
         let mut output = open_output(self.rt, false).map_err(|fault| (None, fault))?;
         let (alloc, hasher) = (self.rt.alloc(), self.hasher);

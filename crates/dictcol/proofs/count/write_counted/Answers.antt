@@ -16,11 +16,11 @@ returns-clause-written g c lines are =
     let sorted : AreSorted rows (map row_of pairs) = search rules in
     let few : length pairs < 2 ^ 64 = search rules in
     let ordered : AreOrdered c.args.asked.order rows first =
-        elim c.match-asked.branch as (λ _. AreOrdered c.args.asked.order rows first) [
-          | in-Frequency w ↦
-              let all = ap (map row_of) (take_min top pairs ∙ take_all top pairs (omega (arith, few, w.top-is))) in
-              rw (w.in-Frequency.is, all) sorted
-          | in-Top w ↦
-              rw w.in-Top.is (map row_of pairs, sorted, first-rows top pairs ∙ ap (λ n. take n (map row_of pairs)) (w.top-is ∙ w.get-top.ensures.value))
-        ] in
+    elim c.match-asked.branch as (λ _. AreOrdered c.args.asked.order rows first) [
+      | in-Frequency w ↦
+          let all = ap (map row_of) (take_min top pairs ∙ take_all top pairs (omega (arith, few, w.top-is))) in
+          rw (w.in-Frequency.is, all) sorted
+      | in-Top w ↦
+          rw w.in-Top.is (map row_of pairs, sorted, first-rows top pairs ∙ ap (λ n. take n (map row_of pairs)) (w.top-is ∙ w.get-top.ensures.value))
+    ] in
     rows-written c.write_rows.result c.args.asked first _ _ lines (subst (λ all. AreOrdered c.args.asked.order (filter often all) first) are ordered) (search rules)
