@@ -47,6 +47,7 @@ def forms() -> Iterator[tuple[list[bytes], bytes | None, Ended, Files | None]]:
         yield [word, b"--files0-from=bad list"], None, failed(2, b"bad list:2: invalid zero-length file name"), None
     yield [b"count", b"-z", SKIP, b"broken"], None, answer([b"count", b"-z", SKIP], BROKEN), None
     yield [b"count", b"--sorted", b"--encoded"], ENCODED, answer([b"count", b"--sorted"], TEXT), None
+    yield [b"count", b"--top=1", b"--at-least=2", b"--encoded"], ENCODED, answer([b"count", b"--top=1", b"--at-least=2"], TEXT), None
     yield [b"count", b"--encoded", b"encoded"], None, answer([b"count"], TEXT), None
     yield [b"decode"], ENCODED, (0, TEXT, b""), None
     yield [b"decode", b"encoded"], None, (0, TEXT, b""), None

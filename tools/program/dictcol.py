@@ -12,7 +12,7 @@ from itertools import chain, count, product
 
 from program import closed, columns, pairs, shards, shell
 from program.cases import MANY, MEBIBYTE, cases, rows
-from program.reckon import MEMORY, answer, failed, misused, unreadable, unwritable, warned
+from program.reckon import MEMORY, answer, failed, is_sorted, misused, unreadable, unwritable, warned
 from program.requests import OUTPUT_BUFFER, asks_of_lines
 from program.shards import MULTIPLIER, START, mixed
 from program.streams import Streams
@@ -26,13 +26,16 @@ def file_of(texts, numbers):
     return b'{"dictionary":[%s],"final_newline":true,"lines":[%s]}' % (b",".join(texts), b",".join(numbers))
 
 
+VALUED = b"--backend", b"--invalid", b"--plain", b"--onto", b"--onto-dictionary", b"--files0-from", b"--top", b"--at-least"
+
+
 def operands(words):
     """The command and the files among some words."""
     found, left = [], iter(words)
     for word in left:
         if word == b"--":
             return [*found, *left]
-        if word in (b"--backend", b"--invalid", b"--plain", b"--onto", b"--onto-dictionary", b"--files0-from"):
+        if word in VALUED:
             next(left, None)
         elif word == b"-" or not word.startswith(b"-"):
             found.append(word)
@@ -76,7 +79,7 @@ SORTED_IN_PLACE = 20
 def try_asks(program, name, words, data):
     """What a run of `encode` or `count` that ends well asks for after the words. In which order it asks for lines is its own."""
     backend = (re.findall(rb"--backend[= ](\w+)", b" ".join(words)) or [b"string"])[-1]
-    if b"--sorted" in words and len(set(data.split(b"\n"))) > SORTED_IN_PLACE or {b"-z", b"--invalid=replace"} & {*words}:
+    if is_sorted(words) and len(set(data.split(b"\n"))) > SORTED_IN_PLACE or {b"-z", b"--invalid=replace"} & {*words}:
         return
     ended, asks = program.run_with_asks(words, data)
     before, lines, behind = asks_of_lines(words, data, backend)
@@ -129,8 +132,12 @@ def try_words(program, row):
 TABLES = {"damaged_files": try_damaged, "files_that_are_no_json": try_no_json, "wrong_arguments": try_words}
 
 
+# Lines that are counted, without those that occur once.
+RARE = [b"count", b"--top", b"2", b"--at-least=2"]
+
+
 def try_both_ways(program, name, data):
-    for backend, words in product(BACKENDS, ([b"encode"], [b"count"], [b"count", b"--sorted"])):
+    for backend, words in product(BACKENDS, ([b"encode"], [b"count"], [b"count", b"--sorted"], RARE)):
         words = [*words, b"--backend", backend]
         yield f"{name}, {words}", program.run(words, data), answer(words, data)
         yield from try_asks(program, f"{name}, {words}", words, data)

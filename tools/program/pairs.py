@@ -26,14 +26,14 @@ Choices = tuple[list[bytes], ...]
 BACKEND: Choices = [], [b"--backend=string"], [b"--backend=bucket"], [b"--backend=buffer"]
 INVALID: Choices = [], [b"--invalid=error"], [b"--invalid=replace"], [b"--invalid=skip"]
 ENDED: Choices = [], [b"-z"], [b"--zero-terminated"]
-SORTED: Choices = [], [b"--sorted"]
+ROWS: Choices = [], [b"--sorted"], [b"--top=2"], [b"--at-least=2"], [b"--top=3", b"--at-least=2"]
 PLAIN: Choices = [], [b"--plain=new"], [b"--plain=new", b"--onto=old"], [b"--plain=new", b"--onto-dictionary=old"]
 MENDING, ONTO = {b"--invalid=replace", b"--invalid=skip"}, {b"--onto=old", b"--onto-dictionary=old"}
 # The choices that a command has, of which each is made beside each of the others.
 COMMANDS = {
     b"encode": (PLAIN, INVALID, BACKEND),
-    b"count": (SORTED, ENDED, INVALID, BACKEND),
-    b"count --encoded": (SORTED, BACKEND),
+    b"count": (ROWS, ENDED, INVALID, BACKEND),
+    b"count --encoded": (ROWS, BACKEND),
     b"merge": (BACKEND,),
     b"shard %d new" % SHARDS: (ENDED, INVALID),
 }

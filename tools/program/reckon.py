@@ -83,6 +83,23 @@ def mend(words: Sequence[bytes], data: bytes) -> tuple[bytes, bytes]:
     return skip_invalid(data, line_end(words)) if b"--invalid=skip" in words else (data, b"")
 
 
+def number_of(words: Sequence[bytes], option: bytes) -> int | None:
+    """The number that the last of these options has, if there is one."""
+    found = re.findall(rb"%b[= ](\d+)" % option, b" ".join(words))
+    return int(found[-1]) if found else None
+
+
+def is_sorted(words: Sequence[bytes]) -> bool:
+    """Whether `count` writes the most frequent line first."""
+    return b"--sorted" in words or number_of(words, b"--top") is not None
+
+
+def rows_of(words: Sequence[bytes], counts: Counter[bytes]) -> list[tuple[bytes, int]]:
+    """The lines that `count` writes."""
+    rows = counts.most_common() if is_sorted(words) else counts.items()
+    return [row for row in rows if row[1] >= (number_of(words, b"--at-least") or 0)][:number_of(words, b"--top")]
+
+
 def find_invalid(texts: Sequence[bytes], end: bytes) -> tuple[int, int] | None:
     """The place of the text, and the number of the line there, in which the first line that is not UTF-8 begins, if there is one."""
     start = 0
@@ -108,5 +125,4 @@ def answer(words: Sequence[bytes], data: bytes) -> Ended:
         file = {"dictionary": [line.decode() for line in counts], "final_newline": data.endswith(b"\n"),
                 "lines": [index[line] for line in lines]}
         return 0, json.dumps(file, ensure_ascii=False, separators=(",", ":")).encode() + b"\n", told + warning
-    ordered = counts.most_common() if b"--sorted" in words else counts.items()
-    return 0, b"".join(b"%d %s%s" % (number, line, end) for line, number in ordered), told + warning
+    return 0, b"".join(b"%d %s%s" % (number, line, end) for line, number in rows_of(words, counts)), told + warning

@@ -1,11 +1,13 @@
 """What memory `dictcol` asks for to encode or count lines: a model, over that of an interner's memory (`rooms.py`)."""
 
+from collections import Counter
 from collections.abc import Sequence
 
+from program.reckon import is_sorted, number_of
 from rooms import ROOMS, BackendRoom, Interner, Memory, Room, Slots
 
 # In bytes: the buffer of standard output, and the block that an input is read to; what `encode` holds before it writes; of `count` a
-# number, and of `count --sorted` a row, which has a number and a text.
+# number, and of sorted lines a row, which has a number and a text.
 OUTPUT_BUFFER, BLOCK, HELD, COUNT, ROW = 1 << 16, 1 << 18, 1 << 17, 8, 24
 # From so many distinct lines on `count` takes lines by so many, and has a code for each of these.
 FEWEST_FOR_BLOCKS, BLOCK_LEN = 1 << 16, 256
@@ -49,9 +51,9 @@ class Lines:
         """Writes the file of the lines, in room that no line and no number of lines makes larger."""
         self.memory.ask(HELD)
 
-    def list_rows(self) -> None:
-        """Lists the distinct lines with their counts."""
-        self.memory.ask(ROW * len(self.interner.texts))
+    def list_rows(self, at_least: int) -> None:
+        """Lists the distinct lines that occur so often with their counts."""
+        self.memory.ask(ROW * sum(count >= at_least for count in Counter(self.texts).values()))
 
 
 def asks_of_lines(words: Sequence[bytes], data: bytes, backend: bytes) -> tuple[list[int], list[int], list[int]]:
@@ -61,6 +63,6 @@ def asks_of_lines(words: Sequence[bytes], data: bytes, backend: bytes) -> tuple[
     asks, lines.memory.asks = lines.memory.asks, []
     if is_encoded:
         lines.write_file()
-    elif b"--sorted" in words:
-        lines.list_rows()
+    elif is_sorted(words):
+        lines.list_rows(number_of(words, b"--at-least") or 0)
     return [OUTPUT_BUFFER, BLOCK], asks, lines.memory.asks

@@ -1,3 +1,44 @@
+at least two:
+
+  $ dictcol count --at-least 2 <<'END'
+  > a
+  > b
+  > c
+  > b
+  > c
+  > c
+  > END
+  2 b
+  3 c
+
+at least two, sorted:
+
+  $ dictcol count --sorted --at-least=2 <<'END'
+  > a
+  > b
+  > c
+  > b
+  > c
+  > c
+  > END
+  3 c
+  2 b
+
+at least zero:
+
+  $ dictcol count --at-least=0 <<'END'
+  > a
+  > b
+  > END
+  1 a
+  1 b
+
+at least as many as there can be:
+
+  $ dictcol count --at-least=18446744073709551615 <<'END'
+  > a
+  > END
+
 colors:
 
   $ dictcol count <<'END'
@@ -117,6 +158,36 @@ the third line is not utf8:
   dictcol: line 3 is not UTF-8 (see --invalid)
   [2]
 
+the most frequent of an encoded file:
+
+  $ dictcol count --top 1 --at-least 2 --encoded - <<'END'
+  > {"dictionary":["green","red","blue"],"final_newline":true,"lines":[0,1,1,2,2]}
+  > END
+  2 red
+
+the two most frequent:
+
+  $ dictcol count --top=2 <<'END'
+  > one
+  > two
+  > three
+  > two
+  > three
+  > three
+  > ONE
+  > END
+  3 three
+  2 two
+
+the two most frequent of those that occur twice:
+
+  $ dictcol count --top 2 --at-least 2 <<'END'
+  > one
+  > two
+  > two
+  > END
+  2 two
+
 thirty lines sorted:
 
   $ dictcol count --sorted <<'END'
@@ -184,6 +255,26 @@ thirty lines sorted:
   1 25
   1 26
   1 27
+
+top of equally frequent lines:
+
+  $ dictcol count --sorted --top 9 --top 2 <<'END'
+  > c
+  > b
+  > a
+  > END
+  1 c
+  1 b
+
+top of fewer lines:
+
+  $ dictcol count --top 18446744073709551615 <<'END'
+  > b
+  > a
+  > a
+  > END
+  2 a
+  1 b
 
 without newline at the end:
 

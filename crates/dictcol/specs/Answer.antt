@@ -17,10 +17,10 @@ use Rattle.dictcol.specs.declared.request.Answer.TheVariants.{Encoded, Decoded, 
 abbrev pub IsAnswer : Answer → Text → Text → Type 0
 IsAnswer Encoded bytes text = IsColumnFile bytes text
 IsAnswer Decoded bytes text = DecodesFile bytes text
-IsAnswer (Counted is_sorted) bytes text = IsCountsText is_sorted (lines_of bytes) text
+IsAnswer (Counted asked) bytes text = IsCountsText asked (lines_of bytes) text
 
 -- Lines are called too many only if one of them is refused, and a file is called damaged only if it holds no text.
 abbrev pub IsAnswerFault : {S : Type 0} → Numbering S → Answer → Option Text → Fault → Type 0
 IsAnswerFault numbering Encoded input fault = IsLinesTaskFault (LacksLine numbering) input fault
 IsAnswerFault numbering Decoded input fault = IsDecodeFault input fault
-IsAnswerFault numbering (Counted is_sorted) input fault = IsLinesTaskFault (LacksCount numbering) input fault
+IsAnswerFault numbering (Counted asked) input fault = IsLinesTaskFault (LacksCount numbering) input fault

@@ -14,9 +14,12 @@ use Rattle.dictcol.specs.declared.request.Answer.TheVariants.{Encoded, Decoded, 
 use Rattle.dictcol.specs.declared.request.Choice.TheVariants.{String as StringChoice}
 use Rattle.dictcol.specs.declared.request.Files.{Files}
 use Rattle.dictcol.specs.declared.request.Files.TheVariants.{Named, Listed}
+use Rattle.dictcol.specs.declared.request.Order.{Order}
+use Rattle.dictcol.specs.declared.request.Order.TheVariants.{Appearance, Frequency, Top}
 use Rattle.dictcol.specs.declared.request.Reading.{Reading}
 use Rattle.dictcol.specs.declared.request.Request.{Request}
 use Rattle.dictcol.specs.declared.request.Request.TheVariants.{Act, Help, Version}
+use Rattle.dictcol.specs.declared.request.Rows.{Rows}
 use Rattle.dictcol.specs.declared.request.Task.{Task}
 use Rattle.dictcol.specs.declared.request.Task.TheVariants.{Answer, WriteColumns, Merge as MergeTask, CountEncoded}
 
@@ -25,13 +28,24 @@ pub record IsReading (given : Given) (reading : Reading) : Type 0 where
   pub mending : reading.mending ≡ option_flatten given.mending
   pub ends : reading.is_zero_ended ≡ given.is_zero_ended
 
+-- Counted lines are written in this order: `--top` asks for the most frequent by itself.
+abbrev pub IsOrderOf : Given → Order → Type 0
+IsOrderOf given Appearance = (given.top ≡ None) × (given.is_sorted ≡ false)
+IsOrderOf given Frequency = (given.top ≡ None) × (given.is_sorted ≡ true)
+IsOrderOf given (Top n) = given.top ≡ Some n
+
+-- these counted lines are written, which are all if the words do not say how often each occurs at least
+pub record AreRowsOf (given : Given) (rows : Rows) : Type 0 where
+  pub order : IsOrderOf given rows.order
+  pub at_least : rows.at_least ≡ unwrap_or given.at_least 1
+
 -- the task of a command, with all that the words say of it
 abbrev pub IsTask : Given → Command → Task → Type 0
 IsTask given Encode (WriteColumns columns) = (given.folder ≡ Some columns.folder) × (columns.onto ≡ given.onto)
 IsTask given Encode (Answer Encoded) = given.folder ≡ None
 IsTask given Decode (Answer Decoded) = ⊤
-IsTask given Count (Answer (Counted is_sorted)) = (given.is_encoded ≡ false) × (is_sorted ≡ given.is_sorted)
-IsTask given Count (CountEncoded is_sorted) = (given.is_encoded ≡ true) × (is_sorted ≡ given.is_sorted)
+IsTask given Count (Answer (Counted rows)) = (given.is_encoded ≡ false) × AreRowsOf given rows
+IsTask given Count (CountEncoded rows) = (given.is_encoded ≡ true) × AreRowsOf given rows
 IsTask given Merge MergeTask = ⊤
 IsTask given command task = ⊥
 

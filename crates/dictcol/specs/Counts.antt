@@ -1,12 +1,16 @@
 -- How often each line occurs, and what is written of it.
 -- Cited by `count` and `merge`.
-use Rattle.std.specs.Prelude.{◌≡◌, ◌<◌, ◌^◌, ℕ, List, [], ◌∷◌, ◌++◌, Bool, true, false, length, map, decimal, nat_lt}
+use Rattle.std.specs.Prelude.{◌≡◌, ◌<◌, ◌^◌, ℕ, List, [], ◌∷◌, ◌++◌, Bool, length, map, take, decimal, nat_le, nat_lt}
 use Rattle.std.specs.Borrow.{Bor}
-use Rattle.std.specs.List.{count_by, flat_map}
+use Rattle.std.specs.List.{count_by, filter, flat_map}
 use Rattle.std.specs.List.Sorted.{IsPermutation, IsSortedBy, IsStableBy}
+use Rattle.std.specs.NonZero.{non_zero_usize_get}
 use Rattle.std.specs.Str.{bytes_eq}
 use Rattle.string_interner.specs.Text.{Text}
 use Rattle.string_column.specs.Column.{AreCodes, counts_of, dictionary_of}
+use Rattle.dictcol.specs.declared.request.Order.{Order}
+use Rattle.dictcol.specs.declared.request.Order.TheVariants.{Appearance, Frequency, Top}
+use Rattle.dictcol.specs.declared.request.Rows.{Rows}
 
 -- what contracts see of counts
 pub record CountsContents : Type 0 where
@@ -51,14 +55,23 @@ pub record AreSorted (rows sorted : List (ℕ × Text)) : Type 0 where
   pub ordered : IsSortedBy is_more sorted
   pub stable : IsStableBy is_more rows sorted
 
--- the rows that are written: the counted lines, sorted if it says so
-abbrev pub AreRows : Bool → List Text → List (ℕ × Text) → Type 0
-AreRows false lines rows = rows ≡ counted lines
-AreRows true lines rows = AreSorted (counted lines) rows
+-- rows in an order
+abbrev pub AreOrdered : Order → List (ℕ × Text) → List (ℕ × Text) → Type 0
+AreOrdered Appearance rows ordered = ordered ≡ rows
+AreOrdered Frequency rows ordered = AreSorted rows ordered
+AreOrdered (Top n) rows ordered = (sorted : List (ℕ × Text)) × AreSorted rows sorted × (ordered ≡ take (non_zero_usize_get n) sorted)
 
--- the text says how often each line occurs
-abbrev pub IsCountsText : Bool → List Text → Text → Type 0
-IsCountsText is_sorted lines text = (rows : List (ℕ × Text)) × AreRows is_sorted lines rows × (text ≡ flat_map count_line rows)
+-- the line occurs at least so often
+abbrev pub is_often : ℕ → ℕ × Text → Bool
+is_often at_least row = nat_le at_least row.0
+
+-- the rows that are written: those of the lines that occur often enough, in the order that is asked for
+abbrev pub AreRows : Rows → List Text → List (ℕ × Text) → Type 0
+AreRows asked lines rows = AreOrdered asked.order (filter (is_often asked.at_least) (counted lines)) rows
+
+-- the text says how often each line occurs, of those that are asked for
+abbrev pub IsCountsText : Rows → List Text → Text → Type 0
+IsCountsText asked lines text = (rows : List (ℕ × Text)) × AreRows asked lines rows × (text ≡ flat_map count_line rows)
 
 -- the row that a pair with a borrowed text is
 abbrev pub row_of : ℕ × Bor Text → ℕ × Text

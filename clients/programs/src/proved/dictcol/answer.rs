@@ -33,8 +33,6 @@ pub fn write_answer<B: Backend + Drop, R: Read, W: Write>(
     match answer {
         Answer::Encoded => encode::<B, R, W>(alloc, hasher, input, output),
         Answer::Decoded => decode(alloc, hasher, input, output),
-        Answer::Counted { is_sorted } => {
-            count::<B, R, W>(alloc, hasher, is_sorted, input, output)
-        }
+        Answer::Counted(asked) => count::<B, R, W>(alloc, hasher, asked, input, output),
     }
 }

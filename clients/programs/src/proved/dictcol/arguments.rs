@@ -1,12 +1,12 @@
 //! The arguments.
 
 //~ ghost use Rattle.std.specs.Prelude.{IfOk};
-//~ ghost use Rattle.dictcol.specs.Arguments.{AreFiles, IsAction, IsRequest};
+//~ ghost use Rattle.dictcol.specs.Arguments.{AreFiles, AreRowsOf, IsAction, IsRequest};
 
 use crate::rt::prelude::*; use crate::dictcol::input::mend::Mending;
 use crate::dictcol::request::{
-    Action, Answer, Choice, Columns, Files, INPUT_TWICE, Onto, Reading, Request, ShardFolder,
-    Source, Task,
+    Action, Answer, Choice, Columns, Files, INPUT_TWICE, Onto, Order, Reading, Request, Rows,
+    ShardFolder, Source, Task,
 };
 use crate::dictcol::shown::ShownWord;
 use crate::rt::alloc::Global;
@@ -34,6 +34,10 @@ pub enum Misuse<'a> {
     UnknownBackend(ShownWord<'a>),
     //~ #[error("option '--invalid' takes error, replace or skip, and not {0}")]
     UnknownMending(ShownWord<'a>),
+    //~ #[error("option '--top' takes a number above 0, and not {0}")]
+    NoTop(ShownWord<'a>),
+    //~ #[error("option '--at-least' takes a number, and not {0}")]
+    NoLeast(ShownWord<'a>),
     //~ #[error("extra operand {0}")]
     ExtraOperand(ShownWord<'a>),
     //~ #[error("extra operand {0}: files are named by option '--files0-from'")]
@@ -55,7 +59,7 @@ pub enum Misuse<'a> {
     /// An allocation failed, which is no fault of the arguments.
     //~ #[error("out of memory")]
     Memory,
-} impl<'a> ::core::error::Error for Misuse<'a> {} impl<'a> ::core::fmt::Display for Misuse<'a> { fn fmt(&self, f: &mut ::core::fmt::Formatter<'_>) -> ::core::fmt::Result { match self { Self::NoCommand { .. } => f.write_str("missing command"), Self::UnknownCommand(it) => ::core::write!(f, "unknown command {0}", it), Self::UnknownOption(it) => ::core::write!(f, "unknown option {0}", it), Self::OptionOfAnother(it0, it1) => ::core::write!(f, "{0} takes no option '{1}'", it0, it1), Self::NoValue(it) => ::core::write!(f, "option '{0}' needs a value", it), Self::NeedsOption(it0, it1) => ::core::write!(f, "option '{0}' needs option '{1}'", it0, it1), Self::HasValue(it) => ::core::write!(f, "option {0} takes no value", it), Self::UnknownBackend(it) => ::core::write!(f, "unknown backend {0}", it), Self::UnknownMending(it) => ::core::write!(f, "option '--invalid' takes error, replace or skip, and not {0}", it), Self::ExtraOperand(it) => ::core::write!(f, "extra operand {0}", it), Self::FileBesideList(it) => ::core::write!(f, "extra operand {0}: files are named by option '--files0-from'", it), Self::Excluded(it0, it1) => ::core::write!(f, "option '{0}' excludes option '{1}'", it0, it1), Self::Repeated(it) => ::core::write!(f, "option '{0}' is given twice", it), Self::NoFile { .. } => f.write_str("merge needs a FILE"), Self::NoShards { .. } => f.write_str("shard needs a number and a DIR"), Self::NoCount(it) => ::core::write!(f, "shard takes a number of files, and not {0}", it), Self::EmptyFolder { .. } => f.write_str("the DIR of shard is empty"), Self::InputTwice => ::core::write!(f, "{INPUT_TWICE}"), Self::Memory { .. } => f.write_str("out of memory"), } } }
+} impl<'a> ::core::error::Error for Misuse<'a> {} impl<'a> ::core::fmt::Display for Misuse<'a> { fn fmt(&self, f: &mut ::core::fmt::Formatter<'_>) -> ::core::fmt::Result { match self { Self::NoCommand { .. } => f.write_str("missing command"), Self::UnknownCommand(it) => ::core::write!(f, "unknown command {0}", it), Self::UnknownOption(it) => ::core::write!(f, "unknown option {0}", it), Self::OptionOfAnother(it0, it1) => ::core::write!(f, "{0} takes no option '{1}'", it0, it1), Self::NoValue(it) => ::core::write!(f, "option '{0}' needs a value", it), Self::NeedsOption(it0, it1) => ::core::write!(f, "option '{0}' needs option '{1}'", it0, it1), Self::HasValue(it) => ::core::write!(f, "option {0} takes no value", it), Self::UnknownBackend(it) => ::core::write!(f, "unknown backend {0}", it), Self::UnknownMending(it) => ::core::write!(f, "option '--invalid' takes error, replace or skip, and not {0}", it), Self::NoTop(it) => ::core::write!(f, "option '--top' takes a number above 0, and not {0}", it), Self::NoLeast(it) => ::core::write!(f, "option '--at-least' takes a number, and not {0}", it), Self::ExtraOperand(it) => ::core::write!(f, "extra operand {0}", it), Self::FileBesideList(it) => ::core::write!(f, "extra operand {0}: files are named by option '--files0-from'", it), Self::Excluded(it0, it1) => ::core::write!(f, "option '{0}' excludes option '{1}'", it0, it1), Self::Repeated(it) => ::core::write!(f, "option '{0}' is given twice", it), Self::NoFile { .. } => f.write_str("merge needs a FILE"), Self::NoShards { .. } => f.write_str("shard needs a number and a DIR"), Self::NoCount(it) => ::core::write!(f, "shard takes a number of files, and not {0}", it), Self::EmptyFolder { .. } => f.write_str("the DIR of shard is empty"), Self::InputTwice => ::core::write!(f, "{INPUT_TWICE}"), Self::Memory { .. } => f.write_str("out of memory"), } } }
 
 #[derive(Clone, Copy, PartialEq)]
 enum Command {
@@ -86,6 +90,8 @@ enum Setting {
     OntoDictionary,
     List,
     Sorted,
+    Top,
+    AtLeast,
     Backend,
     Mending,
     ZeroEnded,
@@ -123,12 +129,14 @@ const STORING: &[Command] = &[Command::Encode, Command::Count, Command::Merge];
 type Row = (&'static str, Setting, bool, &'static [Command]);
 
 /// The options, in the order in which the first is told that the command does not take.
-const OPTIONS: [Row; 13] = [
+const OPTIONS: [Row; 15] = [
     ("--plain", Setting::Plain, true, ENCODE),
     ("--onto", Setting::Onto, true, ENCODE),
     ("--onto-dictionary", Setting::OntoDictionary, true, ENCODE),
     ("--files0-from", Setting::List, true, OF_LINES),
     ("--sorted", Setting::Sorted, false, COUNT),
+    ("--top", Setting::Top, true, COUNT),
+    ("--at-least", Setting::AtLeast, true, COUNT),
     ("--backend", Setting::Backend, true, STORING),
     ("--invalid", Setting::Mending, true, OF_LINES),
     ("--zero-terminated", Setting::ZeroEnded, false, ENDED),
@@ -176,6 +184,10 @@ struct Given<'a> {
     has_input: bool,
     choice: Option<Choice>,
     is_sorted: bool,
+    /// What `--top` says.
+    top: Option<NonZeroUsize>,
+    /// What `--at-least` says.
+    at_least: Option<usize>,
     /// What `--invalid` says.
     mending: Option<Option<Mending>>,
     is_zero_ended: bool,
@@ -204,6 +216,8 @@ impl<'a> Given<'a> {
             has_input: false,
             choice: None,
             is_sorted: false,
+            top: None,
+            at_least: None,
             mending: None,
             is_zero_ended: false,
             is_encoded: false,
@@ -235,6 +249,18 @@ impl<'a> Given<'a> {
             "skip" => Some(Mending::Skip),
             _ => return Err(Misuse::UnknownMending(ShownWord(word))),
         });
+        Ok(())
+    }
+
+    /// Takes how many lines are written.
+    fn take_top(&mut self, word: &'a str) -> Result<(), Misuse<'a>> {
+        self.top = Some(word.parse().map_err(|_| Misuse::NoTop(ShownWord(word)))?);
+        Ok(())
+    }
+
+    /// Takes how often each of them occurs.
+    fn take_least(&mut self, word: &'a str) -> Result<(), Misuse<'a>> {
+        self.at_least = Some(word.parse().map_err(|_| Misuse::NoLeast(ShownWord(word)))?);
         Ok(())
     }
 
@@ -288,6 +314,8 @@ impl<'a> Given<'a> {
             Setting::OntoDictionary => self.take_onto(name, value, true)?,
             Setting::List => self.list = Some(check_value(name, value)?),
             Setting::Sorted => self.is_sorted = true,
+            Setting::Top => self.take_top(value)?,
+            Setting::AtLeast => self.take_least(value)?,
             Setting::Backend => self.take_backend(value)?,
             Setting::Mending => self.take_mending(value)?,
             Setting::ZeroEnded => self.is_zero_ended = true,
@@ -306,6 +334,8 @@ impl<'a> Given<'a> {
             Setting::OntoDictionary => matches!(self.onto, Some(onto) if onto.is_dictionary),
             Setting::List => self.list.is_some(),
             Setting::Sorted => self.is_sorted,
+            Setting::Top => self.top.is_some(),
+            Setting::AtLeast => self.at_least.is_some(),
             Setting::Backend => self.choice.is_some(),
             Setting::Mending => self.mending.is_some(),
             Setting::ZeroEnded => self.is_zero_ended,
@@ -415,11 +445,24 @@ impl<'a> Given<'a> {
         }
     }
 
+    /// Returns which counted lines are written.
+    fn rows(&self) -> Rows
+        //~ ensures { AreRowsOf self.now result }
+    {
+        let order = match self.top {
+            Some(top) => Order::Top(top),
+            None if self.is_sorted => Order::Frequency,
+            None => Order::Appearance,
+        };
+        let at_least = self.at_least.unwrap_or(1);
+        Rows { order, at_least }
+    }
+
     /// Returns what the command does with the files.
     fn action(&self, command: Command) -> Result<Action<'a>, Misuse<'a>>
         //~ ensures { IfOk result (IsAction self.now command) }
     {
-        let (onto, is_sorted) = (self.onto, self.is_sorted);
+        let onto = self.onto;
         let reading = Reading {
             mending: self.mending.flatten(),
             is_zero_ended: self.is_zero_ended,
@@ -428,8 +471,8 @@ impl<'a> Given<'a> {
             (Command::Encode, Some(folder)) => Task::WriteColumns(Columns { folder, onto }),
             (Command::Encode, None) => Task::Answer(Answer::Encoded),
             (Command::Decode, _) => Task::Answer(Answer::Decoded),
-            (Command::Count, _) if self.is_encoded => Task::CountEncoded { is_sorted },
-            (Command::Count, _) => Task::Answer(Answer::Counted { is_sorted }),
+            (Command::Count, _) if self.is_encoded => Task::CountEncoded(self.rows()),
+            (Command::Count, _) => Task::Answer(Answer::Counted(self.rows())),
             (Command::Merge, _) if self.files.is_empty() => return Err(Misuse::NoFile),
             (Command::Merge, _) => Task::Merge,
             (Command::Shard, _) => {

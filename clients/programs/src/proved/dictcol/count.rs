@@ -1,13 +1,13 @@
 //! `count`: how often each line occurs.
 
-//~ ghost use Rattle.std.specs.Prelude.{◌≡◌, ◌≤◌, ℕ, List, [], ◌∷◌, ◌++◌, IfOk, IfErr, IfSome, OnOk, length, map};
+//~ ghost use Rattle.std.specs.Prelude.{◌≡◌, ◌≤◌, ℕ, List, [], ◌∷◌, ◌++◌, IfOk, IfErr, IfSome, OnOk, length, map, nat_le};
 //~ ghost use Rattle.std.specs.Io.KnownBytes.{Appends};
-//~ ghost use Rattle.std.specs.List.{flat_map, zip};
+//~ ghost use Rattle.std.specs.List.{count_by, filter, flat_map, zip};
 //~ ghost use Rattle.string_interner.specs.Text.{Text};
 //~ ghost use Rattle.string_interner.specs.Extend.{texts_of};
 //~ ghost use Rattle.string_column.specs.Column.{counts_of};
 //~ ghost use Rattle.dictcol.specs.Blocks.{IsLinesFault, IsLinesTaskFault};
-//~ ghost use Rattle.dictcol.specs.Counts.{AreSorted, HasCounted, IsCountedBy, IsCountsText, counted, count_line, row_of};
+//~ ghost use Rattle.dictcol.specs.Counts.{AreSorted, HasCounted, IsCountedBy, IsCountsText, counted, count_line, is_often, row_of};
 //~ ghost use Rattle.dictcol.specs.Fault.{IsOutputFault, IsTakeFault, IsWriteFault, WritesLast};
 //~ ghost use Rattle.dictcol.specs.Lines.{lines_of};
 //~ ghost use Rattle.dictcol.specs.TooMany.{HasRefused, LacksCount};
@@ -20,6 +20,7 @@ use crate::dictcol::input::blocks;
 use crate::dictcol::input::blocks::TakesLines;
 use crate::dictcol::input::split::Lines;
 use crate::dictcol::json_form::file::write;
+use crate::dictcol::request::{Order, Rows};
 use crate::itoa::Buffer;
 use crate::rt::alloc::{AllocError, Global};
 use crate::rt::io::{Read, Write};
@@ -185,20 +186,40 @@ fn sort_rows(rows: &mut Vec<(usize, &str)>) -> Result<(), Fault>
     }
 }
 
-/// Returns each text behind its count.
+/// Returns how many counts are not below a number.
+fn count_often(counts: &[usize], at_least: usize) -> usize
+    //~ ensures { result ≡ count_by (nat_le at_least) counts.now }
+{
+    let mut often = 0;
+    for count in counts {
+        if *count >= at_least {
+            often += 1;
+        }
+    }
+    often
+}
+
+/// Returns each text that occurs often enough behind its count.
 fn list_rows<'t, B: Backend>(
     alloc: Global,
     counts: &[usize],
     texts: &'t StringInterner<B, LineHasher, TaggedIndex<B::Symbol>>,
+    at_least: usize,
 ) -> Result<Vec<(usize, &'t str)>, Fault>
     //~ requires { length counts.now ≡ length texts.now.texts }
-    //~ ensures rows { IfOk result (λ rows. map row_of rows.items ≡ zip counts.now texts.now.texts) }
+    //~ ensures rows { IfOk result (λ rows. map row_of rows.items
+    //~     ≡ filter (is_often at_least) (zip counts.now texts.now.texts)) }
     //~ ensures fault { IfErr result (λ fault. fault ≡ Memory) }
 {
-    let mut rows = Vec::with_capacity(alloc, counts.len()).map_err(|_| Fault::Memory)?;
+    let len = count_often(counts, at_least);
+    let mut rows = Vec::with_capacity(alloc, len).map_err(|_| Fault::Memory)?;
+    let mut at = 0;
     for (_, text) in texts {
-        let count = counts[rows.len()];
-        rows.push_reserved((count, text));
+        let count = counts[at];
+        at += 1;
+        if count >= at_least {
+            rows.push_reserved((count, text));
+        }
     }
     Ok(rows)
 }
@@ -234,61 +255,67 @@ fn write_rows<W: Write>(rows: &[(usize, &str)], output: &mut W) -> Result<(), Fa
     output.flush().map_err(Fault::of_write)
 }
 
-/// Writes each text behind its count, a line each, in their order. Makes no list of the rows.
+/// Writes each text that occurs often enough behind its count, a line each, in their order. Makes no list of the rows.
 fn write_texts<B: Backend, W: Write>(
     counts: &[usize],
     texts: &StringInterner<B, LineHasher, TaggedIndex<B::Symbol>>,
+    at_least: usize,
     output: &mut W,
 ) -> Result<(), Fault>
     //~ requires { length counts.now ≡ length texts.now.texts }
     //~ ensures written { OnOk result (Appends (W.contents output.old) (W.contents output.new)
-    //~     (flat_map count_line (zip counts.now texts.now.texts))) }
+    //~     (flat_map count_line (filter (is_often at_least) (zip counts.now texts.now.texts)))) }
     //~ ensures fault { IfErr result IsWriteFault }
 {
     let mut digits = Buffer::new();
     let mut at = 0;
     for (_, text) in texts {
         let count = counts[at];
-        write_row(&mut digits, count, text, output)?;
         at += 1;
+        if count < at_least {
+            continue;
+        }
+        write_row(&mut digits, count, text, output)?;
     }
     output.flush().map_err(Fault::of_write)
 }
 
-/// Writes the rows of counted lines, sorted if it says so. Nothing is written before they are sorted.
+/// Writes the rows of counted lines that are asked for. Nothing is written before they are sorted.
 fn write_counted<B: Backend, W: Write>(
     alloc: Global,
     counts: &[usize],
     texts: &StringInterner<B, LineHasher, TaggedIndex<B::Symbol>>,
-    is_sorted: bool,
+    asked: Rows,
     output: &mut W,
 ) -> Result<(), Fault>
     //~ requires { length counts.now ≡ length texts.now.texts }
     //~ ensures written { (lines : List Text) → zip counts.now texts.now.texts ≡ counted lines
-    //~     → OnOk result (Writes (IsCountsText is_sorted lines)
+    //~     → OnOk result (Writes (IsCountsText asked lines)
     //~     (W.contents output.old) (W.contents output.new)) }
     //~ ensures silent { WritesLast result output.old output.new }
     //~ ensures fault { IfErr result IsOutputFault }
 {
-    if !is_sorted {
-        return write_texts(counts, texts, output);
-    }
-    let mut rows = list_rows(alloc, counts, texts)?;
+    let top = match asked.order {
+        Order::Appearance => return write_texts(counts, texts, asked.at_least, output),
+        Order::Frequency => usize::MAX,
+        Order::Top(top) => top.get(),
+    };
+    let mut rows = list_rows(alloc, counts, texts, asked.at_least)?;
     sort_rows(&mut rows)?;
-    write_rows(&rows, output)
+    write_rows(&rows[..top.min(rows.len())], output)
 }
 
-/// Writes how often each line of an input occurs, and the line: in the order of first appearance, or the most frequent first.
-/// Nothing is written before the whole input was counted.
+/// Writes how often each line of an input occurs, and the line, of those that are asked for. Nothing is written before the whole
+/// input was counted.
 pub fn count<B: Backend + Drop, R: Read, W: Write>(
     alloc: Global,
     hasher: LineHasher,
-    is_sorted: bool,
+    asked: Rows,
     input: &mut R,
     output: &mut W,
 ) -> Result<(), Fault>
     //~ ensures written { OnOk result (IfSome (R.remaining input.old)
-    //~     (λ all. Writes (IsCountsText is_sorted (lines_of all))
+    //~     (λ all. Writes (IsCountsText asked (lines_of all))
     //~     (W.contents output.old) (W.contents output.new))) }
 
     // Unless all went well or a write failed, the output was not touched.
@@ -301,7 +328,7 @@ pub fn count<B: Backend + Drop, R: Read, W: Write>(
         alloc,
         &counts.counts,
         counts.lines.interner(),
-        is_sorted,
+        asked,
         output,
     )
 }
@@ -311,14 +338,14 @@ pub fn count<B: Backend + Drop, R: Read, W: Write>(
 pub fn write_column_counts<B: Backend, W: Write>(
     alloc: Global,
     lines: &Column<B, LineHasher>,
-    is_sorted: bool,
+    asked: Rows,
     output: &mut W,
 ) -> Result<(), Fault>
-    //~ ensures written { OnOk result (Writes (IsCountsText is_sorted lines.now)
+    //~ ensures written { OnOk result (Writes (IsCountsText asked lines.now)
     //~     (W.contents output.old) (W.contents output.new)) }
     //~ ensures silent { WritesLast result output.old output.new }
     //~ ensures fault { IfErr result IsOutputFault }
 {
     let counts = lines.counts(alloc).map_err(|_| Fault::Memory)?;
-    write_counted(alloc, &counts, lines.dictionary(), is_sorted, output)
+    write_counted(alloc, &counts, lines.dictionary(), asked, output)
 }

@@ -4,7 +4,7 @@ use crate::rt::prelude::*; /// What `--help` prints. It fits a screen of 24 line
 pub const HELP: &str = "\
 usage: dictcol encode [--plain DIR [--onto OLD]] [OPTION ..] [FILE ..]
        dictcol decode [FILE | DIR]
-       dictcol count [--encoded | -z] [--sorted] [OPTION ..] [FILE ..]
+       dictcol count [--encoded | -z] [--sorted | --top N] [OPTION ..] [FILE ..]
        dictcol merge [--backend NAME] FILE ..
        dictcol shard N DIR [-z] [--invalid HOW] [FILE ..]
 
@@ -18,7 +18,7 @@ shard   writes DIR/0 to DIR/N-1, equal lines into one file, and DIR/order
   --plain DIR      writes DIR/dict.txt and DIR/codes.npy, which NumPy maps
   --onto OLD, --onto-dictionary OLD  the lines of OLD/dict.txt keep their codes
   --files0-from F  reads the files that F names; a zero byte ends each name
-  --sorted         the most frequent line comes first
+  --sorted, --top N, --at-least N  most frequent first, only N, only counts >= N
   --encoded        each FILE is what encode wrote, and its lines are counted
   -z, --zero-terminated  a zero byte ends each line, and not a newline
   --invalid HOW    lines that are not UTF-8: error, replace or skip

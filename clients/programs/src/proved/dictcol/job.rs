@@ -13,7 +13,7 @@ use crate::dictcol::input::inputs::{Inputs, report_progress};
 use crate::dictcol::input::mend::Mended;
 use crate::dictcol::input::zero::Exchanged;
 use crate::dictcol::merge::{count_encoded, merge};
-use crate::dictcol::request::{Answer, Reading, Source, Task};
+use crate::dictcol::request::{Answer, Reading, Rows, Source, Task};
 use crate::dictcol::shown::ShownPath;
 use crate::rt::io::{BufWriter, Stdout};
 use crate::proved::backend::Backend;
@@ -136,9 +136,7 @@ impl<'a> Job<'a, LineHasher> {
             Task::Answer(answer) => self.answer::<B>(answer),
             Task::WriteColumns(columns) => return columns::write::<B>(self, columns),
             Task::Merge => return self.end_merge(self.merge::<B>()),
-            Task::CountEncoded { is_sorted } => {
-                return self.end_merge(self.count_encoded::<B>(is_sorted));
-            }
+            Task::CountEncoded(asked) => return self.end_merge(self.count_encoded::<B>(asked)),
         };
         if let Err(fault) = outcome {
             return self.locate(fault);
@@ -165,14 +163,11 @@ impl<'a> Job<'a, LineHasher> {
         explain(&inputs, outcome)
     }
 
-    fn count_encoded<B: Backend + Drop>(
-        &self,
-        is_sorted: bool,
-    ) -> Result<(), (Option<usize>, Fault)> {
+    fn count_encoded<B: Backend + Drop>(&self, asked: Rows) -> Result<(), (Option<usize>, Fault)> {
         let mut inputs = self.split()?;
         let mut output = open_output(self.rt, false).map_err(|fault| (None, fault))?;
         let (alloc, hasher) = (self.rt.alloc(), self.hasher);
-        let outcome = count_encoded::<B, _, _>(alloc, hasher, is_sorted, &mut inputs, &mut output);
+        let outcome = count_encoded::<B, _, _>(alloc, hasher, asked, &mut inputs, &mut output);
         explain(&inputs, outcome)
     }
 }

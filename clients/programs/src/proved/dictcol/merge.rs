@@ -18,6 +18,7 @@ use crate::dictcol::hasher::LineHasher;
 use crate::dictcol::input::whole::read_whole;
 use crate::dictcol::json_form::{file, format};
 use crate::dictcol::lines::end_rest;
+use crate::dictcol::request::Rows;
 use crate::rt::alloc::Global;
 use crate::rt::io::{Read, Write};
 use crate::rt::marker::Model;
@@ -226,19 +227,19 @@ pub fn merge<B: Backend + Drop, R: Read, W: Write>(
 pub fn count_encoded<B: Backend + Drop, R: Read, W: Write>(
     alloc: Global,
     hasher: LineHasher,
-    is_sorted: bool,
+    asked: Rows,
     inputs: &mut [R],
     output: &mut W,
 ) -> Result<(), (Option<usize>, Fault)>
     //~ ensures written { OnOk result ((text : Text) × HoldTogether (map R.remaining inputs.old) text
-    //~     × Writes (IsCountsText is_sorted (lines_of text))
+    //~     × Writes (IsCountsText asked (lines_of text))
     //~     (W.contents output.old) (W.contents output.new)) }
     //~ ensures silent { IsOk result ⊎ (IsErrAnd result (λ ended. IsWriteFault ended.1)
     //~     ⊎ (output.new ≡ output.old)) }
     //~ ensures fault { IfErr result (IsMergeFault B.numbering (map R.remaining inputs.old)) }
 {
     let (lines, _) = read_files::<B, R>(alloc, hasher, inputs)?;
-    match count::write_column_counts(alloc, &lines, is_sorted, output) {
+    match count::write_column_counts(alloc, &lines, asked, output) {
         Ok(()) => Ok(()),
         Err(fault) => Err((None, fault)),
     }

@@ -77,6 +77,26 @@ impl<'a> Source<'a> {
     }
 }
 
+/// In which order counted lines are written.
+#[derive(Clone, Copy)]
+pub enum Order {
+    /// That of first appearance.
+    Appearance,
+    /// The most frequent first.
+    Frequency,
+    /// The same, but only so many.
+    Top(NonZeroUsize),
+}
+
+/// Which counted lines are written.
+#[derive(Clone, Copy)]
+pub struct Rows {
+    /// Their order.
+    pub order: Order,
+    /// How often each occurs at least.
+    pub at_least: usize,
+}
+
 /// What is written of all that an input yields.
 #[derive(Clone, Copy)]
 pub enum Answer {
@@ -85,7 +105,7 @@ pub enum Answer {
     /// The text that it holds, if it is such a file.
     Decoded,
     /// How often each of its lines occurs.
-    Counted { is_sorted: bool },
+    Counted(Rows),
 }
 
 /// What is done with files whose lines are hashed by random keys.
@@ -98,15 +118,15 @@ pub enum Task<'a> {
     /// The files, which `encode` wrote, become one.
     Merge,
     /// How often each line of such files occurs is written.
-    CountEncoded { is_sorted: bool },
+    CountEncoded(Rows),
 }
 
 impl Task<'_> {
     /// Returns whether it reads lines, and not what `encode` wrote.
     pub fn reads_lines(self) -> bool {
         match self {
-            Task::Answer(Answer::Encoded | Answer::Counted { .. }) | Task::WriteColumns(_) => true,
-            Task::Answer(Answer::Decoded) | Task::Merge | Task::CountEncoded { .. } => false,
+            Task::Answer(Answer::Encoded | Answer::Counted(_)) | Task::WriteColumns(_) => true,
+            Task::Answer(Answer::Decoded) | Task::Merge | Task::CountEncoded(_) => false,
         }
     }
 }
