@@ -1,6 +1,6 @@
 -- Counts with one line more.
 use Rattle.std.proofs.Common.{◌≡◌, ◌≢◌, ℕ, ◌+◌, ◌-◌, ◌^◌, ◌<◌, ◌≤◌, min, Bool, true, false, List, [], ◌∷◌, ◌++◌, length, take, get_or, map, Option, Some, None, refl, sym, ap, subst, ◌∙◌, arith}
-use Rattle.std.specs.Prelude.{slice_get, slice_set, IfSome}
+use Rattle.std.specs.Prelude.{slice_get, slice_set}
 use Rattle.std.specs.Option.{option_map_or}
 use Rattle.std.specs.Str.{bytes_eq}
 use Rattle.std.proofs.lemmas.List.{append-nil, append_assoc, length_push, length-map, take_at, take_all}
@@ -13,10 +13,7 @@ use Rattle.string_column.specs.Column.{counts_of, dictionary_of}
 use Rattle.string_column.proofs.Lemmas.AreNumbered.{slice_get-append, slice_get-push}
 use Rattle.string_column.proofs.Lemmas.Counts.{count_in, count-read, counts-step, counts-le}
 use Rattle.string_column.proofs.Lemmas.Rows.{dictionary-push, known-fresh}
-use Rattle.dictcol.specs.Blocks.{IsTextOf}
 use Rattle.dictcol.specs.Counts.{CountsContents, HasCounted, contents_of}
-use Rattle.dictcol.specs.Lines.{lines_of}
-use Rattle.dictcol.proofs.TextLines.{ended-first}
 
 -- no entry is the text
 abbrev IsNoEntry : List Text → Text → Type 0
@@ -157,9 +154,3 @@ taken-on has_taken old mid new all ahead rest line first (front, so_far, whole) 
   λ lines has. subst (has_taken new) (append_assoc lines front (line ∷ [])) (one (lines ++ front) (so_far lines has)),
   append_assoc front (line ∷ []) rest ∙ ap (λ more. front ++ more) (sym first) ∙ whole,
 )
-
--- the lines that were read from an input, and the rest, are those of all that it yields
-pub counted-input : (input : Option Text) (seen : List Text) (rest : Text) (contents : CountsContents) → IsTextOf input seen rest → HasCounted contents (seen ++ lines_of rest)
-    → IfSome input (λ all. HasCounted contents (lines_of all))
-counted-input None seen rest contents is has = tt
-counted-input (Some all) seen rest contents is has = subst (HasCounted contents) (sym (ap lines_of is.whole ∙ ended-first seen rest is.plain)) has

@@ -20,8 +20,12 @@ pub mod TrimEnd
 pub mod AreGood
 pub mod IsLineOf
 pub mod Counted
+pub mod CodeAt
+pub mod PutsRows
 pub mod CountBlocks
 pub mod CountRows
+pub mod Waits
+pub mod HasMet
 pub mod Places
 pub mod PlainColumns
 pub mod IsRepeat

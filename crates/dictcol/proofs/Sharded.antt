@@ -7,9 +7,9 @@ use Rattle.std.specs.Io.KnownBytes.{append_known, Keeps}
 use Rattle.std.proofs.lemmas.List.{append-nil, append_assoc, length-set, get_or-set_same, get_or-set_other, nil_from_length}
 use Rattle.std.proofs.lemmas.List.Elements.{filter-append, recursion_from_All}
 use Rattle.string_interner.specs.Text.{Text}
-use Rattle.dictcol.specs.Shards.{ended_text, shard_of, shard_lines, order_lines, AreShards, IsKnown, held_by, HasSharded, HoldShards, IsWritten, WaitsAtMost}
+use Rattle.dictcol.specs.Shards.{shard_of, shard_lines, order_lines, AreShards, IsKnown, held_by, HasSharded, HoldShards, IsWritten, WaitsAtMost}
 use Rattle.dictcol.specs.Blocks.{IsTextOf}
-use Rattle.dictcol.specs.Lines.{lines_of}
+use Rattle.dictcol.specs.Lines.{ended_text, lines_of}
 use Rattle.dictcol.specs.declared.fault.Fault.{Fault}
 use Rattle.dictcol.specs.declared.shards.Shard.{Shard}
 use Rattle.dictcol.specs.declared.shards.Shards.{Shards}

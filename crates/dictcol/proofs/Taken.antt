@@ -274,6 +274,11 @@ module _ {L : Type 0} (has_taken : L → List Text → Type 0) where
       at-end None more end is = cc
       at-end (Some xs) more end is = sym (same_Some xs more is) ∙ end
 
+-- the lines that were read from an input, and those of the rest, are those of all that it yields
+pub input-lines : (Are : List Text → Type 0) (input : Option Text) (seen : List Text) (rest : Text) → IsTextOf input seen rest → Are (seen ++ lines_of rest) → IfSome input (λ all. Are (lines_of all))
+input-lines Are None seen rest is are = tt
+input-lines Are (Some all) seen rest is are = subst Are (sym (ap lines_of is.whole ∙ ended-first seen rest is.plain)) are
+
 -- ---- the last newline
 
 pub last-none : (text : Text) → IsLastByte (is_byte 10) text None → has_newline text ≡ false

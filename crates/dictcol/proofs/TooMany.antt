@@ -165,7 +165,7 @@ newline-refused Refuses text more true refused =
 
 -- ---- what is refused behind lines from before
 
-refused-weaker : (Refuses Refuses' : List Text → Text → Type 0) → ((front : List Text) (line : Text) → Refuses front line → Refuses' front line) → (lines : List Text) → HasRefused Refuses lines → HasRefused Refuses' lines
+pub refused-weaker : (Refuses Refuses' : List Text → Text → Type 0) → ((front : List Text) (line : Text) → Refuses front line → Refuses' front line) → (lines : List Text) → HasRefused Refuses lines → HasRefused Refuses' lines
 refused-weaker Refuses Refuses' more lines (front, line, rest, whole, refused) = (front, line, rest, whole, more front line refused)
 
 pub lines-weaker : (Refuses Refuses' : List Text → Text → Type 0) → ((front : List Text) (line : Text) → Refuses front line → Refuses' front line) → (input : Option Text) (fault : Fault)

@@ -1,5 +1,5 @@
 -- Reading lines a block at a time: what is held, what was yielded, and the faults.
--- Cited by `blocks`, and by `lines`, `encode`, `count`, `plain` and `shards`.
+-- Cited by `blocks` and `line_blocks`, and by `lines`, `encode`, `count`, `distinct`, `plain` and `shards`.
 use Rattle.std.specs.Prelude.{◌≡◌, ℕ, ◌+◌, List, [], ◌∷◌, ◌++◌, length, take, drop, ◌⊎◌, false, Option, Some, IfSome, IsUtf8}
 use Rattle.std.specs.Io.KnownBytes.{Consumes}
 use Rattle.std.specs.List.{list_any, slice_split}
@@ -20,6 +20,10 @@ HoldsNoNewline block = has_newline (held block) ≡ false
 -- a newline is at this index, and none behind it
 abbrev pub EndsAtNewline : Text → ℕ → Type 0
 EndsAtNewline text at = (text ≡ take at text ++ 10 ∷ drop (at + 1) text) × (has_newline (drop (at + 1) text) ≡ false)
+
+-- it has taken these lines behind those from before
+abbrev pub Takes : {L : Type 0} → (L → List Text → Type 0) → L → L → List Text → Type 0
+Takes has_taken old new more = (lines : List Text) → has_taken old lines → has_taken new (lines ++ more)
 
 -- the faults of taking the lines of a text behind those that were seen
 abbrev pub IsTextFault : (List Text → Text → Type 0) → List Text → Text → Fault → Type 0

@@ -1,5 +1,6 @@
 -- The exit status of each fault, and which faults a step returns.
--- Cited by `Fault`, and by `blocks`, `whole`, `file`, `format`, `stream`, `lines`, `decode`, `encode`, `count`, `merge`, `plain` and `shards`.
+-- Cited by `Fault`, and by `blocks`, `whole`, `file`, `format`, `stream`, `lines`, `decode`, `encode`, `count`, `distinct`,
+-- `line_blocks`, `merge`, `plain` and `shards`.
 use Rattle.std.specs.Prelude.{ℕ, ⊤, ◌≡◌, ◌+◌, ◌-◌, ◌^◌, ◌⊎◌, Option, IfSome, Result, IsOk, IsErrAnd, take, min, count_by}
 use Rattle.std.specs.Str.{IsValidUpTo}
 use Rattle.std.specs.declared.io.Error.{Error}

@@ -4,6 +4,7 @@ pub mod Blocks
 pub mod Compression
 pub mod Counts
 pub mod Crowded
+pub mod Distinct
 pub mod Fault
 pub mod File
 pub mod Hasher

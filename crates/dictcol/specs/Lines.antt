@@ -1,5 +1,5 @@
 -- The lines of a text, and the text of lines.
--- Cited by `lines`, `file`, `stream`, `merge`, `count` and `blocks`.
+-- Cited by `lines`, `file`, `stream`, `merge`, `count`, `distinct`, `blocks` and `line_blocks`.
 use Rattle.std.specs.Prelude.{◌≡◌, ℕ, ◌==◌, List, [], ◌∷◌, ◌++◌, Bool, true, if◌then◌else◌}
 use Rattle.std.specs.List.{list_any, onto_first, join_with_byte, flat_map}
 use Rattle.string_interner.specs.Text.{Text}
@@ -18,9 +18,13 @@ behind_newline line = 10 ∷ line
 abbrev pub text_of_lines : List Text → Bool → Text
 text_of_lines lines is_ended = join_with_byte 10 lines ++ newline_if is_ended
 
+-- lines, and a newline behind each
+abbrev pub ended_text : List Text → Text
+ended_text lines = flat_map (λ line. line ++ 10 ∷ []) lines
+
 -- the text of lines that a newline ends each, and of what stands behind the last newline
 abbrev pub text_of_ended : List Text → Text → Text
-text_of_ended lines rest = flat_map (λ line. line ++ 10 ∷ []) lines ++ rest
+text_of_ended lines rest = ended_text lines ++ rest
 
 -- whether a text has a newline, and so is not one line
 abbrev pub has_newline : Text → Bool

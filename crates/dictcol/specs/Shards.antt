@@ -1,15 +1,12 @@
 -- Lines in shards: what the output of each shard gets, and what says how they were mixed.
 -- Cited by `shards`.
-use Rattle.std.specs.Prelude.{◌≡◌, ◌%◌, ℕ, ◌==◌, ◌<◌, ◌≤◌, List, [], ◌∷◌, ◌++◌, length, map, decimal, slice_index_or, Option, Some, None, IsSome}
+use Rattle.std.specs.Prelude.{◌≡◌, ◌%◌, ℕ, ◌==◌, ◌<◌, ◌≤◌, List, [], length, map, decimal, slice_index_or, Option, Some, None, IsSome}
 use Rattle.std.specs.Io.KnownBytes.{append_known}
-use Rattle.std.specs.List.{filter, flat_map}
+use Rattle.std.specs.List.{filter}
 use Rattle.string_interner.specs.Text.{Text}
+use Rattle.dictcol.specs.Lines.{ended_text}
 use Rattle.dictcol.specs.declared.shards.Shard.{Shard}
 use Rattle.dictcol.specs.declared.shards.Shards.{Shards}
-
--- lines, and a newline behind each
-abbrev pub ended_text : List Text → Text
-ended_text lines = flat_map (λ line. line ++ 10 ∷ []) lines
 
 -- the shard of a text with this hash code, out of so many
 abbrev pub shard_of : (Text → ℕ) → ℕ → Text → ℕ

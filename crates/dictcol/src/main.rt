@@ -8,6 +8,7 @@ mod block_writer;
 mod columns;
 mod count;
 mod decode;
+mod distinct;
 mod encode;
 mod fault;
 mod hasher;

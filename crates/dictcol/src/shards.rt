@@ -15,8 +15,9 @@ ghost use Rattle.dictcol.specs.declared.fault.Fault.TheVariants.{Memory};
 use crate::fault::Fault;
 use crate::input::block::Block;
 use crate::input::blocks;
-use crate::input::blocks::TakesLines;
+use crate::input::blocks::{Taker, TakesLines};
 use crate::input::split::Lines;
+use crate::lines::push_line;
 use itoa::Buffer;
 use std::alloc::Global;
 use std::io;
@@ -61,13 +62,7 @@ impl<W: Write> Shard<W> {
         ensures same { self.new.output ≡ self.old.output }
         ensures fault { IfErr result (λ fault. fault ≡ Memory) }
     {
-        if self.waiting.extend_from_slice(line.as_bytes()).is_err() {
-            return Err(Fault::Memory);
-        }
-        match self.waiting.push(b'\n') {
-            Ok(()) => Ok(()),
-            Err(_) => Err(Fault::Memory),
-        }
+        push_line(&mut self.waiting, line)
     }
 
     /// Writes what waits, if it is more than so many bytes.
@@ -196,14 +191,16 @@ impl<H: TextHasher, W: Write> Shards<H, W> {
     }
 }
 
-impl<H: TextHasher, W: Write> TakesLines for Shards<H, W> {
+impl<H: TextHasher, W: Write> Taker for Shards<H, W> {
     ghost use Rattle.dictcol.specs.Shards.{HasSharded};
     ghost use Rattle.dictcol.specs.TooMany.{IsPastCount};
 
     ghost has_taken = { HasSharded H.code W.contents };
 
     ghost refuses = { IsPastCount };
+}
 
+impl<H: TextHasher, W: Write> TakesLines for Shards<H, W> {
     fn take_lines(&mut self, text: &str) -> Result<(), Fault> {
         for line in Lines::new(text) {
             self.add(line)?;

@@ -13,8 +13,8 @@ returns-then-branch-clause-ok g c =
     let lines = c.read_block.new.lines in
     let rest = held c.read_block.new.block in
     let block = c.in_ok-read_block.ensures in
-    let all = all-read g.L.TakesLines.has_taken input left lines rest (block.end c.if-branch.true) block.rest (block.read input c.loop.invariant.read) in
-    IfOk-weaker c.end_block.result (λ text. string_bytes text ≡ rest) (λ text. (seen : List Text) × g.L.TakesLines.has_taken lines seen × IsTextOf input seen (string_bytes text))
+    let all = all-read g.L.Taker.has_taken input left lines rest (block.end c.if-branch.true) block.rest (block.read input c.loop.invariant.read) in
+    IfOk-weaker c.end_block.result (λ text. string_bytes text ≡ rest) (λ text. (seen : List Text) × g.L.Taker.has_taken lines seen × IsTextOf input seen (string_bytes text))
     (λ text is. (all.0, all.1, subst (IsTextOf input all.0) (sym is) all.2)) c.end_block.ensures.ok
 
 pub returns-then-branch-clause-fault : goal.returns-then-branch-clause-fault
@@ -25,6 +25,6 @@ returns-then-branch-clause-fault g c =
     let rest = held c.read_block.new.block in
     let block = c.in_ok-read_block.ensures in
     let read = block.read input c.loop.invariant.read in
-    IfErr-weaker c.end_block.result (IsNotUtf8 c.count_lines.result (Some rest)) (IsLinesFault g.L.TakesLines.refuses input)
-    (λ fault bad. rest-fault g.L.TakesLines.has_taken g.L.TakesLines.refuses input left lines rest fault (block.end c.if-branch.true) read
+    IfErr-weaker c.end_block.result (IsNotUtf8 c.count_lines.result (Some rest)) (IsLinesFault g.L.Taker.refuses input)
+    (λ fault bad. rest-fault g.L.Taker.has_taken g.L.Taker.refuses input left lines rest fault (block.end c.if-branch.true) read
     (at-most-before (length read.seen) c.count_lines.result rest fault (c.count_lines.ensures read.seen read.taken) bad)) c.end_block.ensures.fault

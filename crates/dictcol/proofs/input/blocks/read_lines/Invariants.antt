@@ -6,6 +6,6 @@ use Rattle.dictcol.proofs.input.blocks.read_lines.Given as goal
 -- so much was read, and no newline is held
 abbrev pub invariant-loop : goal.invariant-loop
 invariant-loop g l = record {
-  read : HasRead g.L.TakesLines.has_taken (g.R.Read.remaining l.fn.input) (g.R.Read.remaining l.input) l.lines (held l.block);
+  read : HasRead g.L.Taker.has_taken (g.R.Read.remaining l.fn.input) (g.R.Read.remaining l.input) l.lines (held l.block);
   rest : has_newline (held l.block) ≡ false;
 }

@@ -12,13 +12,13 @@ all-ok (Err fault) on a b c = tt
 pub returns-in-Some-clause-read : goal.returns-in-Some-clause-read
 returns-in-Some-clause-read g c input left has =
     all-ok c.take_front.result
-    (λ taken rest utf8. subst (HasRead g.L.TakesLines.has_taken input left c.take_front.new.lines) (sym rest)
-    (read-on g.L.TakesLines.has_taken input left c.args.lines.now c.take_front.new.lines (held c.args.block.now) c.in-Some.at taken utf8 c.in-Some.ensures has))
+    (λ taken rest utf8. subst (HasRead g.L.Taker.has_taken input left c.take_front.new.lines) (sym rest)
+    (read-on g.L.Taker.has_taken input left c.args.lines.now c.take_front.new.lines (held c.args.block.now) c.in-Some.at taken utf8 c.in-Some.ensures has))
     c.take_front.ensures.taken c.take_front.ensures.rest c.take_front.ensures.utf8
 
 pub returns-in-Some-clause-fault : goal.returns-in-Some-clause-fault
 returns-in-Some-clause-fault g c input left has =
-    IfErr-weaker c.take_front.result _ _ (λ fault. front-fault g.L.TakesLines.has_taken g.L.TakesLines.refuses input left c.args.lines.now (held c.args.block.now) c.in-Some.at fault c.in-Some.ensures has)
+    IfErr-weaker c.take_front.result _ _ (λ fault. front-fault g.L.Taker.has_taken g.L.Taker.refuses input left c.args.lines.now (held c.args.block.now) c.in-Some.at fault c.in-Some.ensures has)
     (c.take_front.ensures.fault has.seen has.taken)
 
 pub returns-in-None-clause-rest : goal.returns-in-None-clause-rest

@@ -7,10 +7,10 @@ use Rattle.dictcol.specs.Fault.{IsTakeFault, intern_fault}
 use Rattle.dictcol.specs.TooMany.{HasRefused, LacksCount}
 use Rattle.dictcol.specs.declared.fault.Fault.TheVariants.{TooMany}
 use Rattle.dictcol.proofs.CountBlocks.{block-counted, block-past, block-refused}
-use Rattle.dictcol.proofs.count.Counts.add_block.Goals as goal
+use Rattle.dictcol.proofs.count.CountsTakesBlocks.add_block.Goals as goal
 
-pub returns-clause-counted : goal.returns-clause-counted
-returns-clause-counted g c = λ lines has.
+pub returns-clause-taken : goal.returns-clause-taken
+returns-clause-taken g c = λ lines has.
     let old = c.self.inside.lines in
     let counts = c.self.inside.counts.items in
     let given : c.intern_block.result ≡ Ok tt = search rules in

@@ -8,10 +8,10 @@ use Rattle.dictcol.specs.TooMany.{LacksCount}
 use Rattle.dictcol.specs.declared.fault.Fault.TheVariants.{TooMany}
 use Rattle.dictcol.proofs.Counted.{counted-again, counted-long, counted-new, index-known, index-new}
 use Rattle.dictcol.proofs.TooMany.{counted-refused}
-use Rattle.dictcol.proofs.count.Counts.add.Goals as goal
+use Rattle.dictcol.proofs.count.CountsTakesBlocks.add.Goals as goal
 
-pub returns-then-index-len-clause-counted : goal.returns-then-index-len-clause-counted
-returns-then-index-len-clause-counted g c = λ lines has.
+pub returns-then-index-len-clause-taken : goal.returns-then-index-len-clause-taken
+returns-then-index-len-clause-taken g c = λ lines has.
     let old = c.self.inside.lines in
     let counts = c.self.inside.counts.items in
     let index = c.in_ok-index.index in
@@ -25,8 +25,8 @@ returns-then-index-len-clause-counted g c = λ lines has.
     rw (known.1, total) (counted-again old counts c.self.inside.total lines c.args.line.now index c.index.result.now c.saturating_add.result known.0
     within c.index.ensures c.saturating_add.ensures fits counted)
 
-pub returns-clause-counted : goal.returns-clause-counted
-returns-clause-counted g c = λ lines has.
+pub returns-clause-taken : goal.returns-clause-taken
+returns-clause-taken g c = λ lines has.
     let old = c.self.inside.lines in
     let counts = c.self.inside.counts.items in
     let index = c.in_ok-index.index in
