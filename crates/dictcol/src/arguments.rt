@@ -1,8 +1,9 @@
 //! The arguments.
 
 ghost use Rattle.std.specs.Prelude.{IfOk};
-ghost use Rattle.dictcol.specs.Arguments.{AreFiles, IsAction, IsRequest};
+ghost use Rattle.dictcol.specs.Arguments.{AreFiles, IsAction, IsField, IsRequest};
 
+use crate::input::field::Field;
 use crate::input::mend::Mending;
 use crate::request::{
     Action, Answer, Choice, Columns, Files, INPUT_TWICE, Onto, Reading, Request, ShardFolder,
@@ -34,6 +35,10 @@ pub enum Misuse<'a> {
     UnknownBackend(ShownWord<'a>),
     #[error("option '--invalid' takes error, replace or skip, and not {0}")]
     UnknownMending(ShownWord<'a>),
+    #[error("option '{0}' takes a number from 1 on, and not {1}")]
+    NoNumber(&'static str, ShownWord<'a>),
+    #[error("option '{0}' takes one byte that ends no line, and not {1}")]
+    NoByte(&'static str, ShownWord<'a>),
     #[error("extra operand {0}")]
     ExtraOperand(ShownWord<'a>),
     #[error("extra operand {0}: files are named by option '--files0-from'")]
@@ -87,6 +92,8 @@ enum Setting {
     List,
     Sorted,
     Backend,
+    Field,
+    Separator,
     Mending,
     ZeroEnded,
     Encoded,
@@ -97,7 +104,10 @@ enum Setting {
 impl Setting {
     /// Returns whether it says how lines are read.
     fn is_of_lines(self) -> bool {
-        matches!(self, Setting::Mending | Setting::ZeroEnded)
+        matches!(
+            self,
+            Setting::Field | Setting::Separator | Setting::Mending | Setting::ZeroEnded
+        )
     }
 
     /// Returns whether it says what columns begin with.
@@ -123,13 +133,17 @@ const STORING: &[Command] = &[Command::Encode, Command::Count, Command::Merge];
 type Row = (&'static str, Setting, bool, &'static [Command]);
 
 /// The options, in the order in which the first is told that the command does not take.
-const OPTIONS: [Row; 13] = [
+const OPTIONS: [Row; 17] = [
     ("--plain", Setting::Plain, true, ENCODE),
     ("--onto", Setting::Onto, true, ENCODE),
     ("--onto-dictionary", Setting::OntoDictionary, true, ENCODE),
     ("--files0-from", Setting::List, true, OF_LINES),
     ("--sorted", Setting::Sorted, false, COUNT),
     ("--backend", Setting::Backend, true, STORING),
+    ("--field", Setting::Field, true, OF_LINES),
+    ("-f", Setting::Field, true, OF_LINES),
+    ("--separator", Setting::Separator, true, OF_LINES),
+    ("-t", Setting::Separator, true, OF_LINES),
     ("--invalid", Setting::Mending, true, OF_LINES),
     ("--zero-terminated", Setting::ZeroEnded, false, ENDED),
     ("-z", Setting::ZeroEnded, false, ENDED),
@@ -149,8 +163,14 @@ fn find_option(name: &str) -> Option<Row> {
     None
 }
 
-/// Returns the option that a word begins with, and the value behind `=`, if there is one.
+/// Returns the option that a word begins with, and the value behind `=`, or behind the letter of an option, if there is one.
 fn split_value(word: &str) -> (&str, Option<&str>) {
+    for letter in ["-f", "-t"] {
+        match word.strip_prefix(letter) {
+            Some(value) if !value.is_empty() => return (letter, Some(value)),
+            _ => {}
+        }
+    }
     match word.split_once('=') {
         Some((name, value)) if name.starts_with("--") => (name, Some(value)),
         _ => (word, None),
@@ -179,6 +199,10 @@ struct Given<'a> {
     /// What `--invalid` says.
     mending: Option<Option<Mending>>,
     is_zero_ended: bool,
+    /// What `--field` says.
+    field: Option<NonZeroUsize>,
+    /// What `--separator` says.
+    separator: Option<u8>,
     is_encoded: bool,
     /// What `--plain` says.
     folder: Option<&'a str>,
@@ -206,6 +230,8 @@ impl<'a> Given<'a> {
             is_sorted: false,
             mending: None,
             is_zero_ended: false,
+            field: None,
+            separator: None,
             is_encoded: false,
             folder: None,
             onto: None,
@@ -235,6 +261,24 @@ impl<'a> Given<'a> {
             "skip" => Some(Mending::Skip),
             _ => return Err(Misuse::UnknownMending(ShownWord(word))),
         });
+        Ok(())
+    }
+
+    /// Takes the number of a field.
+    fn take_field(&mut self, name: &'static str, word: &'a str) -> Result<(), Misuse<'a>> {
+        let number = word
+            .parse()
+            .map_err(|_| Misuse::NoNumber(name, ShownWord(word)))?;
+        self.field = Some(number);
+        Ok(())
+    }
+
+    /// Takes the byte between fields.
+    fn take_separator(&mut self, name: &'static str, word: &'a str) -> Result<(), Misuse<'a>> {
+        match word.as_bytes() {
+            [byte] if *byte != b'\n' => self.separator = Some(*byte),
+            _ => return Err(Misuse::NoByte(name, ShownWord(word))),
+        }
         Ok(())
     }
 
@@ -289,6 +333,8 @@ impl<'a> Given<'a> {
             Setting::List => self.list = Some(check_value(name, value)?),
             Setting::Sorted => self.is_sorted = true,
             Setting::Backend => self.take_backend(value)?,
+            Setting::Field => self.take_field(name, value)?,
+            Setting::Separator => self.take_separator(name, value)?,
             Setting::Mending => self.take_mending(value)?,
             Setting::ZeroEnded => self.is_zero_ended = true,
             Setting::Encoded => self.is_encoded = true,
@@ -307,6 +353,8 @@ impl<'a> Given<'a> {
             Setting::List => self.list.is_some(),
             Setting::Sorted => self.is_sorted,
             Setting::Backend => self.choice.is_some(),
+            Setting::Field => self.field.is_some(),
+            Setting::Separator => self.separator.is_some(),
             Setting::Mending => self.mending.is_some(),
             Setting::ZeroEnded => self.is_zero_ended,
             Setting::Encoded => self.is_encoded,
@@ -409,9 +457,25 @@ impl<'a> Given<'a> {
                 return Err(Misuse::NeedsOption(name, "--plain"));
             }
         }
+        if self.separator.is_some() && self.field.is_none() {
+            return Err(Misuse::NeedsOption("--separator", "--field"));
+        }
         match self.repeat {
             Some(misuse) => Err(misuse),
             None => Ok(()),
+        }
+    }
+
+    /// Returns the field that stands for a line, if one does.
+    fn field(&self) -> Option<Field>
+        ensures { IsField self.now result }
+    {
+        match self.field {
+            Some(number) => Some(Field {
+                number,
+                separator: self.separator.unwrap_or(b'\t'),
+            }),
+            None => None,
         }
     }
 
@@ -423,6 +487,7 @@ impl<'a> Given<'a> {
         let reading = Reading {
             mending: self.mending.flatten(),
             is_zero_ended: self.is_zero_ended,
+            field: self.field(),
         };
         let task = match (command, self.folder) {
             (Command::Encode, Some(folder)) => Task::WriteColumns(Columns { folder, onto }),
