@@ -8,6 +8,7 @@ use Rattle.dictcol.specs.Names.{Names}
 use Rattle.dictcol.specs.declared.arguments.Command.{Command}
 use Rattle.dictcol.specs.declared.arguments.Command.TheVariants.{Encode, Decode, Count, Merge, Shard}
 use Rattle.dictcol.specs.declared.arguments.Given.{Given}
+use Rattle.dictcol.specs.declared.input.field.Field.{Field}
 use Rattle.dictcol.specs.declared.request.Action.{Action}
 use Rattle.dictcol.specs.declared.request.Action.TheVariants.{Do, WriteShards}
 use Rattle.dictcol.specs.declared.request.Answer.TheVariants.{Encoded, Decoded, Counted}
@@ -23,10 +24,16 @@ use Rattle.dictcol.specs.declared.request.Rows.{Rows}
 use Rattle.dictcol.specs.declared.request.Task.{Task}
 use Rattle.dictcol.specs.declared.request.Task.TheVariants.{Answer, WriteColumns, Merge as MergeTask, CountEncoded}
 
+-- the field that the words say, behind tabs unless they say another byte
+abbrev pub IsField : Given → Option Field → Type 0
+IsField given None = given.field ≡ None
+IsField given (Some field) = (given.field ≡ Some field.number) × (field.separator ≡ unwrap_or given.separator 9)
+
 -- lines are read as the words say
 pub record IsReading (given : Given) (reading : Reading) : Type 0 where
   pub mending : reading.mending ≡ option_flatten given.mending
   pub ends : reading.is_zero_ended ≡ given.is_zero_ended
+  pub field : IsField given reading.field
 
 -- Counted lines are written in this order: `--top` asks for the most frequent by itself.
 abbrev pub IsOrderOf : Given → Order → Type 0

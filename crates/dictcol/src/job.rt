@@ -9,6 +9,7 @@ use crate::answer::write_answer;
 use crate::columns;
 use crate::fault::Fault;
 use crate::hasher::LineHasher;
+use crate::input::field::Picked;
 use crate::input::inputs::{Inputs, report_progress};
 use crate::input::mend::Mended;
 use crate::input::zero::Exchanged;
@@ -42,7 +43,7 @@ pub struct Job<'a, H> {
     files: &'a [Source<'a>],
     is_zero_ended: bool,
     /// The lines of all files.
-    pub input: Mended<Inputs<'a>>,
+    pub input: Mended<Picked<Inputs<'a>>>,
 }
 
 impl<'a, H> Job<'a, H> {
@@ -60,8 +61,17 @@ impl<'a, H> Job<'a, H> {
             hasher,
             files,
             is_zero_ended,
-            input: Mended::new(rt.alloc(), inputs, reading.mending),
+            input: Mended::new(
+                rt.alloc(),
+                Picked::new(inputs, reading.field),
+                reading.mending,
+            ),
         }
+    }
+
+    /// Returns the files that are read one behind the other.
+    fn inputs(&self) -> &Inputs<'a> {
+        self.input.get_ref().get_ref()
     }
 
     /// Tells on standard error how many lines were left out.
@@ -75,13 +85,13 @@ impl<'a, H> Job<'a, H> {
 
     /// Reports on a terminal that a long input is done.
     pub fn report_end(&self) {
-        report_progress(self.rt, self.input.get_ref().length(), "done");
+        report_progress(self.rt, self.inputs().length(), "done");
     }
 
     /// Warns on standard error if a file whose lines were read looks like one that `encode` wrote.
     pub fn warn_of_encoded(&self) {
         // Nothing is lost if standard error is closed.
-        let _ = match self.input.get_ref().find_encoded() {
+        let _ = match self.inputs().find_encoded() {
             Some(Source::File(path)) => {
                 let path = ShownPath(path);
                 eprintln!(self.rt; "dictcol: {path}: warning: {LOOKS_ENCODED}")
@@ -93,7 +103,7 @@ impl<'a, H> Job<'a, H> {
 
     /// Returns the file that a fault of reading is about, and the fault as one of this file.
     pub fn locate(&self, fault: Fault) -> (Source<'a>, Result<(), Fault>) {
-        let inputs = self.input.get_ref();
+        let inputs = self.inputs();
         let (source, fault) = inputs.locate(fault);
         (source, Err(inputs.explain(fault)))
     }

@@ -3,6 +3,7 @@
 ghost use Rattle.std.specs.Prelude.{◌≡◌};
 ghost use Rattle.dictcol.specs.Names.{Names};
 
+use crate::input::field::Field;
 use crate::input::mend::Mending;
 use std::num::NonZeroUsize;
 
@@ -27,6 +28,8 @@ pub struct Reading {
     pub mending: Option<Mending>,
     /// Whether a zero byte ends each line, and not a newline.
     pub is_zero_ended: bool,
+    /// The field of each line that stands for it, if one does.
+    pub field: Option<Field>,
 }
 
 /// Where the dictionary comes from that plain columns begin with.

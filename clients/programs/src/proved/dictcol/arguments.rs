@@ -1,9 +1,10 @@
 //! The arguments.
 
 //~ ghost use Rattle.std.specs.Prelude.{IfOk};
-//~ ghost use Rattle.dictcol.specs.Arguments.{AreFiles, AreRowsOf, IsAction, IsRequest};
+//~ ghost use Rattle.dictcol.specs.Arguments.{AreFiles, AreRowsOf, IsAction, IsField, IsRequest};
 
-use crate::rt::prelude::*; use crate::dictcol::input::mend::Mending;
+use crate::rt::prelude::*; use crate::dictcol::input::field::Field;
+use crate::dictcol::input::mend::Mending;
 use crate::dictcol::request::{
     Action, Answer, Choice, Columns, Files, INPUT_TWICE, Onto, Order, Reading, Request, Rows,
     ShardFolder, Source, Task,
@@ -34,10 +35,12 @@ pub enum Misuse<'a> {
     UnknownBackend(ShownWord<'a>),
     //~ #[error("option '--invalid' takes error, replace or skip, and not {0}")]
     UnknownMending(ShownWord<'a>),
-    //~ #[error("option '--top' takes a number above 0, and not {0}")]
-    NoTop(ShownWord<'a>),
+    //~ #[error("option '{0}' takes a number above 0, and not {1}")]
+    NotPositive(&'static str, ShownWord<'a>),
     //~ #[error("option '--at-least' takes a number, and not {0}")]
     NoLeast(ShownWord<'a>),
+    //~ #[error("option '{0}' takes one byte that ends no line, and not {1}")]
+    NoByte(&'static str, ShownWord<'a>),
     //~ #[error("extra operand {0}")]
     ExtraOperand(ShownWord<'a>),
     //~ #[error("extra operand {0}: files are named by option '--files0-from'")]
@@ -59,7 +62,7 @@ pub enum Misuse<'a> {
     /// An allocation failed, which is no fault of the arguments.
     //~ #[error("out of memory")]
     Memory,
-} impl<'a> ::core::error::Error for Misuse<'a> {} impl<'a> ::core::fmt::Display for Misuse<'a> { fn fmt(&self, f: &mut ::core::fmt::Formatter<'_>) -> ::core::fmt::Result { match self { Self::NoCommand { .. } => f.write_str("missing command"), Self::UnknownCommand(it) => ::core::write!(f, "unknown command {0}", it), Self::UnknownOption(it) => ::core::write!(f, "unknown option {0}", it), Self::OptionOfAnother(it0, it1) => ::core::write!(f, "{0} takes no option '{1}'", it0, it1), Self::NoValue(it) => ::core::write!(f, "option '{0}' needs a value", it), Self::NeedsOption(it0, it1) => ::core::write!(f, "option '{0}' needs option '{1}'", it0, it1), Self::HasValue(it) => ::core::write!(f, "option {0} takes no value", it), Self::UnknownBackend(it) => ::core::write!(f, "unknown backend {0}", it), Self::UnknownMending(it) => ::core::write!(f, "option '--invalid' takes error, replace or skip, and not {0}", it), Self::NoTop(it) => ::core::write!(f, "option '--top' takes a number above 0, and not {0}", it), Self::NoLeast(it) => ::core::write!(f, "option '--at-least' takes a number, and not {0}", it), Self::ExtraOperand(it) => ::core::write!(f, "extra operand {0}", it), Self::FileBesideList(it) => ::core::write!(f, "extra operand {0}: files are named by option '--files0-from'", it), Self::Excluded(it0, it1) => ::core::write!(f, "option '{0}' excludes option '{1}'", it0, it1), Self::Repeated(it) => ::core::write!(f, "option '{0}' is given twice", it), Self::NoFile { .. } => f.write_str("merge needs a FILE"), Self::NoShards { .. } => f.write_str("shard needs a number and a DIR"), Self::NoCount(it) => ::core::write!(f, "shard takes a number of files, and not {0}", it), Self::EmptyFolder { .. } => f.write_str("the DIR of shard is empty"), Self::InputTwice => ::core::write!(f, "{INPUT_TWICE}"), Self::Memory { .. } => f.write_str("out of memory"), } } }
+} impl<'a> ::core::error::Error for Misuse<'a> {} impl<'a> ::core::fmt::Display for Misuse<'a> { fn fmt(&self, f: &mut ::core::fmt::Formatter<'_>) -> ::core::fmt::Result { match self { Self::NoCommand { .. } => f.write_str("missing command"), Self::UnknownCommand(it) => ::core::write!(f, "unknown command {0}", it), Self::UnknownOption(it) => ::core::write!(f, "unknown option {0}", it), Self::OptionOfAnother(it0, it1) => ::core::write!(f, "{0} takes no option '{1}'", it0, it1), Self::NoValue(it) => ::core::write!(f, "option '{0}' needs a value", it), Self::NeedsOption(it0, it1) => ::core::write!(f, "option '{0}' needs option '{1}'", it0, it1), Self::HasValue(it) => ::core::write!(f, "option {0} takes no value", it), Self::UnknownBackend(it) => ::core::write!(f, "unknown backend {0}", it), Self::UnknownMending(it) => ::core::write!(f, "option '--invalid' takes error, replace or skip, and not {0}", it), Self::NotPositive(it0, it1) => ::core::write!(f, "option '{0}' takes a number above 0, and not {1}", it0, it1), Self::NoLeast(it) => ::core::write!(f, "option '--at-least' takes a number, and not {0}", it), Self::NoByte(it0, it1) => ::core::write!(f, "option '{0}' takes one byte that ends no line, and not {1}", it0, it1), Self::ExtraOperand(it) => ::core::write!(f, "extra operand {0}", it), Self::FileBesideList(it) => ::core::write!(f, "extra operand {0}: files are named by option '--files0-from'", it), Self::Excluded(it0, it1) => ::core::write!(f, "option '{0}' excludes option '{1}'", it0, it1), Self::Repeated(it) => ::core::write!(f, "option '{0}' is given twice", it), Self::NoFile { .. } => f.write_str("merge needs a FILE"), Self::NoShards { .. } => f.write_str("shard needs a number and a DIR"), Self::NoCount(it) => ::core::write!(f, "shard takes a number of files, and not {0}", it), Self::EmptyFolder { .. } => f.write_str("the DIR of shard is empty"), Self::InputTwice => ::core::write!(f, "{INPUT_TWICE}"), Self::Memory { .. } => f.write_str("out of memory"), } } }
 
 #[derive(Clone, Copy, PartialEq)]
 enum Command {
@@ -93,6 +96,8 @@ enum Setting {
     Top,
     AtLeast,
     Backend,
+    Field,
+    Separator,
     Mending,
     ZeroEnded,
     Encoded,
@@ -103,7 +108,10 @@ enum Setting {
 impl Setting {
     /// Returns whether it says how lines are read.
     fn is_of_lines(self) -> bool {
-        matches!(self, Setting::Mending | Setting::ZeroEnded)
+        matches!(
+            self,
+            Setting::Field | Setting::Separator | Setting::Mending | Setting::ZeroEnded
+        )
     }
 
     /// Returns whether it says what columns begin with.
@@ -129,7 +137,7 @@ const STORING: &[Command] = &[Command::Encode, Command::Count, Command::Merge];
 type Row = (&'static str, Setting, bool, &'static [Command]);
 
 /// The options, in the order in which the first is told that the command does not take.
-const OPTIONS: [Row; 15] = [
+const OPTIONS: [Row; 19] = [
     ("--plain", Setting::Plain, true, ENCODE),
     ("--onto", Setting::Onto, true, ENCODE),
     ("--onto-dictionary", Setting::OntoDictionary, true, ENCODE),
@@ -138,6 +146,10 @@ const OPTIONS: [Row; 15] = [
     ("--top", Setting::Top, true, COUNT),
     ("--at-least", Setting::AtLeast, true, COUNT),
     ("--backend", Setting::Backend, true, STORING),
+    ("--field", Setting::Field, true, OF_LINES),
+    ("-f", Setting::Field, true, OF_LINES),
+    ("--separator", Setting::Separator, true, OF_LINES),
+    ("-t", Setting::Separator, true, OF_LINES),
     ("--invalid", Setting::Mending, true, OF_LINES),
     ("--zero-terminated", Setting::ZeroEnded, false, ENDED),
     ("-z", Setting::ZeroEnded, false, ENDED),
@@ -157,8 +169,14 @@ fn find_option(name: &str) -> Option<Row> {
     None
 }
 
-/// Returns the option that a word begins with, and the value behind `=`, if there is one.
+/// Returns the option that a word begins with, and the value behind `=`, or behind the letter of an option, if there is one.
 fn split_value(word: &str) -> (&str, Option<&str>) {
+    for letter in ["-f", "-t"] {
+        match word.strip_prefix(letter) {
+            Some(value) if !value.is_empty() => return (letter, Some(value)),
+            _ => {}
+        }
+    }
     match word.split_once('=') {
         Some((name, value)) if name.starts_with("--") => (name, Some(value)),
         _ => (word, None),
@@ -191,6 +209,10 @@ struct Given<'a> {
     /// What `--invalid` says.
     mending: Option<Option<Mending>>,
     is_zero_ended: bool,
+    /// What `--field` says.
+    field: Option<NonZeroUsize>,
+    /// What `--separator` says.
+    separator: Option<u8>,
     is_encoded: bool,
     /// What `--plain` says.
     folder: Option<&'a str>,
@@ -220,6 +242,8 @@ impl<'a> Given<'a> {
             at_least: None,
             mending: None,
             is_zero_ended: false,
+            field: None,
+            separator: None,
             is_encoded: false,
             folder: None,
             onto: None,
@@ -253,14 +277,29 @@ impl<'a> Given<'a> {
     }
 
     /// Takes how many lines are written.
-    fn take_top(&mut self, word: &'a str) -> Result<(), Misuse<'a>> {
-        self.top = Some(word.parse().map_err(|_| Misuse::NoTop(ShownWord(word)))?);
+    fn take_top(&mut self, name: &'static str, word: &'a str) -> Result<(), Misuse<'a>> {
+        self.top = Some(parse_positive(name, word)?);
         Ok(())
     }
 
     /// Takes how often each of them occurs.
     fn take_least(&mut self, word: &'a str) -> Result<(), Misuse<'a>> {
         self.at_least = Some(word.parse().map_err(|_| Misuse::NoLeast(ShownWord(word)))?);
+        Ok(())
+    }
+
+    /// Takes the number of a field.
+    fn take_field(&mut self, name: &'static str, word: &'a str) -> Result<(), Misuse<'a>> {
+        self.field = Some(parse_positive(name, word)?);
+        Ok(())
+    }
+
+    /// Takes the byte between fields.
+    fn take_separator(&mut self, name: &'static str, word: &'a str) -> Result<(), Misuse<'a>> {
+        match word.as_bytes() {
+            [byte] if *byte != b'\n' => self.separator = Some(*byte),
+            _ => return Err(Misuse::NoByte(name, ShownWord(word))),
+        }
         Ok(())
     }
 
@@ -314,9 +353,11 @@ impl<'a> Given<'a> {
             Setting::OntoDictionary => self.take_onto(name, value, true)?,
             Setting::List => self.list = Some(check_value(name, value)?),
             Setting::Sorted => self.is_sorted = true,
-            Setting::Top => self.take_top(value)?,
+            Setting::Top => self.take_top(name, value)?,
             Setting::AtLeast => self.take_least(value)?,
             Setting::Backend => self.take_backend(value)?,
+            Setting::Field => self.take_field(name, value)?,
+            Setting::Separator => self.take_separator(name, value)?,
             Setting::Mending => self.take_mending(value)?,
             Setting::ZeroEnded => self.is_zero_ended = true,
             Setting::Encoded => self.is_encoded = true,
@@ -337,6 +378,8 @@ impl<'a> Given<'a> {
             Setting::Top => self.top.is_some(),
             Setting::AtLeast => self.at_least.is_some(),
             Setting::Backend => self.choice.is_some(),
+            Setting::Field => self.field.is_some(),
+            Setting::Separator => self.separator.is_some(),
             Setting::Mending => self.mending.is_some(),
             Setting::ZeroEnded => self.is_zero_ended,
             Setting::Encoded => self.is_encoded,
@@ -439,6 +482,9 @@ impl<'a> Given<'a> {
                 return Err(Misuse::NeedsOption(name, "--plain"));
             }
         }
+        if self.separator.is_some() && self.field.is_none() {
+            return Err(Misuse::NeedsOption("--separator", "--field"));
+        }
         match self.repeat {
             Some(misuse) => Err(misuse),
             None => Ok(()),
@@ -458,6 +504,19 @@ impl<'a> Given<'a> {
         Rows { order, at_least }
     }
 
+    /// Returns the field that stands for a line, if one does.
+    fn field(&self) -> Option<Field>
+        //~ ensures { IsField self.now result }
+    {
+        match self.field {
+            Some(number) => Some(Field {
+                number,
+                separator: self.separator.unwrap_or(b'\t'),
+            }),
+            None => None,
+        }
+    }
+
     /// Returns what the command does with the files.
     fn action(&self, command: Command) -> Result<Action<'a>, Misuse<'a>>
         //~ ensures { IfOk result (IsAction self.now command) }
@@ -466,6 +525,7 @@ impl<'a> Given<'a> {
         let reading = Reading {
             mending: self.mending.flatten(),
             is_zero_ended: self.is_zero_ended,
+            field: self.field(),
         };
         let task = match (command, self.folder) {
             (Command::Encode, Some(folder)) => Task::WriteColumns(Columns { folder, onto }),
@@ -504,6 +564,12 @@ impl<'a> Given<'a> {
         let action = self.action(command)?;
         Ok(Request::Act(action, self.files()?))
     }
+}
+
+/// Returns the number above 0 that is the value of an option.
+fn parse_positive<'a>(option: &'static str, value: &'a str) -> Result<NonZeroUsize, Misuse<'a>> {
+    let number = value.parse();
+    number.map_err(|_| Misuse::NotPositive(option, ShownWord(value)))
 }
 
 /// Returns the value of an option, which may not be empty.

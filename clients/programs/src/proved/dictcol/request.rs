@@ -3,7 +3,8 @@
 //~ ghost use Rattle.std.specs.Prelude.{◌≡◌};
 //~ ghost use Rattle.dictcol.specs.Names.{Names};
 
-use crate::rt::prelude::*; use crate::dictcol::input::mend::Mending;
+use crate::rt::prelude::*; use crate::dictcol::input::field::Field;
+use crate::dictcol::input::mend::Mending;
 use crate::rt::num::NonZeroUsize;
 
 /// What may be done about the name of a file that is not UTF-8.
@@ -27,6 +28,8 @@ pub struct Reading {
     pub mending: Option<Mending>,
     /// Whether a zero byte ends each line, and not a newline.
     pub is_zero_ended: bool,
+    /// The field of each line that stands for it, if one does.
+    pub field: Option<Field>,
 }
 
 /// Where the dictionary comes from that plain columns begin with.
