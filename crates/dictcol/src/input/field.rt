@@ -15,14 +15,24 @@ pub struct Field {
     pub separator: u8,
 }
 
-/// Reads one field of each line of an input, or the lines as they are. A line of fewer fields becomes an empty one. Nothing of the input
-/// is held.
+/// What was read of a line so far.
+#[derive(Clone, Copy, PartialEq)]
+enum Seen {
+    Nothing,
+    /// Bytes of which none is of the field.
+    Others,
+    Field,
+}
+
+/// Reads one field of each line of an input, or the lines as they are. A line of fewer fields becomes an empty one, which a newline ends
+/// in any case. Nothing of the input is held.
 #[derive(Drop)]
 pub struct Picked<R: Read> {
     input: R,
     field: Option<Field>,
     /// How many separators the line has had.
     passed: usize,
+    seen: Seen,
 }
 
 impl<R: Read> Picked<R> {
@@ -32,6 +42,7 @@ impl<R: Read> Picked<R> {
             input,
             field,
             passed: 0,
+            seen: Seen::Nothing,
         }
     }
 
@@ -44,22 +55,48 @@ impl<R: Read> Picked<R> {
     fn pick(&mut self, field: Field, bytes: &mut [u8]) -> usize
         ensures { result ≤ length bytes.new }
     {
-        let before = field.number.get() - 1;
         let mut kept = 0;
         for at in 0..bytes.len() {
             let byte = bytes[at];
-            if byte == b'\n' {
-                self.passed = 0;
-            } else if byte == field.separator {
-                self.passed = self.passed.saturating_add(1);
-                continue;
-            } else if self.passed != before {
-                continue;
+            if self.takes(field, byte) {
+                bytes[kept] = byte;
+                kept += 1;
             }
-            bytes[kept] = byte;
-            kept += 1;
         }
         kept
+    }
+
+    /// Takes the next byte, and returns whether it ends a line or is of the field.
+    #[inline(always)]
+    fn takes(&mut self, field: Field, byte: u8) -> bool {
+        if byte == b'\n' {
+            self.passed = 0;
+            self.seen = Seen::Nothing;
+            return true;
+        }
+        if byte != field.separator && self.passed == field.number.get() - 1 {
+            self.seen = Seen::Field;
+            return true;
+        }
+        if byte == field.separator {
+            self.passed = self.passed.saturating_add(1);
+        }
+        if self.seen == Seen::Nothing {
+            self.seen = Seen::Others;
+        }
+        false
+    }
+
+    /// Ends the last line, if nothing was kept of it: an empty line is one by its newline alone. Returns how many bytes that takes.
+    fn end(&mut self, buf: &mut [u8]) -> usize
+        ensures { result ≤ length buf.new }
+    {
+        if self.seen != Seen::Others || buf.is_empty() {
+            return 0;
+        }
+        self.seen = Seen::Nothing;
+        buf[0] = b'\n';
+        1
     }
 }
 
@@ -71,7 +108,7 @@ impl<R: Read> Read for Picked<R> {
         for _ in 0..u64::MAX {
             let count = self.input.read(buf)?;
             if count == 0 {
-                return Ok(0);
+                return Ok(self.end(buf));
             }
             let kept = self.pick(field, &mut buf[..count]);
             if kept > 0 {
