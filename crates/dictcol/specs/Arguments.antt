@@ -6,7 +6,7 @@ use Rattle.std.specs.Option.{option_flatten, unwrap_or}
 use Rattle.string_interner.specs.Text.{Text}
 use Rattle.dictcol.specs.Names.{Names}
 use Rattle.dictcol.specs.declared.arguments.Command.{Command}
-use Rattle.dictcol.specs.declared.arguments.Command.TheVariants.{Encode, Decode, Count, Merge, Shard}
+use Rattle.dictcol.specs.declared.arguments.Command.TheVariants.{Encode, Decode, Count, Distinct, Merge, Shard}
 use Rattle.dictcol.specs.declared.arguments.Given.{Given}
 use Rattle.dictcol.specs.declared.request.Action.{Action}
 use Rattle.dictcol.specs.declared.request.Action.TheVariants.{Do, WriteShards}
@@ -18,7 +18,7 @@ use Rattle.dictcol.specs.declared.request.Reading.{Reading}
 use Rattle.dictcol.specs.declared.request.Request.{Request}
 use Rattle.dictcol.specs.declared.request.Request.TheVariants.{Act, Help, Version}
 use Rattle.dictcol.specs.declared.request.Task.{Task}
-use Rattle.dictcol.specs.declared.request.Task.TheVariants.{Answer, WriteColumns, Merge as MergeTask, CountEncoded}
+use Rattle.dictcol.specs.declared.request.Task.TheVariants.{Answer, WriteColumns, Distinct as DistinctTask, Merge as MergeTask, CountEncoded}
 
 -- lines are read as the words say
 pub record IsReading (given : Given) (reading : Reading) : Type 0 where
@@ -32,6 +32,7 @@ IsTask given Encode (Answer Encoded) = given.folder ≡ None
 IsTask given Decode (Answer Decoded) = ⊤
 IsTask given Count (Answer (Counted is_sorted)) = (given.is_encoded ≡ false) × (is_sorted ≡ given.is_sorted)
 IsTask given Count (CountEncoded is_sorted) = (given.is_encoded ≡ true) × (is_sorted ≡ given.is_sorted)
+IsTask given Distinct DistinctTask = ⊤
 IsTask given Merge MergeTask = ⊤
 IsTask given command task = ⊥
 

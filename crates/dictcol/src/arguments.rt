@@ -62,6 +62,7 @@ enum Command {
     Encode,
     Decode,
     Count,
+    Distinct,
     Merge,
     Shard,
 }
@@ -72,6 +73,7 @@ impl Command {
             Command::Encode => "encode",
             Command::Decode => "decode",
             Command::Count => "count",
+            Command::Distinct => "distinct",
             Command::Merge => "merge",
             Command::Shard => "shard",
         }
@@ -113,11 +115,11 @@ const ENCODE: &[Command] = &[Command::Encode];
 
 const COUNT: &[Command] = &[Command::Count];
 
-const ENDED: &[Command] = &[Command::Count, Command::Shard];
+const ENDED: &[Command] = &[Command::Count, Command::Distinct, Command::Shard];
 
-const OF_LINES: &[Command] = &[Command::Encode, Command::Count, Command::Shard];
+const OF_LINES: &[Command] = &[Command::Encode, Command::Count, Command::Distinct, Command::Shard];
 
-const STORING: &[Command] = &[Command::Encode, Command::Count, Command::Merge];
+const STORING: &[Command] = &[Command::Encode, Command::Count, Command::Distinct, Command::Merge];
 
 /// The name of an option, what it sets, whether it has a value, and the commands that take it.
 type Row = (&'static str, Setting, bool, &'static [Command]);
@@ -320,6 +322,7 @@ impl<'a> Given<'a> {
             "encode" => Command::Encode,
             "decode" => Command::Decode,
             "count" => Command::Count,
+            "distinct" => Command::Distinct,
             "merge" => Command::Merge,
             "shard" => Command::Shard,
             _ => return Err(Misuse::UnknownCommand(ShownWord(word))),
@@ -430,6 +433,7 @@ impl<'a> Given<'a> {
             (Command::Decode, _) => Task::Answer(Answer::Decoded),
             (Command::Count, _) if self.is_encoded => Task::CountEncoded { is_sorted },
             (Command::Count, _) => Task::Answer(Answer::Counted { is_sorted }),
+            (Command::Distinct, _) => Task::Distinct,
             (Command::Merge, _) if self.files.is_empty() => return Err(Misuse::NoFile),
             (Command::Merge, _) => Task::Merge,
             (Command::Shard, _) => {

@@ -17,14 +17,14 @@
 use crate::rt::prelude::*; use crate::dictcol::fault::Fault;
 use crate::dictcol::hasher::LineHasher;
 use crate::dictcol::input::blocks;
-use crate::dictcol::input::blocks::TakesLines;
-use crate::dictcol::input::split::Lines;
+use crate::dictcol::input::blocks::{Taker, TakesLines};
+use crate::dictcol::input::line_blocks::{TakesBlocks, take_blocks};
 use crate::dictcol::json_form::file::write;
 use crate::itoa::Buffer;
 use crate::rt::alloc::{AllocError, Global};
 use crate::rt::io::{Read, Write};
 use crate::rt::marker::Model;
-use crate::string_column::{BLOCK_LEN, Codes, Column, Dictionary, FEWEST_FOR_BLOCKS};
+use crate::string_column::{Codes, Column, Dictionary};
 use crate::proved::StringInterner;
 use crate::proved::backend::Backend;
 use crate::proved::dedup::TaggedIndex;
@@ -80,15 +80,20 @@ impl<B: Backend> Counts<B> {
             codes: Codes::new(alloc),
         }
     }
+}
 
-    /// Counts a line.
+impl<B: Backend> Taker for Counts<B> {
+    //~ ghost use Rattle.dictcol.specs.Counts.{HasCounted};
+    //~ ghost use Rattle.dictcol.specs.TooMany.{LacksCount};
+
+    //~ ghost has_taken = { HasCounted };
+
+    //~ ghost refuses = { LacksCount B.numbering };
+}
+
+impl<B: Backend> TakesBlocks for Counts<B> {
     #[inline]
-    fn add(&mut self, line: &str) -> Result<(), Fault>
-        //~ ensures counted { OnOk result ((lines : List Text) → HasCounted self.old lines
-        //~     → HasCounted self.new (lines ++ line.now ∷ [])) }
-        //~ ensures fault { (lines : List Text) → HasCounted self.old lines
-        //~     → IfErr result (IsTakeFault (LacksCount B.numbering lines line.now)) }
-    {
+    fn add(&mut self, line: &str) -> Result<(), Fault> {
         let total = self.total.checked_add(1).ok_or(Fault::TooMany)?;
         let index = self.lines.intern(line).map_err(Fault::of_intern)?;
         self.total = total;
@@ -101,15 +106,8 @@ impl<B: Backend> Counts<B> {
         Ok(())
     }
 
-    /// Counts the lines of a block, which are looked for together.
     #[inline(never)]
-    fn add_block(&mut self, block: &[&str]) -> Result<(), Fault>
-        //~ requires { length block.now ≤ 256 }
-        //~ ensures counted { OnOk result ((lines : List Text) → HasCounted self.old lines
-        //~     → HasCounted self.new (lines ++ texts_of block.now)) }
-        //~ ensures fault { (lines : List Text) → HasCounted self.old lines → IfErr result
-        //~     (IsTakeFault (HasRefused (LacksCount B.numbering) (lines ++ texts_of block.now))) }
-    {
+    fn add_block(&mut self, block: &[&str]) -> Result<(), Fault> {
         let total = self.total.checked_add(block.len()).ok_or(Fault::TooMany)?;
         self.codes.truncate(0);
         self.lines
@@ -119,33 +117,16 @@ impl<B: Backend> Counts<B> {
         self.total = total;
         Ok(())
     }
+
+    #[inline]
+    fn count_entries(&self) -> usize {
+        self.counts.len()
+    }
 }
 
 impl<B: Backend> TakesLines for Counts<B> {
-    //~ ghost use Rattle.dictcol.specs.Counts.{HasCounted};
-    //~ ghost use Rattle.dictcol.specs.TooMany.{LacksCount};
-
-    //~ ghost has_taken = { HasCounted };
-
-    //~ ghost refuses = { LacksCount B.numbering };
-
     fn take_lines(&mut self, text: &str) -> Result<(), Fault> {
-        let mut block = [""; BLOCK_LEN];
-        let mut len = 0;
-        for line in Lines::new(text) {
-            // A block that has begun is filled first, so that lines stay in order.
-            if len == 0 && self.counts.len() < FEWEST_FOR_BLOCKS {
-                self.add(line)?;
-                continue;
-            }
-            block[len] = line;
-            len += 1;
-            if len == BLOCK_LEN {
-                self.add_block(&block)?;
-                len = 0;
-            }
-        }
-        self.add_block(&block[..len])
+        take_blocks(self, text)
     }
 
     fn count_lines(&self) -> usize {

@@ -4,6 +4,7 @@ use crate::rt::prelude::*; pub mod block;
 pub mod blocks;
 pub mod compression;
 pub mod inputs;
+pub mod line_blocks;
 pub mod mend;
 pub mod split;
 pub mod streams;

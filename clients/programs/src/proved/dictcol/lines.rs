@@ -1,16 +1,17 @@
 //! The lines of a text as the rows of a column.
 
-//~ ghost use Rattle.std.specs.Prelude.{◌≡◌, false, IfErr, IfOk, IfSome};
+//~ ghost use Rattle.std.specs.Prelude.{◌≡◌, [], ◌∷◌, ◌++◌, false, IfErr, IfOk, IfSome, OnOk};
 //~ ghost use Rattle.std.specs.List.{list_any};
 //~ ghost use Rattle.dictcol.specs.Blocks.{IsLinesFault};
 //~ ghost use Rattle.dictcol.specs.Fault.{IsTakeFault};
 //~ ghost use Rattle.dictcol.specs.Lines.{has_newline, lines_of, text_of_ended, AreLines};
 //~ ghost use Rattle.dictcol.specs.TooMany.{HasRefused, LacksLine};
+//~ ghost use Rattle.dictcol.specs.declared.fault.Fault.TheVariants.{Memory};
 
 use crate::rt::prelude::*; use crate::dictcol::fault::Fault;
 use crate::dictcol::hasher::LineHasher;
 use crate::dictcol::input::blocks;
-use crate::dictcol::input::blocks::TakesLines;
+use crate::dictcol::input::blocks::{Taker, TakesLines};
 use crate::dictcol::input::split::Lines;
 use crate::rt::alloc::Global;
 use crate::rt::io::Read;
@@ -18,13 +19,15 @@ use crate::string_column::Column;
 use crate::proved::backend::Backend;
 
 /// A column takes lines as rows.
-impl<B: Backend> TakesLines for Column<B, LineHasher> {
+impl<B: Backend> Taker for Column<B, LineHasher> {
     //~ ghost use Rattle.dictcol.specs.TooMany.{LacksLine};
 
     //~ ghost has_taken = { λ column lines. column ≡ lines };
 
     //~ ghost refuses = { LacksLine B.numbering };
+}
 
+impl<B: Backend> TakesLines for Column<B, LineHasher> {
     fn take_lines(&mut self, text: &str) -> Result<(), Fault> {
         match self.encode(Lines::new(text)) {
             Ok(()) => Ok(()),
@@ -34,6 +37,20 @@ impl<B: Backend> TakesLines for Column<B, LineHasher> {
 
     fn count_lines(&self) -> usize {
         self.len()
+    }
+}
+
+/// Appends a line and a newline to some bytes.
+pub fn push_line(bytes: &mut Vec<u8>, line: &str) -> Result<(), Fault>
+    //~ ensures ok { OnOk result (bytes.new.items ≡ bytes.old.items ++ line.now ++ 10 ∷ []) }
+    //~ ensures fault { IfErr result (λ fault. fault ≡ Memory) }
+{
+    if bytes.extend_from_slice(line.as_bytes()).is_err() {
+        return Err(Fault::Memory);
+    }
+    match bytes.push(b'\n') {
+        Ok(()) => Ok(()),
+        Err(_) => Err(Fault::Memory),
     }
 }
 

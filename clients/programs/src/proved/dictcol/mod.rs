@@ -8,6 +8,7 @@ pub mod block_writer;
 pub mod columns;
 pub mod count;
 pub mod decode;
+pub mod distinct;
 pub mod encode;
 pub mod fault;
 pub mod hasher;

@@ -15,8 +15,9 @@ use crate::rt::prelude::*; pub mod folder;
 use crate::dictcol::fault::Fault;
 use crate::dictcol::input::block::Block;
 use crate::dictcol::input::blocks;
-use crate::dictcol::input::blocks::TakesLines;
+use crate::dictcol::input::blocks::{Taker, TakesLines};
 use crate::dictcol::input::split::Lines;
+use crate::dictcol::lines::push_line;
 use crate::itoa::Buffer;
 use crate::rt::alloc::Global;
 use crate::rt::io;
@@ -61,13 +62,7 @@ impl<W: Write> Shard<W> {
         //~ ensures same { self.new.output ≡ self.old.output }
         //~ ensures fault { IfErr result (λ fault. fault ≡ Memory) }
     {
-        if self.waiting.extend_from_slice(line.as_bytes()).is_err() {
-            return Err(Fault::Memory);
-        }
-        match self.waiting.push(b'\n') {
-            Ok(()) => Ok(()),
-            Err(_) => Err(Fault::Memory),
-        }
+        push_line(&mut self.waiting, line)
     }
 
     /// Writes what waits, if it is more than so many bytes.
@@ -196,14 +191,16 @@ impl<H: TextHasher, W: Write> Shards<H, W> {
     }
 }
 
-impl<H: TextHasher, W: Write> TakesLines for Shards<H, W> {
+impl<H: TextHasher, W: Write> Taker for Shards<H, W> {
     //~ ghost use Rattle.dictcol.specs.Shards.{HasSharded};
     //~ ghost use Rattle.dictcol.specs.TooMany.{IsPastCount};
 
     //~ ghost has_taken = { HasSharded H.code W.contents };
 
     //~ ghost refuses = { IsPastCount };
+}
 
+impl<H: TextHasher, W: Write> TakesLines for Shards<H, W> {
     fn take_lines(&mut self, text: &str) -> Result<(), Fault> {
         for line in Lines::new(text) {
             self.add(line)?;

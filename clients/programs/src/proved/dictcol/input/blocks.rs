@@ -1,11 +1,11 @@
 //! Reading lines from an input, a block at a time: however long the input is, no more of it is held than a block, of 256 KiB or up
 //! to twice the longest line.
 
-//~ ghost use Rattle.std.specs.Prelude.{◌≡◌, ◌==◌, ◌+◌, ◌≤◌, List, [], ◌++◌, length, take, drop, min, false, ◌-◌, ◌^◌, Option, Some, IfOk, IfErr, OnOk, IsUtf8, IsTrue, count_by, string_bytes};
+//~ ghost use Rattle.std.specs.Prelude.{◌≡◌, ◌==◌, ◌+◌, ◌≤◌, ℕ, List, [], ◌++◌, length, take, drop, min, false, ◌-◌, ◌^◌, Option, Some, IfOk, IfErr, OnOk, IsUtf8, IsTrue, count_by, string_bytes};
 //~ ghost use Rattle.std.specs.Io.KnownBytes.{IsAtEnd};
 //~ ghost use Rattle.std.specs.List.{slice_split};
 //~ ghost use Rattle.string_interner.specs.Text.{Text};
-//~ ghost use Rattle.dictcol.specs.Blocks.{held, EndsAtNewline, HasRead, HoldsNoNewline, IsLinesFault, IsTextFault, IsTextOf};
+//~ ghost use Rattle.dictcol.specs.Blocks.{held, EndsAtNewline, HasRead, HoldsNoNewline, IsLinesFault, IsTextFault, IsTextOf, Takes};
 //~ ghost use Rattle.dictcol.specs.Fault.{IsNotUtf8, IsTakeFault};
 //~ ghost use Rattle.dictcol.specs.Lines.{has_newline, is_newline};
 //~ ghost use Rattle.dictcol.specs.TooMany.{HasRefused};
@@ -16,24 +16,31 @@ use crate::rt::alloc::Global;
 use crate::rt::io;
 use crate::rt::io::{ErrorKind, Read};
 
-/// What takes lines, one after another.
-pub trait TakesLines: Sized {
+/// What lines are given to, one after another.
+pub trait Taker: Sized {
     //~ /// These are the lines that it has taken.
     //~ ghost has_taken: { Self → List Text → Type 0 };
 
     //~ /// Behind these lines this one is refused, because there are too many.
     //~ ghost refuses: { List Text → Text → Type 0 };
 
+    //~ /// So many of its distinct lines were written, which taking lines leaves as it is.
+    //~ ghost written: { Self → ℕ } = { λ _. 0 };
+}
+
+/// What takes the lines of a text.
+pub trait TakesLines: Sized + Taker {
     /// Takes the lines of a text: what stands before, between and behind its newlines.
     fn take_lines(&mut self, text: &str) -> Result<(), Fault>;
-        //~ ensures ok { OnOk result ((lines : List Text) → has_taken self.old lines
-        //~     → has_taken self.new (lines ++ slice_split is_newline text.now)) }
-        //~ ensures fault { (lines : List Text) → has_taken self.old lines → IfErr result
-        //~     (IsTakeFault (HasRefused refuses (lines ++ slice_split is_newline text.now))) };
+        //~ ensures ok { OnOk result
+        //~     (Takes Self.has_taken self.old self.new (slice_split is_newline text.now)) }
+        //~ ensures same { Self.written self.new ≡ Self.written self.old }
+        //~ ensures fault { (lines : List Text) → Self.has_taken self.old lines → IfErr result
+        //~     (IsTakeFault (HasRefused Self.refuses (lines ++ slice_split is_newline text.now))) };
 
     /// Returns how many lines it has taken, or `usize::MAX` if there are more.
     fn count_lines(&self) -> usize;
-        //~ ensures { (lines : List Text) → has_taken self.now lines
+        //~ ensures { (lines : List Text) → Self.has_taken self.now lines
         //~     → result ≡ min (length lines) (2 ^ 64 - 1) };
 }
 
@@ -67,8 +74,9 @@ pub fn check_utf8(before: usize, bytes: &[u8]) -> Result<&str, Fault>
 /// Takes the lines up to the newline at `at`, and drops them from the block.
 fn take_front<L: TakesLines>(block: &mut Block, at: usize, lines: &mut L) -> Result<(), Fault>
     //~ requires { EndsAtNewline (held block.old) at }
-    //~ ensures taken { OnOk result ((seen : List Text) → L.has_taken lines.old seen
-    //~     → L.has_taken lines.new (seen ++ slice_split is_newline (take at (held block.old)))) }
+    //~ ensures taken { OnOk result (Takes L.has_taken lines.old lines.new
+    //~     (slice_split is_newline (take at (held block.old)))) }
+    //~ ensures same { L.written lines.new ≡ L.written lines.old }
     //~ ensures rest { OnOk result (held block.new ≡ drop (at + 1) (held block.old)) }
     //~ ensures utf8 { OnOk result (IsUtf8 (take at (held block.old))) }
     //~ ensures fault { (seen : List Text) → L.has_taken lines.old seen
@@ -91,6 +99,7 @@ fn take_whole_lines<L: TakesLines>(
     //~ ensures read { (input left : Option Text)
     //~     → HasRead L.has_taken input left lines.old (held block.old)
     //~     → OnOk result (HasRead L.has_taken input left lines.new (held block.new)) }
+    //~ ensures same { L.written lines.new ≡ L.written lines.old }
     //~ ensures rest { OnOk result (HoldsNoNewline block.new) }
     //~ ensures fault { (input left : Option Text)
     //~     → HasRead L.has_taken input left lines.old (held block.old)
@@ -112,6 +121,7 @@ pub fn read_block<R: Read, L: TakesLines>(
     //~ ensures read { (all : Option Text)
     //~     → HasRead L.has_taken all (R.remaining input.old) lines.old (held block.old)
     //~     → OnOk result (HasRead L.has_taken all (R.remaining input.new) lines.new (held block.new)) }
+    //~ ensures same { L.written lines.new ≡ L.written lines.old }
     //~ ensures rest { OnOk result (HoldsNoNewline block.new) }
     //~ ensures end { IfOk result (λ is_end. IsTrue is_end → IsAtEnd (R.remaining input.new)) }
     //~ ensures fault { (all : Option Text)
