@@ -22,23 +22,28 @@ COMMANDS = [
     ("sort -u", "shuffled"),
     ("dictcol count", "in order"),
     ("mawk", "in order"),
+    ("dictcol distinct", "in order"),
+    ("mawk, distinct", "in order"),
     ("Rust", "in order"),
     ("dictcol decode", "encoded"),
     ("dictcol merge -", "encoded"),
     ("dictcol count --encoded", "encoded"),
+    ("dictcol distinct", "repeated"),
+    ("mawk, distinct", "repeated"),
     ("dictcol count", "repeated"),
     ("sort | uniq -c", "repeated"),
     ("mawk", "repeated"),
     ("Rust", "repeated"),
     ("Python", "repeated"),
 ]
-# The commands that have another name above: each counts lines by a hash table.
+# The commands that have another name above: each counts lines by a hash table, or writes each once.
 IN_PYTHON = """from collections import Counter
 import sys
 sys.stdout.buffer.writelines(b"%d %b" % (count, line) for line, count in Counter(sys.stdin.buffer).items())
 """
 PEERS = {
     "mawk": "mawk '{ counts[$0]++ } END { for (line in counts) print counts[line], line }'",
+    "mawk, distinct": "mawk '!seen[$0]++'",
     "Rust": shlex.quote(str(HERE / "out/peer/target/release/peer")),
     "Python": f"{sys.executable} -c {shlex.quote(IN_PYTHON)}",
 }

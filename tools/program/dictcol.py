@@ -10,7 +10,7 @@ import resource
 import subprocess
 from itertools import chain, count, product
 
-from program import closed, columns, pairs, shards, shell
+from program import closed, columns, distinct, pairs, shards, shell
 from program.cases import MANY, MEBIBYTE, cases, rows
 from program.reckon import MEMORY, answer, failed, is_sorted, misused, unreadable, unwritable, warned
 from program.requests import OUTPUT_BUFFER, asks_of_lines
@@ -79,7 +79,8 @@ SORTED_IN_PLACE = 20
 def try_asks(program, name, words, data):
     """What a run of `encode` or `count` that ends well asks for after the words. In which order it asks for lines is its own."""
     backend = (re.findall(rb"--backend[= ](\w+)", b" ".join(words)) or [b"string"])[-1]
-    if is_sorted(words) and len(set(data.split(b"\n"))) > SORTED_IN_PLACE or {b"-z", b"--invalid=replace"} & {*words}:
+    is_unmodelled = words[0] == b"distinct" or {b"-z", b"--invalid=replace"} & {*words}
+    if is_unmodelled or is_sorted(words) and len(set(data.split(b"\n"))) > SORTED_IN_PLACE:
         return
     ended, asks = program.run_with_asks(words, data)
     before, lines, behind = asks_of_lines(words, data, backend)
@@ -91,7 +92,7 @@ def try_asks(program, name, words, data):
 
 
 def try_case(program, case):
-    if case.words[0] in (b"encode", b"count") and case.end[0] == 0 and b"--encoded" not in case.words:
+    if case.words[0] in (b"encode", b"count", b"distinct") and case.end[0] == 0 and b"--encoded" not in case.words:
         case.end = *case.end[:2], warned(case.data)
     if case.end[0] == 0 and case.words[0] == b"merge":
         yield f"{case.name}, the case by the rules", answer([b"encode"], text_of(case.data)), case.end
@@ -201,6 +202,7 @@ def inputs_in_little_memory():
     yield b"decode", file_of([b'"%s"' % (b"a" * 100000)], [b"0"] * 20000), None, 1 << 26
     # No more than a block of the input.
     yield b"count", b"\n" * 10000000, b"10000000 \n", 1 << 24
+    yield b"distinct", b"\n" * 10000000, b"\n", 1 << 24
     yield b"decode", file_of([b'""'], [b"0"] * 1000000), b"\n" * 1000000, 1 << 25
 
 
@@ -347,6 +349,7 @@ LONG = b"".join(b"%d\n" % number for number in range(30000))
 STREAMS = Streams(
     answered=(
         ([b"count", b"--sorted"], "red\né\né\n".encode(), "2 é\n1 red\n".encode()),
+        ([b"distinct"], b"red\ngreen\nred", b"red\ngreen\n"),
         ([b"encode"], b"red\ngreen\nred", b'{"dictionary":["red","green"],"final_newline":false,"lines":[0,1,0]}\n'),
         ([b"decode"], '{"dictionary":["é",""],"final_newline":true,"lines":[1,0,0]}'.encode(), "\né\né\n".encode()),
         ([b"count", b"-z", b"--invalid=replace"], b"a\n\xff\0b\0b", "1 a\n\ufffd\x002 b\x00".encode()),
@@ -367,7 +370,7 @@ def parts():
     return {
         "cases": cases(CASES, try_case),
         "tables": rows(CASES, TABLES),
-        "streams": [*STREAMS.trials(), *shell.trials(), *closed.trials(), *pairs.trials()],
+        "streams": [*STREAMS.trials(), *shell.trials(), *closed.trials(), *distinct.trials(), *pairs.trials()],
         "columns": columns.trials(),
         "shards": shards.trials(),
         "random": [(trial, seed) for trial in (try_random_lines, shell.try_random_bytes) for seed in range(200)],

@@ -9,7 +9,7 @@ from pathlib import Path
 
 from built import Program
 from program.columns import columns_of, files_in, write_files
-from program.reckon import Ended, answer, failed, find_invalid, line_end, mend
+from program.reckon import Ended, answer, find_invalid, is_utf8, line_end, mend
 from program.shards import shards_of
 from tree import TOP
 from trials import Seen, Trial
@@ -34,6 +34,7 @@ COMMANDS = {
     b"encode": (PLAIN, INVALID, BACKEND),
     b"count": (ROWS, ENDED, INVALID, BACKEND),
     b"count --encoded": (ROWS, BACKEND),
+    b"distinct": (ENDED, INVALID, BACKEND),
     b"merge": (BACKEND,),
     b"shard %d new" % SHARDS: (ENDED, INVALID),
 }
@@ -60,13 +61,26 @@ def place(operands: list[bytes], options: Iterable[bytes], chance: random.Random
     return [*chain(*words)]
 
 
+def texts_before(texts: list[bytes], end: bytes) -> bytes:
+    """The lines that are whole once texts are read, each by one read, before that of a line that is not UTF-8."""
+    read, before = b"", b""
+    for text in texts:
+        read += text
+        whole = read[:read.rfind(end) + 1]
+        if not is_utf8(whole):
+            break
+        before = whole
+    return before
+
+
 def end_with(command: bytes, options: list[bytes], names: list[bytes], texts: list[bytes]) -> tuple[Ended, dict[str, bytes] | None]:
     """How a run over these texts ends, and the files of the folder `new`, if it makes one."""
     end, whole = line_end(options), b"".join(texts)
     if not MENDING & {*options} and (found := find_invalid(texts, end)):
         at, line = found
         name = b"" if names[at] == b"-" else names[at] + b": "
-        return failed(2, b"%bline %d is not UTF-8 (see --invalid)" % (name, line)), None
+        written = answer([command, *options], texts_before(texts, end))[1] if command == b"distinct" else b""
+        return (2, written, b"dictcol: %bline %d is not UTF-8 (see --invalid)\n" % (name, line)), None
     text, told = mend(options, whole)
     if command.startswith(b"shard"):
         exchange = bytes.maketrans(b"\n" + end, end + b"\n")
@@ -74,8 +88,8 @@ def end_with(command: bytes, options: list[bytes], names: list[bytes], texts: li
         return (0, b"", told), {name: lines if name == "order" else lines.translate(exchange) for name, lines in shards.items()}
     if b"--plain=new" in options:
         return (0, b"", told), columns_of(text, KNOWN if ONTO & {*options} else ())
-    word = b"count" if command.startswith(b"count") else b"encode"
-    return answer([word, *options], whole), None
+    word = command.partition(b" ")[0]
+    return answer([b"encode" if word == b"merge" else word, *options], whole), None
 
 
 def write_all(command: bytes, option: list[bytes], names: list[bytes], parts: Parts) -> tuple[list[bytes], bytes]:
@@ -124,7 +138,7 @@ def tried_options(command: bytes) -> Iterator[bytes]:
 
 def try_table(_: Program) -> Seen:
     """No option is left out."""
-    for command in b"encode", b"count", b"merge", b"shard":
+    for command in b"encode", b"count", b"distinct", b"merge", b"shard":
         tried, wanted = {it.partition(b"=")[0] for it in tried_options(command)}, options_of(command)
         yield f"{command} has options", wanted != set(), True
         yield f"options of {command} that are not tried", wanted - tried, set()

@@ -7,7 +7,7 @@ import re
 from collections import Counter
 from collections.abc import Sequence
 
-USAGE = b"usage: dictcol encode|decode|count|merge|shard [OPTION ..] [FILE ..] (try dictcol --help)\n"
+USAGE = b"usage: dictcol encode|decode|count|distinct|merge|shard [OPTION ..] [FILE ..] (try dictcol --help)\n"
 
 # The status, standard output and standard error.
 Ended = tuple[int, bytes, bytes]
@@ -115,7 +115,7 @@ def find_invalid(texts: Sequence[bytes], end: bytes) -> tuple[int, int] | None:
 
 
 def answer(words: Sequence[bytes], data: bytes) -> Ended:
-    """How a run of `encode` or `count` on UTF-8 must end, as Python reckons it. With `--invalid` it need not be UTF-8."""
+    """How a run of `encode`, `count` or `distinct` on UTF-8 must end, as Python reckons it. With `--invalid` it need not be UTF-8."""
     warning, end = warned(data), line_end(words)
     data, told = mend(words, data)
     lines = data.removesuffix(end).split(end) if data else []
@@ -125,4 +125,6 @@ def answer(words: Sequence[bytes], data: bytes) -> Ended:
         file = {"dictionary": [line.decode() for line in counts], "final_newline": data.endswith(b"\n"),
                 "lines": [index[line] for line in lines]}
         return 0, json.dumps(file, ensure_ascii=False, separators=(",", ":")).encode() + b"\n", told + warning
+    if words[0] == b"distinct":
+        return 0, b"".join(line + end for line in counts), told + warning
     return 0, b"".join(b"%d %s%s" % (number, line, end) for line, number in rows_of(words, counts)), told + warning

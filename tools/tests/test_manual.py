@@ -130,7 +130,7 @@ class CompletionsTest(unittest.TestCase):
 
     def test_commands(self) -> None:
         commands = sorted(words_of("take_command"))
-        self.assertEqual(len(commands), 5)
+        self.assertEqual(len(commands), 6)
         for before in ((), ("--sorted",), ("--backend", "string"), ("--backend", "=", "string")):
             self.assertEqual(self.offered(*before, ""), commands)
         self.assertEqual(self.offered("me"), ["merge"])

@@ -6,7 +6,7 @@ use Rattle.std.specs.Option.{option_flatten, unwrap_or}
 use Rattle.string_interner.specs.Text.{Text}
 use Rattle.dictcol.specs.Names.{Names}
 use Rattle.dictcol.specs.declared.arguments.Command.{Command}
-use Rattle.dictcol.specs.declared.arguments.Command.TheVariants.{Encode, Decode, Count, Merge, Shard}
+use Rattle.dictcol.specs.declared.arguments.Command.TheVariants.{Encode, Decode, Count, Distinct, Merge, Shard}
 use Rattle.dictcol.specs.declared.arguments.Given.{Given}
 use Rattle.dictcol.specs.declared.input.field.Field.{Field}
 use Rattle.dictcol.specs.declared.request.Action.{Action}
@@ -22,7 +22,7 @@ use Rattle.dictcol.specs.declared.request.Request.{Request}
 use Rattle.dictcol.specs.declared.request.Request.TheVariants.{Act, Help, Version}
 use Rattle.dictcol.specs.declared.request.Rows.{Rows}
 use Rattle.dictcol.specs.declared.request.Task.{Task}
-use Rattle.dictcol.specs.declared.request.Task.TheVariants.{Answer, WriteColumns, Merge as MergeTask, CountEncoded}
+use Rattle.dictcol.specs.declared.request.Task.TheVariants.{Answer, WriteColumns, Distinct as DistinctTask, Merge as MergeTask, CountEncoded}
 
 -- the field that the words say, behind tabs unless they say another byte
 abbrev pub IsField : Given → Option Field → Type 0
@@ -53,6 +53,7 @@ IsTask given Encode (Answer Encoded) = given.folder ≡ None
 IsTask given Decode (Answer Decoded) = ⊤
 IsTask given Count (Answer (Counted rows)) = (given.is_encoded ≡ false) × AreRowsOf given rows
 IsTask given Count (CountEncoded rows) = (given.is_encoded ≡ true) × AreRowsOf given rows
+IsTask given Distinct DistinctTask = ⊤
 IsTask given Merge MergeTask = ⊤
 IsTask given command task = ⊥
 

@@ -5,16 +5,17 @@ pub const HELP: &str = "\
 usage: dictcol encode [--plain DIR [--onto OLD]] [OPTION ..] [FILE ..]
        dictcol decode [FILE | DIR]
        dictcol count [--encoded | -z] [--sorted | --top N] [OPTION ..] [FILE ..]
+       dictcol distinct [-z] [OPTION ..] [FILE ..]
        dictcol merge [--backend NAME] FILE ..
        dictcol shard N DIR [-z] [--invalid HOW] [FILE ..]
 
 Reads each FILE in turn, or standard input if it is - or there is none.
-encode  writes lines as JSON: the distinct lines, and a number for each line
-decode  writes the lines back, byte for byte
-count   writes how often each distinct line occurs, and the line
-merge   writes one file for several that encode wrote, one after another
-shard   writes DIR/0 to DIR/N-1, equal lines into one file, and DIR/order
-
+encode    writes lines as JSON: the distinct lines, and a number for each line
+decode    writes the lines back, byte for byte
+count     writes how often each distinct line occurs, and the line
+distinct  writes each line where it comes first, and no further time
+merge     writes one file for several that encode wrote, one after another
+shard     writes DIR/0 to DIR/N-1, equal lines into one file, and DIR/order
   --plain DIR      writes DIR/dict.txt and DIR/codes.npy, which NumPy maps
   --onto OLD, --onto-dictionary OLD  the lines of OLD/dict.txt keep their codes
   --files0-from F  reads the files that F names; a zero byte ends each name
@@ -23,11 +24,10 @@ shard   writes DIR/0 to DIR/N-1, equal lines into one file, and DIR/order
   -z, --zero-terminated  a zero byte ends each line, and not a newline
   --invalid HOW    lines that are not UTF-8: error, replace or skip
   --backend NAME   how texts are stored meanwhile: string, bucket or buffer
-  -h, --help; --version; and -- if no word after it is an option
-Exit status 1: the system fails, or too many distinct lines; 2: wrong arguments
-or input; 141: closed output. Manual: crates/dictcol/dictcol.1, by bin/install
+  -h, --help; --version; -- before names. Manual: dictcol.1, by bin/install
+Exit status: 1 system or too many lines, 2 arguments or input, 141 closed output
 ";
 
 /// What follows a message about arguments.
 pub const USAGE: &str =
-    "usage: dictcol encode|decode|count|merge|shard [OPTION ..] [FILE ..] (try dictcol --help)";
+    "usage: dictcol encode|decode|count|distinct|merge|shard [OPTION ..] [FILE ..] (try dictcol --help)";

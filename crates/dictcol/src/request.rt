@@ -118,6 +118,8 @@ pub enum Task<'a> {
     Answer(Answer),
     /// Their lines are written as plain columns.
     WriteColumns(Columns<'a>),
+    /// Each line of the files is written once.
+    Distinct,
     /// The files, which `encode` wrote, become one.
     Merge,
     /// How often each line of such files occurs is written.
@@ -128,7 +130,9 @@ impl Task<'_> {
     /// Returns whether it reads lines, and not what `encode` wrote.
     pub fn reads_lines(self) -> bool {
         match self {
-            Task::Answer(Answer::Encoded | Answer::Counted(_)) | Task::WriteColumns(_) => true,
+            Task::Answer(Answer::Encoded | Answer::Counted(_))
+            | Task::WriteColumns(_)
+            | Task::Distinct => true,
             Task::Answer(Answer::Decoded) | Task::Merge | Task::CountEncoded(_) => false,
         }
     }

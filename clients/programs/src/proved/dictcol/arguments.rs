@@ -69,6 +69,7 @@ enum Command {
     Encode,
     Decode,
     Count,
+    Distinct,
     Merge,
     Shard,
 }
@@ -79,6 +80,7 @@ impl Command {
             Command::Encode => "encode",
             Command::Decode => "decode",
             Command::Count => "count",
+            Command::Distinct => "distinct",
             Command::Merge => "merge",
             Command::Shard => "shard",
         }
@@ -127,11 +129,21 @@ const ENCODE: &[Command] = &[Command::Encode];
 
 const COUNT: &[Command] = &[Command::Count];
 
-const ENDED: &[Command] = &[Command::Count, Command::Shard];
+const ENDED: &[Command] = &[Command::Count, Command::Distinct, Command::Shard];
 
-const OF_LINES: &[Command] = &[Command::Encode, Command::Count, Command::Shard];
+const OF_LINES: &[Command] = &[
+    Command::Encode,
+    Command::Count,
+    Command::Distinct,
+    Command::Shard,
+];
 
-const STORING: &[Command] = &[Command::Encode, Command::Count, Command::Merge];
+const STORING: &[Command] = &[
+    Command::Encode,
+    Command::Count,
+    Command::Distinct,
+    Command::Merge,
+];
 
 /// The name of an option, what it sets, whether it has a value, and the commands that take it.
 type Row = (&'static str, Setting, bool, &'static [Command]);
@@ -393,6 +405,7 @@ impl<'a> Given<'a> {
             "encode" => Command::Encode,
             "decode" => Command::Decode,
             "count" => Command::Count,
+            "distinct" => Command::Distinct,
             "merge" => Command::Merge,
             "shard" => Command::Shard,
             _ => return Err(Misuse::UnknownCommand(ShownWord(word))),
@@ -533,6 +546,7 @@ impl<'a> Given<'a> {
             (Command::Decode, _) => Task::Answer(Answer::Decoded),
             (Command::Count, _) if self.is_encoded => Task::CountEncoded(self.rows()),
             (Command::Count, _) => Task::Answer(Answer::Counted(self.rows())),
+            (Command::Distinct, _) => Task::Distinct,
             (Command::Merge, _) if self.files.is_empty() => return Err(Misuse::NoFile),
             (Command::Merge, _) => Task::Merge,
             (Command::Shard, _) => {

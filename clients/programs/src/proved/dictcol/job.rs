@@ -7,6 +7,7 @@
 
 use crate::rt::prelude::*; use crate::dictcol::answer::write_answer;
 use crate::dictcol::columns;
+use crate::dictcol::distinct::distinct;
 use crate::dictcol::fault::Fault;
 use crate::dictcol::hasher::LineHasher;
 use crate::dictcol::input::field::Picked;
@@ -145,6 +146,7 @@ impl<'a> Job<'a, LineHasher> {
         let outcome = match task {
             Task::Answer(answer) => self.answer::<B>(answer),
             Task::WriteColumns(columns) => return columns::write::<B>(self, columns),
+            Task::Distinct => self.write_distinct::<B>(),
             Task::Merge => return self.end_merge(self.merge::<B>()),
             Task::CountEncoded(asked) => return self.end_merge(self.count_encoded::<B>(asked)),
         };
@@ -164,6 +166,13 @@ impl<'a> Job<'a, LineHasher> {
         let mut output = open_output(self.rt, self.is_zero_ended)?;
         let (alloc, hasher) = (self.rt.alloc(), self.hasher);
         write_answer::<B, _, _>(alloc, hasher, answer, &mut self.input, &mut output)
+    }
+
+    /// Writes each line once to standard output.
+    fn write_distinct<B: Backend + Drop>(&mut self) -> Result<(), Fault> {
+        let mut output = open_output(self.rt, self.is_zero_ended)?;
+        let (alloc, hasher) = (self.rt.alloc(), self.hasher);
+        distinct::<B, _, _>(alloc, hasher, &mut self.input, &mut output)
     }
 
     fn merge<B: Backend + Drop>(&self) -> Result<(), (Option<usize>, Fault)> {
