@@ -12,7 +12,7 @@ from itertools import chain, count, product
 
 from program import closed, columns, distinct, pairs, shards, shell
 from program.cases import MANY, MEBIBYTE, cases, rows
-from program.reckon import MEMORY, answer, failed, is_sorted, misused, unreadable, unwritable, warned
+from program.reckon import MEMORY, answer, failed, is_sorted, misused, unreadable, unwritable, value_of, warned
 from program.requests import OUTPUT_BUFFER, asks_of_lines
 from program.shards import MULTIPLIER, START, mixed
 from program.streams import Streams
@@ -26,7 +26,8 @@ def file_of(texts, numbers):
     return b'{"dictionary":[%s],"final_newline":true,"lines":[%s]}' % (b",".join(texts), b",".join(numbers))
 
 
-VALUED = b"--backend", b"--invalid", b"--plain", b"--onto", b"--onto-dictionary", b"--files0-from", b"--top", b"--at-least"
+VALUED = b"--backend", b"--invalid", b"--plain", b"--onto", b"--onto-dictionary", b"--files0-from", b"--top", b"--at-least",\
+    b"--field", b"-f", b"--separator", b"-t"
 
 
 def operands(words):
@@ -79,7 +80,7 @@ SORTED_IN_PLACE = 20
 def try_asks(program, name, words, data):
     """What a run of `encode` or `count` that ends well asks for after the words. In which order it asks for lines is its own."""
     backend = (re.findall(rb"--backend[= ](\w+)", b" ".join(words)) or [b"string"])[-1]
-    is_unmodelled = words[0] == b"distinct" or {b"-z", b"--invalid=replace"} & {*words}
+    is_unmodelled = words[0] == b"distinct" or {b"-z", b"--invalid=replace"} & {*words} or value_of(words, b"--field", b"-f")
     if is_unmodelled or is_sorted(words) and len(set(data.split(b"\n"))) > SORTED_IN_PLACE:
         return
     ended, asks = program.run_with_asks(words, data)
@@ -133,12 +134,14 @@ def try_words(program, row):
 TABLES = {"damaged_files": try_damaged, "files_that_are_no_json": try_no_json, "wrong_arguments": try_words}
 
 
+# The second field of each line.
+SECOND = [b"distinct", b"-f", b"2", b"--separator", b" "]
 # Lines that are counted, without those that occur once.
 RARE = [b"count", b"--top", b"2", b"--at-least=2"]
 
 
 def try_both_ways(program, name, data):
-    for backend, words in product(BACKENDS, ([b"encode"], [b"count"], [b"count", b"--sorted"], RARE)):
+    for backend, words in product(BACKENDS, ([b"encode"], [b"count"], [b"count", b"--sorted"], RARE, SECOND)):
         words = [*words, b"--backend", backend]
         yield f"{name}, {words}", program.run(words, data), answer(words, data)
         yield from try_asks(program, f"{name}, {words}", words, data)

@@ -9,7 +9,7 @@ from pathlib import Path
 
 from built import Program
 from program.columns import columns_of, files_in, write_files
-from program.reckon import Ended, answer, find_invalid, is_utf8, line_end, mend
+from program.reckon import Ended, answer, find_invalid, is_utf8, line_end, mend, pick
 from program.shards import shards_of
 from tree import TOP
 from trials import Seen, Trial
@@ -27,16 +27,17 @@ BACKEND: Choices = [], [b"--backend=string"], [b"--backend=bucket"], [b"--backen
 INVALID: Choices = [], [b"--invalid=error"], [b"--invalid=replace"], [b"--invalid=skip"]
 ENDED: Choices = [], [b"-z"], [b"--zero-terminated"]
 ROWS: Choices = [], [b"--sorted"], [b"--top=2"], [b"--at-least=2"], [b"--top=3", b"--at-least=2"]
+FIELD: Choices = [], [b"--field=1", b"-tb"], [b"-f2", b"--separator=b"], [b"-f1"]
 PLAIN: Choices = [], [b"--plain=new"], [b"--plain=new", b"--onto=old"], [b"--plain=new", b"--onto-dictionary=old"]
 MENDING, ONTO = {b"--invalid=replace", b"--invalid=skip"}, {b"--onto=old", b"--onto-dictionary=old"}
 # The choices that a command has, of which each is made beside each of the others.
 COMMANDS = {
-    b"encode": (PLAIN, INVALID, BACKEND),
-    b"count": (ROWS, ENDED, INVALID, BACKEND),
+    b"encode": (PLAIN, FIELD, INVALID, BACKEND),
+    b"count": (ROWS, ENDED, FIELD, INVALID, BACKEND),
     b"count --encoded": (ROWS, BACKEND),
-    b"distinct": (ENDED, INVALID, BACKEND),
+    b"distinct": (ENDED, FIELD, INVALID, BACKEND),
     b"merge": (BACKEND,),
-    b"shard %d new" % SHARDS: (ENDED, INVALID),
+    b"shard %d new" % SHARDS: (ENDED, FIELD, INVALID),
 }
 # Ways to name files: the operands, an option, and the names of what is read.
 FILES, BESIDE_INPUT = [b"0", b"1", b"2"], [b"0", b"-", b"2"]
@@ -61,13 +62,13 @@ def place(operands: list[bytes], options: Iterable[bytes], chance: random.Random
     return [*chain(*words)]
 
 
-def texts_before(texts: list[bytes], end: bytes) -> bytes:
+def texts_before(texts: list[bytes], options: list[bytes]) -> bytes:
     """The lines that are whole once texts are read, each by one read, before that of a line that is not UTF-8."""
-    read, before = b"", b""
+    read, before, end = b"", b"", line_end(options)
     for text in texts:
         read += text
         whole = read[:read.rfind(end) + 1]
-        if not is_utf8(whole):
+        if not is_utf8(pick(options, whole)):
             break
         before = whole
     return before
@@ -76,12 +77,12 @@ def texts_before(texts: list[bytes], end: bytes) -> bytes:
 def end_with(command: bytes, options: list[bytes], names: list[bytes], texts: list[bytes]) -> tuple[Ended, dict[str, bytes] | None]:
     """How a run over these texts ends, and the files of the folder `new`, if it makes one."""
     end, whole = line_end(options), b"".join(texts)
-    if not MENDING & {*options} and (found := find_invalid(texts, end)):
+    if not MENDING & {*options} and (found := find_invalid(texts, options)):
         at, line = found
         name = b"" if names[at] == b"-" else names[at] + b": "
-        written = answer([command, *options], texts_before(texts, end))[1] if command == b"distinct" else b""
+        written = answer([command, *options], texts_before(texts, options))[1] if command == b"distinct" else b""
         return (2, written, b"dictcol: %bline %d is not UTF-8 (see --invalid)\n" % (name, line)), None
-    text, told = mend(options, whole)
+    text, told = mend(options, pick(options, whole))
     if command.startswith(b"shard"):
         exchange = bytes.maketrans(b"\n" + end, end + b"\n")
         shards = shards_of(text.translate(exchange), SHARDS)

@@ -71,6 +71,29 @@ def warned(data: bytes, name: bytes = b"") -> bytes:
     return b"dictcol: %swarning: lines were read from what encode wrote (see decode, count --encoded)\n" % name
 
 
+def value_of(words: Sequence[bytes], *names: bytes) -> bytes | None:
+    """The value of the last of the options with these names, in a word of its own or in theirs."""
+    found = None
+    for word, behind in zip(words, [*words[1:], b""]):
+        if name := next((it for it in names if word == it or word.startswith(it + b"=" if it[:2] == b"--" else it)), None):
+            found = behind if word == name else word[len(name):].removeprefix(b"=" if name[:2] == b"--" else b"")
+    return found
+
+
+def field_of(words: Sequence[bytes], line: bytes) -> bytes:
+    """What stands for a line: a field of it, if the words say so."""
+    if not (number := value_of(words, b"--field", b"-f")):
+        return line
+    return dict(enumerate(line.split(value_of(words, b"--separator", b"-t") or b"\t"), 1)).get(int(number), b"")
+
+
+def pick(words: Sequence[bytes], data: bytes) -> bytes:
+    """The text of the fields of all lines. If the last one is empty, a newline ends it."""
+    end = line_end(words)
+    *lines, last = (field_of(words, line) for line in data.split(end))
+    return b"".join(line + end for line in lines) + (last or (b"" if data.endswith(end) or not data else end))
+
+
 def line_end(words: Sequence[bytes]) -> bytes:
     """The byte that ends a line."""
     return b"\0" if {b"-z", b"--zero-terminated"} & {*words} else b"\n"
@@ -100,11 +123,11 @@ def rows_of(words: Sequence[bytes], counts: Counter[bytes]) -> list[tuple[bytes,
     return [row for row in rows if row[1] >= (number_of(words, b"--at-least") or 0)][:number_of(words, b"--top")]
 
 
-def find_invalid(texts: Sequence[bytes], end: bytes) -> tuple[int, int] | None:
+def find_invalid(texts: Sequence[bytes], words: Sequence[bytes]) -> tuple[int, int] | None:
     """The place of the text, and the number of the line there, in which the first line that is not UTF-8 begins, if there is one."""
-    start = 0
+    start, end = 0, line_end(words)
     for line in b"".join(texts).split(end):
-        if not is_utf8(line):
+        if not is_utf8(field_of(words, line)):
             break
         start += len(line) + 1
     for place, text in enumerate(texts):
@@ -117,7 +140,7 @@ def find_invalid(texts: Sequence[bytes], end: bytes) -> tuple[int, int] | None:
 def answer(words: Sequence[bytes], data: bytes) -> Ended:
     """How a run of `encode`, `count` or `distinct` on UTF-8 must end, as Python reckons it. With `--invalid` it need not be UTF-8."""
     warning, end = warned(data), line_end(words)
-    data, told = mend(words, data)
+    data, told = mend(words, pick(words, data))
     lines = data.removesuffix(end).split(end) if data else []
     counts = Counter(lines)
     if words[0] == b"encode":

@@ -287,3 +287,20 @@ zero terminated:
   $ printf 'a\nb\000a\nb\000c\000' | dictcol count -z
   2 a
   b\x001 c\x00 (no-eol) (esc)
+
+the third field:
+
+  $ dictcol count --sorted -f3 -t: <<'END'
+  > root:x:0:0
+  > toor:x:0:0
+  > sync:x:4:65534
+  > +
+  > END
+  2 0
+  1 4
+  1 
+
+a field that is UTF-8, beside one that is not:
+
+  $ printf 'caf\351 red\nth\351 red\n' | dictcol count --field 2 --separator ' '
+  2 red

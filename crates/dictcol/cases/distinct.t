@@ -43,3 +43,26 @@ over buffer:
   > END
   b
   a
+
+the second field:
+
+  $ dictcol distinct -f 2 -t , <<'END'
+  > a,b,c
+  > d,b
+  > e
+  > f,
+  > g,h
+  > END
+  b
+  
+  h
+
+the first field, between tabs:
+
+  $ dictcol distinct --field=1 <<'END'
+  > a	b
+  > a c	b
+  > a
+  > END
+  a
+  a c

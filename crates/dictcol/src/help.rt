@@ -20,11 +20,11 @@ shard     writes DIR/0 to DIR/N-1, equal lines into one file, and DIR/order
   --onto OLD, --onto-dictionary OLD  the lines of OLD/dict.txt keep their codes
   --files0-from F  reads the files that F names; a zero byte ends each name
   --sorted, --top N, --at-least N  most frequent first, only N, only counts >= N
-  --encoded        each FILE is what encode wrote, and its lines are counted
-  -z, --zero-terminated  a zero byte ends each line, and not a newline
+  --encoded; -z, --zero-terminated  of what encode wrote; zero bytes end lines
+  -f N, --field N; -t C, --separator C  field N of lines, by tabs or bytes C
   --invalid HOW    lines that are not UTF-8: error, replace or skip
   --backend NAME   how texts are stored meanwhile: string, bucket or buffer
-  -h, --help; --version; -- before names. Manual: dictcol.1, by bin/install
+  -h, --help; --version; -- before names. Manual page: crates/dictcol/dictcol.1
 Exit status: 1 system or too many lines, 2 arguments or input, 141 closed output
 ";
 
