@@ -24,7 +24,7 @@ shard     writes DIR/0 to DIR/N-1, equal lines into one file, and DIR/order
   -z, --zero-terminated  a zero byte ends each line, and not a newline
   --invalid HOW    lines that are not UTF-8: error, replace or skip
   --backend NAME   how texts are stored meanwhile: string, bucket or buffer
-  -h, --help; --version; -- before names. Manual: dictcol.1, by bin/install
+  -h, --help; --version; -- before FILE; crates/dictcol/dictcol.1 by bin/install
 Exit status: 1 system or too many lines, 2 arguments or input, 141 closed output
 ";
 
