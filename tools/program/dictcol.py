@@ -78,7 +78,7 @@ SORTED_IN_PLACE = 20
 def try_asks(program, name, words, data):
     """What a run of `encode` or `count` that ends well asks for after the words. In which order it asks for lines is its own."""
     backend = (re.findall(rb"--backend[= ](\w+)", b" ".join(words)) or [b"string"])[-1]
-    if words[0] == b"distinct" or b"--sorted" in words and len(set(data.split(b"\n"))) > SORTED_IN_PLACE or {b"-z", b"--invalid=replace"} & {*words}:
+    if b"--sorted" in words and len(set(data.split(b"\n"))) > SORTED_IN_PLACE or {b"distinct", b"-z", b"--invalid=replace"} & {*words}:
         return
     ended, asks = program.run_with_asks(words, data)
     before, lines, behind = asks_of_lines(words, data, backend)

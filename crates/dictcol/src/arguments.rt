@@ -117,9 +117,19 @@ const COUNT: &[Command] = &[Command::Count];
 
 const ENDED: &[Command] = &[Command::Count, Command::Distinct, Command::Shard];
 
-const OF_LINES: &[Command] = &[Command::Encode, Command::Count, Command::Distinct, Command::Shard];
+const OF_LINES: &[Command] = &[
+    Command::Encode,
+    Command::Count,
+    Command::Distinct,
+    Command::Shard,
+];
 
-const STORING: &[Command] = &[Command::Encode, Command::Count, Command::Distinct, Command::Merge];
+const STORING: &[Command] = &[
+    Command::Encode,
+    Command::Count,
+    Command::Distinct,
+    Command::Merge,
+];
 
 /// The name of an option, what it sets, whether it has a value, and the commands that take it.
 type Row = (&'static str, Setting, bool, &'static [Command]);

@@ -44,17 +44,12 @@ struct DistinctLines<B: Backend> {
 }
 
 /// Appends the lines of a block that are new, by the codes of all. Those below `known` are of lines from before.
-fn push_new(
-    waiting: &mut Vec<u8>,
-    block: &[&str],
-    codes: &Codes,
-    known: usize,
-) -> Result<(), Fault>
+fn push_new(waiting: &mut Vec<u8>, block: &[&str], codes: &Codes, known: usize) -> Result<(), Fault>
     //~ requires { length codes.now.items ≤ length block.now }
     //~ ensures ok { OnOk result ((lines : List Text)
     //~     → IsCodedBy lines (texts_of block.now) known codes.now.items
     //~     → waiting.new.items ≡ waiting.old.items
-    //~         ++ ended_text (fresh (dictionary_of lines) (texts_of block.now))) }
+    //~     ++ ended_text (fresh (dictionary_of lines) (texts_of block.now))) }
     //~ ensures fault { IfErr result (λ fault. fault ≡ Memory) }
 {
     let mut new = 0;
