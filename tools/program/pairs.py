@@ -124,7 +124,8 @@ def try_together(program: Program, command: bytes, way: Way, parts: Parts) -> Se
 
 def options_of(command: bytes) -> set[bytes]:
     """The options that a command takes, by the table of the program."""
-    lists = {name: commands.split(b", ") for name, commands in re.findall(rb"const (\w+): &\[Command\] = &\[(.*?)\];", SOURCE)}
+    found = re.findall(rb"const (\w+): &\[Command\] = &\[(.*?)\];", SOURCE, re.S)
+    lists = {name: re.findall(rb"Command::\w+", commands) for name, commands in found}
     name = b"Command::" + command.title()
     return {option for option, of in re.findall(rb'\("(-[\w-]+)", Setting::\w+, \w+, (\w+)\)', SOURCE) if name in lists[of]}
 
