@@ -24,7 +24,7 @@ shard     writes DIR/0 to DIR/N-1, equal lines into one file, and DIR/order
   -f N, --field N; -t C, --separator C  field N of lines, by tabs or bytes C
   --invalid HOW    lines that are not UTF-8: error, replace or skip
   --backend NAME   how texts are stored meanwhile: string, bucket or buffer
-  -h, --help; --version; -- before names. Manual page: crates/dictcol/dictcol.1
+  -h, --help; --version; -- before FILE; crates/dictcol/dictcol.1 by bin/install
 Exit status: 1 system or too many lines, 2 arguments or input, 141 closed output
 ";
 
