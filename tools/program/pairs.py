@@ -141,7 +141,8 @@ def tried_options(command: bytes) -> Iterator[bytes]:
 def try_table(_: Program) -> Seen:
     """No option is left out."""
     for command in b"encode", b"count", b"distinct", b"merge", b"shard":
-        tried, wanted = {it.partition(b"=")[0] for it in tried_options(command)}, options_of(command)
+        tried = {it.partition(b"=")[0] if it[:2] == b"--" else it[:2] for it in tried_options(command)}
+        wanted = options_of(command)
         yield f"{command} has options", wanted != set(), True
         yield f"options of {command} that are not tried", wanted - tried, set()
 
