@@ -352,7 +352,6 @@ LONG = b"".join(b"%d\n" % number for number in range(30000))
 STREAMS = Streams(
     answered=(
         ([b"count", b"--sorted"], "red\né\né\n".encode(), "2 é\n1 red\n".encode()),
-        ([b"distinct"], b"red\ngreen\nred", b"red\ngreen\n"),
         ([b"encode"], b"red\ngreen\nred", b'{"dictionary":["red","green"],"final_newline":false,"lines":[0,1,0]}\n'),
         ([b"decode"], '{"dictionary":["é",""],"final_newline":true,"lines":[1,0,0]}'.encode(), "\né\né\n".encode()),
         ([b"count", b"-z", b"--invalid=replace"], b"a\n\xff\0b\0b", "1 a\n\ufffd\x002 b\x00".encode()),

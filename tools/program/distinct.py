@@ -1,12 +1,13 @@
 """What is tried of `dictcol distinct`: it writes while it reads."""
 
+import errno
 import os
 import random
 import select
 import subprocess
 
 from built import SECONDS, Program
-from program.reckon import answer
+from program.reckon import answer, unreadable
 from trials import Seen, Trial
 
 # What is written to the input at once, and what comes of it while the input is open.
@@ -36,6 +37,17 @@ def try_while_reading(program: Program) -> Seen:
     yield "the status", started.returncode, 0
 
 
+def try_failing(program: Program) -> Seen:
+    """If a read fails, the lines that ended before it are written. Reads may give a byte each."""
+    words, data = [b"distinct"], "red\né\nred\n\ngreen".encode()
+    for count in range(len(data) + 1):
+        ended = data[:data.rfind(b"\n", 0, count) + 1]
+        wanted = 1, answer(words, ended)[1], unreadable(errno.ECONNRESET)
+        yield f"an input that breaks off after {count} bytes", program.run(words, data, READ_BYTES=count), wanted
+    for size in range(1, len(data) + 1):
+        yield f"at most {size} bytes read at once", program.run(words, data, READ_AT_ONCE=size), answer(words, data)
+
+
 def try_broken(program: Program) -> Seen:
     """The lines of the reads before one with a line that is not UTF-8 are written, and no line is cut."""
     lines = b"".join(b"%d\n" % number for number in range(100000))
@@ -54,4 +66,4 @@ def try_many(program: Program, backend: bytes) -> Seen:
 
 
 def trials() -> list[Trial]:
-    return [(try_while_reading,), (try_broken,), *((try_many, backend) for backend in (b"string", b"bucket", b"buffer"))]
+    return [(try_while_reading,), (try_failing,), (try_broken,), *((try_many, backend) for backend in (b"string", b"bucket", b"buffer"))]

@@ -1,7 +1,7 @@
 -- Lines that are counted a block at a time.
-use Rattle.std.proofs.Common.{◌≡◌, ℕ, ◌+◌, ◌-◌, ◌^◌, ◌<◌, ◌≤◌, min, List, [], ◌∷◌, ◌++◌, length, take, get_or, Bor, Ok, Err, refl, sym, ap, subst, ◌∙◌, arith, inl, inr}
+use Rattle.std.proofs.Common.{◌≡◌, ℕ, ◌+◌, ◌-◌, ◌^◌, ◌<◌, ◌≤◌, min, List, [], ◌∷◌, ◌++◌, length, take, get_or, Bor, Some, Ok, Err, refl, sym, ap, ◌∙◌, arith, inl, inr}
 use Rattle.std.specs.Prelude.{slice_get, slice_set}
-use Rattle.std.proofs.lemmas.List.{append-nil, append_assoc, length-append, length-map, length-take-le, map-append, take_all}
+use Rattle.std.proofs.lemmas.List.{append-nil, length-append, length-map, length-take-le, take_all}
 use Rattle.std.proofs.lemmas.Slice.Zip.{AllZip-long}
 use Rattle.string_interner.specs.Text.{Text}
 use Rattle.string_interner.specs.Numbering.{Numbering}
@@ -9,7 +9,7 @@ use Rattle.string_interner.specs.Extend.{texts_of}
 use Rattle.string_interner.specs.declared.backend.InternError.{InternError}
 use Rattle.string_interner.proofs.Lemmas.Interner.InternsEach.{split-at}
 use Rattle.string_column.specs.Ahead.{PutsRows}
-use Rattle.string_column.specs.Column.{AreCodes, counts_of, dictionary_of}
+use Rattle.string_column.specs.Column.{counts_of, dictionary_of}
 use Rattle.string_column.proofs.Lemmas.Counts.{count_in}
 use Rattle.dictcol.specs.Counts.{HasCounted, IsCountedBy, contents_of}
 use Rattle.dictcol.specs.Fault.{IsTakeFault, intern_fault}

@@ -1,18 +1,18 @@
 -- Lines that were met: more of them, and what of the distinct ones waits or is written.
-use Rattle.std.proofs.Common.{◌≡◌, ℕ, ◌+◌, ◌-◌, ◌^◌, ◌<◌, ◌≤◌, ◌⊎◌, min, Bor, List, [], ◌∷◌, ◌++◌, length, take, drop, get_or, Option, Some, None, Result, Ok, Err, refl, sym, ap, subst, ◌∙◌, arith, inl, inr}
+use Rattle.std.proofs.Common.{◌≡◌, ℕ, ◌+◌, ◌-◌, ◌^◌, ◌<◌, ◌≤◌, ◌⊎◌, min, List, [], ◌∷◌, ◌++◌, length, take, drop, get_or, Option, Some, None, Result, Ok, Err, refl, sym, ap, subst, ◌∙◌, arith, inl, inr}
 use Rattle.std.specs.Prelude.{IfErr, IfSome, IsErrAnd, OnOk}
-use Rattle.std.specs.Io.KnownBytes.{Appends, Consumes}
+use Rattle.std.specs.Io.KnownBytes.{Appends}
 use Rattle.std.proofs.KnownBytes.{Appends-nil, Appends-trans}
 use Rattle.std.proofs.lemmas.Grind.{flat_map-append}
 use Rattle.std.proofs.lemmas.List.{append-nil, append_assoc, drop-append-le, length-append, take-append-drop, take-append-le, take_all, take_at}
 use Rattle.string_interner.specs.Text.{Text, first}
-use Rattle.string_interner.specs.Extend.{fresh, texts_of}
+use Rattle.string_interner.specs.Extend.{fresh}
 use Rattle.string_interner.proofs.Lemmas.Interner.Extends.{fresh-append}
 use Rattle.string_column.specs.Column.{dictionary_of}
 use Rattle.dictcol.specs.Blocks.{HasRead}
 use Rattle.dictcol.specs.Distinct.{HasMet, IsCodedBy, WritesFirst, distinct_text}
 use Rattle.dictcol.specs.Fault.{IsWriteFault}
-use Rattle.dictcol.specs.Lines.{ended_text, lines_of, text_of_ended}
+use Rattle.dictcol.specs.Lines.{ended_text, lines_of}
 use Rattle.dictcol.specs.declared.distinct.DistinctLines.{DistinctLines}
 use Rattle.dictcol.specs.declared.fault.Fault.{Fault}
 use Rattle.dictcol.proofs.CodeAt.{CodeAt, code-at, code-first, code-fresh}

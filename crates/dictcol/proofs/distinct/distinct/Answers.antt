@@ -1,10 +1,8 @@
-use Rattle.std.proofs.Common.{rules, ◌≡◌, ◌≢◌, List, [], ◌∷◌, ◌++◌, length, Some, IfErr, IfSome, OnOk, string_bytes, append-nil, refl, sym, subst, ap, ◌∙◌, inl, inr}
-use Rattle.std.specs.Io.KnownBytes.{Appends}
+use Rattle.std.proofs.Common.{rules, ◌≡◌, ◌≢◌, [], ◌∷◌, ◌++◌, length, string_bytes, append-nil, refl, sym, subst, ◌∙◌, inl, inr}
 use Rattle.std.proofs.lemmas.List.{nil_from_length}
 use Rattle.std.proofs.lemmas.Result.{IfErr-weaker, err_from_is_err_and, on_ok_weaker}
-use Rattle.string_interner.specs.Text.{Text}
-use Rattle.dictcol.specs.Blocks.{held, HasRead, IsLinesTaskFault, IsTextOf}
-use Rattle.dictcol.specs.Distinct.{HasMet, distinct_text}
+use Rattle.dictcol.specs.Blocks.{held, IsLinesTaskFault, IsTextOf}
+use Rattle.dictcol.specs.Distinct.{HasMet}
 use Rattle.dictcol.specs.Fault.{IsWriteFault}
 use Rattle.dictcol.specs.Lines.{lines_of}
 use Rattle.dictcol.specs.TooMany.{LacksLine}

@@ -1,9 +1,8 @@
-use Rattle.std.proofs.Common.{rules, ◌≡◌, Ok, Err, List, [], ◌∷◌, ◌++◌, length, ◌≤◌, IfErr, refl, sym, ap, ◌∙◌, arith}
+use Rattle.std.proofs.Common.{rules, ◌≡◌, Ok, Err, [], ◌++◌, IfErr, refl, sym, ap, ◌∙◌, arith}
 use Rattle.std.proofs.lemmas.List.{length-map}
 use Rattle.std.proofs.lemmas.Result.{IfErr-weaker}
 use Rattle.string_interner.specs.Extend.{fresh, texts_of}
 use Rattle.string_interner.specs.declared.backend.InternError.{InternError}
-use Rattle.dictcol.specs.Distinct.{IsCodedBy}
 use Rattle.dictcol.specs.Fault.{IsTakeFault, intern_fault}
 use Rattle.dictcol.specs.Lines.{ended_text}
 use Rattle.dictcol.specs.TooMany.{HasRefused, LacksLine}
