@@ -152,9 +152,9 @@ static void tell(const char *format, size_type one, size_type other) {
     write(STANDARD_ERROR, line, (size_type)snprintf(line, sizeof line, format, one, other));
 }
 
-static void tell_of_folders(const char *done) {
-    if (getenv("TELL_FOLDERS")) {
-        tell(done, 0, 0);
+static void tell_if(const char *wanted, const char *format, size_type one, size_type other) {
+    if (getenv(wanted)) {
+        tell(format, one, other);
     }
 }
 
@@ -172,7 +172,7 @@ int fsync(int file) {
     note_stored(file, 1);
     int outcome = next(file);
     if (is_folder(file)) {
-        tell_of_folders("stored\n");
+        tell_if("TELL_FOLDERS", "stored\n", 0, 0);
     }
     return outcome;
 }
@@ -210,11 +210,21 @@ static void count_call(void) {
     }
 }
 
-int open(const char *path, int flags, unsigned mode) {
-    FIND_NEXT(open)
-    count_call();
-    return next(path, flags, mode);
-}
+/* Counts a call, and hands it on. */
+#define COUNTED(name, parameters, ...)       \
+    int name parameters {                    \
+        FIND_NEXT(name)                      \
+        count_call();                        \
+        return next(__VA_ARGS__);            \
+    }
+
+COUNTED(open, (const char *path, int flags, unsigned mode), path, flags, mode)
+COUNTED(mkdir, (const char *path, unsigned mode), path, mode)
+COUNTED(link, (const char *old, const char *path), old, path)
+COUNTED(fchmod, (int file, unsigned mode), file, mode)
+COUNTED(flock, (int file, int how), file, how)
+COUNTED(unlinkat, (int folder, const char *path, int flags), folder, path, flags)
+COUNTED(rmdir, (const char *path), path)
 
 int statx(int folder, const char *path, int flags, unsigned mask, struct about *told) {
     FIND_NEXT(statx)
@@ -227,38 +237,12 @@ int statx(int folder, const char *path, int flags, unsigned mask, struct about *
     return outcome;
 }
 
-int mkdir(const char *path, unsigned mode) {
-    FIND_NEXT(mkdir)
-    count_call();
-    return next(path, mode);
-}
-
-int link(const char *old, const char *path) {
-    FIND_NEXT(link)
-    count_call();
-    return next(old, path);
-}
-
-int fchmod(int file, unsigned mode) {
-    FIND_NEXT(fchmod)
-    count_call();
-    return next(file, mode);
-}
-
-int flock(int file, int how) {
-    FIND_NEXT(flock)
-    count_call();
-    return next(file, how);
-}
-
 int rename(const char *old, const char *path) {
     FIND_NEXT(rename)
     count_call();
-    if (getenv("TELL_UNSTORED")) {
-        tell("unstored %lu\n", unstored, 0);
-    }
+    tell_if("TELL_UNSTORED", "unstored %lu\n", unstored, 0);
     int outcome = next(old, path);
-    tell_of_folders("renamed\n");
+    tell_if("TELL_FOLDERS", "renamed\n", 0, 0);
     return outcome;
 }
 
@@ -266,20 +250,8 @@ int unlink(const char *path) {
     FIND_NEXT(unlink)
     count_call();
     int outcome = next(path);
-    tell_of_folders("removed\n");
+    tell_if("TELL_FOLDERS", "removed\n", 0, 0);
     return outcome;
-}
-
-int unlinkat(int folder, const char *path, int flags) {
-    FIND_NEXT(unlinkat)
-    count_call();
-    return next(folder, path, flags);
-}
-
-int rmdir(const char *path) {
-    FIND_NEXT(rmdir)
-    count_call();
-    return next(path);
 }
 
 /* Blocks that are granted and not given back, and their bytes as the C library rounds them: now, at most, and at the reset. */
@@ -295,9 +267,7 @@ static int is_refused(size_type bytes) {
     static size_type requests;
     size_type refused = setting("REFUSE", 0);
     requests++;
-    if (getenv("TELL_ASKS")) {
-        tell("asks %lu\n", bytes, 0);
-    }
+    tell_if("TELL_ASKS", "asks %lu\n", bytes, 0);
     if (refused == 0 || (getenv("REFUSE_ON") ? requests < refused : requests != refused)) {
         return 0;
     }
@@ -308,21 +278,11 @@ static int is_refused(size_type bytes) {
 /* All that is held then is the program's own: before `main` neither the C library nor the toolchain's runtime asks for
    memory, as a scenario shows that takes none. */
 __attribute__((destructor)) static void tell_held(void) {
-    if (getenv("TELL_HELD")) {
-        tell("holds %lu\n", held, 0);
-    }
-    if (getenv("TELL_BYTES")) {
-        tell("bytes %lu %lu\n", live - base, peak - base);
-    }
-    if (getenv("TELL_WRITES")) {
-        tell("writes %lu\n", writes_of_files, 0);
-    }
-    if (getenv("TELL_DRAWN")) {
-        tell("draws %lu\n", drawn, 0);
-    }
-    if (getenv("TELL_READS")) {
-        tell("reads %lu\n", reads, 0);
-    }
+    tell_if("TELL_HELD", "holds %lu\n", held, 0);
+    tell_if("TELL_BYTES", "bytes %lu %lu\n", live - base, peak - base);
+    tell_if("TELL_WRITES", "writes %lu\n", writes_of_files, 0);
+    tell_if("TELL_DRAWN", "draws %lu\n", drawn, 0);
+    tell_if("TELL_READS", "reads %lu\n", reads, 0);
 }
 
 static void *counted(void *block) {
