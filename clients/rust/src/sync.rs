@@ -90,6 +90,9 @@ use std::vec::Vec;
 /// For fewer texts a block costs more than it saves.
 const FEWEST: usize = 32;
 
+/// Up to so many bytes are hashed and compared in place.
+const SHORT: usize = 16;
+
 /// A list of distinct texts, each with a symbol, that many threads may read and extend at the same time.
 ///
 /// Symbols number 0, 1, 2, .. in the order in which texts come, so that a `Vec` may have something for each of them. There are at
@@ -195,6 +198,20 @@ impl<S: Symbol, H: BuildHasher> Interner<S, H> {
     #[inline]
     pub fn get<T: AsRef<str>>(&self, string: T) -> Option<S> {
         let text = string.as_ref();
+        match text.len() {
+            0..=SHORT => self.get_here(text),
+            _ => self.get_long(text),
+        }
+    }
+
+    /// The same for a text of any length. It is a call, so that for a short text nothing is inlined that compares a long one.
+    #[inline(never)]
+    fn get_long(&self, text: &str) -> Option<S> {
+        self.get_here(text)
+    }
+
+    #[inline(always)]
+    fn get_here(&self, text: &str) -> Option<S> {
         let code = self.shared.code_of(text);
         let number = match glance(&self.memory, code, text) {
             Some(number) => number,
@@ -245,6 +262,20 @@ impl<S: Symbol, H: BuildHasher> Interner<S, H> {
     #[inline]
     pub fn try_get_or_intern<T: AsRef<str>>(&self, string: T) -> Result<S, InternError> {
         let text = string.as_ref();
+        match text.len() {
+            0..=SHORT => self.get_or_intern_here(text),
+            _ => self.get_or_intern_long(text),
+        }
+    }
+
+    /// The same for a text of any length. It is a call, so that for a short text nothing is inlined that compares a long one.
+    #[inline(never)]
+    fn get_or_intern_long(&self, text: &str) -> Result<S, InternError> {
+        self.get_or_intern_here(text)
+    }
+
+    #[inline(always)]
+    fn get_or_intern_here(&self, text: &str) -> Result<S, InternError> {
         let code = self.shared.code_of(text);
         match glance(&self.memory, code, text) {
             Some(number) => self.shared.symbol_of(number),

@@ -2,10 +2,14 @@
 
 use super::alloc::{AllocError, Global};
 use crate::unchecked::with_room;
+use core::hint::black_box;
 use core::ops::{Deref, DerefMut, Index, IndexMut};
 use core::slice::SliceIndex;
 
 type List<T> = alloc::vec::Vec<T>;
+
+/// Up to so many items are few.
+const FEW: usize = 1024;
 
 /// A growable list.
 #[derive(Debug, PartialEq, Eq)]
@@ -95,7 +99,21 @@ impl<T: Copy> Vec<T> {
 
     /// Makes a list of `count` copies of an item. `Err` only if the memory is refused.
     pub fn from_elem(alloc: Global, item: T, count: usize) -> Result<Self, AllocError> {
+        if count <= FEW {
+            return Vec::from_few(alloc, item, count);
+        }
         let mut list = Vec::with_capacity(alloc, count)?;
+        list.0.resize_with(count, || item);
+        Ok(list)
+    }
+
+    /// The same for few. Whoever asks for memory and writes zeros to all of it asks the system for zeros, as the compiler sees it. Of a
+    /// large block no page is touched then, but to take a small one costs more.
+    #[inline(never)]
+    fn from_few(alloc: Global, item: T, count: usize) -> Result<Self, AllocError> {
+        let mut list = Vec::with_capacity(alloc, count)?;
+        // So the compiler does not see it.
+        black_box(list.0.as_ptr());
         list.0.resize_with(count, || item);
         Ok(list)
     }

@@ -133,10 +133,10 @@ unsafe fn drop_items<T>(items: *mut T, count: usize) {
     drop(unsafe { Box::from_raw(ptr::slice_from_raw_parts_mut(items, count)) });
 }
 
-/// Returns the segment of a number.
+/// Returns the segment of a number. A `usize` is subtracted, so that to find its place in an array takes no instruction for that.
 #[inline(always)]
 fn segment_of(number: u32) -> usize {
-    ((number | (FIRST - 1)).ilog2() - (FIRST - 1).ilog2()) as usize
+    (number | (FIRST - 1)).ilog2() as usize - (FIRST - 1).ilog2() as usize
 }
 
 /// Returns the numbers of a segment's items: the first, and how many there are.
