@@ -1,6 +1,5 @@
 use Rattle.std.proofs.Common.{◌≤◌, ◌<◌, length, ap, arith, map, vec_capacity, rules}
 use Rattle.std.proofs.lemmas.Bool.{le-leb, lt-leb}
-use Rattle.std.proofs.lemmas.List.{length-map}
 use Rattle.string_interner.proofs.Lemmas.Backend.Entries.{first_entry, no_entry}
 use Rattle.dictcol.specs.Counts.{is_often, row_of}
 use Rattle.dictcol.proofs.CountRows.{row-left, row-listed, rows-done, rows-often}

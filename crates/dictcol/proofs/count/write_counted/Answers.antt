@@ -1,4 +1,4 @@
-use Rattle.std.proofs.Common.{◌≡◌, ◌<◌, ◌^◌, map, length, take, ap, subst, ◌∙◌, min, arith, rules}
+use Rattle.std.proofs.Common.{◌<◌, ◌^◌, map, length, take, ap, subst, ◌∙◌, min, arith, rules}
 use Rattle.std.specs.List.{filter, zip}
 use Rattle.std.proofs.lemmas.List.{take_all, take_min}
 use Rattle.dictcol.specs.Counts.{AreOrdered, AreSorted, is_often, row_of}
