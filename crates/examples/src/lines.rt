@@ -1,4 +1,4 @@
-//! The examples that docs/rattle.md and the front page of `string_interner` show.
+//! The examples that docs/use/rattle.md and the front page of `string_interner` show.
 
 ghost use Rattle.std.specs.Prelude.{◌≡◌, [], take, true, IfOk};
 
