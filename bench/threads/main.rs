@@ -385,22 +385,21 @@ fn rows_of<C: Contestant + 'static>(name: &str, texts: &'static Texts) -> Vec<Ro
     rows
 }
 
-/// Returns the row of making a plain interner of a shared one: to it all texts are new.
-fn row_of_freezing(texts: &'static Texts) -> Row {
+/// Returns the row of making an interner of another one: to it all texts are new.
+fn row_of_making<F: Send + 'static, T: Send + 'static>(
+    name: &str,
+    texts: &'static Texts,
+    fill: fn(&'static Texts) -> F,
+    make: fn(F) -> T,
+) -> Row {
     let round = move || {
         let filled = Mutex::new(None);
-        let fill = |_, _| {
-            let names = ours::sync::Interner::from_iter(&texts.new);
-            *filled.lock().unwrap() = Some(names);
-        };
-        let freeze = |_, _| {
-            let names = filled.lock().unwrap().take();
-            names.map(ours::sync::Interner::into_interner)
-        };
-        run(1, texts.new.len(), fill, freeze)
+        let fill = |_, _| *filled.lock().unwrap() = Some(fill(texts));
+        let make = |_, _| filled.lock().unwrap().take().map(make);
+        run(1, texts.new.len(), fill, make)
     };
     Row {
-        name: "plain, by into_interner\tnew 1".into(),
+        name: format!("{name}\tnew 1"),
         round: Box::new(round),
         times: Vec::new(),
     }
@@ -450,7 +449,18 @@ fn main() {
     }
     measure!(Plain, "plain");
     measure!(ours::sync::Interner, "sync::Interner");
-    rows.push(row_of_freezing(texts));
+    rows.push(row_of_making(
+        "plain, by into_interner",
+        texts,
+        |texts| ours::sync::Interner::from_iter(&texts.new),
+        ours::sync::Interner::into_interner,
+    ));
+    rows.push(row_of_making(
+        "shared, by from",
+        texts,
+        |texts| ours::StringInterner::from_iter(&texts.new),
+        ours::sync::Interner::from,
+    ));
     measure!(
         RwLock<original::DefaultStringInterner>,
         "RwLock of the original"
