@@ -39,7 +39,7 @@ pub enum Misuse<'a> {
     NotPositive(&'static str, ShownWord<'a>),
     #[error("option '--at-least' takes a number, and not {0}")]
     NoLeast(ShownWord<'a>),
-    #[error("option '{0}' takes one byte that ends no line, and not {1}")]
+    #[error("option '{0}' takes one byte but no newline, and not {1}")]
     NoByte(&'static str, ShownWord<'a>),
     #[error("extra operand {0}")]
     ExtraOperand(ShownWord<'a>),

@@ -7,7 +7,7 @@ usage: dictcol encode [--plain DIR [--onto OLD]] [OPTION ..] [FILE ..]
        dictcol count [--encoded | -z] [--sorted | --top N] [OPTION ..] [FILE ..]
        dictcol distinct [-z] [OPTION ..] [FILE ..]
        dictcol merge [--backend NAME] FILE ..
-       dictcol shard N DIR [-z] [--invalid HOW] [FILE ..]
+       dictcol shard N DIR [-z] [OPTION ..] [FILE ..]
 
 Reads each FILE in turn, or standard input if it is - or there is none.
 encode    writes lines as JSON: the distinct lines, and a number for each line

@@ -26,6 +26,9 @@ pub const BUFFER: usize = 1 << 16;
 /// What is said of lines that look like what `encode` writes.
 const LOOKS_ENCODED: &str = "lines were read from what encode wrote (see decode, count --encoded)";
 
+/// What is said of lines that look compressed.
+const LOOKS_COMPRESSED: &str = "fields were read from what looks compressed";
+
 /// Returns standard output, to which much is written at once, with newlines and zero bytes exchanged or not.
 pub fn open_output(
     rt: &HostRuntime,
@@ -89,15 +92,22 @@ impl<'a, H> Job<'a, H> {
         report_progress(self.rt, self.inputs().length(), "done");
     }
 
-    /// Warns on standard error if a file whose lines were read looks like one that `encode` wrote.
-    pub fn warn_of_encoded(&self) {
+    /// Warns on standard error if a file whose lines were read looks like one that `encode` wrote, or compressed, as it can be if the
+    /// fields that were read are UTF-8.
+    pub fn warn_of_looks(&self) {
+        self.warn(self.inputs().find_encoded(), LOOKS_ENCODED);
+        self.warn(self.inputs().find_compressed(), LOOKS_COMPRESSED);
+    }
+
+    /// Tells on standard error how a file looks, if there is one.
+    fn warn(&self, source: Option<Source<'a>>, looks: &str) {
         // Nothing is lost if standard error is closed.
-        let _ = match self.inputs().find_encoded() {
+        let _ = match source {
             Some(Source::File(path)) => {
                 let path = ShownPath(path);
-                eprintln!(self.rt; "dictcol: {path}: warning: {LOOKS_ENCODED}")
+                eprintln!(self.rt; "dictcol: {path}: warning: {looks}")
             }
-            Some(Source::StandardInput) => eprintln!(self.rt; "dictcol: warning: {LOOKS_ENCODED}"),
+            Some(Source::StandardInput) => eprintln!(self.rt; "dictcol: warning: {looks}"),
             None => Ok(()),
         };
     }
@@ -156,7 +166,7 @@ impl<'a> Job<'a, LineHasher> {
         self.tell_skipped();
         self.report_end();
         if task.reads_lines() {
-            self.warn_of_encoded();
+            self.warn_of_looks();
         }
         (Source::StandardInput, Ok(()))
     }

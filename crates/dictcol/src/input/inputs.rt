@@ -63,6 +63,8 @@ pub struct Inputs<'a> {
     compression: Option<Compression>,
     /// The first of them that looks like one that `encode` wrote.
     encoded: Option<Source<'a>>,
+    /// The first of them that looks compressed.
+    compressed: Option<Source<'a>>,
 }
 
 impl<'a> Inputs<'a> {
@@ -85,6 +87,7 @@ impl<'a> Inputs<'a> {
             begins: Vec::new(rt.alloc()),
             compression: None,
             encoded: None,
+            compressed: None,
         }
     }
 
@@ -134,6 +137,9 @@ impl<'a> Inputs<'a> {
         } else {
             Compression::of(bytes)
         };
+        if self.compressed.is_none() && self.compression.is_some() {
+            self.compressed = Some(source);
+        }
         self.has_bytes = true;
         if self.sources.len() > 1 && self.begins.push(begin).is_err() {
             return Err(io::Error::from(ErrorKind::OutOfMemory));
@@ -177,6 +183,11 @@ impl<'a> Inputs<'a> {
     /// Returns the first file that looks like one that `encode` wrote.
     pub fn find_encoded(&self) -> Option<Source<'a>> {
         self.encoded
+    }
+
+    /// Returns the first file that looks compressed.
+    pub fn find_compressed(&self) -> Option<Source<'a>> {
+        self.compressed
     }
 
     /// Returns the file that is read, or the only one. Behind the last of several it is standard input, which has no name to tell.

@@ -154,7 +154,7 @@ pub fn write<'a>(
         Ok(()) => {
             job.tell_skipped();
             job.report_end();
-            job.warn_of_encoded();
+            job.warn_of_looks();
             (folder, Ok(()))
         }
         Err(fault) => {

@@ -58,7 +58,7 @@ pub fn write<'a, B: Backend + Drop>(
     place.leave(job.rt, ended.1.is_ok());
     if ended.1.is_ok() {
         job.report_end();
-        job.warn_of_encoded();
+        job.warn_of_looks();
     }
     ended
 }
