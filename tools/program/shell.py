@@ -389,6 +389,9 @@ def try_packed(program):
         yield f"a line that goes on with {data[:10]}", ended, wanted
         words = [b"count", b"--invalid=replace"]
         yield f"mended, {data[:10]}", program.run(words, data), answer(words, data)
+        words = [b"distinct", b"--field=99"]
+        warning = b"dictcol: packed: warning: fields were read from what looks compressed\n"
+        yield f"a field of {data[:10]}", program.run([*words, b"packed"]), (*answer(words, data)[:2], warning)
     for data in NOT_PACKED:
         Path("other").write_bytes(data)
         bad = b"other: line %d is not UTF-8 (see --invalid)" % (data.count(b"\n", 0, 3) + 1)

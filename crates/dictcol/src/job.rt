@@ -92,11 +92,13 @@ impl<'a, H> Job<'a, H> {
         report_progress(self.rt, self.inputs().length(), "done");
     }
 
-    /// Warns on standard error if a file whose lines were read looks like one that `encode` wrote, or compressed, as it can be if the
-    /// fields that were read are UTF-8.
+    /// Warns on standard error if a file whose lines were read looks like one that `encode` wrote, or if one whose fields were read
+    /// looks compressed: the other lines of such a file are not UTF-8.
     pub fn warn_of_looks(&self) {
         self.warn(self.inputs().find_encoded(), LOOKS_ENCODED);
-        self.warn(self.inputs().find_compressed(), LOOKS_COMPRESSED);
+        if self.input.get_ref().has_field() {
+            self.warn(self.inputs().find_compressed(), LOOKS_COMPRESSED);
+        }
     }
 
     /// Tells on standard error how a file looks, if there is one.

@@ -51,6 +51,11 @@ impl<R: Read> Picked<R> {
         &self.input
     }
 
+    /// Returns whether it reads a field of each line.
+    pub fn has_field(&self) -> bool {
+        self.field.is_some()
+    }
+
     /// Moves the bytes of a field, and the ends of lines, to the front of the bytes that come next. Returns how many these are.
     fn pick(&mut self, field: Field, bytes: &mut [u8]) -> usize
         //~ ensures { result ≤ length bytes.new }
