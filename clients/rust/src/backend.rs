@@ -171,7 +171,7 @@ pub trait Backend: Default {
     /// Iterates over all texts with their symbols, in the order in which they came.
     fn iter(&self) -> Self::Iter<'_>;
 
-    /// Returns how many bytes of memory the texts take, with what is spare. What is provided returns 0.
+    /// Returns how many bytes of memory the texts take, with what is spare. By default it returns 0, so that they are not counted.
     fn memory_used(&self) -> usize {
         0
     }

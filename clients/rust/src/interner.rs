@@ -246,14 +246,14 @@ impl<B: Backend, H> StringInterner<B, H> {
     /// Returns how many bytes of memory the texts and their index take, with what is spare. Of a backend of a program's own it counts
     /// what that says by [`Backend::memory_used`].
     ///
-    /// Nobody else adds texts to an interner, so a limit is a test before a text comes. A call exceeds it by no more than the memory
-    /// doubles.
+    /// Nobody else adds texts to an interner, so a limit is a test before a text comes. Where lists grow for the text, they take up to
+    /// twice what they had and the text need.
     ///
     /// ```
     /// let mut names = string_interner::StringInterner::default();
     /// assert_eq!(names.memory_used(), 0);
     /// for word in ["Tiger", "Horse", "Tiger"] {
-    ///     if names.memory_used() < 1_000_000 || names.contains(word) {
+    ///     if names.memory_used() + word.len() < 1_000_000 || names.contains(word) {
     ///         names.get_or_intern(word);
     ///     }
     /// }

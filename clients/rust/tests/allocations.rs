@@ -7,8 +7,8 @@ use allocator::{HELD, REQUESTS};
 use common::Backend;
 use string_interner::backend::{BucketBackend, BufferBackend, StringBackend};
 use string_interner::hasher::FixedHashBuilder;
-use string_interner::sync::Interner;
 use string_interner::symbol::SymbolUsize;
+use string_interner::sync::Interner;
 use string_interner::{DefaultSymbol, StringInterner};
 
 /// Returns how often the call asked for memory, with what it returned.

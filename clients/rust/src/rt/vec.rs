@@ -107,12 +107,12 @@ impl<T: Copy> Vec<T> {
         Ok(list)
     }
 
-    /// The same for few. Whoever asks for memory and writes zeros to all of it asks the system for zeros, as the compiler sees it. Of a
-    /// large block no page is touched then, but to take a small one costs more.
+    /// The same for few. The compiler makes one call, `calloc`, of a block that is filled with zeros. That touches no page of a large
+    /// block, and takes longer for a small one.
     #[inline(never)]
     fn from_few(alloc: Global, item: T, count: usize) -> Result<Self, AllocError> {
         let mut list = Vec::with_capacity(alloc, count)?;
-        // So the compiler does not see it.
+        // So that the compiler does not see that the block is new.
         black_box(list.0.as_ptr());
         list.0.resize_with(count, || item);
         Ok(list)

@@ -13,7 +13,7 @@ use crate::symbol::{Sym, Symbol};
 use core::hash::BuildHasher;
 use std::vec::Vec;
 
-/// For no more texts the index of a shard has more than 2³² slots, and 32 bits of a code tell which slot is the home of its text.
+/// Up to so many texts no index of a shard has more than 2³² slots, and 32 bits of a code tell which slot is the home of its text.
 const MOST_BY_CODES: u64 = 3 << 30;
 
 /// Returns the code of each text that the index of an interner keeps, by the number of its symbol.

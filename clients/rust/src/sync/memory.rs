@@ -133,7 +133,7 @@ unsafe fn drop_items<T>(items: *mut T, count: usize) {
     drop(unsafe { Box::from_raw(ptr::slice_from_raw_parts_mut(items, count)) });
 }
 
-/// Returns the segment of a number. A `usize` is subtracted, so that to find its place in an array takes no instruction for that.
+/// Returns the segment of a number. The difference is a `usize` from the start, which saves an instruction.
 #[inline(always)]
 fn segment_of(number: u32) -> usize {
     (number | (FIRST - 1)).ilog2() as usize - (FIRST - 1).ilog2() as usize

@@ -36,8 +36,8 @@ pub(super) struct Shared<S, H> {
     symbol: PhantomData<fn() -> S>,
 }
 
-/// Returns the number of the shard of a text with this code, of which it takes the 32 bits that an index stores. If a hasher has few
-/// codes, few shards have texts, and threads that intern new ones wait longer.
+/// Returns the number of the shard of a text with this code, of which it takes the low 32 bits, which an index stores. If these have few
+/// values under a hasher, few shards have texts, and threads that intern new ones wait longer.
 #[inline(always)]
 pub(super) fn shard_of(code: u64) -> usize {
     ((code as u32).wrapping_mul(SPREAD) >> (u32::BITS - SHARD_BITS)) as usize
