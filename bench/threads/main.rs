@@ -459,7 +459,7 @@ fn main() {
         "shared, by from",
         texts,
         |texts| ours::StringInterner::from_iter(&texts.new),
-        ours::sync::Interner::from,
+        |plain: ours::StringInterner<ours::DefaultBackend>| ours::sync::Interner::from(plain),
     ));
     measure!(
         RwLock<original::DefaultStringInterner>,
