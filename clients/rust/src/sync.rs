@@ -426,9 +426,16 @@ impl<S: Symbol, H: BuildHasher> Interner<S, H> {
         interned.symbol(&self.shared)
     }
 
-    /// Interns a text with this code for who has the interner alone: no lock is taken.
+    /// Interns a text for who has the interner alone: no lock is taken.
     #[inline]
-    fn intern_alone(&mut self, code: u64, text: &str) -> Result<S, InternError> {
+    fn intern_alone(&mut self, text: &str) -> Result<S, InternError> {
+        let code = self.shared.code_of(text);
+        self.intern_coded_alone(code, text)
+    }
+
+    /// The same for a text with this code.
+    #[inline]
+    fn intern_coded_alone(&mut self, code: u64, text: &str) -> Result<S, InternError> {
         if let Some(number) = glance(&self.memory, code, text) {
             return self.shared.symbol_of(number);
         }

@@ -50,7 +50,7 @@ impl<S: Symbol, H: BuildHasher> Interner<S, H> {
                 Some(code) => code.into(),
                 None => interner.shared.code_of(text),
             };
-            expect(interner.intern_alone(code, text));
+            expect(interner.intern_coded_alone(code, text));
         }
         interner.shrink_to_fit();
         interner

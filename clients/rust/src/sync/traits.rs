@@ -120,9 +120,7 @@ impl<S: Symbol, H: BuildHasher, T: AsRef<str>> Extend<T> for Interner<S, H> {
     fn extend<I: IntoIterator<Item = T>>(&mut self, iter: I) {
         // A closure would hide from the panic who called.
         for string in iter {
-            let text = string.as_ref();
-            let code = self.shared.code_of(text);
-            expect(self.intern_alone(code, text));
+            expect(self.intern_alone(string.as_ref()));
         }
         self.shrink_to_fit();
     }
