@@ -25,9 +25,9 @@
 //!
 //! | | 10,000 texts | 1,000,000 texts |
 //! |---|---:|---:|
-//! | time of a known text | 1.4 | 1.0 |
-//! | of a new text | 1.7 | 2.2 |
-//! | of resolving | 1.1 | 1.0 |
+//! | time of a known text | 1.4 | 1.1 |
+//! | of a new text | 1.6 | 2.1 |
+//! | of resolving | 1.0 | 1.0 |
 //! | memory of a text | 1.2 | 1.6 |
 //!
 //! A new interner takes 3 KB where it lies, of bytes that are 0, so that a `static` takes no room in the program's file, and nothing
