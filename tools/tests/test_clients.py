@@ -123,7 +123,8 @@ class ClientsBuild(unittest.TestCase):
         self.assertTrue((self.top / "there/lib/libstring_interner.so").exists())
 
     def test_says_that_cargo_is_at_work(self):
-        # It says so each time that it has slept. Cargo ends once it sleeps again.
+        # It says so each time that it has slept. Cargo ends once it sleeps again, also if cargo begins before it sleeps at all.
+        (self.top / "slept").touch()
         sleeps = f"#!/bin/sh\necho sleeps >> '{self.top}/slept'\nexec /bin/sleep 0.1\n"
         waits = f"for turn in $(seq 6000); do [ $(grep -cs . '{self.top}/slept') -lt 3 ] || break; /bin/sleep 0.1; done; echo cargo"
         for name, text in (("sleep", sleeps), ("cargo", CARGO.format(top=self.top).replace("echo cargo", waits))):
