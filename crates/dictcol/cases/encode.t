@@ -136,3 +136,13 @@ two newlines:
   > 
   > END
   {"dictionary":[""],"final_newline":true,"lines":[0,0]}
+
+a last line without the field and without a newline:
+
+  $ printf 'a,b\nc' | dictcol encode -f 2 -t ,
+  {"dictionary":["b",""],"final_newline":true,"lines":[0,1]}
+
+a last line with the field and without a newline:
+
+  $ printf 'a\nb,c' | dictcol encode -f 2 -t,
+  {"dictionary":["","c"],"final_newline":false,"lines":[0,1]}
