@@ -1,5 +1,5 @@
 #!/usr/bin/env python3
-"""Builds what users run from the records of proofs in proved/, and compares these records with other proofs.
+"""Builds what users run from the records of proofs in records/, and compares these records with other proofs.
 
     tools/records.py build CRATE         builds a program or the library for C, and proves nothing. Status 3 says that no record fits, so
                                          that the crate is to be proved
@@ -8,7 +8,7 @@
                                          `rt ci` built there and said in its log. A record of other sources is named and passed over, or
                                          fails if what is compared is a commit
 
-proved/README.md says what a record is. `rattle build --crate-checked` compares it with what it reads, and stops where anything
+records/README.md says what a record is. `rattle build --crate-checked` compares it with what it reads, and stops where anything
 differs. tools/record-proofs writes the records.
 """
 
@@ -39,7 +39,7 @@ class Refused(Exception):
 
 
 def folder_of_records(top: Path = TOP) -> Path:
-    return top / "proved" / ask_rt("version").split()[0]
+    return top / "records" / ask_rt("version").split()[0]
 
 
 def crates_for(names: Iterable[str], top: Path = TOP) -> list[Any]:
@@ -137,7 +137,7 @@ def build_library(crate: Any, record: Path, words: list[str]) -> None:
 
 def build_crate(name: str, top: Path = TOP) -> int:
     """Builds a crate and what it stands on from their records. Returns the status of this command."""
-    if not (top / "proved").is_dir() or not folder_of_records(top).is_dir():
+    if not (top / "records").is_dir() or not folder_of_records(top).is_dir():
         print(f"{name}: no proof is recorded for this toolchain", file=sys.stderr)
         return NO_RECORD_FITS
     crates = crates_for([name], top)
@@ -194,7 +194,7 @@ def compare_crate(crate: Any, record: Path, verdict: str | None) -> str | None:
 
 
 def others_of_records() -> list[str]:
-    """What stands in proved/ beside the records of this build of the toolchain: nothing compares it."""
+    """What stands in records/ beside the records of this build of the toolchain: nothing compares it."""
     return sorted(it.name for it in folder_of_records().parent.iterdir() if it.name not in ("README.md", folder_of_records().name))
 
 
@@ -224,7 +224,7 @@ def compare(tree: str, log: str, *words: str) -> int:
     said = Path(log).read_text(encoding="utf-8", errors="replace")
     verdicts = dict.fromkeys(re.findall(r"^rt: (\w+) is kept: ", said, re.M)) | verdicts_in(said)
     crates, passed = crates_for(BUILT, Path(tree)), 0
-    faults = [f"proved/{it}: nothing compares this: remove it" for it in others_of_records()]
+    faults = [f"records/{it}: nothing compares this: remove it" for it in others_of_records()]
     with no_other_run_in(crates):
         for record, fault, is_stale in compare_crates(crates, verdicts):
             if is_stale and "--committed" not in words:

@@ -3,11 +3,11 @@
 use std::hint::black_box;
 use std::time::Instant;
 
-use ours::__parts::proved::backend::{Backend, Store, StringBackend};
-use ours::__parts::proved::dedup::{Index, SeededHasher, SeededState, TaggedIndex, TextIndex};
+use ours::__parts::erased::backend::{Backend, Store, StringBackend};
+use ours::__parts::erased::dedup::{Index, SeededHasher, SeededState, TaggedIndex, TextIndex};
 use ours::__parts::rt::alloc::Global;
 
-type Symbol = ours::__parts::proved::DefaultSymbol;
+type Symbol = ours::__parts::erased::DefaultSymbol;
 
 /// Keys that look random, as those of a process do. The hash is a poor one under keys with few bits.
 const KEYS: [u64; 2] = [0x6A09_E667_F3BC_C909, 0xBB67_AE85_84CA_A73B];

@@ -154,8 +154,8 @@ class EraseTest(TestCase):
             "pub(crate) use crate::symbol::Symbol;\n"
             "fn f() { core::mem::swap(); my::std::f(crate::g()); let std = 1; }\n",
             "use crate::rt::{mem, str};",
-            "pub(crate) use crate::proved::symbol::Symbol;",
-            "fn f() { crate::rt::mem::swap(); my::std::f(crate::proved::g()); let std = 1; }",
+            "pub(crate) use crate::erased::symbol::Symbol;",
+            "fn f() { crate::rt::mem::swap(); my::std::f(crate::erased::g()); let std = 1; }",
         )
 
     def test_modules_are_open_to_the_crate(self):
@@ -387,14 +387,14 @@ class EraseTest(TestCase):
             "use handles::{calls};\nuse handles::handle::Handle;\nfn f() { string_interner::json::f(); serde_json::f(); }\n",
             "use crate::handles::{calls};",
             "use crate::handle::Handle;",
-            "fn f() { crate::proved::json::f(); crate::rt::serde_json::f(); }",
+            "fn f() { crate::erased::json::f(); crate::rt::serde_json::f(); }",
         )
         self.exports("fn f() { crate::g(); part.to_vec(alloc) }\n", "fn f() { crate::exports::g(); part.try_to_vec(alloc) }")
 
     def test_exports_change_what_the_header_says(self):
         """What the header takes as const the library takes to be read, and nothing else."""
         header = (TOP / "clients/c/string_interner.h").read_text(encoding="utf-8")
-        exports = (TOP / "clients/c/src/proved/exports/mod.rs").read_text(encoding="utf-8")
+        exports = (TOP / "clients/c/src/erased/exports/mod.rs").read_text(encoding="utf-8")
         taken = dict(re.findall(r"^\w+ (interner_\w+)\((const )?interner \*h\b", header, re.M))
         lent = dict(re.findall(r"fn (interner_\w+)(?:<'a>)?\(\s*(?:/\*.*?\*/\s*|//~.*\n\s*)?h: &(?:'a )?(mut )?Handle\b", exports))
         self.assertGreater(len(lent), 25)

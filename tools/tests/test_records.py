@@ -122,7 +122,7 @@ class Records(unittest.TestCase):
         return found
 
     def record(self, crate):
-        return self.top / "proved/kit-1" / crate
+        return self.top / "records/kit-1" / crate
 
     def test_a_program_is_built_from_its_record(self):
         ran = self.run_in_copy("bin/intern", "string")
@@ -167,7 +167,7 @@ class Records(unittest.TestCase):
                 (self.record(crate) / file).unlink() if text is None else write(self.record(crate) / file, text)
                 ran = self.run_in_copy("bin/intern", "string", status=1)
                 self.assertEqual(ran.stdout, "")
-                self.assertIn(f"intern: not built: proved/kit-1/{crate} is damaged", ran.stderr)
+                self.assertIn(f"intern: not built: records/kit-1/{crate} is damaged", ran.stderr)
                 self.assertFalse((self.top / "crates/intern/out/intern").exists())
                 write(self.record(crate) / file, kept)
         self.run_in_copy("bin/intern", "string")
@@ -227,18 +227,18 @@ class Records(unittest.TestCase):
             self.run_in_copy(*words)
 
     def test_records_are_compared_with_the_proof_made_anew(self):
-        self.assertIn("proved/kit-1/intern: no program was built of the proof made anew", self.compare(1))
+        self.assertIn("records/kit-1/intern: no program was built of the proof made anew", self.compare(1))
         self.build_programs()
         self.assertEqual(self.compare(), "4 passed, 0 failed\n")
 
     def test_another_verdict_or_code_fails(self):
         self.build_programs()
         said = self.compare(1, intern="logic=proved functions=3")
-        self.assertIn("proved/kit-1/intern: it says logic=proved functions=2 cache=trusted, and the proof made anew logic=proved "
+        self.assertIn("records/kit-1/intern: it says logic=proved functions=2 cache=trusted, and the proof made anew logic=proved "
                       "functions=3\n3 passed, 1 failed\n", said)
         self.assertIn("3 passed, 1 failed", self.compare(1, dictcol="logic=not-proved"))
         write(self.top / "crates/intern/out/intern", "other code")
-        self.assertEqual(self.compare(1), "proved/kit-1/intern: its code is other than that of the proof made anew\n3 passed, 1 failed\n")
+        self.assertEqual(self.compare(1), "records/kit-1/intern: its code is other than that of the proof made anew\n3 passed, 1 failed\n")
 
     def test_a_crate_that_an_earlier_run_proved_has_no_verdict(self):
         self.build_programs()
@@ -248,7 +248,7 @@ class Records(unittest.TestCase):
     def test_a_record_that_the_prover_refuses_fails(self):
         self.build_programs()
         write(self.record("intern") / "verdict", "logic=proved functions=3")
-        self.assertIn("proved/kit-1/intern: the prover refuses it", self.compare(status=1))
+        self.assertIn("records/kit-1/intern: the prover refuses it", self.compare(status=1))
 
     def test_stale_records_are_named(self):
         self.edit("string_interner")
@@ -261,7 +261,7 @@ class Records(unittest.TestCase):
         self.build_programs()
         self.assertEqual(self.compare(0, "--committed"), "4 passed, 0 failed\n")
         self.edit("intern")
-        said = "proved/kit-1/intern: intern is not as its proof was recorded: src/main.rt\n3 passed, 1 failed\n"
+        said = "records/kit-1/intern: intern is not as its proof was recorded: src/main.rt\n3 passed, 1 failed\n"
         self.assertEqual(self.compare(1, "--committed"), said)
         self.edit("string_interner")
         self.assertTrue(self.compare(1, "--committed").endswith("0 passed, 4 failed\n"))
@@ -269,9 +269,9 @@ class Records(unittest.TestCase):
     def test_records_that_nothing_compares_fail(self):
         self.build_programs()
         for name in "kit-2", "notes":
-            write(self.top / "proved" / name / "intern/verdict", "")
-            self.assertEqual(self.compare(1), f"proved/{name}: nothing compares this: remove it\n4 passed, 1 failed\n")
-            shutil.rmtree(self.top / "proved" / name)
+            write(self.top / "records" / name / "intern/verdict", "")
+            self.assertEqual(self.compare(1), f"records/{name}: nothing compares this: remove it\n4 passed, 1 failed\n")
+            shutil.rmtree(self.top / "records" / name)
 
     def test_records_by_another_toolchain_are_named(self):
         write(self.here / "kit/KIT-ID", "kit-2 logic 0")
@@ -292,11 +292,11 @@ class ForgedRecord(unittest.TestCase):
         sum_of = hashlib.sha256(text.encode()).hexdigest()
         inputs = f'crate wrong library\nfile "src/lib.rt" {sum_of}\nlibrary std --extern {sum_of}\n'
         for name, said in ("inputs", inputs), ("verdict", "logic=proved functions=1\n"), ("format", f"rattle crate-checked v2\nsum {sum_of}\n"):
-            write(top / "proved" / kit / "wrong" / name, said)
+            write(top / "records" / kit / "wrong" / name, said)
         ran = subprocess.run([top / "tools/records.py", "build", "wrong"], capture_output=True, encoding="utf-8", check=False)
         self.assertEqual((ran.returncode, ran.stdout), (1, ""))
         self.assertIn("error[unusable-checked-crate]", ran.stderr)
-        self.assertIn(f"wrong: not built: proved/{kit}/wrong is damaged", ran.stderr)
+        self.assertIn(f"wrong: not built: records/{kit}/wrong is damaged", ran.stderr)
         self.assertFalse((top / "crates/wrong/out/rlib/recorded/wrong.rlib").exists())
 
 

@@ -51,7 +51,7 @@ chmod +x target/of_this_machine/release/intern
 """
 # What cargo compiles, and where that is.
 COMPILED = ("Cargo.toml", "clients/programs/Cargo.toml", "clients/programs/src/lib.rs", "clients/rust/Cargo.toml",
-            "clients/rust/src/lib.rs", "clients/rust/src/proved/mod.rs")
+            "clients/rust/src/lib.rs", "clients/rust/src/erased/mod.rs")
 
 
 class Start(unittest.TestCase):

@@ -1,7 +1,7 @@
 //! The programs `intern` and `dictcol` by cargo alone.
 //!
 //! The modules `string_column`, `intern` and `dictcol` are proved source, of which `tools/erase` made plain Rust. So is the library
-//! itself, which is a part of the crate for Rust (`proved`).
+//! itself, which is a part of the crate for Rust (`erased`).
 //!
 //! Written by hand are the stand-ins for the prover's libraries: its standard library, JSON and `memchr` (`rt`, of which the crate
 //! for Rust has most), and short calls (`itoa`, `simdutf8`). They are tested, and not proved.
@@ -20,10 +20,10 @@ pub mod rt;
 pub mod simdutf8;
 
 pub use rt::{memchr, tokens};
-use string_interner::__parts::proved;
+use string_interner::__parts::erased;
 
 // The linter and the compiler warn of what the source's language asks for.
-macro_rules! proved {
+macro_rules! erased {
     ($($path:literal $name:ident)*) => {$(
         #[allow(clippy::all, clippy::undocumented_unsafe_blocks, dead_code, unstable_name_collisions, unused)]
         #[rustfmt::skip]
@@ -31,8 +31,8 @@ macro_rules! proved {
         pub mod $name;
     )*};
 }
-proved! {
-    "proved/string_column/mod.rs" string_column
-    "proved/intern/mod.rs" intern
-    "proved/dictcol/mod.rs" dictcol
+erased! {
+    "erased/string_column/mod.rs" string_column
+    "erased/intern/mod.rs" intern
+    "erased/dictcol/mod.rs" dictcol
 }

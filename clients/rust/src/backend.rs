@@ -12,14 +12,14 @@
 #[deny(unsafe_code)]
 mod iter;
 
+use crate::erased::backend as proved;
+use crate::erased::backend::{Backend as _, Store as _};
+use crate::erased::dedup::TextIndex;
 use crate::error::{expect, InternError};
 use crate::interner::StringInterner;
-use crate::proved::backend as proved;
-use crate::proved::backend::{Backend as _, Store as _};
-use crate::proved::dedup::TextIndex;
 use crate::rt::alloc::{AllocError, Global};
-use crate::sealed::Ours;
-use crate::symbol::{DefaultSymbol, Sym, Symbol};
+use crate::sealed::Sealed;
+use crate::symbol::{DefaultSymbol, Symbol, SymbolAdapter};
 use crate::unchecked::{find_bucketed, find_joined, joined_at};
 use alloc::vec::Vec;
 use core::fmt;
@@ -179,7 +179,7 @@ pub trait Backend: Default {
     /// Reports whether no symbol is left, if that is known before the next text is stored.
     #[doc(hidden)]
     #[inline(always)]
-    fn __is_full(&self, _: Ours) -> bool {
+    fn __is_full(&self, _: Sealed) -> bool {
         false
     }
 
@@ -187,15 +187,15 @@ pub trait Backend: Default {
     /// backend of a program's own.
     #[doc(hidden)]
     #[inline(always)]
-    fn __make_room<H: BuildHasher>(_: &mut StringInterner<Self, H>, _texts: usize, _: Ours) {}
+    fn __make_room<H: BuildHasher>(_: &mut StringInterner<Self, H>, _texts: usize, _: Sealed) {}
 
     /// Keeps the first `len` texts of an interner, which has more. A backend of a program's own is made anew of them.
     #[doc(hidden)]
     #[track_caller]
-    fn __truncate<H: BuildHasher>(interner: &mut StringInterner<Self, H>, len: usize, _: Ours) {
-        let backend = As(Self::with_capacity(len));
+    fn __truncate<H: BuildHasher>(interner: &mut StringInterner<Self, H>, len: usize, _: Sealed) {
+        let backend = BackendAdapter(Self::with_capacity(len));
         let index = expect(TextIndex::with_capacity(Global, len));
-        let As(old) = interner.proved.restart(backend, index);
+        let BackendAdapter(old) = interner.proved.restart(backend, index);
         for (_, text) in old.iter().take(len) {
             interner.get_or_intern(text);
         }
@@ -203,24 +203,24 @@ pub trait Backend: Default {
 }
 
 /// A backend as the proved code takes it. It derives nothing, so that no impl of a program's own runs there but these calls.
-pub(crate) struct As<B>(pub B);
+pub(crate) struct BackendAdapter<B>(pub B);
 
-impl<B: Backend> proved::Store for As<B> {
-    type Symbol = Sym<B::Symbol>;
+impl<B: Backend> proved::Store for BackendAdapter<B> {
+    type Symbol = SymbolAdapter<B::Symbol>;
 
     #[inline(always)]
     fn is_full(&self) -> bool {
-        self.0.__is_full(Ours(()))
+        self.0.__is_full(Sealed(()))
     }
 
     #[inline(always)]
     fn intern(&mut self, text: &str) -> Result<Self::Symbol, proved::InternError> {
-        Ok(Sym(self.0.try_intern(text)?))
+        Ok(SymbolAdapter(self.0.try_intern(text)?))
     }
 
     #[inline(always)]
     fn intern_static(&mut self, text: &'static str) -> Result<Self::Symbol, proved::InternError> {
-        Ok(Sym(self.0.try_intern_static(text)?))
+        Ok(SymbolAdapter(self.0.try_intern_static(text)?))
     }
 
     #[inline(always)]
@@ -245,9 +245,9 @@ impl<B: Backend> proved::Store for As<B> {
     }
 }
 
-impl<B: Backend + Clone> proved::CopyBackend for As<B> {
+impl<B: Backend + Clone> proved::CopyBackend for BackendAdapter<B> {
     fn try_copy(&self) -> Result<Self, AllocError> {
-        Ok(As(self.0.clone()))
+        Ok(BackendAdapter(self.0.clone()))
     }
 }
 
@@ -339,7 +339,7 @@ macro_rules! backend {
 
             #[inline(always)]
             unsafe fn resolve_unchecked(&self, symbol: S) -> &str {
-                if $checks_numbers || S::__keeps_its_number(Ours(())) {
+                if $checks_numbers || S::__keeps_its_number(Sealed(())) {
                     // The proved call reads within the texts whatever the number is. What else it asks, this caller has promised.
                     $at(&self.texts, symbol.to_usize())
                 } else {
@@ -358,40 +358,40 @@ macro_rules! backend {
             }
 
             #[inline(always)]
-            fn __is_full(&self, _: Ours) -> bool {
+            fn __is_full(&self, _: Sealed) -> bool {
                 self.next_symbol().is_none()
             }
 
             fn __make_room<H: BuildHasher>(
                 interner: &mut StringInterner<Self, H>,
                 texts: usize,
-                _: Ours,
+                _: Sealed,
             ) {
                 // If there is no memory for all at once, there may be some for one text after another.
                 let Ok(index) = TextIndex::with_capacity(Global, texts) else {
                     return;
                 };
                 if let Ok(empty) = proved::$name::with_capacity(Global, texts) {
-                    interner.proved.restart(As(Self::of(empty)), index);
+                    interner.proved.restart(BackendAdapter(Self::of(empty)), index);
                 }
             }
 
             fn __truncate<H: BuildHasher>(
                 interner: &mut StringInterner<Self, H>,
                 len: usize,
-                _: Ours,
+                _: Sealed,
             ) {
                 interner.proved.truncate(len);
             }
         }
 
-        impl<S: Symbol> proved::Backend for As<$name<S>> {
+        impl<S: Symbol> proved::Backend for BackendAdapter<$name<S>> {
             fn new(_alloc: Global) -> Self {
-                As($name::default())
+                BackendAdapter($name::default())
             }
 
             fn with_capacity(alloc: Global, capacity: usize) -> Result<Self, AllocError> {
-                Ok(As($name::of(proved::$name::with_capacity(alloc, capacity)?)))
+                Ok(BackendAdapter($name::of(proved::$name::with_capacity(alloc, capacity)?)))
             }
 
             #[inline(always)]
@@ -399,14 +399,14 @@ macro_rules! backend {
                 self.0.texts.count()
             }
 
-            fn next_symbol(&self) -> Option<Sym<S>> {
-                self.0.next_symbol().map(Sym)
+            fn next_symbol(&self) -> Option<SymbolAdapter<S>> {
+                self.0.next_symbol().map(SymbolAdapter)
             }
 
             #[inline(always)]
-            fn entry_at(&self, at: usize) -> (Sym<S>, &str, usize) {
+            fn entry_at(&self, at: usize) -> (SymbolAdapter<S>, &str, usize) {
                 let (number, text, next) = self.0.texts.entry_at(at);
-                (Sym(iter::symbol_of(number)), text, next)
+                (SymbolAdapter(iter::symbol_of(number)), text, next)
             }
 
             fn place_of(&self, index: usize) -> usize {

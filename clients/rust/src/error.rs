@@ -1,4 +1,4 @@
-use crate::proved::backend::InternError as Proved;
+use crate::erased::backend::InternError as Proved;
 use crate::rt::alloc::AllocError;
 use core::error::Error;
 use core::fmt;

@@ -18,15 +18,15 @@
 //! Look-ups work under every builder, even one whose hashes are all equal. What an interner returns does not depend on its hasher,
 //! as long as that gives equal texts equal hashes.
 
-use crate::proved::hash::{CopyHasher, SeededHash, SeededState, TextHasher};
+use crate::erased::hash::{CopyHasher, SeededHash, SeededState, TextHasher};
 use crate::rt::hash::{keyed_hasher, DefaultHasher, FoldHasher};
 use core::fmt;
 use core::hash::{BuildHasher, Hash, Hasher};
 
 /// A builder of hashers as the proved code takes it.
-pub(crate) struct By<H>(pub H);
+pub(crate) struct HasherAdapter<H>(pub H);
 
-impl<H: BuildHasher> TextHasher for By<H> {
+impl<H: BuildHasher> TextHasher for HasherAdapter<H> {
     /// Returns the hash of a text. Its halves are joined, because the index takes the lower one alone, and a hasher may spread only
     /// the upper one well.
     #[inline(always)]
@@ -40,9 +40,9 @@ impl<H: BuildHasher> TextHasher for By<H> {
     }
 }
 
-impl<H: Clone> CopyHasher for By<H> {
+impl<H: Clone> CopyHasher for HasherAdapter<H> {
     fn same(&self) -> Self {
-        By(self.0.clone())
+        HasherAdapter(self.0.clone())
     }
 }
 

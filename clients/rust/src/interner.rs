@@ -1,16 +1,16 @@
 pub(crate) mod block;
-mod many;
+pub(crate) mod many;
 mod traits;
 
-use crate::backend::{As, Backend};
+use crate::backend::{Backend, BackendAdapter};
+use crate::erased::dedup::{TaggedIndex, TextIndex};
+use crate::erased::interner as proved;
 use crate::error::{expect, InternError};
-use crate::hasher::{By, DefaultHashBuilder};
+use crate::hasher::{DefaultHashBuilder, HasherAdapter};
 use crate::keywords::{check_keyword, Keywords};
-use crate::proved::dedup::{TaggedIndex, TextIndex};
-use crate::proved::interner as proved;
 use crate::rt::alloc::Global;
-use crate::sealed::Ours;
-use crate::symbol::Sym;
+use crate::sealed::Sealed;
+use crate::symbol::SymbolAdapter;
 use core::hash::BuildHasher;
 use core::mem;
 use core::ops::{Bound, RangeBounds};
@@ -24,7 +24,7 @@ pub(crate) use many::reserve;
 const TAGS_BEHIND: usize = 16;
 
 /// The index of an interner's texts.
-pub(crate) type Index<B> = TaggedIndex<Sym<<B as Backend>::Symbol>>;
+pub(crate) type Index<B> = TaggedIndex<SymbolAdapter<<B as Backend>::Symbol>>;
 
 /// A list of distinct texts, each with a symbol.
 ///
@@ -34,7 +34,7 @@ pub struct StringInterner<B, H = DefaultHashBuilder>
 where
     B: Backend,
 {
-    pub(crate) proved: proved::StringInterner<As<B>, By<H>, Index<B>>,
+    pub(crate) proved: proved::StringInterner<BackendAdapter<B>, HasherAdapter<H>, Index<B>>,
 }
 
 impl<B: Backend, H: BuildHasher + Default> StringInterner<B, H> {
@@ -76,14 +76,20 @@ impl<B: Backend, H: BuildHasher> StringInterner<B, H> {
     #[inline(always)]
     pub(crate) fn over(backend: B, hash_builder: H, index: Index<B>) -> Self {
         StringInterner {
-            proved: proved::StringInterner::from_parts(As(backend), By(hash_builder), index),
+            proved: proved::StringInterner::from_parts(
+                BackendAdapter(backend),
+                HasherAdapter(hash_builder),
+                index,
+            ),
         }
     }
 
     /// Returns the symbol of a text, if it is known.
     #[inline]
     pub fn get<T: AsRef<str>>(&self, string: T) -> Option<B::Symbol> {
-        self.proved.get(string.as_ref()).map(|Sym(symbol)| symbol)
+        self.proved
+            .get(string.as_ref())
+            .map(|SymbolAdapter(symbol)| symbol)
     }
 
     /// Reports whether a text is known.
@@ -172,8 +178,8 @@ impl<B: Backend, H: BuildHasher> StringInterner<B, H> {
         };
         let interned = self
             .proved
-            .get_or_intern_part(Global, Sym(symbol), start, end);
-        expect(interned).map(|Sym(part)| part)
+            .get_or_intern_part(Global, SymbolAdapter(symbol), start, end);
+        expect(interned).map(|SymbolAdapter(part)| part)
     }
 
     /// Interns [keywords](crate::keywords), so that each has the symbol of its constant. Nothing changes if all have it.
@@ -207,7 +213,7 @@ impl<B: Backend, H: BuildHasher> StringInterner<B, H> {
     #[track_caller]
     pub fn truncate(&mut self, len: usize) {
         if len < self.len() {
-            B::__truncate(self, len, Ours(()));
+            B::__truncate(self, len, Sealed(()));
         }
     }
 }
@@ -264,7 +270,7 @@ impl<B: Backend, H> StringInterner<B, H> {
         let slots = self.proved.index().slots();
         let of_index = match slots {
             0 => 0,
-            _ => slots * (1 + mem::size_of::<(Sym<B::Symbol>, u32)>()) + TAGS_BEHIND,
+            _ => slots * (1 + mem::size_of::<(SymbolAdapter<B::Symbol>, u32)>()) + TAGS_BEHIND,
         };
         of_index + self.backend().memory_used()
     }
@@ -290,7 +296,7 @@ impl<B: Backend, H> StringInterner<B, H> {
     /// ```
     #[inline]
     pub fn resolve(&self, symbol: B::Symbol) -> Option<&str> {
-        self.proved.resolve(Sym(symbol))
+        self.proved.resolve(SymbolAdapter(symbol))
     }
 
     /// Iterates over all texts with their symbols, in insertion order.

@@ -90,7 +90,7 @@
 //!
 //! # What is proved, and what is trusted
 //!
-//! The module `proved` is the library of the repository, whose every function is proved to keep its contract. A tool, `tools/erase`,
+//! The module `erased` is the library of the repository, whose every function is proved to keep its contract. A tool, `tools/erase`,
 //! made it of the proved source: it made comments of the contracts, and left the code as it was, token by token but for a few that
 //! its page names.
 //!
@@ -134,8 +134,8 @@
 //! | `rt/words.rs`: a block of words is read and freed | it has so many words and a count of the lists that have it, of which the last one frees it |
 //! | `sync/memory.rs`: texts are lent without a lock | blocks of bytes do not move, and no text is dropped |
 //! | `sync/memory.rs`: what threads read while it grows | it is published by a release, and freed by `&mut` alone |
-//! | `proved`, of a buffer and of buckets: bytes are a text | they are those of a text that was interned: what a number of a program's own symbol type leads to is checked instead |
-//! | `proved`, of static texts: their bytes are read at their address | the address is made of a `&'static str`, in one place |
+//! | `erased`, of a buffer and of buckets: bytes are a text | they are those of a text that was interned: what a number of a program's own symbol type leads to is checked instead |
+//! | `erased`, of static texts: their bytes are read at their address | the address is made of a `&'static str`, in one place |
 //!
 // Without `std` there is no module `sync`, and links to it lead to where that is said.
 #![cfg_attr(
@@ -174,9 +174,9 @@ mod keywords;
 // The linter and the compiler warn of what the source's language asks for.
 #[allow(clippy::all, clippy::undocumented_unsafe_blocks, dead_code, missing_docs, rustdoc::all, unsafe_code, unstable_name_collisions, unused)]
 #[rustfmt::skip]
-mod proved;
+mod erased;
 #[cfg(doctest)]
-mod refused;
+mod compile_fail;
 // The stand-ins have the names of what they stand for.
 #[allow(
     clippy::len_without_is_empty,
@@ -209,8 +209,8 @@ pub type DefaultStringInterner<B = DefaultBackend, H = DefaultHashBuilder> = Str
 #[cfg(feature = "parts")]
 #[doc(hidden)]
 pub mod __parts {
-    pub mod proved {
-        pub use crate::proved::*;
+    pub mod erased {
+        pub use crate::erased::*;
     }
     pub mod rt {
         pub use crate::rt::*;
@@ -222,5 +222,5 @@ pub mod __parts {
 
 /// A value that only this crate has, so that only it can call the methods of its traits that take one.
 mod sealed {
-    pub struct Ours(pub(crate) ());
+    pub struct Sealed(pub(crate) ());
 }

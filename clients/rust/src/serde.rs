@@ -2,6 +2,7 @@
 
 use crate::backend::Backend;
 use crate::error::InternError;
+use crate::interner::many::MOST_RESERVED;
 use crate::interner::StringInterner;
 use crate::symbol::{SymbolU16, SymbolU32, SymbolUsize};
 use core::fmt;
@@ -10,9 +11,6 @@ use core::marker::PhantomData;
 use serde::de::{DeserializeSeed, Deserializer, Error, SeqAccess, Unexpected, Visitor};
 use serde::ser::{SerializeSeq, Serializer};
 use serde::{Deserialize, Serialize};
-
-/// Memory for more texts than these is not reserved because of what an input says of itself.
-const MOST_RESERVED: usize = 1 << 12;
 
 impl<B: Backend, H> Serialize for StringInterner<B, H> {
     /// Writes the texts as a sequence, in insertion order.

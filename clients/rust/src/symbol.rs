@@ -1,7 +1,7 @@
 //! Symbols: the small values that stand for texts.
 
-use crate::proved;
-use crate::sealed::Ours;
+use crate::erased;
+use crate::sealed::Sealed;
 use core::num::{NonZeroU16, NonZeroU32, NonZeroUsize};
 
 pub use crate::keywords::Keywords;
@@ -44,14 +44,14 @@ pub trait Symbol: Copy + Eq {
     /// Whether a symbol's number is the one that it was made of, which is known of the types of this crate alone.
     #[doc(hidden)]
     #[inline(always)]
-    fn __keeps_its_number(_: Ours) -> bool {
+    fn __keeps_its_number(_: Sealed) -> bool {
         false
     }
 
     /// How many symbols there are, as far as that is known. Their numbers are those below this.
     #[doc(hidden)]
     #[inline(always)]
-    fn __count(_: Ours) -> usize {
+    fn __count(_: Sealed) -> usize {
         usize::MAX
     }
 }
@@ -71,7 +71,7 @@ impl Symbol for usize {
     }
 
     #[inline(always)]
-    fn __keeps_its_number(_: Ours) -> bool {
+    fn __keeps_its_number(_: Sealed) -> bool {
         true
     }
 }
@@ -113,12 +113,12 @@ macro_rules! symbol {
             }
 
             #[inline(always)]
-            fn __keeps_its_number(_: Ours) -> bool {
+            fn __keeps_its_number(_: Sealed) -> bool {
                 true
             }
 
             #[inline(always)]
-            fn __count(_: Ours) -> usize {
+            fn __count(_: Sealed) -> usize {
                 <$number>::MAX as usize
             }
         }
@@ -160,28 +160,28 @@ pub(crate) fn expect_text<S: Symbol>(text: Option<&str>, symbol: S) -> &str {
 ///
 /// It is copied by its bits: no `Clone` or `Eq` of a program's own runs within proved code.
 #[derive(Copy)]
-pub(crate) struct Sym<S>(pub S);
+pub(crate) struct SymbolAdapter<S>(pub S);
 
-impl<S: Copy> Clone for Sym<S> {
+impl<S: Copy> Clone for SymbolAdapter<S> {
     #[inline(always)]
     fn clone(&self) -> Self {
         *self
     }
 }
 
-impl<S: Symbol> PartialEq for Sym<S> {
+impl<S: Symbol> PartialEq for SymbolAdapter<S> {
     #[inline(always)]
     fn eq(&self, other: &Self) -> bool {
         self.0.to_usize() == other.0.to_usize()
     }
 }
 
-impl<S: Symbol> Eq for Sym<S> {}
+impl<S: Symbol> Eq for SymbolAdapter<S> {}
 
-impl<S: Symbol> proved::symbol::Symbol for Sym<S> {
+impl<S: Symbol> erased::symbol::Symbol for SymbolAdapter<S> {
     #[inline(always)]
     fn try_from_usize(index: usize) -> Option<Self> {
-        S::try_from_usize(index).map(Sym)
+        S::try_from_usize(index).map(SymbolAdapter)
     }
 
     #[inline(always)]

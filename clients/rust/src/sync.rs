@@ -72,13 +72,13 @@ mod shared;
 mod tests;
 mod traits;
 
+use crate::erased::interner::given::Given;
+use crate::erased::interner::look_ahead::FEWEST_FOR_BLOCKS;
 use crate::error::{expect, InternError};
 use crate::hasher::DefaultHashBuilder;
 use crate::interner::block::{Block, LEN};
 use crate::interner::{may_wait, reserve};
 use crate::keywords::{check_keyword, Keywords};
-use crate::proved::interner::given::Given;
-use crate::proved::interner::look_ahead::FEWEST_FOR_BLOCKS;
 use crate::symbol::{DefaultSymbol, Symbol};
 use core::hash::BuildHasher;
 use index::{glance, look};

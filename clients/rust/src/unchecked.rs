@@ -15,14 +15,14 @@
 //!
 //! Whatever writes a slot, or moves one, checks.
 //!
-//! Of `TaggedSlots`, whose fields only `proved/dedup/tagged.rs` writes:
+//! Of `TaggedSlots`, whose fields only `erased/dedup/tagged.rs` writes:
 //!
 //! - **A**: `count` is 0 or a power of two from 8 on, and never changes.
 //! - **B**: `tags` has `count + 16` elements if `count` is not 0, and none else.
 //! - **C**: `tags[count..]` are 0.
 //! - **D**: `items` has no element or `count` of them, and `count` if any tag is not 0.
 //!
-//! Of the table over it, `proved/dedup/table.rs`:
+//! Of the table over it, `erased/dedup/table.rs`:
 //!
 //! - **E**: no look-up begins while `count` is 0: `entry`, `symbol_of` and `guess` test that.
 //! - **F**: `put` begins with a checked read of the home, and alone calls `put_behind`: neither passes tags if there are none.
@@ -48,7 +48,7 @@
 //! | `Hasher`, `Symbol::try_from_usize`, `to_usize` | `truncate` over a backend of this crate, which empties slots of texts that go, or empties all and fills them anew | some texts have no slot; the table counts at least as many as have one |
 //! | `Backend::iter`, `Drop` of a backend | `truncate` over another backend, which replaces it first | nothing: the new backend has an index of its texts |
 //!
-//! Symbols are copied by their bits (`Sym`), so no `Clone` runs while `items` is filled or copied. `try_copy` copies a list whole or
+//! Symbols are copied by their bits (`SymbolAdapter`), so no `Clone` runs while `items` is filled or copied. `try_copy` copies a list whole or
 //! fails.
 //!
 //! # Cutting texts
@@ -90,8 +90,8 @@
 
 #![allow(unsafe_code)]
 
-use crate::proved::backend::string::ends::span;
-use crate::proved::backend::{Backend as _, BucketBackend, Store as _, StringBackend};
+use crate::erased::backend::string::ends::span;
+use crate::erased::backend::{Backend as _, BucketBackend, Store as _, StringBackend};
 use alloc::alloc::{alloc, Layout};
 use alloc::string::String;
 use alloc::vec::Vec;

@@ -1,8 +1,8 @@
 //! Iterators over the texts of the three backends. Each is a plain struct, so that its lifetime may shrink.
 
-use crate::proved::backend as proved;
-use crate::proved::backend::Backend as _;
-use crate::sealed::Ours;
+use crate::erased::backend as proved;
+use crate::erased::backend::Backend as _;
+use crate::sealed::Sealed;
 use crate::symbol::Symbol;
 use crate::unchecked::{find_bucketed, Parts};
 use core::fmt;
@@ -94,7 +94,7 @@ impl<'a, S: Symbol> StringIter<'a, S> {
     #[inline]
     pub(super) fn over(texts: &'a proved::StringBackend<usize>) -> Self {
         StringIter {
-            parts: Parts::of(texts, S::__count(Ours(()))),
+            parts: Parts::of(texts, S::__count(Sealed(()))),
             symbol: PhantomData,
         }
     }

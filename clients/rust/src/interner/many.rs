@@ -7,16 +7,16 @@
 use super::block::{Block, LEN};
 use super::StringInterner;
 use crate::backend::{symbol_of, Backend};
+use crate::erased::interner::look_ahead::FEWEST_FOR_BLOCKS;
 use crate::error::{expect, InternError};
-use crate::proved::interner::look_ahead::FEWEST_FOR_BLOCKS;
-use crate::sealed::Ours;
+use crate::sealed::Sealed;
 use crate::symbol::Symbol as _;
 use alloc::vec::Vec;
 use core::hash::BuildHasher;
 use core::mem;
 
-/// For more texts than these `extend` and `intern_all` make no room because of what an iterator says of itself.
-const MOST_RESERVED: usize = 1 << 12;
+/// For more texts than these no room is made because of what an iterator or an input says of itself.
+pub(crate) const MOST_RESERVED: usize = 1 << 12;
 
 /// To move an item of more bytes into a block and out again takes longer than the block saves.
 const MOST_MOVED: usize = 32;
@@ -55,7 +55,7 @@ impl<B: Backend, H: BuildHasher> StringInterner<B, H> {
         expect(reserve(&mut symbols, strings.size_hint().0));
         self.make_first_room(strings.size_hint().0);
         // A block has numbers, of which a program's own type may make other symbols than those that the backend returned.
-        let keeps_numbers = B::Symbol::__keeps_its_number(Ours(()));
+        let keeps_numbers = B::Symbol::__keeps_its_number(Sealed(()));
         // A closure would hide from the panic who called.
         while !keeps_numbers || self.is_alone::<I::Item>(symbols.len()) {
             let Some(string) = strings.next() else {
@@ -104,7 +104,7 @@ impl<B: Backend, H: BuildHasher> StringInterner<B, H> {
     fn make_first_room(&mut self, texts: usize) {
         let texts = texts.min(MOST_RESERVED);
         if texts > 0 && self.proved.index().slots() == 0 {
-            B::__make_room(self, texts, Ours(()));
+            B::__make_room(self, texts, Sealed(()));
         }
     }
 }

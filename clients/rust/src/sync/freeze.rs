@@ -1,15 +1,15 @@
 //! Making a shared interner of a plain one, and something smaller and faster of a shared one, once all texts are known.
 
 use super::Interner;
-use crate::backend::{symbol_of, As, Backend, BucketBackend, StringBackend};
+use crate::backend::{symbol_of, Backend, BackendAdapter, BucketBackend, StringBackend};
+use crate::erased::dedup::probe::Vacancy;
+use crate::erased::dedup::tagged::coded_symbol;
+use crate::erased::dedup::TextIndex;
 use crate::error::expect;
-use crate::hasher::By;
+use crate::hasher::HasherAdapter;
 use crate::interner::{reserve, Index, StringInterner};
-use crate::proved::dedup::probe::Vacancy;
-use crate::proved::dedup::tagged::coded_symbol;
-use crate::proved::dedup::TextIndex;
 use crate::rt::alloc::Global;
-use crate::symbol::{Sym, Symbol};
+use crate::symbol::{Symbol, SymbolAdapter};
 use core::hash::BuildHasher;
 use std::vec::Vec;
 
@@ -27,7 +27,7 @@ fn codes_of<B: Backend, H: BuildHasher>(plain: &StringInterner<B, H>) -> Vec<Opt
         return codes;
     }
     for slot in 0..index.slots() {
-        let Some((Sym(symbol), code)) = coded_symbol(index, slot) else {
+        let Some((SymbolAdapter(symbol), code)) = coded_symbol(index, slot) else {
             continue;
         };
         // A program's own type may make up a number that is none of these.
@@ -43,7 +43,7 @@ impl<S: Symbol, H: BuildHasher> Interner<S, H> {
     #[track_caller]
     fn of_plain<B: Backend<Symbol = S>>(plain: StringInterner<B, H>) -> Self {
         let codes = codes_of(&plain);
-        let (As(texts), By(hasher)) = plain.proved.into_parts();
+        let (BackendAdapter(texts), HasherAdapter(hasher)) = plain.proved.into_parts();
         let mut interner = Self::with_capacity_and_hasher(codes.len(), hasher);
         for ((_, text), code) in texts.iter().zip(codes) {
             let code = match code {
@@ -85,7 +85,10 @@ impl<S: Symbol, H: BuildHasher> Interner<S, H> {
                 false => code.into(),
             };
             // The texts are distinct, and there is room for all.
-            index.insert_at(Vacancy::by_code(code), Sym(symbol_of(number as usize)));
+            index.insert_at(
+                Vacancy::by_code(code),
+                SymbolAdapter(symbol_of(number as usize)),
+            );
         });
         StringInterner::over(texts, self.shared.hasher.0, index)
     }

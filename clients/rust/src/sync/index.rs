@@ -6,9 +6,9 @@
 
 use super::memory::{Memory, Store, Table, Texts};
 use super::shared::shard_of;
-use crate::proved::dedup::probe::home_of;
-use crate::proved::dedup::shown::{self, ShownTexts, ShownWords};
-use crate::proved::symbol::{Symbol as _, SymbolU32};
+use crate::erased::dedup::probe::home_of;
+use crate::erased::dedup::shown::{self, ShownTexts, ShownWords};
+use crate::erased::symbol::{Symbol as _, SymbolU32};
 
 impl ShownWords for Table<'_> {
     #[inline(always)]

@@ -4,10 +4,10 @@
 use super::index::{ask_for_entry, ask_for_word, glance};
 use super::shared::shard_of;
 use super::Interner;
+use crate::erased::interner::given::Given;
+use crate::erased::interner::look_ahead::FEWEST_FOR_BLOCKS;
 use crate::error::InternError;
 use crate::interner::block::{InternSlice, LEN};
-use crate::proved::interner::given::Given;
-use crate::proved::interner::look_ahead::FEWEST_FOR_BLOCKS;
 use crate::symbol::Symbol;
 use core::hash::BuildHasher;
 

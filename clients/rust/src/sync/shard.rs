@@ -3,17 +3,17 @@
 use super::index::look_under_lock;
 use super::memory::{items_of, Entry, Room, Store};
 use super::shared::{Shared, Taken};
+use crate::erased::backend as proved;
+use crate::erased::dedup::index::WordIndex;
+use crate::erased::dedup::layout::Layout as _;
+use crate::erased::dedup::probe::Vacancy;
+use crate::erased::dedup::shown::words_of;
+use crate::erased::dedup::words::WordSlots;
+use crate::erased::dedup::TextIndex;
+use crate::erased::interner::given::Given;
+use crate::erased::interner::new_text::intern_coded;
+use crate::erased::symbol::{Symbol as _, SymbolU32};
 use crate::error::InternError;
-use crate::proved::backend as proved;
-use crate::proved::dedup::index::WordIndex;
-use crate::proved::dedup::layout::Layout as _;
-use crate::proved::dedup::probe::Vacancy;
-use crate::proved::dedup::shown::words_of;
-use crate::proved::dedup::words::WordSlots;
-use crate::proved::dedup::TextIndex;
-use crate::proved::interner::given::Given;
-use crate::proved::interner::new_text::intern_coded;
-use crate::proved::symbol::{Symbol as _, SymbolU32};
 use crate::rt::alloc::Global;
 #[cfg(test)]
 use crate::rt::words::Words;

@@ -1,9 +1,9 @@
 //! What all shards have in common: the hasher, and the numbers of texts.
 
 use super::memory::{Room, Texts};
+use crate::erased::hash::TextHasher as _;
 use crate::error::InternError;
-use crate::hasher::By;
-use crate::proved::hash::TextHasher as _;
+use crate::hasher::HasherAdapter;
 use crate::symbol::Symbol;
 use core::hash::BuildHasher;
 use core::marker::PhantomData;
@@ -19,7 +19,7 @@ pub(super) const SHARDS: usize = 1 << SHARD_BITS;
 
 /// A value in cache lines of its own, so that who writes to it slows down nobody who reads what lies beside it.
 #[repr(align(128))]
-pub(super) struct Apart<T>(pub(super) T);
+pub(super) struct CachePadded<T>(pub(super) T);
 
 /// A number that was taken, with its symbol, and where its text comes.
 pub(super) struct Taken<'a, S> {
@@ -30,9 +30,9 @@ pub(super) struct Taken<'a, S> {
 
 /// What all shards have in common.
 pub(super) struct Shared<S, H> {
-    pub(super) hasher: By<H>,
+    pub(super) hasher: HasherAdapter<H>,
     /// How many numbers were taken.
-    count: Apart<AtomicU32>,
+    count: CachePadded<AtomicU32>,
     symbol: PhantomData<fn() -> S>,
 }
 
@@ -46,8 +46,8 @@ pub(super) fn shard_of(code: u64) -> usize {
 impl<S, H> Shared<S, H> {
     pub(super) const fn new(hash_builder: H) -> Self {
         Shared {
-            hasher: By(hash_builder),
-            count: Apart(AtomicU32::new(0)),
+            hasher: HasherAdapter(hash_builder),
+            count: CachePadded(AtomicU32::new(0)),
             symbol: PhantomData,
         }
     }

@@ -2,10 +2,10 @@
 
 use super::shared::{shard_of, SHARDS};
 use super::*;
-use crate::hasher::By;
-use crate::proved::dedup::shown;
-use crate::proved::hash::TextHasher as _;
-use crate::proved::symbol::Symbol as _;
+use crate::erased::dedup::shown;
+use crate::erased::hash::TextHasher as _;
+use crate::erased::symbol::Symbol as _;
+use crate::hasher::HasherAdapter;
 use std::boxed::Box;
 use std::format;
 use std::string::{String, ToString as _};
@@ -179,7 +179,7 @@ fn texts_are_spread_over_shards() {
         |number| "z".repeat(number),
         |number| char::from_u32(0x4E00 + number as u32).unwrap().to_string(),
     ];
-    let hasher = By(DefaultHashBuilder);
+    let hasher = HasherAdapter(DefaultHashBuilder);
     for (family, spell) in families.into_iter().enumerate() {
         let mut counts = [0; SHARDS];
         for number in 0..100 * SHARDS {

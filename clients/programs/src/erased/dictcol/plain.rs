@@ -1,0 +1,185 @@
+//! Plain columns: `dict.txt` has the distinct lines, `codes.npy` the number of its line there for each line, and `pair.txt` says
+//! which two of them belong together.
+
+use crate::rt::prelude::*; pub mod dictionary;
+pub mod exchange;
+pub mod folder;
+pub mod npy;
+pub mod pair;
+pub mod rows;
+
+//~ ghost use Rattle.std.specs.Prelude.{◌≡◌, ◌^◌, ◌<◌, ◌≤◌, ◌++◌, ◌⊎◌, List, length, IfOk, IfErr, IfSome, OnOk};
+//~ ghost use Rattle.string_interner.specs.Text.{Text};
+//~ ghost use Rattle.string_column.specs.Column.{dictionary_of};
+//~ ghost use Rattle.dictcol.specs.Blocks.{IsLinesFault};
+//~ ghost use Rattle.dictcol.specs.Fault.{IsLinesWriteFault, WritesLast};
+//~ ghost use Rattle.dictcol.specs.Lines.{AreLines};
+//~ ghost use Rattle.dictcol.specs.Plain.{HoldPlain, IsBegun, IsDictionaryFault, IsOnto, IsPlainFault, WritesPlain};
+//~ ghost use Rattle.dictcol.specs.TooMany.{LacksBehind, LacksLine};
+//~ ghost use Rattle.dictcol.specs.Writes.{Writes};
+
+use crate::dictcol::block_writer::BlockWriter;
+use crate::dictcol::fault::Fault;
+use crate::dictcol::hasher::LineHasher;
+use crate::dictcol::lines::read_lines;
+use crate::rt::alloc::Global;
+use crate::rt::io::{Read, Write};
+use crate::string_column::Column;
+use crate::erased::backend::Backend;
+
+/// So many distinct lines have numbers of four bytes.
+const MOST: usize = 1 << 32;
+
+/// The lines of a dictionary from before, and those of a text behind them.
+//~ #[derive(Drop)]
+pub struct Plain<B: Backend> {
+    lines: Column<B, LineHasher>,
+    /// How many lines are of the dictionary from before.
+    known: usize,
+    /// Whether the last line of the text has no newline.
+    is_cut: bool,
+    //~ ghost within: { known ≤ length lines },
+}
+
+/// Appends the lines that an input yields, and returns whether the last one ends in a newline.
+fn append_lines<B: Backend + Drop, R: Read>(
+    alloc: Global,
+    hasher: LineHasher,
+    lines: &mut Column<B, LineHasher>,
+    input: &mut R,
+) -> Result<bool, Fault>
+    //~ ensures ok { IfOk result (λ is_ended. (more : List Text) × (lines.new ≡ lines.old ++ more)
+    //~     × IfSome (R.remaining input.old) (λ text. AreLines text more is_ended)) }
+    //~ ensures kept { length lines.old ≤ length lines.new }
+    //~ ensures fault { IfErr result
+    //~     (IsLinesFault (LacksBehind B.numbering lines.old) (R.remaining input.old)) }
+{
+    let (more, is_ended) = read_lines::<B, R>(alloc, hasher, input)?;
+    if lines.is_empty() {
+        *lines = more;
+        return Ok(is_ended);
+    }
+    match lines.append(&more) {
+        Ok(()) => Ok(is_ended),
+        Err(error) => Err(Fault::of_intern(error)),
+    }
+}
+
+impl<B: Backend + Drop> Plain<B> {
+    /// Reads a file `dict.txt` from before, which may be empty. Behind its lines there is no text yet.
+    pub fn begin<D: Read>(alloc: Global, hasher: LineHasher, before: &mut D) -> Result<Self, Fault>
+        //~ ensures ok { IfOk result (λ plain. IfSome (D.remaining before.old) (λ known.
+        //~     IsBegun known plain.lines plain.known)) }
+
+        // The file is called damaged only if it is, and not UTF-8 only if it is not.
+        //~ ensures err { IfErr result
+        //~     (IsDictionaryFault (LacksLine B.numbering) (D.remaining before.old)) }
+    {
+        let lines = dictionary::read::<B, D>(alloc, hasher, before)?;
+        let known = lines.len();
+        Ok(Plain {
+            lines,
+            known,
+            is_cut: false,
+        })
+    }
+
+    /// Returns how many lines are of the dictionary from before.
+    pub fn known(&self) -> usize
+        //~ ensures { result ≡ self.now.known }
+    {
+        self.known
+    }
+
+    /// Reads a text behind the lines of the dictionary.
+    pub fn read<R: Read>(
+        &mut self,
+        alloc: Global,
+        hasher: LineHasher,
+        input: &mut R,
+    ) -> Result<(), Fault>
+        //~ ensures ok { (before : Text) → IsBegun before self.old.lines self.old.known
+        //~     → OnOk result (IfSome (R.remaining input.old) (λ text.
+        //~     IsOnto before text self.new.lines self.new.known self.new.is_cut)) }
+        //~ ensures fault { IfErr result
+        //~     (IsLinesFault (LacksBehind B.numbering self.old.lines) (R.remaining input.old)) }
+    {
+        let is_ended = append_lines(alloc, hasher, &mut self.lines, input)?;
+        let is_cut = !is_ended && self.known < self.lines.len();
+        self.is_cut = is_cut;
+        Ok(())
+    }
+
+    /// Returns whether the last line of the text has no newline.
+    pub fn is_cut(&self) -> bool
+        //~ ensures { result ≡ self.now.is_cut }
+    {
+        self.is_cut
+    }
+
+    /// Returns the text of the file `pair.txt`.
+    fn format_pair(&self, alloc: Global) -> Result<String, Fault> {
+        let (numbers, _) = self.lines.codes().as_slices();
+        let codes = numbers.get(self.known..).unwrap_or(&[]);
+        pair::format_numbers(alloc, self.lines.dictionary().len(), codes, self.is_cut)
+    }
+
+    /// Writes the files of the text: the distinct lines, and the numbers of its lines.
+    pub fn write<D: Write, N: Write>(
+        &self,
+        alloc: Global,
+        dictionary: &mut D,
+        numbers: &mut N,
+    ) -> Result<(), Fault>
+        //~ ensures written { (before text : Text)
+        //~     → IsOnto before text self.now.lines self.now.known self.now.is_cut
+        //~     → OnOk result (WritesPlain before text self.now.is_cut
+        //~     (D.contents dictionary.old) (D.contents dictionary.new)
+        //~     (N.contents numbers.old) (N.contents numbers.new)) }
+        //~ ensures silent { WritesLast result dictionary.old dictionary.new }
+        //~ ensures fault { IfErr result
+        //~     (IsLinesWriteFault (2 ^ 32 < length (dictionary_of self.now.lines))) }
+    {
+        let texts = self.lines.dictionary();
+        if texts.len() > MOST {
+            return Err(Fault::TooMany);
+        }
+        let (narrow, wide) = self.lines.codes().as_slices();
+        if !wide.is_empty() {
+            // The codes of so few lines take four bytes each, which no contract says.
+            return Err(Fault::Memory);
+        }
+        let (_, codes) = narrow.split_at(self.known);
+        let Ok(header) = npy::format_header(alloc, codes.len()) else {
+            return Err(Fault::Memory);
+        };
+        let Ok(mut block) = BlockWriter::new(alloc) else {
+            return Err(Fault::Memory);
+        };
+        dictionary::write_file(&mut block, dictionary, texts).map_err(Fault::of_write)?;
+        npy::write_file(&mut block, numbers, &header, codes).map_err(Fault::of_write)?;
+        Ok(())
+    }
+}
+
+/// Writes the text that the two files hold, or finds where they are damaged. Nothing is written of damaged files.
+pub fn decode<W: Write>(
+    alloc: Global,
+    dictionary: &[u8],
+    numbers: &[u8],
+    is_cut: bool,
+    output: &mut W,
+) -> Result<(), Fault>
+    //~ ensures written { OnOk result (Writes (HoldPlain dictionary.now numbers.now is_cut)
+    //~     (W.contents output.old) (W.contents output.new)) }
+
+    // Files that hold a text are never called damaged, and the first is called not UTF-8 only if it is not.
+    //~ ensures err { IfErr result (IsPlainFault dictionary.now numbers.now) }
+
+    // Unless all went well or a write failed, the output was not touched.
+    //~ ensures silent { WritesLast result output.old output.new }
+{
+    let bounds = dictionary::find_bounds(alloc, dictionary)?;
+    let codes = npy::read(alloc, numbers, bounds.len() - 1)?;
+    rows::write_rows(output, dictionary, &bounds, codes, is_cut)
+}

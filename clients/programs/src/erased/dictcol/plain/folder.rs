@@ -1,0 +1,412 @@
+//! The folder of plain columns.
+//!
+//! `codes.npy` is the first file that is taken away and the last that gets its name. So while it is there, the other files are of
+//! its run, and who finds it in its place after opening the others has files of one run.
+
+use crate::rt::prelude::*; use super::exchange::exchange;
+use super::{Plain, npy, pair};
+use crate::dictcol::fault::Fault;
+use crate::dictcol::hasher::LineHasher;
+use crate::dictcol::input::blocks::count_byte;
+use crate::dictcol::request::Onto;
+use crate::dictcol::unfinished::{NAME, Unfinished, busy, is_same, is_taken, store, store_parent};
+use crate::rt::alloc::Global;
+use crate::rt::fs::{File, Metadata};
+use crate::rt::io::{ErrorKind, Read, Write};
+use crate::rt::os::unix::fs::{MetadataExt, OpenOptionsExt, fchown};
+use crate::rt::{fs, io};
+use crate::erased::backend::Backend;
+
+/// The distinct lines.
+const DICTIONARY: &str = "dict.txt";
+
+/// The number of each line.
+const NUMBERS: &str = "codes.npy";
+
+/// What the other files have.
+const PAIR: &str = "pair.txt";
+
+/// This file is there if the last line has no newline.
+const CUT: &str = "no_final_newline";
+
+/// What is behind the name of an old file while a run may put it back.
+const KEPT: &str = ".old";
+
+/// The mode of a file until it gets that of another.
+const PRIVATE: u32 = 0o600;
+
+/// What is said of files that are not there so far.
+const WRITING: &str = "another run is writing";
+
+/// So many times files are opened that other runs replace meanwhile.
+const TURNS: usize = 16;
+
+/// The paths of the files of a folder.
+//~ #[derive(Drop)]
+pub struct Paths {
+    pub dictionary: String,
+    pub numbers: String,
+    pub pair: String,
+    pub cut: String,
+}
+
+/// Returns the path of a file in a folder.
+fn join(alloc: Global, folder: &str, name: &str) -> Result<String, Fault> {
+    crate::rt::format!(in alloc; "{folder}/{name}").map_err(|_| Fault::Memory)
+}
+
+/// Returns the path of an old file in a folder.
+fn join_kept(alloc: Global, folder: &str, name: &str) -> Result<String, Fault> {
+    crate::rt::format!(in alloc; "{folder}/{name}{KEPT}").map_err(|_| Fault::Memory)
+}
+
+impl Paths {
+    fn new(alloc: Global, folder: &str) -> Result<Paths, Fault> {
+        Ok(Paths {
+            dictionary: join(alloc, folder, DICTIONARY)?,
+            numbers: join(alloc, folder, NUMBERS)?,
+            pair: join(alloc, folder, PAIR)?,
+            cut: join(alloc, folder, CUT)?,
+        })
+    }
+
+    /// Returns the paths of old files.
+    fn kept(alloc: Global, folder: &str) -> Result<Paths, Fault> {
+        Ok(Paths {
+            dictionary: join_kept(alloc, folder, DICTIONARY)?,
+            numbers: join_kept(alloc, folder, NUMBERS)?,
+            pair: join_kept(alloc, folder, PAIR)?,
+            cut: join_kept(alloc, folder, CUT)?,
+        })
+    }
+}
+
+/// Returns whether this is the path of a folder.
+pub fn is_folder(rt: &HostRuntime, path: &str) -> bool {
+    match fs::metadata(rt, path) {
+        Ok(metadata) => metadata.is_dir(),
+        Err(_) => false,
+    }
+}
+
+/// Returns whether this is the path of a folder with plain columns.
+pub fn has_columns(rt: &HostRuntime, path: &str) -> bool {
+    match join(rt.alloc(), path, NUMBERS) {
+        Ok(numbers) => fs::metadata(rt, numbers.as_str()).is_ok(),
+        Err(_) => false,
+    }
+}
+
+/// Opens a file to read it.
+fn open(rt: &HostRuntime, path: &str) -> Result<File, Fault> {
+    File::open(rt, path).map_err(Fault::of_read)
+}
+
+/// Reads a file.
+fn read(alloc: Global, file: &mut File) -> Result<Vec<u8>, Fault> {
+    let length = file.metadata().map_err(Fault::of_read)?.len() as usize;
+    // While a byte is free at its end, `read_to_end` allocates nothing.
+    let mut bytes = Vec::with_capacity(alloc, length.saturating_add(1)).map_err(|_| Fault::Memory)?;
+    let _ = file.read_to_end(&mut bytes).map_err(Fault::of_read)?;
+    Ok(bytes)
+}
+
+/// Reads `pair.txt`, if it is there: earlier versions wrote none.
+fn read_pair(rt: &HostRuntime, path: &str) -> Result<Option<Vec<u8>>, Fault> {
+    match File::open(rt, path) {
+        Ok(mut file) => Ok(Some(read(rt.alloc(), &mut file)?)),
+        Err(error) if error.kind() == ErrorKind::NotFound => Ok(None),
+        Err(error) => Err(Fault::of_read(error)),
+    }
+}
+
+/// Checks that a file is still the one with this path.
+fn check_place(rt: &HostRuntime, file: &File, path: &str) -> io::Result<()> {
+    if is_same(&file.metadata()?, &fs::metadata(rt, path)?) {
+        Ok(())
+    } else {
+        Err(busy())
+    }
+}
+
+/// The files of one run.
+//~ #[derive(Drop)]
+struct Files {
+    dictionary: File,
+    numbers: File,
+    pair: Option<Vec<u8>>,
+    is_cut: bool,
+}
+
+/// Returns whether files are missing, or were replaced while they were opened. A run that exchanges them may be why.
+fn is_exchanged(fault: &Fault) -> bool {
+    match fault {
+        Fault::NumbersFile(error) | Fault::DictionaryFile(error) => {
+            error.kind() == ErrorKind::NotFound || error.kind() == ErrorKind::ResourceBusy
+        }
+        _ => false,
+    }
+}
+
+/// Waits while a run exchanges files, of which it keeps these numbers, and has locked them.
+fn wait(rt: &HostRuntime, kept: &str) {
+    if let Ok(numbers) = File::open(rt, kept) {
+        // Without locks the files are looked for again at once.
+        let _ = numbers.lock_shared();
+    }
+}
+
+impl Files {
+    /// Opens the files of a folder, which another run than the one that has `own` may exchange meanwhile.
+    fn open(rt: &HostRuntime, folder: &str, own: Option<&Unfinished>) -> Result<Files, Fault> {
+        let alloc = rt.alloc();
+        let paths = Paths::new(alloc, folder)?;
+        let unfinished = join(alloc, folder, NAME)?;
+        let kept = join_kept(alloc, unfinished.as_str(), NUMBERS)?;
+        for _ in 1..TURNS {
+            match Files::open_once(rt, &paths) {
+                Err(fault) if is_exchanged(&fault) => wait(rt, kept.as_str()),
+                outcome => return outcome,
+            }
+        }
+        match Files::open_once(rt, &paths) {
+            Err(fault) if is_exchanged(&fault) && is_taken(rt, unfinished.as_str(), own) => {
+                let error = io::Error::new(ErrorKind::ResourceBusy, WRITING);
+                Err(Fault::NumbersFile(error))
+            }
+            outcome => outcome,
+        }
+    }
+
+    fn open_once(rt: &HostRuntime, paths: &Paths) -> Result<Files, Fault> {
+        let numbers = open(rt, paths.numbers.as_str());
+        let dictionary = open(rt, paths.dictionary.as_str()).map_err(Fault::of_dictionary)?;
+        let numbers = numbers.map_err(Fault::of_numbers)?;
+        let pair = read_pair(rt, paths.pair.as_str()).map_err(Fault::of_pair)?;
+        let is_cut = fs::exists(rt, paths.cut.as_str()).map_err(Fault::CutFile)?;
+        check_place(rt, &numbers, paths.numbers.as_str()).map_err(Fault::NumbersFile)?;
+        Ok(Files {
+            dictionary,
+            numbers,
+            pair,
+            is_cut,
+        })
+    }
+
+    /// Checks that `pair.txt`, if it is there, is of a dictionary of so many lines, of these numbers, and of the end of the text.
+    fn check_pair(&self, alloc: Global, lines: usize, numbers: &[u8]) -> Result<(), Fault> {
+        let Some(pair) = &self.pair else {
+            return Ok(());
+        };
+        let bytes = numbers.get(npy::HEADER..).unwrap_or(&[]);
+        let front = pair::format_bytes(alloc, lines, bytes)?;
+        let Some(end) = pair.as_slice().strip_prefix(front.as_bytes()) else {
+            return Err(Fault::NotAPair);
+        };
+        if end.is_empty() || end == pair::end_line(self.is_cut).as_bytes() {
+            return Ok(());
+        }
+        Err(if end != pair::end_line(!self.is_cut).as_bytes() {
+            Fault::NotAPair
+        } else if self.is_cut {
+            Fault::OtherCut
+        } else {
+            Fault::NoCut
+        })
+    }
+}
+
+/// Returns the fault of files that are not of one run, or one that tells what is damaged in them.
+fn find_fault(alloc: Global, dictionary: &[u8], numbers: &[u8], fault: Fault) -> Fault {
+    match super::decode(alloc, dictionary, numbers, false, &mut io::sink()) {
+        Ok(()) => fault,
+        Err(fault) => fault,
+    }
+}
+
+/// Reads the dictionary that further columns begin with, which are written into this place. Unless it is to be taken alone, its
+/// numbers show that no line is missing.
+pub fn read_dictionary<B: Backend + Drop>(
+    rt: &HostRuntime,
+    hasher: LineHasher,
+    onto: Onto<'_>,
+    place: &Place<'_>,
+) -> Result<Plain<B>, Fault> {
+    let alloc = rt.alloc();
+    if onto.is_dictionary {
+        let path = join(alloc, onto.folder, DICTIONARY)?;
+        let mut dictionary = open(rt, path.as_str()).map_err(Fault::of_dictionary)?;
+        return Plain::begin(alloc, hasher, &mut dictionary);
+    }
+    let mut files = Files::open(rt, onto.folder, Some(&place.unfinished))?;
+    let before = Plain::begin(alloc, hasher, &mut files.dictionary)?;
+    let numbers = read(alloc, &mut files.numbers).map_err(Fault::of_numbers)?;
+    let _ = npy::read(alloc, &numbers, before.known())?;
+    files.check_pair(alloc, before.known(), &numbers)?;
+    Ok(before)
+}
+
+/// Writes the text of a folder.
+pub fn decode<W: Write>(rt: &HostRuntime, folder: &str, output: &mut W) -> Result<(), Fault> {
+    let alloc = rt.alloc();
+    let mut files = Files::open(rt, folder, None)?;
+    let dictionary = read(alloc, &mut files.dictionary).map_err(Fault::of_dictionary)?;
+    let numbers = read(alloc, &mut files.numbers).map_err(Fault::of_numbers)?;
+    match files.check_pair(alloc, count_byte(b'\n', &dictionary), &numbers) {
+        Ok(()) => super::decode(alloc, &dictionary, &numbers, files.is_cut, output),
+        Err(fault) => Err(find_fault(alloc, &dictionary, &numbers, fault)),
+    }
+}
+
+/// Returns what the system says of a file, if there is one.
+fn look(rt: &HostRuntime, path: &str) -> Option<Metadata> {
+    match fs::metadata(rt, path) {
+        Ok(metadata) if metadata.is_file() => Some(metadata),
+        _ => None,
+    }
+}
+
+/// Creates a file, which is not there, for those alone who may open the other one.
+fn create_like(rt: &HostRuntime, path: &str, other: &Metadata) -> io::Result<File> {
+    let mut how = File::options();
+    how.write(true);
+    how.create_new(true);
+    how.mode(PRIVATE);
+    let file = how.open(rt, path)?;
+    let is_owned = fchown(&file, Some(other.uid()), Some(other.gid())).is_ok();
+    // Not everyone may give a file away. Where it has another group, too, it is for its owner alone.
+    if is_owned || fchown(&file, None, Some(other.gid())).is_ok() {
+        // Not every file system has modes.
+        let _ = file.set_permissions(other.permissions());
+    }
+    Ok(file)
+}
+
+/// Creates a file, which is not there, for the place of an old one. Where that has none, it is like this other one, if there is one.
+fn create(
+    rt: &HostRuntime,
+    path: &str,
+    place: &str,
+    other: &Option<Metadata>,
+) -> Result<File, Fault> {
+    let file = match (look(rt, place), other) {
+        (Some(old), _) => create_like(rt, path, &old),
+        (None, Some(other)) => create_like(rt, path, other),
+        (None, None) => File::create_new(rt, path),
+    };
+    file.map_err(Fault::Folder)
+}
+
+/// Writes new files for the places of old ones.
+fn write_new<B: Backend + Drop>(
+    rt: &HostRuntime,
+    new: &Paths,
+    old: &Paths,
+    plain: &Plain<B>,
+) -> Result<(), Fault> {
+    let alloc = rt.alloc();
+    let other = look(rt, old.numbers.as_str());
+    let mut dictionary = create(rt, new.dictionary.as_str(), old.dictionary.as_str(), &other)?;
+    let mut numbers = create(rt, new.numbers.as_str(), old.numbers.as_str(), &other)?;
+    match plain.write(alloc, &mut dictionary, &mut numbers) {
+        Err(Fault::Output(error)) => return Err(Fault::Folder(error)),
+        outcome => outcome?,
+    }
+    let mut pair = create(rt, new.pair.as_str(), old.pair.as_str(), &other)?;
+    let text = plain.format_pair(alloc)?;
+    pair.write_all(text.as_bytes()).map_err(Fault::Folder)?;
+    if plain.is_cut() {
+        store(&create(rt, new.cut.as_str(), old.cut.as_str(), &other)?)?;
+    }
+    store(&pair)?;
+    store(&dictionary)?;
+    store(&numbers)
+}
+
+/// Returns whether a file of this name is written.
+fn is_name(name: &str) -> bool {
+    let name = name.strip_suffix(KEPT).unwrap_or(name);
+    name == DICTIONARY || name == NUMBERS || name == PAIR || name == CUT
+}
+
+/// Makes a folder and those that it lies in, as far as they are not there. Adds the paths of those that it made, each behind that
+/// which it lies in.
+fn make_missing<'a>(rt: &HostRuntime, path: &'a str, made: &mut Vec<&'a str>) -> Result<(), Fault> {
+    for end in 1..=path.len() {
+        match path.split_at_checked(end) {
+            Some((front, rest)) if rest.is_empty() || rest.starts_with('/') => {
+                made.reserve(1).map_err(|_| Fault::Memory)?;
+                if fs::create_dir(rt, front).is_ok() {
+                    made.push_reserved(front);
+                }
+            }
+            _ => {}
+        }
+    }
+    // Says what is wrong if it is not there now.
+    fs::create_dir_all(rt, path).map_err(Fault::Folder)
+}
+
+/// Removes folders that a run made, each behind that which it lies in. One with files cannot be removed.
+fn remove_made(rt: &HostRuntime, made: &[&str]) {
+    for folder in made.iter().rev() {
+        let _ = fs::remove_dir(rt, *folder);
+    }
+}
+
+/// A folder that one run alone writes into.
+//~ #[derive(Drop)]
+pub struct Place<'a> {
+    folder: &'a str,
+    /// What was made for it, each behind that which it lies in.
+    made: Vec<&'a str>,
+    unfinished: Unfinished,
+}
+
+impl<'a> Place<'a> {
+    /// Takes a folder, which is made if it is not there. Fails while another run has it.
+    pub fn take(rt: &HostRuntime, folder: &'a str) -> Result<Place<'a>, Fault> {
+        let mut made = Vec::new(rt.alloc());
+        let unfinished = match make_missing(rt, folder, &mut made) {
+            Ok(()) => Unfinished::make(rt, folder, '/', &is_name),
+            Err(fault) => Err(fault),
+        };
+        match unfinished {
+            Ok(unfinished) => Ok(Place {
+                folder,
+                made,
+                unfinished,
+            }),
+            Err(fault) => {
+                remove_made(rt, &made);
+                Err(fault)
+            }
+        }
+    }
+
+    /// Writes new files, and then puts them into the place of the old ones. A run that fails leaves the files that were there, and
+    /// one that is killed those, no `codes.npy`, or all of the new files.
+    pub fn write<B: Backend + Drop>(
+        &self,
+        rt: &HostRuntime,
+        plain: &Plain<B>,
+    ) -> Result<(), Fault> {
+        let old = Paths::new(rt.alloc(), self.folder)?;
+        let new = Paths::new(rt.alloc(), self.unfinished.path())?;
+        let kept = Paths::kept(rt.alloc(), self.unfinished.path())?;
+        write_new(rt, &new, &old, plain)?;
+        for folder in &self.made {
+            store_parent(rt, *folder).map_err(Fault::Folder)?;
+        }
+        exchange(rt, self.folder, &new, &old, &kept, plain.is_cut()).map_err(Fault::Folder)
+    }
+
+    /// Leaves the folder to other runs. What was made for it stays if it was written, or if files are in it.
+    pub fn leave(&self, rt: &HostRuntime, is_written: bool) {
+        self.unfinished.remove(rt);
+        if is_written {
+            return;
+        }
+        remove_made(rt, &self.made);
+    }
+}

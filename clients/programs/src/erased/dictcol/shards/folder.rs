@@ -1,0 +1,168 @@
+//! The folder of shards.
+
+//~ ghost use Rattle.std.specs.Prelude.{◌<◌, All, length, IfOk};
+//~ ghost use Rattle.dictcol.specs.Shards.{IsWritten};
+
+use crate::rt::prelude::*; use super::{Shard, Shards};
+use crate::dictcol::fault::Fault;
+use crate::dictcol::input::zero::Exchanged;
+use crate::dictcol::job::Job;
+use crate::dictcol::request::{Reading, ShardFolder, Source};
+use crate::dictcol::unfinished::{Unfinished, store};
+use crate::rt::fs::File;
+use crate::rt::io::ErrorKind;
+use crate::rt::{fs, io};
+use crate::erased::dedup::FoldState;
+
+/// The file that has the number of each line's shard.
+const ORDER: &str = "order";
+
+/// Linux's number for a file that is there already.
+const EXISTS: i32 = 17;
+
+/// Linux's number for more open files than a process may have.
+const TOO_MANY_FILES: i32 = 24;
+
+/// Creates a file, in which zero bytes end lines or not.
+fn create(rt: &HostRuntime, path: &str, is_exchanged: bool) -> Result<Shard<Exchanged<File>>, Fault>
+    //~ ensures { IfOk result IsWritten }
+{
+    let file = File::create_new(rt, path).map_err(Fault::Folder)?;
+    let output = Exchanged::new(rt.alloc(), file, is_exchanged).map_err(|_| Fault::Memory)?;
+    Ok(Shard::new(rt.alloc(), output))
+}
+
+/// Creates the files of the shards.
+fn create_files(
+    rt: &HostRuntime,
+    place: ShardFolder<'_>,
+    is_exchanged: bool,
+) -> Result<Vec<Shard<Exchanged<File>>>, Fault>
+    //~ ensures some { IfOk result (λ shards. 0 < length shards.items) }
+    //~ ensures written { IfOk result (λ shards. All IsWritten shards.items) }
+{
+    let (alloc, folder) = (rt.alloc(), place.folder);
+    let mut shards = Vec::new(alloc);
+    for number in 0..place.count.get() {
+        let path = crate::rt::format!(in alloc; "{folder}/{number}").map_err(|_| Fault::Memory)?;
+        let shard = create(rt, path.as_str(), is_exchanged)?;
+        shards.push(shard).map_err(|_| Fault::Memory)?;
+    }
+    Ok(shards)
+}
+
+/// Waits until the files are stored.
+fn store_files(shards: &Shards<FoldState, Exchanged<File>>) -> Result<(), Fault> {
+    let (shards, order) = shards.outputs();
+    for shard in shards {
+        store(shard.output().get_ref())?;
+    }
+    store(order.output().get_ref())
+}
+
+/// Writes the lines of the input into files of the folder, and stores these.
+fn write_files(
+    job: &mut Job<'_, FoldState>,
+    place: ShardFolder<'_>,
+    is_exchanged: bool,
+) -> Result<(), Fault> {
+    let (rt, folder) = (job.rt, place.folder);
+    let path = crate::rt::format!(in rt.alloc(); "{folder}/{ORDER}").map_err(|_| Fault::Memory)?;
+    let order = create(rt, path.as_str(), false)?;
+    let outputs = create_files(rt, place, is_exchanged)?;
+    let mut shards = Shards::new(job.hasher, outputs, order);
+    shards.write_lines(rt.alloc(), &mut job.input)?;
+    store_files(&shards)
+}
+
+/// Returns whether a file of this name is written: that of a shard has its number.
+fn is_name(name: &str) -> bool {
+    let is_number = name.bytes().all(|byte| byte.is_ascii_digit());
+    name == ORDER || name == "0" || is_number && !name.starts_with('0')
+}
+
+/// Returns how many of some files can be open at once beside what is. The limit is no number of ours, so it is tried.
+fn count_free_files(rt: &HostRuntime, wanted: usize) -> Result<usize, Fault> {
+    let mut free = Vec::new(rt.alloc());
+    for _ in 0..wanted {
+        match File::open(rt, "/") {
+            Ok(file) => free.push(file).map_err(|_| Fault::Memory)?,
+            Err(error) if error.raw_os_error() == Some(TOO_MANY_FILES) => break,
+            // What is wrong with it matters to no shard.
+            Err(_) => return Ok(wanted),
+        }
+    }
+    Ok(free.len())
+}
+
+/// Checks that so many shards can be open at once, with the numbers of their lines, the folder, and the file that is read.
+fn check_count(rt: &HostRuntime, count: usize, files: &[Source<'_>]) -> Result<(), Fault> {
+    let is_named = files.iter().any(|file| matches!(file, Source::File(_)));
+    let others = 2 + usize::from(is_named);
+    let wanted = count.saturating_add(others);
+    let free = count_free_files(rt, wanted)?;
+    if free < wanted {
+        return Err(Fault::TooManyShards(free.saturating_sub(others)));
+    }
+    Ok(())
+}
+
+/// Makes the folder that becomes this one, which may not be there.
+fn begin(rt: &HostRuntime, folder: &str) -> Result<Unfinished, Fault> {
+    match fs::symlink_metadata(rt, folder) {
+        Ok(_) => return Err(Fault::Folder(io::Error::from_raw_os_error(EXISTS))),
+        Err(error) if error.kind() == ErrorKind::NotFound => {}
+        Err(error) => return Err(Fault::Folder(error)),
+    }
+    Unfinished::make(rt, folder.trim_end_matches('/'), '.', &is_name)
+}
+
+/// Does what `write_files` does, in a folder that gets its name once all its files are stored.
+fn write_folder(
+    job: &mut Job<'_, FoldState>,
+    place: ShardFolder<'_>,
+    unfinished: &Unfinished,
+    is_exchanged: bool,
+) -> Result<(), Fault> {
+    let count = place.count;
+    let folder = unfinished.path();
+    write_files(job, ShardFolder { count, folder }, is_exchanged)?;
+    unfinished
+        .rename(job.rt, place.folder)
+        .map_err(Fault::Folder)
+}
+
+/// Writes the lines of the files, or of standard input, into a folder, which is made for them. A run that fails or is killed leaves
+/// none of this name, or a whole one. Returns how it ended, and where.
+pub fn write<'a>(
+    rt: &'a HostRuntime,
+    place: ShardFolder<'a>,
+    reading: Reading,
+    files: &'a [Source<'a>],
+) -> (Source<'a>, Result<(), Fault>) {
+    let folder = Source::File(place.folder);
+    if let Err(fault) = check_count(rt, place.count.get(), files) {
+        return (folder, Err(fault));
+    }
+    let unfinished = match begin(rt, place.folder) {
+        Ok(unfinished) => unfinished,
+        Err(fault) => return (folder, Err(fault)),
+    };
+    // Every machine has the same hash codes.
+    let mut job = Job::new(rt, FoldState::default(), reading, files);
+    match write_folder(&mut job, place, &unfinished, reading.is_zero_ended) {
+        Ok(()) => {
+            job.tell_skipped();
+            job.report_end();
+            job.warn_of_looks();
+            (folder, Ok(()))
+        }
+        Err(fault) => {
+            unfinished.remove(rt);
+            match fault {
+                Fault::Output(error) | Fault::Folder(error) => (folder, Err(Fault::Folder(error))),
+                fault => job.locate(fault),
+            }
+        }
+    }
+}
