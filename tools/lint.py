@@ -85,7 +85,7 @@ def main(*wanted: str) -> int:
         said = list(pool.map(Lint.run, [it for it in chosen if not missing([it.need])]))
     print(*filter(None, said), sep="\n", end="")
     failed = sum(map(bool, said))
-    tell_count(len(said) - failed, failed)
+    tell_count(len(said) - failed, failed, lacking)
     return int(failed > 0)
 
 

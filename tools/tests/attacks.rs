@@ -293,5 +293,9 @@ fn main() {
         families.len() + 2 - wrong.len(),
         wrong.len()
     );
+    if let Ok(counts) = std::env::var("GATE_COUNTS") {
+        let told = format!("[{}, {}, []]", families.len() + 2 - wrong.len(), wrong.len());
+        std::fs::write(counts, told).expect("a file for the counts");
+    }
     std::process::exit(i32::from(!wrong.is_empty()));
 }
